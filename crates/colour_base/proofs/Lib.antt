@@ -1,1 +1,2 @@
 pub mod LeastLemmas
+pub mod TestLemmas
