@@ -1,0 +1,2 @@
+pub mod FreeLemmas
+pub mod StepLemmas
