@@ -47,6 +47,10 @@ difference-differs a b apart =
     let found : least (differs a b) (a + b) < a + b = found-within (a + b) a b (omega arith) (omega arith) apart in
     test-apart (digit (difference a b) a) (digit (difference a b) b) (least-holds (differs a b) (a + b) found)
 
+pub difference-first : (a b i : ℕ) → i < difference a b → digit i a ≡ digit i b
+unfolding difference
+difference-first a b i below = test-same (digit i a) (digit i b) (least-first (differs a b) (a + b) i below)
+
 pub difference-is : (a b k : ℕ) → a ≢ b → digit k a ≢ digit k b → ((i : ℕ) → i < k → digit i a ≡ digit i b) → difference a b ≡ k
 unfolding difference
 difference-is a b k apart here before =

@@ -4,10 +4,18 @@
 //! No law asks that no vertex is its own parent, since a proper colouring leaves no such vertex.
 
 ghost use Rattle.cole_vishkin.specs.BitStep.{bit, bit_steps, six};
-ghost use Rattle.cole_vishkin.specs.Digits.{HasDigits};
+ghost use Rattle.cole_vishkin.specs.Digits.{HasDigits, difference, digit};
 ghost use Rattle.cole_vishkin.specs.declared.step.TheConstants.{IDENTIFIER_DIGITS};
 ghost use Rattle.colour_base.specs.Forest.{IsProper, IsWithin};
-ghost use Rattle.std.specs.Prelude.{◌*◌, ◌<◌, Option, ℕ};
+ghost use Rattle.std.specs.Prelude.{◌≡◌, ◌≢◌, ◌*◌, ◌^◌, ◌<◌, Option, ℕ};
+
+/// Two different numbers differ at the place that is called their difference, and at none before
+/// it, and the place is below n where both have n binary digits at most.
+pub fn difference_is_the_first()
+    ensures differ { (a b : ℕ) → a ≢ b → digit (difference a b) a ≢ digit (difference a b) b }
+    ensures same { (a b i : ℕ) → i < difference a b → digit i a ≡ digit i b }
+    ensures within { (n a b : ℕ) → a < 2 ^ n → b < 2 ^ n → a ≢ b → difference a b < n }
+{}
 
 /// A bit step keeps a proper colouring proper.
 pub fn bit_keeps_proper()
