@@ -1,9 +1,8 @@
 -- The bit step keeps colours apart, and its answers are small.
 use Rattle.std.proofs.Common.{◌≡◌, ◌≢◌, ℕ, zero, suc, ◌+◌, ◌*◌, ◌^◌, ◌<◌, ◌≤◌, refl, ap, sym, ◌∙◌, arith}
 use Rattle.std.specs.Prelude.{Option, Some, None}
-use Rattle.colour_base.specs.Forest.{IsProper, IsWithin, at_parent}
+use Rattle.colour_base.specs.Forest.{IsProper, at_parent}
 use Rattle.cole_vishkin.specs.Digits.{digit, difference, HasDigits}
-use Rattle.cole_vishkin.specs.declared.step.TheConstants.{IDENTIFIER_DIGITS}
 use Rattle.cole_vishkin.specs.BitStep.{place_by, bit_by, bit, bit_steps}
 use Rattle.cole_vishkin.proofs.DigitLemmas.{digit-small, difference-differs, difference-below}
 
@@ -37,22 +36,16 @@ module _ (n : ℕ) (parents : ℕ → Option ℕ) (c : ℕ → ℕ) (some : 0 < 
       let place : place_by (c v) (at_parent parents c v) < n = place-small v (parents v) refl in
       omega (arith, digit-small (place_by (c v) (at_parent parents c v)) (c v))
 
--- colours within `most`, a number of n digits, give colours within `next`
-pub bit-within : (n most next : ℕ) → most < 2 ^ n → 0 < n → 2 * n ≤ suc next → (parents : ℕ → Option ℕ) (c : ℕ → ℕ) → IsProper parents c → IsWithin most c → IsWithin next (bit parents c)
-bit-within n most next room some fits parents c proper within v =
-    let below : HasDigits n c = λ w. omega (arith, within w) in
-    omega (arith, bit-small n parents c some proper below v)
+-- Four steps from numbers of n binary digits, where numbers below 2 * n have m digits and those below 2 * m have four.
+module _ (n m : ℕ) (some : 0 < n) (more : 0 < m) (first : 2 * n ≤ 2 ^ m) (second : 2 * m ≤ 2 ^ 4) (parents : ℕ → Option ℕ) (ids : ℕ → ℕ) (proper : IsProper parents ids) (small : HasDigits n ids) where
+  pub one-small : (v : ℕ) → bit_steps 1 parents ids v < 2 * n
+  one-small = bit-small n parents ids some proper small
 
--- From identifiers: the greatest colour after each step has 7, 4 and 3 binary digits.
-module _ (parents : ℕ → Option ℕ) (ids : ℕ → ℕ) (proper : IsProper parents ids) (small : HasDigits IDENTIFIER_DIGITS ids) where
-  pub one-within : IsWithin 127 (bit_steps 1 parents ids)
-  one-within v = omega (arith, bit-small IDENTIFIER_DIGITS parents ids (omega arith) proper small v)
+  pub two-small : (v : ℕ) → bit_steps 2 parents ids v < 2 * m
+  two-small = bit-small m parents (bit_steps 1 parents ids) more (bit_steps-proper 1 parents ids proper) (λ v. omega (arith, one-small v))
 
-  pub two-within : IsWithin 13 (bit_steps 2 parents ids)
-  two-within = bit-within 7 127 13 (omega arith) (omega arith) (omega arith) parents (bit_steps 1 parents ids) (bit_steps-proper 1 parents ids proper) one-within
+  pub three-small : (v : ℕ) → bit_steps 3 parents ids v < 8
+  three-small = bit-small 4 parents (bit_steps 2 parents ids) (omega arith) (bit_steps-proper 2 parents ids proper) (λ v. omega (arith, two-small v))
 
-  pub three-within : IsWithin 7 (bit_steps 3 parents ids)
-  three-within = bit-within 4 13 7 (omega arith) (omega arith) (omega arith) parents (bit_steps 2 parents ids) (bit_steps-proper 2 parents ids proper) two-within
-
-  pub four-within : IsWithin 5 (bit_steps 4 parents ids)
-  four-within = bit-within 3 7 5 (omega arith) (omega arith) (omega arith) parents (bit_steps 3 parents ids) (bit_steps-proper 3 parents ids proper) three-within
+  pub four-small : (v : ℕ) → bit_steps 4 parents ids v < 6
+  four-small = bit-small 3 parents (bit_steps 3 parents ids) (omega arith) (bit_steps-proper 3 parents ids proper) three-small
