@@ -1,0 +1,47 @@
+-- How the least number with a test is known, and what the least free colour is.
+use Rattle.std.proofs.Common.{◌≡◌, ℕ, suc, ◌<◌, ◌≤◌, Bool, true, false, ap, sym, ◌∙◌, arith, inl, inr, ◌⊎◌}
+use Rattle.std.specs.Prelude.{not}
+use Rattle.std.proofs.lemmas.Bool.{cases_order}
+use Rattle.colour_base.specs.Least.{least}
+use Rattle.colour_base.proofs.LeastLemmas.{least-at_most, least-first, least-found, least-holds, least-within}
+use Rattle.forest_merge.specs.Free.{HasFree, least_free_colour}
+
+-- a number with the test, and none before it, is the least
+pub least-is : (test : ℕ → Bool) (n k : ℕ) → k < n → test k ≡ true → ((j : ℕ) → j < k → test j ≡ false) → least test n ≡ k
+least-is test n k below holds first =
+    let found : test (least test n) ≡ true = least-found test n k below holds in
+    elim (cases_order (least test n) k) [
+      | inl met ↦ met
+      | inr side ↦ elim side [
+          | inl lower ↦ (let none : test (least test n) ≡ false = first (least test n) lower in absurd (cc))
+          | inr higher ↦ absurd (omega (arith, least-at_most test n k holds))
+        ]
+    ]
+
+pub least-none : (test : ℕ → Bool) (n : ℕ) → ((j : ℕ) → j < n → test j ≡ false) → least test n ≡ n
+least-none test n none =
+    elim (cases_order (least test n) n) [
+      | inl met ↦ met
+      | inr side ↦ elim side [
+          | inl lower ↦ (let found : test (least test n) ≡ true = least-holds test n lower in let fails : test (least test n) ≡ false = none (least test n) lower in absurd (cc))
+          | inr higher ↦ absurd (omega (arith, least-within test n))
+        ]
+    ]
+
+-- the least number below one bound is the least below another, where it is below both
+pub least-bound : (test : ℕ → Bool) (n m : ℕ) → least test n < n → least test n < m → least test m ≡ least test n
+least-bound test n m in_n in_m = least-is test m (least test n) in_m (least-holds test n in_n) (least-first test n)
+
+-- The least number that is not taken, looked for below n, where it is not taken itself: it tells
+-- whether a colour of 0 to the limit is free, and is then the least free one.
+module _ (is_taken : ℕ → Bool) (n : ℕ) (free : is_taken (least (λ c. not (is_taken c)) n) ≡ false) where
+  pub first-HasFree : (limit : ℕ) → least (λ c. not (is_taken c)) n ≤ limit → HasFree limit is_taken
+  first-HasFree limit h = (least (λ c. not (is_taken c)) n, h, free)
+
+  pub HasFree-first : (limit : ℕ) → HasFree limit is_taken → least (λ c. not (is_taken c)) n ≤ limit
+  HasFree-first limit some = omega (arith, least-at_most (λ c. not (is_taken c)) n some.0 (ap not some.2), some.1)
+
+  pub first-least_free : (limit : ℕ) → HasFree limit is_taken → least (λ c. not (is_taken c)) n ≡ least_free_colour limit is_taken
+  first-least_free limit some =
+      sym (least-is (λ c. not (is_taken c)) (suc limit) (least (λ c. not (is_taken c)) n)
+        (omega (arith, HasFree-first limit some)) (ap not free) (least-first (λ c. not (is_taken c)) n))

@@ -1,0 +1,1 @@
+//! What a merge is and what it keeps, on all vertices at once.
