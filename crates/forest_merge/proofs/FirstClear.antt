@@ -43,11 +43,11 @@ first_in_word words i n before room within =
     let place : ℕ = trailing_ones w64 word in
     let zero_at : (place < 64) × (bit_at word place ≡ 0) × ((j : ℕ) → j < place → bit_at word j ≡ 1) = bit_at-trailing_ones w64 word room in
     sym (least-is (λ c. not (has_bit words c)) n (i * 64 + place) (omega (arith, zero_at.0))
-      (ap not (has_bit-word words i place (i * 64 + place) zero_at.0 refl ∙ ap (λ b. b == 1) zero_at.1))
-      (λ j lower. ap not (elim (dec_lt j (64 * i)) [
-        | yes earlier ↦ before j earlier
-        | no here ↦ has_bit-word words i (j - 64 * i) j (omega (arith, zero_at.0)) (omega arith) ∙ ap (λ b. b == 1) (zero_at.2 (j - 64 * i) (omega arith))
-      ])))
+    (ap not (has_bit-word words i place (i * 64 + place) zero_at.0 refl ∙ ap (λ b. b == 1) zero_at.1))
+    (λ j lower. ap not (elim (dec_lt j (64 * i)) [
+      | yes earlier ↦ before j earlier
+      | no here ↦ has_bit-word words i (j - 64 * i) j (omega (arith, zero_at.0)) (omega arith) ∙ ap (λ b. b == 1) (zero_at.2 (j - 64 * i) (omega arith))
+    ])))
 
 -- the lowest bit that is 0 is 0 where all are 1 too: it is then past the last word
 pub first_clear-free : (words : List ℕ) (n : ℕ) → 64 * length words ≤ n → has_bit words (least (λ c. not (has_bit words c)) n) ≡ false
@@ -66,9 +66,10 @@ module _ (words : List ℕ) (chosen : FinSet nat_cmp) (is : colours_of words ≡
   has_free-first limit =
       let P : (ℕ → Bool) → Type 0 = λ t. IsTrue (leb k limit) ↔ HasFree limit t in
       let free : has_bit words (least (λ c. not (has_bit words c)) n) ≡ false = first_clear-free words n covers in
-      subst P same_test
-        ( (λ low. let most : k ≤ limit = grind (arith, nat_tests) in first-HasFree (has_bit words) n free limit (omega arith))
-        , (λ some. let most : least (λ c. not (has_bit words c)) n ≤ limit = HasFree-first (has_bit words) n free limit some in grind (arith, nat_tests)) )
+      subst P same_test (
+        (λ low. let most : k ≤ limit = grind (arith, nat_tests) in first-HasFree (has_bit words) n free limit (omega arith)),
+        (λ some. let most : least (λ c. not (has_bit words c)) n ≤ limit = HasFree-first (has_bit words) n free limit some in grind (arith, nat_tests)),
+      )
 
   pub least_free-first : (limit : ℕ) → HasFree limit (contains chosen) → k ≡ least_free_colour limit (contains chosen)
   least_free-first limit =

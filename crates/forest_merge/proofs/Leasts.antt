@@ -2,6 +2,8 @@
 use Rattle.std.proofs.Common.{◌≡◌, ℕ, suc, ◌<◌, ◌≤◌, Bool, true, false, ap, sym, ◌∙◌, arith, inl, inr, ◌⊎◌}
 use Rattle.std.specs.Prelude.{not}
 use Rattle.std.proofs.lemmas.Bool.{cases_order}
+use native.Mathlib.Decide.{dec_lt}
+use Prim.{yes, no}
 use Rattle.colour_base.specs.Least.{least}
 use Rattle.colour_base.proofs.LeastLemmas.{least-at_most, least-first, least-found, least-holds, least-within}
 use Rattle.forest_merge.specs.Free.{HasFree, least_free_colour}
@@ -13,9 +15,9 @@ least-is test n k below holds first =
     elim (cases_order (least test n) k) [
       | inl met ↦ met
       | inr side ↦ elim side [
-          | inl lower ↦ (let none : test (least test n) ≡ false = first (least test n) lower in absurd (cc))
-          | inr higher ↦ absurd (omega (arith, least-at_most test n k holds))
-        ]
+        | inl lower ↦ (let none : test (least test n) ≡ false = first (least test n) lower in absurd (cc))
+        | inr higher ↦ absurd (omega (arith, least-at_most test n k holds))
+      ]
     ]
 
 pub least-none : (test : ℕ → Bool) (n : ℕ) → ((j : ℕ) → j < n → test j ≡ false) → least test n ≡ n
@@ -23,14 +25,23 @@ least-none test n none =
     elim (cases_order (least test n) n) [
       | inl met ↦ met
       | inr side ↦ elim side [
-          | inl lower ↦ (let found : test (least test n) ≡ true = least-holds test n lower in let fails : test (least test n) ≡ false = none (least test n) lower in absurd (cc))
-          | inr higher ↦ absurd (omega (arith, least-within test n))
-        ]
+        | inl lower ↦ (let found : test (least test n) ≡ true = least-holds test n lower in let fails : test (least test n) ≡ false = none (least test n) lower in absurd (cc))
+        | inr higher ↦ absurd (omega (arith, least-within test n))
+      ]
     ]
 
--- the least number below one bound is the least below another, where it is below both
-pub least-bound : (test : ℕ → Bool) (n m : ℕ) → least test n < n → least test n < m → least test m ≡ least test n
-least-bound test n m in_n in_m = least-is test m (least test n) in_m (least-holds test n in_n) (least-first test n)
+-- tests that agree below a bound have one least number below it
+pub least-same : (test other : ℕ → Bool) (n : ℕ) → ((j : ℕ) → j < n → test j ≡ other j) → least test n ≡ least other n
+least-same test other n same =
+    elim (dec_lt (least other n) n) [
+      | yes below ↦
+          least-is test n (least other n) below
+          (same (least other n) below ∙ least-holds other n below)
+          (λ j lower. same j (omega arith) ∙ least-first other n j lower)
+      | no full ↦
+          let all : least other n ≡ n = omega (arith, least-within other n) in
+          least-none test n (λ j below. same j below ∙ least-first other n j (omega arith)) ∙ sym all
+    ]
 
 -- The least number that is not taken, looked for below n, where it is not taken itself: it tells
 -- whether a colour of 0 to the limit is free, and is then the least free one.
@@ -44,4 +55,4 @@ module _ (is_taken : ℕ → Bool) (n : ℕ) (free : is_taken (least (λ c. not 
   pub first-least_free : (limit : ℕ) → HasFree limit is_taken → least (λ c. not (is_taken c)) n ≡ least_free_colour limit is_taken
   first-least_free limit some =
       sym (least-is (λ c. not (is_taken c)) (suc limit) (least (λ c. not (is_taken c)) n)
-        (omega (arith, HasFree-first limit some)) (ap not free) (least-first (λ c. not (is_taken c)) n))
+      (omega (arith, HasFree-first limit some)) (ap not free) (least-first (λ c. not (is_taken c)) n))

@@ -1,3 +1,7 @@
 pub mod Words
 pub mod Leasts
 pub mod FirstClear
+pub mod Taken
+pub mod Pairs
+pub mod Merges
+pub mod Proper

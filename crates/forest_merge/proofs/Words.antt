@@ -49,9 +49,9 @@ contains-colours_of words c =
     contains-from_list_nat (filter (has_bit words) (range_with_len 0 (64 * length words))) c
     ∙ kept_places (has_bit words) 0 (64 * length words) c
     ∙ (elim (dec_lt c (64 * length words)) [
-        | yes below ↦ grind (arith, nat_tests)
-        | no past ↦ let none : has_bit words c ≡ false = has_bit-past words c (omega arith) in grind (arith, nat_tests)
-      ])
+      | yes below ↦ grind (arith, nat_tests)
+      | no past ↦ let none : has_bit words c ≡ false = has_bit-past words c (omega arith) in grind (arith, nat_tests)
+    ])
 
 same_bits : (words : List ℕ) (members : FinSet nat_cmp) → ((c : ℕ) → has_bit words c ≡ contains members c) → colours_of words ≡ members
 same_bits words members same = same_set nat_cmp_total nat_cmp-IsAntisymmetric (colours_of words) members (λ c. contains-colours_of words c ∙ same c)
