@@ -1,6 +1,8 @@
 -- How the least number with a test is known, and what the least free colour is.
 use Rattle.std.proofs.Common.{◌≡◌, ℕ, suc, ◌<◌, ◌≤◌, Bool, true, false, ap, sym, ◌∙◌, arith, inl, inr, ◌⊎◌}
-use Rattle.std.specs.Prelude.{not}
+use Rattle.std.specs.Prelude.{not, IsTrue, ◌↔◌}
+use Rattle.std.proofs.Math.Dec.{leb}
+use Rattle.std.proofs.lemmas.Bool.Decides.{nat_tests}
 use Rattle.std.proofs.lemmas.Bool.{cases_order}
 use native.Mathlib.Decide.{dec_lt}
 use Prim.{yes, no}
@@ -43,16 +45,22 @@ least-same test other n same =
           least-none test n (λ j below. same j below ∙ least-first other n j (omega arith)) ∙ sym all
     ]
 
--- The least number that is not taken, looked for below n, where it is not taken itself: it tells
--- whether a colour of 0 to the limit is free, and is then the least free one.
-module _ (is_taken : ℕ → Bool) (n : ℕ) (free : is_taken (least (λ c. not (is_taken c)) n) ≡ false) where
-  pub first-HasFree : (limit : ℕ) → least (λ c. not (is_taken c)) n ≤ limit → HasFree limit is_taken
-  first-HasFree limit h = (least (λ c. not (is_taken c)) n, h, free)
+-- A colour that is not taken, while all below it are, tells whether a colour of 0 to the limit is
+-- free, and is then the least free one.
+module _ (is_taken : ℕ → Bool) (k : ℕ) (free : is_taken k ≡ false) (first : (c : ℕ) → c < k → is_taken c ≡ true) where
+  low_HasFree : (limit : ℕ) → HasFree limit is_taken → k ≤ limit
+  low_HasFree limit some =
+      elim (dec_lt some.0 k) [
+        | yes below ↦ let taken : is_taken some.0 ≡ true = first some.0 below in let same : is_taken some.0 ≡ false = some.2 in absurd (cc)
+        | no above ↦ omega (arith, some.1)
+      ]
 
-  pub HasFree-first : (limit : ℕ) → HasFree limit is_taken → least (λ c. not (is_taken c)) n ≤ limit
-  HasFree-first limit some = omega (arith, least-at_most (λ c. not (is_taken c)) n some.0 (ap not some.2), some.1)
+  pub HasFree-first : (limit : ℕ) → IsTrue (leb k limit) ↔ HasFree limit is_taken
+  HasFree-first limit = (
+    (λ low. let most : k ≤ limit = grind (arith, nat_tests) in (k, most, free)),
+    (λ some. let most : k ≤ limit = low_HasFree limit some in grind (arith, nat_tests)),
+  )
 
-  pub first-least_free : (limit : ℕ) → HasFree limit is_taken → least (λ c. not (is_taken c)) n ≡ least_free_colour limit is_taken
-  first-least_free limit some =
-      sym (least-is (λ c. not (is_taken c)) (suc limit) (least (λ c. not (is_taken c)) n)
-      (omega (arith, HasFree-first limit some)) (ap not free) (least-first (λ c. not (is_taken c)) n))
+  pub least_free_colour-first : (limit : ℕ) → HasFree limit is_taken → least_free_colour limit is_taken ≡ k
+  least_free_colour-first limit some =
+      least-is (λ c. not (is_taken c)) (suc limit) k (omega (arith, low_HasFree limit some)) (ap not free) (λ c below. ap not (first c below))

@@ -5,3 +5,4 @@ pub mod Taken
 pub mod Pairs
 pub mod Merges
 pub mod Proper
+pub mod Steps

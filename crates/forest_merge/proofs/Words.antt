@@ -53,6 +53,9 @@ contains-colours_of words c =
       | no past ↦ let none : has_bit words c ≡ false = has_bit-past words c (omega arith) in grind (arith, nat_tests)
     ])
 
+pub contains-words : (words : List ℕ) (chosen : FinSet nat_cmp) → colours_of words ≡ chosen → (c : ℕ) → contains chosen c ≡ has_bit words c
+contains-words words chosen is c = sym (ap (λ s. contains s c) is) ∙ contains-colours_of words c
+
 same_bits : (words : List ℕ) (members : FinSet nat_cmp) → ((c : ℕ) → has_bit words c ≡ contains members c) → colours_of words ≡ members
 same_bits words members same = same_set nat_cmp_total nat_cmp-IsAntisymmetric (colours_of words) members (λ c. contains-colours_of words c ∙ same c)
 

@@ -1,9 +1,6 @@
-//! The set of colours that neighbours have chosen, and the least colour outside it.
-ghost use Rattle.std.specs.Prelude.{◌≡◌, ◌↔◌, ◌<◌, IsTrue, not};
+//! The set of colours that neighbours have chosen.
+ghost use Rattle.std.specs.Prelude.{◌≡◌, ◌<◌, ℕ, true, false};
 ghost use Rattle.std.specs.FinSet as set;
-ghost use Rattle.colour_base.specs.Least.{least};
-ghost use Rattle.forest_merge.specs.Free.{HasFree, least_free_colour};
-ghost use Rattle.forest_merge.specs.Words.{has_bit};
 
 use std::marker::Model;
 
@@ -63,31 +60,17 @@ impl ChosenSet {
     {
         self.words[colour as usize / 64] & (1 << (colour % 64)) != 0
     }
-}
 
-/// Whether some colour of 0 to `delta` is not in the set.
-pub fn has_free(chosen: &ChosenSet, delta: u16) -> bool
-    ensures { IsTrue result ↔ HasFree delta (set.contains chosen.now) }
-{
-    first_clear(&chosen.words) <= delta
-}
-
-/// The least colour of 0 to `delta` that is not in the set.
-pub fn least_free(chosen: &ChosenSet, delta: u16) -> u16
-    requires { HasFree delta (set.contains chosen.now) }
-    ensures { result ≡ least_free_colour delta (set.contains chosen.now) }
-{
-    first_clear(&chosen.words)
-}
-
-// The place of the lowest bit that is 0, over all words, or `COLOURS` where all are 1.
-fn first_clear(words: &[u64; WORDS]) -> u16
-    ensures { result ≡ least (λ c. not (has_bit words.now c)) COLOURS }
-{
-    for (i, word) in words.iter().enumerate() {
-        if *word != u64::MAX {
-            return (i * 64) as u16 + word.trailing_ones() as u16;
+    // The least colour that is not in the set. It is `COLOURS` where all below that are in it.
+    pub(crate) fn first_free(&self) -> u16
+        ensures free { set.contains self.now result ≡ false }
+        ensures first { (c : ℕ) → c < result → set.contains self.now c ≡ true }
+    {
+        for (i, word) in self.words.iter().enumerate() {
+            if *word != u64::MAX {
+                return (i * 64) as u16 + word.trailing_ones() as u16;
+            }
         }
+        COLOURS
     }
-    COLOURS
 }

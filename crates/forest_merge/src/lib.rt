@@ -17,8 +17,13 @@
 #![tactic(auto)]
 
 mod chosen;
+mod free;
 pub mod laws;
 mod step;
 
-pub use chosen::{COLOURS, ChosenSet, has_free, least_free};
+pub use chosen::{COLOURS, ChosenSet};
+pub use free::{has_free, least_free};
 pub use step::step_of;
+
+#[cfg(test)]
+mod tests;
