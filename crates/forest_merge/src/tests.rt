@@ -33,6 +33,7 @@ fn the_least_free_colour_is_chosen(rt: HostRuntime) {
         (1023, 1023, Some(1023)),
         (1024, 1023, None),
     ] {
+        assert!(rt; end <= COLOURS);
         let mut chosen = ChosenSet::new();
         for colour in 0..end {
             chosen.add(colour);
