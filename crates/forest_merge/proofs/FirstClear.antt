@@ -1,21 +1,10 @@
 -- The lowest bit that is 0, word by word.
-use Rattle.std.proofs.Common.{◌≡◌, ℕ, ◌+◌, ◌-◌, ◌*◌, ◌/◌, ◌%◌, ◌^◌, ◌<◌, ◌≤◌, ◌==◌, Bool, true, false, List, length, get_or, refl, ap, sym, ◌∙◌, subst, arith, w64}
-use Rattle.std.specs.Prelude.{not, IsTrue, ◌↔◌}
-use Rattle.std.specs.FinSet.{FinSet, contains}
-use Rattle.std.specs.Ordering.{nat_cmp}
+use Rattle.std.proofs.Common.{◌≡◌, ℕ, ◌+◌, ◌-◌, ◌*◌, ◌/◌, ◌%◌, ◌^◌, ◌<◌, ◌==◌, true, false, List, get_or, refl, ap, ◌∙◌, arith, w64}
 use Rattle.std.specs.Int.{bit_at, trailing_ones}
-use Rattle.std.proofs.lemmas.Bool.Decides.{nat_tests}
 use Rattle.std.proofs.lemmas.Nat.Bits.{bit_at-trailing_ones, bit_at_ones}
-use Rattle.std.proofs.Math.Dec.{leb}
-use mathlib.Core.Path.{fun_ext}
 use native.Mathlib.Decide.{dec_lt}
 use Prim.{yes, no}
-use Rattle.colour_base.specs.Least.{least}
-use Rattle.forest_merge.specs.Words.{colours_of, has_bit}
-use Rattle.forest_merge.specs.Free.{HasFree, least_free_colour}
-use Rattle.colour_base.proofs.LeastLemmas.{least-holds}
-use Rattle.std.proofs.lemmas.Bool.{not-true}
-use Rattle.forest_merge.proofs.Words.{contains-colours_of, has_bit-past}
+use Rattle.forest_merge.specs.Words.{has_bit}
 
 pub has_bit-word : (words : List ℕ) (i b c : ℕ) → b < 64 → c ≡ i * 64 + b → has_bit words c ≡ (bit_at (get_or words i 0) b == 1)
 unfolding has_bit

@@ -1,10 +1,9 @@
 -- The recursion of the merge meets its equation, and alone does so.
-use Rattle.std.proofs.Common.{◌≡◌, ℕ, zero, suc, ◌<◌, ◌≤◌, Bool, true, false, List, refl, ap, sym, ◌∙◌, arith}
-use Rattle.std.specs.Prelude.{not, if◌then◌else◌, map, nat_lt}
-use Rattle.std.proofs.lemmas.Bool.{ltb-true}
+use Rattle.std.proofs.Common.{◌≡◌, ℕ, zero, suc, ◌<◌, ◌≤◌, Bool, true, false, refl, ap, sym, ◌∙◌, arith}
+use Rattle.std.specs.Prelude.{not, if◌then◌else◌, nat_lt}
 use Rattle.std.proofs.lemmas.Bool.Decides.{nat_tests}
 use Rattle.forest_merge.specs.Free.{is_among, least_free_colour}
-use Rattle.forest_merge.specs.Merge.{IsMerge, Merging, is_before, is_looked_at, is_taken, merge, merge_below, merge_in_class}
+use Rattle.forest_merge.specs.Merge.{IsMerge, Merging, is_looked_at, is_taken, merge, merge_below, merge_in_class}
 use Rattle.forest_merge.proofs.Leasts.{least-same}
 use Rattle.forest_merge.proofs.Pairs.{by_pairs, looked_at-before}
 use Rattle.forest_merge.proofs.Taken.{map-filter-same}

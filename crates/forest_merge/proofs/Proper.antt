@@ -9,7 +9,7 @@ use Rattle.std.specs.List.{Contains}
 use Rattle.std.proofs.lemmas.Bool.{cases_eq, cases_order}
 use Rattle.std.proofs.lemmas.Bool.Decides.{nat_tests}
 use Rattle.forest_merge.specs.Free.{is_among, least_free_colour}
-use Rattle.forest_merge.specs.Merge.{IsNumbered, IsProperOn, Merging, is_before, is_looked_at, is_taken, looked_at, merge}
+use Rattle.forest_merge.specs.Merge.{IsNumbered, IsProperOn, Merging, is_looked_at, looked_at, merge}
 use Rattle.forest_merge.proofs.Merges.{merge-is}
 use Rattle.forest_merge.proofs.Taken.{is_among-at, is_among-map-filter, least_free_colour-free, least_free_colour-within, length-map-filter}
 

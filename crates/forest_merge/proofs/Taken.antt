@@ -1,11 +1,10 @@
 -- Which colours are taken, and that a few taken colours leave one free.
-use Rattle.std.proofs.Common.{◌≡◌, ◌≢◌, ℕ, zero, suc, ◌+◌, ◌<◌, ◌≤◌, ◌==◌, Bool, true, false, List, [], ◌∷◌, length, refl, ap, sym, ◌∙◌, arith, get_or, inl, inr, ◌⊎◌}
+use Rattle.std.proofs.Common.{◌≡◌, ◌≢◌, ℕ, zero, suc, ◌+◌, ◌<◌, ◌≤◌, ◌==◌, Bool, true, false, List, [], ◌∷◌, length, refl, ap, sym, ◌∙◌, arith, get_or, inl, inr}
 use Rattle.std.specs.Prelude.{not, if◌then◌else◌, map, filter}
 use Rattle.std.proofs.lemmas.Bool.{cases_eq, not-false, not-true}
 use Rattle.std.proofs.lemmas.Bool.Decides.{nat_tests}
 use native.Mathlib.Decide.{dec_lt}
 use Prim.{yes, no}
-use Rattle.colour_base.specs.Least.{least}
 use Rattle.colour_base.proofs.LeastLemmas.{least-first, least-holds, least-within}
 use Rattle.forest_merge.specs.Free.{HasFree, is_among, least_free_colour}
 

@@ -2,13 +2,13 @@
 --
 -- The set is made from the list of the places whose bit is 1. So a place is in it exactly where
 -- its bit is 1 (`contains-colours_of`), and two sets are equal where their bits agree.
-use Rattle.std.proofs.Common.{◌≡◌, ◌≢◌, ℕ, zero, suc, ◌+◌, ◌*◌, ◌/◌, ◌%◌, ◌^◌, ◌<◌, ◌≤◌, ◌==◌, Bool, true, false, List, [], ◌∷◌, length, get_or, refl, ap, sym, ◌∙◌, arith, bit_and, bit_or, nat_eq, w64, inl, inr, ◌⊎◌}
+use Rattle.std.proofs.Common.{◌≡◌, ◌≢◌, ℕ, zero, suc, ◌+◌, ◌*◌, ◌/◌, ◌%◌, ◌^◌, ◌<◌, ◌≤◌, ◌==◌, Bool, true, false, List, ◌∷◌, length, get_or, refl, ap, sym, ◌∙◌, arith, bit_and, bit_or, nat_eq, w64, inl, inr}
 use Rattle.std.specs.Prelude.{not, ◌&&◌, ◌||◌, if◌then◌else◌, filter, nat_le, nat_lt, replicate}
 use Rattle.std.specs.Int.{bit_at}
 use Rattle.std.specs.List.{list_any, range_with_len}
-use Rattle.std.specs.Ordering.{nat_cmp, eq_by_cmp}
+use Rattle.std.specs.Ordering.{nat_cmp}
 use Rattle.std.specs.Cmp.{nat_cmp_total, unsigned_tied}
-use Rattle.std.specs.FinSet.{FinSet, contains, contains-empty, contains-from_list_nat, contains-insert, empty, from_list, insert, nat_cmp-IsAntisymmetric, same_set}
+use Rattle.std.specs.FinSet.{FinSet, contains, contains-empty, contains-from_list_nat, contains-insert, empty, insert, nat_cmp-IsAntisymmetric, same_set}
 use Rattle.std.proofs.Math.ListN.{set}
 use Rattle.std.proofs.lemmas.Bool.{cases_eq}
 use Rattle.std.proofs.lemmas.Bool.Decides.{nat_tests}

@@ -1,4 +1,4 @@
-use Rattle.std.proofs.Common.{◌≡◌, ◌+◌, ◌*◌, ◌^◌, ◌<◌, ◌≤◌, get_or, length, arith, ap, sym, ◌∙◌}
+use Rattle.std.proofs.Common.{◌+◌, ◌*◌, ◌^◌, ◌<◌, get_or, arith, ap, ◌∙◌}
 use Rattle.std.specs.FinSet.{contains}
 use Rattle.forest_merge.proofs.FirstClear.{clear_at_place, full_below_place, full_word}
 use Rattle.forest_merge.proofs.Words.{contains-words, has_bit-past}
