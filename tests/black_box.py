@@ -1,0 +1,211 @@
+#!/usr/bin/env python3
+"""Black-box tests: runs the built program as a user would, and compares standard output, standard error and
+status byte by byte. The last line is 'N passed, M failed'.
+
+  black_box.py [PROGRAM]      default: the script `forestplan` at the top, which builds the program first
+
+Expected answers are worked by hand, or come from the plain definition in plain_definition.py; none is taken from
+the program.
+"""
+import os
+import random
+import subprocess
+import sys
+import tempfile
+
+from plain_definition import forests_text
+from refused_memory import refused_memory_rows
+
+TOP = os.path.dirname(os.path.dirname(os.path.abspath(__file__)))
+PROGRAM = os.path.join(TOP, "forestplan")
+LIMIT = 60
+TALLY = {"passed": 0, "failed": 0}
+
+TRIANGLE = "p edge 3 3|e 1 2|e 1 3|e 2 3|"
+TRIANGLE_FORESTS = "forests 3 2|0 1 2|0 2 3|1 1 3|"
+
+
+def text(lines):
+    """Bytes of a text in which '|' stands for a line feed."""
+    return lines.replace("|", "\n").encode("latin-1")
+
+
+def run(words, data=b"", **streams):
+    given = {"input": data} if "stdin" not in streams else {}
+    streams.setdefault("stdout", subprocess.PIPE)
+    streams.setdefault("stderr", subprocess.PIPE)
+    return subprocess.run([PROGRAM] + words, timeout=LIMIT, **given, **streams)
+
+
+def note(name, good, what=""):
+    TALLY["passed" if good else "failed"] += 1
+    if not good:
+        print(f"FAILED {name}: {what}")
+
+
+def expect(name, done, status, output, errors):
+    got = (done.returncode, done.stdout, done.stderr)
+    note(name, got == (status, output, errors), f"wanted {(status, output, errors)}, got {got}")
+
+
+def forests_rows():
+    rows = [
+        ("triangle", TRIANGLE, TRIANGLE_FORESTS),
+        ("two nodes alone", "p col 2 0|", "forests 2 0|"),
+        ("no node", "p edge 0 0|", "forests 0 0|"),
+        ("one edge", "p edge 2 1|e 1 2|", "forests 2 1|0 1 2|"),
+        ("an edge from above", "p edge 2 1|e 2 1|", "forests 2 1|0 1 2|"),
+        ("leading zeros", "p edge 2 1|e 01 0002|", "forests 2 1|0 1 2|"),
+        ("path in an odd layout", "c path\r|p edges 3 99 extra\r|\r|n 1 2\r|e 1 2 7\r|e 2 1\r|e 3 2\r|e 2 3\r|",
+         "forests 3 1|0 1 2|0 2 3|"),
+        ("four-cycle", "p edge 4 4|e 1 2|e 2 3|e 3 4|e 1 4|", "forests 4 2|0 1 2|0 2 3|0 3 4|1 1 4|"),
+        ("complete graph on four", "p edge 4 6|e 1 2|e 1 3|e 1 4|e 2 3|e 2 4|e 3 4|",
+         "forests 4 3|0 1 2|0 2 3|0 3 4|1 1 3|1 2 4|2 1 4|"),
+        ("no line feed at the end", "p edge 2 1|e 1 2", "forests 2 1|0 1 2|"),
+        ("tabs and leading blanks", " \tp\tcol 2\t1|\t e 1  2|", "forests 2 1|0 1 2|"),
+        ("comment of bytes that are no text", "c\xff|p edge 1 0|", "forests 1 0|"),
+        ("the greatest star", "p edge 1024 1023|" + "".join(f"e {v} 1024|" for v in range(1, 1024)),
+         "forests 1024 1|" + "".join(f"0 {v} 1024|" for v in range(1, 1024))),
+    ]
+    for name, network, wanted in rows:
+        expect(name, run(["forests"], text(network)), 0, text(wanted), b"")
+
+
+def example_rows():
+    answers = {
+        "triangle": TRIANGLE_FORESTS,
+        "path": "forests 3 1|0 1 2|0 2 3|",
+        "four_cycle": "forests 4 2|0 1 2|0 2 3|0 3 4|1 1 4|",
+        "star": "forests 9 1|" + "".join(f"0 {v} 9|" for v in range(1, 9)),
+    }
+    folder = os.path.join(TOP, "examples")
+    for name in sorted(os.listdir(folder)):
+        with open(os.path.join(folder, name), "rb") as file:
+            network = file.read()
+        stem = name.removesuffix(".col")
+        wanted = text(answers[stem]) if stem in answers else forests_text(network)
+        expect(f"example {name}", run(["forests"], network), 0, wanted, b"")
+        note(f"comment of {name}", network.startswith(b"c "), "an example begins with a comment line")
+
+
+def fault_rows():
+    edge = "p edge 2 1|"
+    rows = [
+        ("", "F1"), ("c x|", "F1"), ("e 1 2|p edge 2 1|", "F3 line 1"), ("p edge 2 1|p x|", "F2 line 2"),
+        ("p edge 3|", "F4 line 1"), ("p nothing 3 1|", "F4 line 1"), ("p edge 20001 0|", "F7 line 1"),
+        ("q 1|", "F8 line 1"), ("i 1 5|", "F8 line 1"), ("b 1 1|", "F8 line 1"), ("\xff|", "F8 line 1"),
+        ("p edge 99999999999999999999999999 x|", "F4 line 1"), ("p edge 99999999999999999999999999 1|", "F7 line 1"),
+        (edge + "e 1 1|", "F6 line 2"), (edge + "e 0 1|", "F5 line 2"), (edge + "e 1 3|", "F5 line 2"),
+        (edge + "e 5 5|", "F5 line 2"), (edge + "e 1|", "F4 line 2"), (edge + "e 1 x|", "F4 line 2"),
+        (edge + "e 0 x|", "F4 line 2"), (edge + "e 1 -2|", "F4 line 2"), (edge + "e 1 2\r\r|", "F4 line 2"),
+        (edge + "e 340282366920938463463374607431768211457 1|", "F5 line 2"),
+        (edge + "e 4294967297 4294967297|", "F5 line 2"),
+        (edge + "|c|e 1 1|e 0 0|", "F6 line 4"),
+        ("p edge 1025 1024|" + "".join(f"e 1 {v}|" for v in range(2, 1026)), "N1 vertex 1"),
+    ]
+    for network, fault in rows:
+        done = run(["forests"], text(network))
+        expect(f"fault {fault} of {network[:50]!r}", done, 1, b"", f"forestplan: {fault}\n".encode())
+
+
+def beginning_rows():
+    """Each beginning of the triangle's text."""
+    whole = text(TRIANGLE)
+    answers = {0: "F1", 10: "forests 3 0|", 11: "forests 3 0|", 16: "forests 3 1|0 1 2|", 17: "forests 3 1|0 1 2|",
+               22: "forests 3 2|0 1 2|1 1 3|", 23: "forests 3 2|0 1 2|1 1 3|", 28: TRIANGLE_FORESTS, 29: TRIANGLE_FORESTS}
+    for line, (first, last) in enumerate([(1, 9), (12, 15), (18, 21), (24, 27)], 1):
+        answers.update({k: f"F4 line {line}" for k in range(first, last + 1)})
+    for k in range(len(whole) + 1):
+        done = run(["forests"], whole[:k])
+        if answers[k].startswith("F"):
+            expect(f"first {k} bytes", done, 1, b"", f"forestplan: {answers[k]}\n".encode())
+        else:
+            expect(f"first {k} bytes", done, 0, text(answers[k]), b"")
+
+
+def edge_limit_rows():
+    """400,000 different edges are read; the one after is told at its line, also behind repeats."""
+    pairs = [(v, v + d) for d in range(1, 21) for v in range(1, 20001 - d)][:400_001]
+    pairs += [(v, v + 21) for v in range(1, 400_002 - len(pairs))]
+    head = b"p edge 20000 400000\n"
+    body = b"".join(b"e %d %d\n" % pair for pair in pairs[:400_000])
+    over = b"e %d %d\n" % pairs[400_000]
+    done = run(["forests"], head + body)
+    note("400,000 edges", done.returncode == 0 and done.stdout == forests_text(head + body), done.stderr)
+    expect("400,001 edges", run(["forests"], head + body + over), 1, b"", b"forestplan: F7 line 400002\n")
+    again = b"".join(b"e %d %d\n" % (w, v) for v, w in pairs[:1000])
+    expect("400,001 edges behind repeats", run(["forests"], head + again + body + over + b"e 0 0\n"), 1, b"",
+           b"forestplan: F7 line 401002\n")
+
+
+def definition_rows():
+    """Small random networks against the plain definition."""
+    source = random.Random(2026)
+    wrong = 0
+    for _ in range(200):
+        n = source.randrange(1, 12)
+        edges = [(v, w) for v in range(1, n + 1) for w in range(1, n + 1) if v != w and source.random() < 0.3]
+        source.shuffle(edges)
+        network = f"p edge {n} {len(edges)}\n" + "".join(f"e {v} {w}\n" for v, w in edges)
+        done = run(["forests"], network.encode())
+        wrong += (done.returncode, done.stdout, done.stderr) != (0, forests_text(network.encode()), b"")
+    note("200 random networks against the definition", wrong == 0, f"{wrong} differ")
+
+
+def command_line_rows():
+    for words in (["--help"], ["-h"], ["forests", "--help"]):
+        done = run(words, b"no network")
+        good = done.returncode == 0 and done.stderr == b"" and b"forestplan" in done.stdout and b"Usage" in done.stdout
+        note(f"help by {words}", good, done)
+    for words in ([], ["nothing"], ["help"], ["--version"], ["forests", "extra"], ["forests", "--workers", "1"],
+                  ["plain"], ["plan"], ["check"], ["transcript"], [b"\xff"]):
+        done = run(words, text(TRIANGLE))
+        good = done.returncode == 2 and done.stdout == b"" and done.stderr.startswith(b"error: ")
+        note(f"refused words {words}", good, done)
+
+
+def stream_rows():
+    line = b"forestplan: stream\n"
+    with open("/dev/full", "wb") as full:
+        done = run(["forests"], text(TRIANGLE), stdout=full)
+        note("full device", (done.returncode, done.stderr) == (4, line), done)
+    with open("/dev/full", "wb") as full:
+        done = run(["--help"], stdout=full)
+        note("help to a full device", (done.returncode, done.stderr) == (4, line), done)
+    with open("/dev/full", "wb") as full:
+        done = run(["forests"], b"", stderr=full)
+        note("a full device for errors changes no status", (done.returncode, done.stdout) == (1, b""), done)
+    reading, writing = os.pipe()
+    os.close(reading)
+    with os.fdopen(writing, "wb") as pipe:
+        done = run(["forests"], text(TRIANGLE), stdout=pipe)
+        note("closed pipe", (done.returncode, done.stderr) == (4, line), done)
+    with tempfile.TemporaryDirectory() as folder:
+        handle = os.open(folder, os.O_RDONLY)
+        done = run(["forests"], stdin=handle)
+        os.close(handle)
+        expect("a folder as standard input", done, 4, b"", line)
+    closed = subprocess.run(["bash", "-c", '"$0" forests <&-', PROGRAM], capture_output=True, timeout=LIMIT)
+    expect("a closed standard input", closed, 4, b"", line)
+
+
+def main():
+    global PROGRAM
+    if len(sys.argv) > 1:
+        PROGRAM = os.path.abspath(sys.argv[1])
+    else:
+        built = subprocess.run([PROGRAM, "--help"], stdout=subprocess.DEVNULL)
+        note("the program builds", built.returncode == 0, built)
+        PROGRAM = os.path.join(TOP, "crates", "forestplan", "out", "forestplan")
+    if TALLY["failed"] == 0:
+        for rows in (forests_rows, example_rows, fault_rows, beginning_rows, edge_limit_rows, definition_rows,
+                     command_line_rows, stream_rows):
+            rows()
+        for name, good, what in refused_memory_rows(PROGRAM, text(TRIANGLE), text(TRIANGLE_FORESTS)):
+            note(name, good, what)
+    print(f"{TALLY['passed']} passed, {TALLY['failed']} failed")
+    return 1 if TALLY["failed"] else 0
+
+
+if __name__ == "__main__":
+    sys.exit(main())

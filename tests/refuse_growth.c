@@ -1,0 +1,39 @@
+/* An allocator's front that refuses the call of number REFUSE (from 1), and gives all others on. For LD_PRELOAD. */
+#define _GNU_SOURCE
+#include <dlfcn.h>
+#include <stddef.h>
+#include <stdlib.h>
+
+static long calls, refused = -1;
+
+static int is_refused(void) {
+    if (refused < 0) {
+        const char *word = getenv("REFUSE");
+        refused = word ? atol(word) : 0;
+    }
+    return ++calls == refused;
+}
+
+void *malloc(size_t size) {
+    static void *(*real)(size_t);
+    if (!real) real = dlsym(RTLD_NEXT, "malloc");
+    return is_refused() ? NULL : real(size);
+}
+
+void *realloc(void *old, size_t size) {
+    static void *(*real)(void *, size_t);
+    if (!real) real = dlsym(RTLD_NEXT, "realloc");
+    return is_refused() ? NULL : real(old, size);
+}
+
+void *aligned_alloc(size_t place, size_t size) {
+    static void *(*real)(size_t, size_t);
+    if (!real) real = dlsym(RTLD_NEXT, "aligned_alloc");
+    return is_refused() ? NULL : real(place, size);
+}
+
+int posix_memalign(void **to, size_t place, size_t size) {
+    static int (*real)(void **, size_t, size_t);
+    if (!real) real = dlsym(RTLD_NEXT, "posix_memalign");
+    return is_refused() ? 12 : real(to, place, size);
+}

@@ -1,0 +1,48 @@
+"""Runs the built program with each of its growths refused in turn: the answer is the right bytes, or want of memory."""
+import os
+import subprocess
+import tempfile
+
+HERE = os.path.dirname(os.path.abspath(__file__))
+MOST = 5000
+
+
+def refused_memory_rows(program, network, answer):
+    """Rows (name, good, what). Words and network are tried up to the first run that asks for no further growth."""
+    with tempfile.TemporaryDirectory() as folder:
+        front = os.path.join(folder, "refuse_growth.so")
+        built = subprocess.run(["cc", "-O1", "-shared", "-fPIC", "-o", front, os.path.join(HERE, "refuse_growth.c"), "-ldl"],
+                               capture_output=True)
+        if built.returncode != 0:
+            return [("the refusing allocator builds", False, built.stderr)]
+        rows = [("the refusing allocator builds", True, "")]
+        rows.append(sweep(program, front, ["forests"], network, (0, answer, b"")))
+        rows.append(sweep(program, front, ["forests"], b"q\n", (1, b"", b"forestplan: F8 line 1\n")))
+        rows.append(sweep(program, front, ["nothing"], b"", None))
+        rows.append(sweep(program, front, ["--help"], b"", None))
+        return rows
+
+
+def sweep(program, front, words, data, wanted):
+    """Refuses growth 1, 2, .. until a run is as one without refusal. `wanted` is None where clap's text is the answer."""
+    name = f"each growth refused in turn: {' '.join(words)}"
+    memory = (4, b"", b"forestplan: memory\n")
+    if wanted is None:
+        wanted = answer_of(program, front, words, data, 0)
+    refusals = 0
+    for k in range(1, MOST):
+        got = answer_of(program, front, words, data, k)
+        if got == wanted:
+            if all(answer_of(program, front, words, data, k + more) == wanted for more in range(1, 40)):
+                return name, refusals > 0, "no growth was refused at all"
+        elif got == memory:
+            refusals += 1
+        else:
+            return name, False, f"growth {k}: {got}"
+    return name, False, f"still refused after {MOST} growths"
+
+
+def answer_of(program, front, words, data, number):
+    done = subprocess.run([program] + words, input=data, capture_output=True, timeout=60,
+                          env={"PATH": os.environ.get("PATH", ""), "LD_PRELOAD": front, "REFUSE": str(number)})
+    return done.returncode, done.stdout, done.stderr
