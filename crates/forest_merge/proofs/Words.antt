@@ -7,8 +7,7 @@ use Rattle.std.specs.Prelude.{not, ◌&&◌, ◌||◌, if◌then◌else◌, filt
 use Rattle.std.specs.Int.{bit_at}
 use Rattle.std.specs.List.{list_any, range_with_len}
 use Rattle.std.specs.Ordering.{nat_cmp}
-use Rattle.std.specs.Cmp.{nat_cmp_total, unsigned_tied}
-use Rattle.std.specs.FinSet.{FinSet, contains, contains-empty, contains-from_list_nat, contains-insert, empty, insert, nat_cmp-IsAntisymmetric, same_set}
+use Rattle.std.specs.FinSet.{FinSet, contains, contains-empty, contains-from_list_nat, empty, insert}
 use Rattle.std.proofs.Math.ListN.{set}
 use Rattle.std.proofs.lemmas.Bool.{cases_eq}
 use Rattle.std.proofs.lemmas.Bool.Decides.{nat_tests}
@@ -19,6 +18,7 @@ use Rattle.std.proofs.lemmas.Nat.Bits.{and_pow, bit_at-lt, bit_at-zero, bit_at_s
 use native.Mathlib.Decide.{dec_lt}
 use Prim.{yes, no}
 use Rattle.forest_merge.specs.Words.{colours_of, has_bit}
+use Rattle.forest_merge.proofs.Sets.{contains-insert_colour, same_colours}
 
 -- one entry of the list of places, kept or not
 one_kept : (b : Bool) (p : ℕ → Bool) (a n q : ℕ) (rest : List ℕ) → b ≡ p a → list_any (λ y. nat_eq y q) rest ≡ (p q && (nat_le (a + 1) q && nat_lt q (a + 1 + n))) → list_any (λ y. nat_eq y q) (if b then a ∷ rest else rest) ≡ (p q && (nat_le a q && nat_lt q (a + suc n)))
@@ -56,8 +56,8 @@ contains-colours_of words c =
 pub contains-words : (words : List ℕ) (chosen : FinSet nat_cmp) → colours_of words ≡ chosen → (c : ℕ) → contains chosen c ≡ has_bit words c
 contains-words words chosen is c = sym (ap (λ s. contains s c) is) ∙ contains-colours_of words c
 
-same_bits : (words : List ℕ) (members : FinSet nat_cmp) → ((c : ℕ) → has_bit words c ≡ contains members c) → colours_of words ≡ members
-same_bits words members same = same_set nat_cmp_total nat_cmp-IsAntisymmetric (colours_of words) members (λ c. contains-colours_of words c ∙ same c)
+same_bits : (words : List ℕ) (chosen : FinSet nat_cmp) → ((c : ℕ) → has_bit words c ≡ contains chosen c) → colours_of words ≡ chosen
+same_bits words chosen same = same_colours (colours_of words) chosen (λ c. contains-colours_of words c ∙ same c)
 
 zero_word : (n i : ℕ) → get_or {A = ℕ} (replicate n 0) i 0 ≡ 0
 zero_word n i =
@@ -99,7 +99,9 @@ has_bit-set words k c h =
 
 -- a bit that is set adds its place
 pub colours_of-set : (words : List ℕ) (k : ℕ) → k / 64 < length words → colours_of (set words (k / 64) (bit_or (get_or words (k / 64) 0) (1 * 2 ^ (k % 64) % 2 ^ 64))) ≡ insert (colours_of words) k
-colours_of-set words k h = same_bits _ (insert (colours_of words) k) (λ c. has_bit-set words k c h ∙ sym (contains-insert nat_cmp_total (colours_of words) k c ∙ ap (λ b. b || contains (colours_of words) c) (unsigned_tied c k) ∙ ap (λ b. (c == k) || b) (contains-colours_of words c)))
+colours_of-set words k h =
+    same_bits _ (insert (colours_of words) k)
+    (λ c. has_bit-set words k c h ∙ sym (contains-insert_colour (colours_of words) k c ∙ ap (λ b. (c == k) || b) (contains-colours_of words c)))
 
 one_or_none : (b p : ℕ) → b < 2 → 0 < p → not (nat_eq (b * p) 0) ≡ (b == 1)
 one_or_none zero p h e = grind (arith, nat_tests)

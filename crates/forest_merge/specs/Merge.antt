@@ -3,14 +3,19 @@ use Rattle.std.specs.Prelude.{◌≡◌, ◌≢◌, ℕ, zero, suc, ◌≤◌, �
 use Rattle.std.specs.List.{Contains}
 use Rattle.forest_merge.specs.Free.{is_among, least_free_colour}
 
--- What is merged: the neighbours of each vertex, the number of each edge, the greatest colour,
--- the forest at hand (its edges are those of that number), a colouring of it, and the colouring so far.
+-- What is merged, at every vertex v:
 pub record Merging : Type 0 where
+  -- the neighbours of v
   pub neighbours : ℕ → List ℕ
+  -- the number of the edge between v and a neighbour, which is the forest that it lies in
   pub number : ℕ → ℕ → ℕ
+  -- the greatest colour that there is
   pub limit : ℕ
+  -- the forest at hand
   pub forest : ℕ
+  -- the colour of v in the forest at hand
   pub three : ℕ → ℕ
+  -- the colour of v so far, from the forests before
   pub old : ℕ → ℕ
 
 -- whether the pair (three-colour, old colour) of w is before that of v, first entries compared first
@@ -48,11 +53,13 @@ merge_below m (suc k) v = merge_in_class m (merge_below m k) (suc (m.old v)) v
 unfoldable pub merge : Merging → ℕ → ℕ
 merge m v = merge_below m (suc (m.three v)) v
 
--- Neighbours have each other as neighbours and one number for their edge, and are at most as many
--- as the greatest colour. The vertices are those that are in the network.
+-- A numbering of the edges among the vertices that are in the network:
 pub record IsNumbered (is_in : ℕ → Type 0) (m : Merging) : Type 0 where
+  -- neighbours have each other, and none is outside
   pub both_ways : (v w : ℕ) → is_in v → Contains (m.neighbours v) w → is_in w × Contains (m.neighbours w) v
+  -- an edge has one number at both ends
   pub same_number : (v w : ℕ) → is_in v → Contains (m.neighbours v) w → m.number v w ≡ m.number w v
+  -- nobody has more neighbours than the greatest colour
   pub few : (v : ℕ) → is_in v → length (m.neighbours v) ≤ m.limit
 
 -- no two neighbours have one colour where the number of their edge passes

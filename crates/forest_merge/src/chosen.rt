@@ -4,13 +4,13 @@ ghost use Rattle.std.specs.FinSet as set;
 
 use std::marker::Model;
 
-/// How many colours a `ChosenSet` has room for: colours from 0, below this.
+/// How many colours a `ChosenSet` has room for: the colours from 0 and below this.
 pub const COLOURS: u16 = 1024;
 
 /// How many words hold one bit for each colour.
 const WORDS: usize = COLOURS as usize / 64;
 
-/// A set of colours below `COLOURS`, in fixed bits.
+/// A set of colours from 0 and below `COLOURS`, in fixed bits: it takes no memory of its own.
 #[derive(Drop)]
 pub struct ChosenSet {
     words: [u64; WORDS],
@@ -61,7 +61,7 @@ impl ChosenSet {
         self.words[colour as usize / 64] & (1 << (colour % 64)) != 0
     }
 
-    // The least colour that is not in the set. It is `COLOURS` where all below that are in it.
+    // The least colour that is not in the set: `COLOURS` where the set is full.
     pub(crate) fn first_free(&self) -> u16
         ensures free { set.contains self.now result ≡ false }
         ensures first { (c : ℕ) → c < result → set.contains self.now c ≡ true }

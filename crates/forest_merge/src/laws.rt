@@ -1,16 +1,20 @@
 //! What a merge is and what it keeps, on all vertices at once. Each law is a function that does
 //! nothing: its contract is the law, over the definitions that the calls of this crate cite.
+//!
+//! The merge is this project's own, for the forests of Panconesi and Rizzi. The laws speak of any
+//! numbering of the edges that both ends agree on, with at most as many neighbours a vertex as the
+//! greatest colour, and of any colouring that is proper on the edges of the forest at hand.
 ghost use Rattle.std.specs.Prelude.{◌≡◌, ◌<◌, ◌≤◌, Bool, List, length, suc, true, ℕ};
 ghost use Rattle.forest_merge.specs.Free.{HasFree, is_among, least_free_colour};
 ghost use Rattle.forest_merge.specs.Merge.{IsMerge, IsNumbered, IsProperOn, Merging, is_before, is_taken, merge};
 
-/// No more taken colours than the greatest colour leave a colour free.
+/// Taken colours that are at most as many as the greatest colour leave one of 0 to it free.
 pub fn few_colours_leave_one_free()
     ensures { (limit : ℕ) (colours : List ℕ) → length colours ≤ limit → HasFree limit (is_among colours) }
 {}
 
-/// Why the merge may be defined by recursion: what holds at a vertex wherever it holds at all those
-/// before it holds at every vertex, and nobody can go back for ever.
+/// Why the merge may be defined by recursion on pairs: what holds at a vertex wherever it holds at
+/// all those before it holds at every vertex, and no path goes back for ever.
 pub fn pairs_are_well_founded()
     ensures induction { (m : Merging) (holds : ℕ → Bool) → ((v : ℕ) → ((w : ℕ) → is_before m w v ≡ true → holds w ≡ true) → holds v ≡ true) → (v : ℕ) → holds v ≡ true }
     ensures no_descent { (m : Merging) (path : ℕ → ℕ) → ((k : ℕ) → is_before m (path (suc k)) (path k) ≡ true) → ⊥ }

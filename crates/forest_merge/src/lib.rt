@@ -3,11 +3,11 @@
 //! of which forest a pulse is. `laws` says what a merge is, that it is the one solution of its
 //! equation, and that it keeps neighbours apart.
 //!
-//! The colouring program calls it, once a pulse at each vertex:
+//! The colouring program calls it at each vertex, in every pulse of the merging:
 //!
 //! ```text
-//! let (forest, three, old) = step_of(pulse - 13, delta);
-//! chosen.add(colour);                       // a colour that a neighbour has chosen
+//! let (forest, three, old) = step_of(step, delta);
+//! chosen.add(colour);                       // each colour that a neighbour has chosen
 //! if has_free(&chosen, delta) {
 //!     let own = least_free(&chosen, delta); // the colour to choose
 //! }
