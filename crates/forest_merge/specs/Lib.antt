@@ -1,0 +1,3 @@
+pub mod Free
+pub mod Words
+pub mod Merge

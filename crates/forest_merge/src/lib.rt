@@ -1,0 +1,29 @@
+//! The choice of a colour when the colouring of one more forest is merged with those before it:
+//! the set of colours that neighbours have chosen, the least colour outside it, and which step
+//! of which forest a pulse is. `laws` says what a merge is, that it is the one solution of its
+//! equation, and that it keeps neighbours apart.
+//!
+//! The colouring program calls it at each vertex, in every pulse of the merging:
+//!
+//! ```text
+//! let (forest, three, old) = step_of(step, delta);
+//! chosen.add(colour);                       // each colour that a neighbour has chosen
+//! if has_free(&chosen, delta) {
+//!     let own = least_free(&chosen, delta); // the colour to choose
+//! }
+//! ```
+//!
+//! A set holds colours below `COLOURS` only. Nothing here takes memory or refuses.
+#![tactic(auto)]
+
+mod chosen;
+mod free;
+pub mod laws;
+mod step;
+
+pub use chosen::{COLOURS, ChosenSet};
+pub use free::{has_free, least_free};
+pub use step::step_of;
+
+#[cfg(test)]
+mod tests;
