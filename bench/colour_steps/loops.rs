@@ -47,3 +47,26 @@ fn drops(calls: u64) -> u64 {
     }
     sum
 }
+
+// Each choice comes after a colour that the set has is added again, so that none can be left out.
+const DELTA: u16 = 1023;
+
+fn first_colours() -> ChosenSet {
+    let mut chosen = ChosenSet::new();
+    for colour in 0..DELTA {
+        chosen.add(colour);
+    }
+    chosen
+}
+
+#[inline(never)]
+fn least_frees(chosen: &mut ChosenSet, calls: u64) -> u64 {
+    let mut sum = 0u64;
+    for call in 0..calls {
+        chosen.add((call % 1023) as u16);
+        if has_free(chosen, DELTA) {
+            sum = sum.wrapping_add(u64::from(least_free(chosen, DELTA)));
+        }
+    }
+    sum
+}

@@ -2,6 +2,7 @@
 #![tactic(auto)]
 
 use cole_vishkin::bit_step;
+use forest_merge::{ChosenSet, has_free, least_free};
 use shift_down::{drop_class, shift};
 use std::io;
 use std::time::Instant;
@@ -21,5 +22,11 @@ fn main(rt: HostRuntime) -> io::Result<()> {
     let dropped = drops(CALLS);
     println!(rt; "drop_class gives {dropped}")?;
     let time = start.elapsed(&rt)?.as_nanos();
-    println!(rt; "drop_class nanoseconds {time}")
+    println!(rt; "drop_class nanoseconds {time}")?;
+    let mut chosen = first_colours();
+    let start = Instant::now(&rt)?;
+    let colours = least_frees(&mut chosen, CALLS);
+    println!(rt; "least_free gives {colours}")?;
+    let time = start.elapsed(&rt)?.as_nanos();
+    println!(rt; "least_free nanoseconds {time}")
 }
