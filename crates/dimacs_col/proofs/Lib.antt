@@ -1,0 +1,9 @@
+pub mod Cutting
+pub mod Numbers
+pub mod Members
+pub mod Lists
+pub mod Verdicts
+pub mod Knowing
+pub mod Edges
+pub mod Whole
+pub mod Unique

@@ -1,0 +1,148 @@
+-- A text has one reading.
+-- Two ascending lists with the same members are one list: their heads are each other's least member.
+-- Two places in a list are one, or one stands among the lines before the other, and is good.
+use Rattle.std.proofs.Common.{◌≡◌, ◌≢◌, ◌++◌, ◌⊎◌, inl, inr, ◌||◌, ℕ, Bool, true, false, Some, None, List, [], ◌∷◌, refl, sym, ◌∙◌, ap, subst}
+use Rattle.std.specs.Set.{is_member}
+use Rattle.std.specs.List.{Contains, AllByRecursion}
+use Rattle.std.specs.List.Sorted.{IsStrictlySortedBy}
+use Rattle.std.specs.Cmp.{both_ways}
+use Rattle.std.specs.Ordering.{ordering_reverse}
+use Rattle.std.specs.declared.cmp.Ordering.TheVariants.{Less}
+use Rattle.dimacs_col.specs.Lines.{Line}
+use Rattle.dimacs_col.specs.Reading.{AllGood, nodes_of, verdict, IsFirstFault, IsFault, IsGraph}
+use Rattle.dimacs_col.specs.Pairs.{pair_cmp, same_pair}
+use Rattle.dimacs_col.specs.Bag.{SameMembers}
+use Rattle.dimacs_col.specs.declared.fault.ColFault.{ColFault}
+use Rattle.dimacs_col.specs.declared.fault.ColFault.TheVariants.{NoProblem, SecondProblem, EdgeBeforeProblem, BadField, VertexRange, SelfLoop, TooLarge, UnknownLine, Memory}
+use Rattle.dimacs_col.proofs.Members.{pair_total, same_pair-laws, same_pair-exact, members-from_Contains}
+
+-- ---- ascending lists
+first-or : (q x : ℕ × ℕ) (xs : List (ℕ × ℕ)) → is_member same_pair (x ∷ xs) q ≡ true → (q ≡ x) ⊎ (is_member same_pair xs q ≡ true)
+first-or q x xs h = or-by (same_pair q x) refl h
+  where
+    or-by : (b : Bool) → same_pair q x ≡ b → (b || is_member same_pair xs q) ≡ true → (q ≡ x) ⊎ (is_member same_pair xs q ≡ true)
+    or-by true t g = inl (same_pair-exact q x t)
+    or-by false t g = inr g
+
+in-front : (x : ℕ × ℕ) (xs : List (ℕ × ℕ)) → is_member same_pair (x ∷ xs) x ≡ true
+in-front x xs = ap (λ b. b || is_member same_pair xs x) (same_pair-laws.refl x)
+
+behind : (q x : ℕ × ℕ) (xs : List (ℕ × ℕ)) → is_member same_pair xs q ≡ true → is_member same_pair (x ∷ xs) q ≡ true
+behind q x xs h = or-true (same_pair q x) (is_member same_pair xs q) h
+  where
+    or-true : (a b : Bool) → b ≡ true → (a || b) ≡ true
+    or-true true b e = refl
+    or-true false b e = e
+
+above : (x : ℕ × ℕ) (xs : List (ℕ × ℕ)) (q : ℕ × ℕ) → AllByRecursion (λ y. pair_cmp x y ≡ Less) xs → is_member same_pair xs q ≡ true → pair_cmp x q ≡ Less
+above x [] q all h = absurd cc
+above x (y ∷ ys) q all h = elim (first-or q y ys h) [
+  | inl is ↦ subst (λ p. pair_cmp x p ≡ Less) (sym is) all.0
+  | inr more ↦ above x ys q all.1 more
+]
+
+not-below : (x y : ℕ × ℕ) → pair_cmp x y ≡ Less → pair_cmp y x ≡ Less → ⊥
+not-below x y f g = let e : Less ≡ ordering_reverse Less = sym f ∙ pair_total.antisymm x y ∙ ap ordering_reverse g in absurd cc
+
+same-heads : (x y : ℕ × ℕ) (xs ys : List (ℕ × ℕ)) → AllByRecursion (λ z. pair_cmp x z ≡ Less) xs → AllByRecursion (λ z. pair_cmp y z ≡ Less) ys → SameMembers (x ∷ xs) (y ∷ ys) → x ≡ y
+same-heads x y xs ys f g same = elim (first-or x y ys (sym (same x) ∙ in-front x xs)) [
+  | inl is ↦ is
+  | inr low ↦ elim (first-or y x xs (same y ∙ in-front y ys)) [
+    | inl is ↦ sym is
+    | inr high ↦ absurd (not-below x y (above x xs y f high) (above y ys x g low))
+  ]
+]
+
+tail-in : (x : ℕ × ℕ) (xs ys : List (ℕ × ℕ)) (q : ℕ × ℕ) → AllByRecursion (λ z. pair_cmp x z ≡ Less) xs → SameMembers (x ∷ xs) (x ∷ ys) → is_member same_pair xs q ≡ true → is_member same_pair ys q ≡ true
+tail-in x xs ys q f same h = elim (first-or q x ys (sym (same q) ∙ behind q x xs h)) [
+  | inl is ↦ let low : pair_cmp x x ≡ Less = above x xs x f (subst (λ p. is_member same_pair xs p ≡ true) is h) in absurd (not-below x x low low)
+  | inr more ↦ more
+]
+
+same-list : (xs ys : List (ℕ × ℕ)) → IsStrictlySortedBy pair_cmp xs → IsStrictlySortedBy pair_cmp ys → SameMembers xs ys → xs ≡ ys
+unfolding IsStrictlySortedBy
+same-list [] [] f g same = refl
+same-list [] (y ∷ ys) f g same = let e : false ≡ true = same y ∙ in-front y ys in absurd cc
+same-list (x ∷ xs) [] f g same = let e : false ≡ true = sym (same x) ∙ in-front x xs in absurd cc
+same-list (x ∷ xs) (y ∷ ys) f g same =
+    let is : x ≡ y = same-heads x y xs ys f.0 g.0 same in
+    let both : SameMembers (x ∷ xs) (x ∷ ys) = subst (λ z. SameMembers (x ∷ xs) (z ∷ ys)) (sym is) same in
+    let low : AllByRecursion (λ z. pair_cmp x z ≡ Less) ys = subst (λ p. AllByRecursion (λ z. pair_cmp p z ≡ Less) ys) (sym is) g.0 in
+    let rest : xs ≡ ys = same-list xs ys f.1 g.1 (λ q. both_ways (is_member same_pair xs q) (is_member same_pair ys q) (λ h. tail-in x xs ys q f.0 both h) (λ h. tail-in x ys xs q low (λ p. sym (both p)) h)) in
+    ap (λ zs. x ∷ zs) rest ∙ ap (λ z. z ∷ ys) is
+
+-- ---- graphs
+pub one-nodes : (lines : List Line) (m n : ℕ) (edges others : List (ℕ × ℕ)) → IsGraph lines m edges → IsGraph lines n others → m ≡ n
+one-nodes lines m n edges others f g = let e : Some m ≡ Some n = sym f.nodes_are ∙ g.nodes_are in cc
+
+pub one-edges : (lines : List Line) (m n : ℕ) (edges others : List (ℕ × ℕ)) → IsGraph lines m edges → IsGraph lines n others → edges ≡ others
+one-edges lines m n edges others f g =
+    let there = λ (pair : ℕ × ℕ) (h : Contains edges pair). (g.edges_are pair).1 ((f.edges_are pair).0 h) in
+    let back = λ (pair : ℕ × ℕ) (h : Contains others pair). (f.edges_are pair).1 ((g.edges_are pair).0 h) in
+    same-list edges others f.ascending g.ascending (members-from_Contains edges others there back)
+
+-- ---- faults
+-- what a fault is, with the faults of a line taken together
+data Told (lines : List Line) (fault : ColFault) : Type 0 where
+  no_memory : fault ≡ Memory → Told lines fault
+  no_problem : fault ≡ NoProblem → AllGood lines → nodes_of lines ≡ None → Told lines fault
+  at_line : IsFirstFault lines fault → Told lines fault
+
+told : (lines : List Line) (fault : ColFault) → IsFault lines fault → Told lines fault
+told lines Memory h = no_memory refl
+told lines NoProblem h = no_problem refl h.0 h.1
+told lines (SecondProblem n) h = at_line h
+told lines (EdgeBeforeProblem n) h = at_line h
+told lines (BadField n) h = at_line h
+told lines (VertexRange n) h = at_line h
+told lines (SelfLoop n) h = at_line h
+told lines (TooLarge n) h = at_line h
+told lines (UnknownLine n) h = at_line h
+
+not-good : (lines : List Line) (fault : ColFault) → AllGood lines → IsFirstFault lines fault → ⊥
+not-good lines fault good h = let e : Some fault ≡ None = sym h.told ∙ good h.before h.line h.after h.place in absurd cc
+
+pub graph-or_fault : (lines : List Line) (n : ℕ) (edges : List (ℕ × ℕ)) (fault : ColFault) → IsGraph lines n edges → IsFault lines fault → fault ≡ Memory
+graph-or_fault lines n edges fault g h = elim (told lines fault h) [
+  | no_memory is ↦ is
+  | no_problem is good none ↦ let e : Some n ≡ None = sym g.nodes_are ∙ none in absurd cc
+  | at_line first ↦ absurd (not-good lines fault g.good first)
+]
+
+-- two places in a list
+two-places : (b : List Line) (l : Line) (a : List Line) (c : List Line) (k : Line) (d : List Line) → b ++ l ∷ a ≡ c ++ k ∷ d → ((b ≡ c) × (l ≡ k)) ⊎ (((m : List Line) × (b ≡ c ++ k ∷ m)) ⊎ ((m : List Line) × (c ≡ b ++ l ∷ m)))
+two-places [] l a [] k d e = inl (refl, cc)
+two-places [] l a (y ∷ ys) k d e = let h : l ≡ y = cc in inr (inr (ys, cc))
+two-places (x ∷ xs) l a [] k d e = let h : x ≡ k = cc in inr (inl (xs, cc))
+two-places (x ∷ xs) l a (y ∷ ys) k d e =
+    let h : x ≡ y = cc in
+    let t : xs ++ l ∷ a ≡ ys ++ k ∷ d = cc in
+    elim (two-places xs l a ys k d t) [
+      | inl p ↦ inl (cc, p.1)
+      | inr q ↦ elim q [ inl m ↦ inr (inl (m.0, cc)) | inr m ↦ inr (inr (m.0, cc)) ]
+    ]
+
+one-place : (lines : List Line) (fault other : ColFault) → IsFirstFault lines fault → IsFirstFault lines other → fault ≡ other
+one-place lines fault other f g = elim (two-places f.before f.line f.after g.before g.line g.after (sym f.place ∙ g.place)) [
+  | inl p ↦
+      let e : Some fault ≡ Some other = sym f.told ∙ ap (λ b. verdict b f.line) p.0 ∙ ap (verdict g.before) p.1 ∙ g.told in cc
+  | inr q ↦ elim q [
+    | inl m ↦ let e : Some other ≡ None = sym g.told ∙ f.good g.before g.line m.0 m.1 in absurd cc
+    | inr m ↦ let e : Some fault ≡ None = sym f.told ∙ g.good f.before f.line m.0 m.1 in absurd cc
+  ]
+]
+
+pub one-fault : (lines : List Line) (fault other : ColFault) → IsFault lines fault → IsFault lines other → fault ≢ Memory → other ≢ Memory → fault ≡ other
+one-fault lines fault other f g nf ng = elim (told lines fault f) [
+  | no_memory is ↦ absurd (nf is)
+  | no_problem is good none ↦ elim (told lines other g) [
+    | no_memory e ↦ absurd (ng e)
+    | no_problem e also same ↦ is ∙ sym e
+    | at_line h ↦ absurd (not-good lines other good h)
+  ]
+  | at_line h ↦ elim (told lines other g) [
+    | no_memory e ↦ absurd (ng e)
+    | no_problem e good none ↦ absurd (not-good lines fault good h)
+    | at_line k ↦ one-place lines fault other h k
+  ]
+]

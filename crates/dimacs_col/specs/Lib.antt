@@ -1,0 +1,6 @@
+pub mod Pairs
+pub mod Lines
+pub mod Bag
+pub mod Kinds
+pub mod Reading
+pub mod State

@@ -1,0 +1,92 @@
+-- The reading of a text: the verdict of a line after the lines before it, the first fault, and the graph.
+use Rattle.std.specs.Prelude.{ℕ, Bool, true, Option, Some, None, List, [], ◌∷◌, ◌++◌, ◌+◌, ◌≡◌, ◌↔◌, length, min, max, not, nat_lt, ◌==◌, ◌||◌, ◌&&◌, if◌then◌else◌, is_some, unwrap_or, Contains}
+use Rattle.std.specs.List.Sorted.{IsStrictlySortedBy}
+use Rattle.std.specs.Set.{distinct_count}
+use Rattle.dimacs_col.specs.Lines.{Line, field_at, no_number_at, value_at}
+use Rattle.dimacs_col.specs.Kinds.{kind_of, is_problem_kind, is_edge_kind, is_format}
+use Rattle.dimacs_col.specs.Pairs.{pair_cmp, same_pair, node_limit, edge_limit}
+use Rattle.dimacs_col.specs.declared.kind.Kind.{Kind}
+use Rattle.dimacs_col.specs.declared.kind.Kind.TheVariants.{Skipped, Problem, Edge, Unknown}
+use Rattle.dimacs_col.specs.declared.fault.ColFault.{ColFault}
+use Rattle.dimacs_col.specs.declared.fault.ColFault.TheVariants.{NoProblem, SecondProblem, EdgeBeforeProblem, BadField, VertexRange, SelfLoop, TooLarge, UnknownLine, Memory}
+
+-- NODES of the first problem line
+unfoldable pub nodes_of : List Line → Option ℕ
+nodes_of [] = None
+nodes_of (line ∷ lines) = if is_problem_kind (kind_of line) then Some (value_at line 2) else nodes_of lines
+
+-- the pair that an edge line names, the smaller vertex first
+abbrev pub pair_of : Line → ℕ × ℕ
+pair_of line = (min (value_at line 1) (value_at line 2), max (value_at line 1) (value_at line 2))
+
+-- the pairs of the edge lines
+unfoldable pub edges_of : List Line → List (ℕ × ℕ)
+edges_of [] = []
+edges_of (line ∷ lines) = if is_edge_kind (kind_of line) then pair_of line ∷ edges_of lines else edges_of lines
+
+-- how many different edges the lines name
+unfoldable pub edge_count : List Line → ℕ
+edge_count lines = distinct_count same_pair (edges_of lines)
+
+abbrev pub has_problem : List Line → Bool
+has_problem before = is_some (nodes_of before)
+
+-- a vertex is from 1 to NODES
+abbrev pub is_vertex : List Line → ℕ → Bool
+is_vertex before v = nat_lt 0 v && not (nat_lt (unwrap_or (nodes_of before) 0) v)
+
+-- the number of the line after some lines, counted from 1
+abbrev pub number_after : List Line → ℕ
+number_after before = length before + 1
+
+-- what can be wrong with a line of a kind, in the order in which it is looked for
+abbrev pub faults_of : Kind → List Line → Line → List (Bool × ColFault)
+faults_of Skipped before line = []
+faults_of Problem before line =
+    (has_problem before, SecondProblem (number_after before))
+    ∷ (not (is_format (field_at line 1)) || no_number_at line 2 || no_number_at line 3, BadField (number_after before))
+    ∷ (nat_lt node_limit (value_at line 2), TooLarge (number_after before))
+    ∷ []
+faults_of Edge before line =
+    (not (has_problem before), EdgeBeforeProblem (number_after before))
+    ∷ (no_number_at line 1 || no_number_at line 2, BadField (number_after before))
+    ∷ (not (is_vertex before (value_at line 1)) || not (is_vertex before (value_at line 2)), VertexRange (number_after before))
+    ∷ (value_at line 1 == value_at line 2, SelfLoop (number_after before))
+    ∷ (nat_lt edge_limit (edge_count (before ++ line ∷ [])), TooLarge (number_after before))
+    ∷ []
+faults_of Unknown before line = (true, UnknownLine (number_after before)) ∷ []
+
+-- the first that holds
+abbrev pub first_of : List (Bool × ColFault) → Option ColFault
+first_of [] = None
+first_of (row ∷ rows) = if row.0 then Some row.1 else first_of rows
+
+-- the verdict of a line after the lines before it: its first fault, or none where it is good
+unfoldable pub verdict : List Line → Line → Option ColFault
+verdict before line = first_of (faults_of (kind_of line) before line)
+
+-- every line is good after those before it
+abbrev pub AllGood : List Line → Type 0
+AllGood lines = (before : List Line) (line : Line) (after : List Line) → lines ≡ before ++ line ∷ after → verdict before line ≡ None
+
+-- the fault is that of a line, and the lines before it are good
+pub record IsFirstFault (lines : List Line) (fault : ColFault) : Type 0 where
+  pub before : List Line
+  pub line : Line
+  pub after : List Line
+  pub place : lines ≡ before ++ line ∷ after
+  pub good : AllGood before
+  pub told : verdict before line ≡ Some fault
+
+-- the fault that is told of the lines; want of memory says nothing of them
+abbrev pub IsFault : List Line → ColFault → Type 0
+IsFault lines Memory = Unit {0}
+IsFault lines NoProblem = AllGood lines × (nodes_of lines ≡ None)
+IsFault lines fault = IsFirstFault lines fault
+
+-- the graph that the lines describe: its vertices, and the set of its edges as an ascending list
+pub record IsGraph (lines : List Line) (nodes : ℕ) (edges : List (ℕ × ℕ)) : Type 0 where
+  pub good : AllGood lines
+  pub nodes_are : nodes_of lines ≡ Some nodes
+  pub ascending : IsStrictlySortedBy pair_cmp edges
+  pub edges_are : (pair : ℕ × ℕ) → Contains edges pair ↔ Contains (edges_of lines) pair

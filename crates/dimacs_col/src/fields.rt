@@ -1,0 +1,92 @@
+// The fields of a line that are left, and the numbers in them.
+ghost use Rattle.std.specs.Prelude.{◌≡◌, ◌≤◌, drop, length, slice_get};
+ghost use Rattle.std.specs.List.{prefix_len};
+ghost use Rattle.std.specs.Option.{option_copied};
+ghost use Rattle.dimacs_col.specs.Lines.{fields_of, field_at, is_blank as is_a_blank, is_part};
+ghost use Rattle.dimacs_col.specs.State.{kept_number};
+
+use std::marker::Model;
+
+/// The fields of a line that haven't been taken yet. A contract sees their list.
+#[derive(Drop)]
+pub struct Fields<'a> {
+    rest: &'a [u8],
+}
+
+impl<'a> Model for Fields<'a> {
+    ghost use Rattle.std.specs.Prelude.{List, ℕ};
+    ghost use Rattle.dimacs_col.specs.Lines.{fields_of};
+
+    ghost Value = { List (List ℕ) };
+
+    ghost view = { λ fields. fields_of fields.rest.now };
+}
+
+fn is_blank(byte: u8) -> bool
+    ensures { result ≡ is_a_blank byte }
+{
+    byte == b' ' || byte == b'\t'
+}
+
+// How many blanks a text begins with.
+fn blank_len(text: &[u8]) -> usize
+    ensures value { result ≡ prefix_len is_a_blank text.now }
+    ensures within { result ≤ length text.now }
+{
+    text.iter().take_while(|byte| is_blank(**byte)).count()
+}
+
+// How many bytes there are before the first blank.
+fn field_len(text: &[u8]) -> usize
+    ensures value { result ≡ prefix_len is_part text.now }
+    ensures within { result ≤ length text.now }
+{
+    text.iter().take_while(|byte| !is_blank(**byte)).count()
+}
+
+impl<'a> Fields<'a> {
+    /// All fields of a line.
+    pub fn of(line: &'a [u8]) -> Fields<'a>
+        ensures { result ≡ fields_of line.now }
+    {
+        Fields { rest: line }
+    }
+
+    /// Takes the next field; `None` where there is none.
+    pub fn next(&mut self) -> Option<&'a [u8]>
+        ensures first { option_copied result ≡ slice_get self.old 0 }
+        ensures rest { self.new ≡ drop 1 self.old }
+    {
+        let (_, rest) = self.rest.split_at(blank_len(self.rest));
+        let (field, rest) = rest.split_at(field_len(rest));
+        self.rest = rest;
+        if field.is_empty() { None } else { Some(field) }
+    }
+
+    /// Takes the next field as a number; `None` where it is missing or no number.
+    pub fn next_number(&mut self) -> Option<u32>
+        ensures first { result ≡ kept_number (field_at self.old 0) }
+        ensures rest { self.new ≡ drop 1 self.old }
+    {
+        number(self.next()?)
+    }
+}
+
+/// The number that the digits of a field spell, or the greatest `u32` where it is above that.
+pub fn number(field: &[u8]) -> Option<u32>
+    ensures { result ≡ kept_number field.now }
+{
+    if field.is_empty() {
+        return None;
+    }
+    let mut value: u32 = 0;
+    for digit in field {
+        if !digit.is_ascii_digit() {
+            return None;
+        }
+        value = value
+            .saturating_mul(10)
+            .saturating_add(u32::from(*digit - b'0'));
+    }
+    Some(value)
+}

@@ -1,0 +1,33 @@
+// What the first field of a line says of it.
+ghost use Rattle.std.specs.Prelude.{◌≡◌};
+ghost use Rattle.dimacs_col.specs.Kinds.{kind_of_word, is_format as is_a_format};
+
+#[derive(Clone, Copy, Debug, PartialEq, Eq)]
+pub enum Kind {
+    Skipped,
+    Problem,
+    Edge,
+    Unknown,
+}
+
+impl Kind {
+    #[tactic(auto, unfolding(crate::specs::Kinds::kind_of_word))]
+    pub fn of(first: &[u8]) -> Kind
+        ensures { result ≡ kind_of_word first.now }
+    {
+        match first {
+            [b'c', ..] | b"n" | b"d" | b"v" | b"x" => Kind::Skipped,
+            b"p" => Kind::Problem,
+            b"e" => Kind::Edge,
+            _ => Kind::Unknown,
+        }
+    }
+}
+
+/// Whether a word is a FORMAT of a problem line.
+#[tactic(auto, unfolding(crate::specs::Kinds::is_format))]
+pub fn is_format(word: &[u8]) -> bool
+    ensures { result ≡ is_a_format word.now }
+{
+    matches!(word, b"edge" | b"edges" | b"col")
+}

@@ -1,0 +1,31 @@
+//! Reads a graph in the DIMACS colouring format: its number of vertices and its set of edges, or
+//! the first fault of the text.
+//!
+//! `interference` builds its network from what `read` answers, and `forestplan` reads its input by
+//! it.
+//!
+//! ```text
+//! c a path on three vertices
+//! p edge 3 2
+//! e 1 2
+//! e 3 2
+//! ```
+//!
+//! reads as `ColFile { nodes: 3, edges: [(1, 2), (2, 3)] }`.
+//!
+//! Limits: 20,000 vertices and 400,000 distinct edges. The text is read from memory as a whole.
+#![tactic(auto)]
+
+mod bag;
+mod fault;
+mod fields;
+mod kind;
+mod laws;
+mod reader;
+
+pub use fault::ColFault;
+pub use laws::reading_is_one;
+pub use reader::{ColFile, read};
+
+#[cfg(test)]
+mod tests;

@@ -1,0 +1,168 @@
+// The reader: one step a line, and the file at the end.
+ghost use Rattle.std.specs.Prelude.{◌≡◌, ◌+◌, ◌^◌, ◌<◌, ◌++◌, ◌∷◌, [], List, ℕ, drop, length, min, max, IfOk, IfErr};
+ghost use Rattle.std.specs.Str.Lines.{strip_carriage_return};
+ghost use Rattle.dimacs_col.specs.Lines.{Line, fields_of, lines_of, field_at};
+ghost use Rattle.dimacs_col.specs.Kinds.{kind_of_word, is_format as is_a_format};
+ghost use Rattle.dimacs_col.specs.Reading.{number_after, IsFault, IsGraph};
+ghost use Rattle.dimacs_col.specs.Pairs.{IsWithinLimits};
+ghost use Rattle.dimacs_col.specs.State.{Knows, Judged};
+
+use crate::bag::EdgeBag;
+use crate::fault::ColFault;
+use crate::fields::Fields;
+use crate::kind::{Kind, is_format};
+use std::alloc::Global;
+
+/// How many vertices a graph may have.
+const MAX_NODES: u32 = 20_000;
+
+/// A graph: the vertices are 1 to `nodes`, and `edges` has each edge once, the smaller vertex
+/// first, ascending.
+#[derive(Debug, PartialEq, Eq, Drop)]
+pub struct ColFile {
+    pub nodes: u32,
+    pub edges: Vec<(u32, u32)>,
+}
+
+#[derive(Drop)]
+struct Reader {
+    // The number of the last line, from 1.
+    line: usize,
+    // NODES of the problem line, once it came.
+    nodes: Option<u32>,
+    edges: EdgeBag,
+}
+
+// Whether the next field is a known FORMAT.
+fn next_is_format(fields: &mut Fields) -> bool
+    ensures first { result ≡ is_a_format (field_at fields.old 0) }
+    ensures rest { fields.new ≡ drop 1 fields.old }
+{
+    match fields.next() {
+        Some(word) => is_format(word),
+        None => false,
+    }
+}
+
+impl Reader {
+    fn new(alloc: Global) -> Reader
+        ensures knows { Knows [] result }
+        ensures line { result.line ≡ 0 }
+    {
+        Reader {
+            line: 0,
+            nodes: None,
+            edges: EdgeBag::new(alloc),
+        }
+    }
+
+    /// Takes the next line.
+    fn step(&mut self, alloc: Global, line: &[u8]) -> Result<(), ColFault>
+        requires { self.old.line + 1 < 2 ^ 64 }
+        ensures judged { (before : List Line) → Knows before self.old → self.old.line ≡ length before → Judged before (fields_of line.now) self.new result }
+        ensures line { self.new.line ≡ self.old.line + 1 }
+    {
+        self.line += 1;
+        let mut fields = Fields::of(line);
+        let Some(first) = fields.next() else {
+            return Ok(());
+        };
+        match Kind::of(first) {
+            Kind::Skipped => Ok(()),
+            Kind::Problem => self.problem(fields),
+            Kind::Edge => self.edge(alloc, fields),
+            Kind::Unknown => Err(ColFault::UnknownLine(self.line)),
+        }
+    }
+
+    #[tactic(auto, unfolding(crate::specs::Reading::verdict))]
+    fn problem(&mut self, mut fields: Fields) -> Result<(), ColFault>
+        ensures judged { (before : List Line) (word : List ℕ) → Knows before self.old → self.old.line ≡ number_after before → kind_of_word word ≡ Kind.Problem → Judged before (word ∷ fields.entry) self.new result }
+        ensures line { self.new.line ≡ self.old.line }
+    {
+        if self.nodes.is_some() {
+            return Err(ColFault::SecondProblem(self.line));
+        }
+        let known = next_is_format(&mut fields);
+        let nodes = fields.next_number();
+        let edges = fields.next_number();
+        let (true, Some(nodes), Some(_)) = (known, nodes, edges) else {
+            return Err(ColFault::BadField(self.line));
+        };
+        if nodes > MAX_NODES {
+            return Err(ColFault::TooLarge(self.line));
+        }
+        self.nodes = Some(nodes);
+        Ok(())
+    }
+
+    #[tactic(auto, unfolding(crate::specs::Reading::verdict))]
+    fn edge(&mut self, alloc: Global, mut fields: Fields) -> Result<(), ColFault>
+        ensures judged { (before : List Line) (word : List ℕ) → Knows before self.old → self.old.line ≡ number_after before → kind_of_word word ≡ Kind.Edge → Judged before (word ∷ fields.entry) self.new result }
+        ensures line { self.new.line ≡ self.old.line }
+    {
+        let Some(nodes) = self.nodes else {
+            return Err(ColFault::EdgeBeforeProblem(self.line));
+        };
+        let (Some(v), Some(w)) = (fields.next_number(), fields.next_number()) else {
+            return Err(ColFault::BadField(self.line));
+        };
+        if v == 0 || v > nodes || w == 0 || w > nodes {
+            return Err(ColFault::VertexRange(self.line));
+        }
+        if v == w {
+            return Err(ColFault::SelfLoop(self.line));
+        }
+        self.edges.insert(alloc, ordered(v, w))?;
+        if self.edges.is_too_large() {
+            return Err(ColFault::TooLarge(self.line));
+        }
+        Ok(())
+    }
+
+    fn finish(self, alloc: Global) -> Result<ColFile, ColFault>
+        ensures ok { (lines : List Line) → Knows lines self → IfOk result (λ file. IsGraph lines file.nodes file.edges.items) }
+        ensures limits { (lines : List Line) → Knows lines self → IfOk result (λ file. IsWithinLimits file.nodes file.edges.items) }
+        ensures fault { (lines : List Line) → Knows lines self → IfErr result (IsFault lines) }
+    {
+        let Some(nodes) = self.nodes else {
+            return Err(ColFault::NoProblem);
+        };
+        Ok(ColFile {
+            nodes,
+            edges: self.edges.into_ascending(alloc)?,
+        })
+    }
+}
+
+// The edge of two vertices, the smaller one first.
+fn ordered(v: u32, w: u32) -> (u32, u32)
+    ensures { result ≡ (min v w, max v w) }
+{
+    (v.min(w), v.max(w))
+}
+
+fn without_carriage_return(line: &[u8]) -> &[u8]
+    ensures { result.now ≡ strip_carriage_return line.now }
+{
+    line.strip_suffix(b"\r").unwrap_or(line)
+}
+
+/// The graph that a text in the DIMACS colouring format describes, or the first fault of the text.
+///
+/// The format is that of the second DIMACS implementation challenge (1993): lines `c`, `p FORMAT
+/// NODES EDGES` and `e V W`, the problem line first. EDGES is a number and is compared with
+/// nothing; an edge that comes again, in either direction, counts once; fields past the last one
+/// that is needed are ignored, and so are lines `n`, `d`, `v` and `x`. `Memory` comes only where a
+/// growth was refused, and a refusal leaves nothing behind.
+pub fn read(alloc: Global, text: &[u8]) -> Result<ColFile, ColFault>
+    ensures ok { IfOk result (λ file. IsGraph (lines_of text.now) file.nodes file.edges.items) }
+    ensures limits { IfOk result (λ file. IsWithinLimits file.nodes file.edges.items) }
+    ensures fault { IfErr result (IsFault (lines_of text.now)) }
+{
+    let mut reader = Reader::new(alloc);
+    for line in text.split(|byte| *byte == b'\n') {
+        reader.step(alloc, without_carriage_return(line))?;
+    }
+    reader.finish(alloc)
+}
