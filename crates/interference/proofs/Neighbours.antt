@@ -1,0 +1,100 @@
+-- What every network keeps, at its vertices and ports.
+use Rattle.std.proofs.Common.{◌≡◌, ◌≢◌, inl, inr, ℕ, ◌+◌, ◌-◌, ◌<◌, ◌≤◌, [], length, get_or, ap, ◌∙◌, arith, subst}
+use Rattle.std.specs.List.{Contains}
+use Rattle.std.proofs.lemmas.Bool.{cases_order, cases_lt}
+use Rattle.std.proofs.lemmas.List.{get_or_default, get_or_past}
+use Rattle.std.proofs.lemmas.List.Elements.{Contains-get_or}
+use Rattle.std.proofs.lemmas.List.Sums.{count_by-le-length}
+use Rattle.std.specs.Prelude.{nat_lt}
+use Rattle.interference.specs.Net.{Net, degree_limit, id_bound, IsNetwork, IsVertex, count_of, id_of, neighbours, degree_of, neighbour_of, port_to, back_port_of, greatest_degree_of, higher_count, forest_count_of}
+use Rattle.interference.proofs.Members.{place_of-below, place_of-is, Contains-place_of}
+use Rattle.interference.proofs.Greatest.{longest-holds, longest-within, longest-reached, greatest-holds, greatest-within, greatest-reached}
+
+module _ (net : Net) (ok : IsNetwork net) where
+  -- ---- ports
+  pub port-of : (v w : ℕ) → Contains (neighbours net v) w → (port : ℕ) × (port < degree_of net v) × (neighbour_of net v port ≡ w)
+  port-of v w (port, below, is) = (port, below, get_or_default (neighbours net v) port 0 w below ∙ is)
+
+  pub neighbour-is_vertex : (v w : ℕ) → IsVertex net v → Contains (neighbours net v) w → IsVertex net w
+  neighbour-is_vertex v w vertex h = let (port, below, is) = port-of v w h in subst (λ (u : ℕ). IsVertex net u) is (ok.vertices v port vertex below)
+
+  pub same-port : (v i j : ℕ) → IsVertex net v → i < degree_of net v → j < degree_of net v → neighbour_of net v i ≡ neighbour_of net v j → i ≡ j
+  same-port v i j vertex a b same = elim (cases_order i j) [
+    | inl e ↦ e
+    | inr side ↦ elim side [
+      | inl lt ↦ let less : neighbour_of net v i < neighbour_of net v j = ok.ascending v i j vertex lt b in absurd (omega arith)
+      | inr gt ↦ let less : neighbour_of net v j < neighbour_of net v i = ok.ascending v j i vertex gt a in absurd (omega arith)
+    ]
+  ]
+
+  pub port_to-below : (v w : ℕ) → Contains (neighbours net v) w → port_to net v w < degree_of net v
+  port_to-below v w h = place_of-below w (neighbours net v) h
+
+  pub at-port_to : (v w : ℕ) → Contains (neighbours net v) w → neighbour_of net v (port_to net v w) ≡ w
+  at-port_to v w h = place_of-is w (neighbours net v) 0 (port_to-below v w h)
+
+  pub port_to-is : (v port : ℕ) → IsVertex net v → port < degree_of net v → port_to net v (neighbour_of net v port) ≡ port
+  port_to-is v port vertex below =
+      let h : Contains (neighbours net v) (neighbour_of net v port) = Contains-get_or (neighbours net v) port 0 below in
+      same-port v (port_to net v (neighbour_of net v port)) port vertex (port_to-below v (neighbour_of net v port) h) below (at-port_to v (neighbour_of net v port) h)
+
+  -- ---- ports back
+  pub at-back_port : (v port : ℕ) → IsVertex net v → port < degree_of net v → neighbour_of net (neighbour_of net v port) (back_port_of net v port) ≡ v
+  at-back_port v port vertex below = place_of-is v (neighbours net (neighbour_of net v port)) 0 (ok.symmetric v port vertex below)
+
+  pub back-of-back_port : (v port : ℕ) → IsVertex net v → port < degree_of net v → back_port_of net (neighbour_of net v port) (back_port_of net v port) ≡ port
+  back-of-back_port v port vertex below =
+      ap (λ u. port_to net u (neighbour_of net v port)) (at-back_port v port vertex below) ∙ port_to-is v port vertex below
+
+  pub both-ways : (v w : ℕ) → IsVertex net v → Contains (neighbours net v) w → Contains (neighbours net w) v
+  both-ways v w vertex h =
+      let (port, below, is) = port-of v w h in
+      subst (λ (u : ℕ). Contains (neighbours net u) v) is (Contains-place_of v (neighbours net (neighbour_of net v port)) (ok.symmetric v port vertex below))
+
+  -- ---- identifiers
+  pub neighbour-id : (v port : ℕ) → IsVertex net v → port < degree_of net v → id_of net (neighbour_of net v port) ≢ id_of net v
+  neighbour-id v port vertex below same = ok.other v port vertex below (ok.distinct (neighbour_of net v port) v (ok.vertices v port vertex below) vertex same)
+
+  pub neighbour-ids : (v i j : ℕ) → IsVertex net v → i < j → j < degree_of net v → id_of net (neighbour_of net v i) ≢ id_of net (neighbour_of net v j)
+  neighbour-ids v i j vertex less below same =
+      let e : neighbour_of net v i ≡ neighbour_of net v j = ok.distinct (neighbour_of net v i) (neighbour_of net v j) (ok.vertices v i vertex (omega arith)) (ok.vertices v j vertex below) same in
+      let lt : neighbour_of net v i < neighbour_of net v j = ok.ascending v i j vertex less below in
+      omega arith
+
+  pub id-small : (v : ℕ) → id_of net v < id_bound
+  id-small v = elim (cases_lt (v - 1) (length net.ids)) [
+    | inl below ↦ let e : v - 1 + 1 - 1 ≡ v - 1 = omega arith in subst (λ (i : ℕ). get_or net.ids i 0 < id_bound) e (ok.identifiers (v - 1 + 1) (omega arith, omega arith))
+    | inr past ↦ let e : get_or net.ids (v - 1) 0 ≡ 0 = get_or_past net.ids (v - 1) 0 past in omega (arith, e)
+  ]
+
+  -- ---- degrees and higher neighbours
+  pub degree-within : (v : ℕ) → degree_of net v ≤ greatest_degree_of net
+  degree-within v = longest-holds net.ports (v - 1)
+
+  pub greatest_degree-within : greatest_degree_of net ≤ degree_limit
+  greatest_degree-within = longest-within net.ports degree_limit (λ i below.
+      let e : i + 1 - 1 ≡ i = omega arith in
+      subst (λ (k : ℕ). length (get_or net.ports k []) ≤ degree_limit) e (ok.degrees (i + 1) (omega arith, omega (arith, ok.sizes))))
+
+  pub greatest_degree-reached : 0 < count_of net → (v : ℕ) × IsVertex net v × (degree_of net v ≡ greatest_degree_of net)
+  greatest_degree-reached some =
+      let (i, below, is) = longest-reached net.ports (omega (arith, ok.sizes)) in
+      let e : i ≡ i + 1 - 1 = omega arith in
+      (i + 1, (omega arith, omega (arith, ok.sizes)), subst (λ (k : ℕ). length (get_or net.ports k []) ≡ greatest_degree_of net) e is)
+
+  pub higher_count-within : (v : ℕ) → higher_count net v ≤ degree_of net v
+  higher_count-within v = count_by-le-length (λ w. nat_lt (id_of net v) (id_of net w)) (neighbours net v)
+
+  pub higher_count-le-forests : (v : ℕ) → IsVertex net v → higher_count net v ≤ forest_count_of net
+  higher_count-le-forests v vertex = greatest-holds (higher_count net) 1 (count_of net) v vertex.0 (omega arith)
+
+  pub forest_count-reached : 0 < count_of net → (v : ℕ) × IsVertex net v × (higher_count net v ≡ forest_count_of net)
+  forest_count-reached some =
+      let (v, low, high, is) = greatest-reached (higher_count net) 1 (count_of net) some in
+      (v, (low, omega arith), is)
+
+  pub forest_count-within : forest_count_of net ≤ greatest_degree_of net
+  forest_count-within = greatest-within (higher_count net) 1 (count_of net) (greatest_degree_of net) (λ v low high.
+      let a : higher_count net v ≤ degree_of net v = higher_count-within v in
+      let b : degree_of net v ≤ greatest_degree_of net = degree-within v in
+      omega (arith, a, b))

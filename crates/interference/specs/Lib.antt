@@ -1,0 +1,4 @@
+pub mod Net
+pub mod Making
+pub mod Rows
+pub mod Filling

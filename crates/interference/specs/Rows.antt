@@ -1,0 +1,25 @@
+-- Lists of neighbours, packed into one list.
+use Rattle.std.specs.Prelude.{◌≡◌, ℕ, ◌+◌, ◌-◌, ◌<◌, ◌≤◌, List, [], ◌∷◌, length, slice_index, take, drop}
+use Rattle.interference.specs.Net.{Net, IsNetwork, IsVertex, degree_of, back_port_of}
+
+-- the parts of a list between one start and the next
+abbrev pub rows : List ℕ → List ℕ → List (List ℕ)
+rows [] xs = []
+rows (a ∷ []) xs = []
+rows (a ∷ b ∷ starts) xs = take (b - a) (drop a xs) ∷ rows (b ∷ starts) xs
+
+abbrev pub net_from : List ℕ → List ℕ → List ℕ → Net
+net_from ids starts ports = record { ids = ids; ports = rows starts ports }
+
+-- the starts rise, from the first entry to the last one of the packed list
+pub record IsPacked (ids starts ports : List ℕ) : Type 0 where
+  pub sizes : length starts ≡ length ids + 1
+  pub rising : (i : ℕ) → i < length ids → slice_index starts i ≤ slice_index starts (i + 1)
+  pub within : (i : ℕ) → i ≤ length ids → slice_index starts i ≤ length ports
+  pub limit : length ports ≤ 800000
+  pub network : IsNetwork (net_from ids starts ports)
+
+-- beside each neighbour stands the port that leads back
+pub record HasBacks (starts backs : List ℕ) (net : Net) : Type 0 where
+  pub size : (v port : ℕ) → IsVertex net v → port < degree_of net v → slice_index starts (v - 1) + port < length backs
+  pub back : (v port : ℕ) → IsVertex net v → port < degree_of net v → slice_index backs (slice_index starts (v - 1) + port) ≡ back_port_of net v port

@@ -1,0 +1,47 @@
+// Whether a list of edges is one that a network takes.
+
+ghost use Rattle.std.specs.Prelude.{◌≡◌, ◌↔◌, IsTrue, All, Some};
+ghost use Rattle.std.specs.List.Sorted.{IsStrictlySortedBy};
+ghost use Rattle.std.specs.declared.cmp.Ordering.TheVariants.{Less};
+ghost use Rattle.dimacs_col.specs.Pairs.{pair_cmp, FitsIn};
+ghost use Rattle.interference.specs.Making.{EdgesFit};
+
+const GREATEST_COUNT: u32 = 20_000;
+
+const MOST_EDGES: usize = 400_000;
+
+/// Whether `Network::new` takes the edges: at most 20,000 nodes and 400,000 edges, each edge with
+/// its smaller vertex first, both from 1 to `nodes`, the edges ascending, none twice.
+pub fn edges_fit(nodes: u32, edges: &[(u32, u32)]) -> bool
+    ensures { IsTrue result ↔ EdgesFit nodes edges.now }
+{
+    nodes <= GREATEST_COUNT && edges.len() <= MOST_EDGES && all_fit(nodes, edges) && ascend(edges)
+}
+
+fn all_fit(nodes: u32, edges: &[(u32, u32)]) -> bool
+    ensures { IsTrue result ↔ All (FitsIn (Some nodes)) edges.now }
+{
+    for edge in edges {
+        if edge.0 == 0 || edge.0 >= edge.1 || edge.1 > nodes {
+            return false;
+        }
+    }
+    true
+}
+
+fn comes_before(low: (u32, u32), high: (u32, u32)) -> bool
+    ensures { IsTrue result ↔ (pair_cmp low high ≡ Less) }
+{
+    low.0 < high.0 || low.0 == high.0 && low.1 < high.1
+}
+
+fn ascend(edges: &[(u32, u32)]) -> bool
+    ensures { IsTrue result ↔ IsStrictlySortedBy pair_cmp edges.now }
+{
+    for i in 1..edges.len() {
+        if !comes_before(edges[i - 1], edges[i]) {
+            return false;
+        }
+    }
+    true
+}

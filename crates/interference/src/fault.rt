@@ -1,0 +1,41 @@
+// Why no network was made.
+
+ghost use Rattle.std.specs.Prelude.{◌≡◌};
+ghost use Rattle.interference.specs.declared.fault.NetFault.TheVariants as faults;
+
+use std::alloc::{AllocError, AllocFailed};
+
+/// Memory was refused.
+#[derive(Debug, Clone, Copy, PartialEq, Eq)]
+pub struct Memory;
+
+impl From<AllocError> for Memory {
+    fn from(_error: AllocError) -> Memory {
+        Memory
+    }
+}
+
+impl<T: Drop> From<AllocFailed<T>> for Memory {
+    fn from(_error: AllocFailed<T>) -> Memory {
+        Memory
+    }
+}
+
+/// Why a network is refused, in the order in which the faults are looked for. Vertices count from 1.
+#[derive(Debug, Clone, Copy, PartialEq, Eq)]
+pub enum NetFault {
+    /// N1: the least vertex that has more than 1,023 neighbours.
+    Degree(u32),
+    /// N2: the first two vertices, the smaller first, that have one identifier.
+    SameId(u32, u32),
+    /// N3: memory was refused.
+    Memory,
+}
+
+impl From<Memory> for NetFault {
+    ghost from_gives = { λ _ fault. fault ≡ faults.Memory };
+
+    fn from(_memory: Memory) -> NetFault {
+        NetFault::Memory
+    }
+}

@@ -1,0 +1,31 @@
+//! The interference network: vertices with unique identifiers, and the neighbours of each by port.
+//!
+//! Vertices count from 1 and ports from 0; the ports of a vertex ascend by the neighbour's number.
+//! `forests`, `node_api` and `channel_plan` stand on it. Contracts see a network as the record
+//! `Net` of `specs/Net.antt`: the list of identifiers, and for each vertex the list of its
+//! neighbours.
+//!
+//! ```
+//! let net = Network::new(alloc, 3, &[7, 9, 8], &[(1, 2), (1, 3), (2, 3)])?;
+//! net.neighbour(3, 1) // 2, the greater neighbour of vertex 3
+//! ```
+//!
+//! Limits: 20,000 nodes, 400,000 edges, degree 1,023, identifiers below 2^64.
+#![tactic(auto)]
+
+mod clashes;
+mod degrees;
+mod edges;
+mod fault;
+mod forests;
+pub mod laws;
+mod making;
+mod network;
+mod rows;
+
+pub use edges::edges_fit;
+pub use fault::{Memory, NetFault};
+pub use network::Network;
+
+#[cfg(test)]
+mod tests;

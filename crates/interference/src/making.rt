@@ -1,0 +1,96 @@
+// The making of a network: the faults in their order, then the packed lists.
+
+ghost use Rattle.std.specs.Prelude.{◌≡◌, ℕ, ◌*◌, IfOk, IfErr, length};
+ghost use Rattle.interference.specs.Net.{IsNetwork};
+ghost use Rattle.interference.specs.Making.{EdgesFit, network_of, IsCrowded, IsClash, IsFaultOf};
+ghost use Rattle.interference.specs.Filling.{AreDegrees, AreStarts, IsFilled};
+
+use crate::clashes::first_twins;
+use crate::degrees::{count_ends, first_crowded, greatest, starts_of};
+use crate::fault::{Memory, NetFault};
+use crate::forests::forest_count;
+use crate::network::Network;
+use crate::rows::fill;
+use std::alloc::Global;
+
+impl Network {
+    /// Makes the network in which vertex v has the identifier `ids[v - 1]`, and two vertices are
+    /// neighbours where an edge joins them. The edges are as `edges_fit` asks; there is one
+    /// identifier for each of the `nodes` vertices.
+    ///
+    /// # Errors
+    /// `Degree(v)` for the least vertex with more than 1,023 neighbours; else `SameId(v, w)` for the
+    /// first two vertices with one identifier; `Memory` where memory was refused.
+    pub fn new(
+        alloc: Global,
+        nodes: u32,
+        ids: &[u64],
+        edges: &[(u32, u32)],
+    ) -> Result<Network, NetFault>
+        requires ids { length ids.now ≡ nodes }
+        requires edges { EdgesFit nodes edges.now }
+        ensures made { IfOk result (λ net. net ≡ network_of ids.now edges.now) }
+        ensures uncrowded { IfOk result (λ net. (v : ℕ) → IsCrowded net v → ⊥) }
+        ensures distinct { IfOk result (λ net. (v w : ℕ) → IsClash net v w → ⊥) }
+        ensures fault { IfErr result (IsFaultOf (network_of ids.now edges.now)) }
+    {
+        let degrees = degrees_of(alloc, nodes, edges)?;
+        if let Some(v) = first_crowded(&degrees) {
+            return Err(NetFault::Degree(v));
+        }
+        if let Some((v, w)) = first_twins(alloc, ids)? {
+            return Err(NetFault::SameId(v, w));
+        }
+        Ok(packed(alloc, nodes, ids, edges, degrees)?)
+    }
+}
+
+// The degree of vertex v at entry v.
+fn degrees_of(alloc: Global, nodes: u32, edges: &[(u32, u32)]) -> Result<Vec<u32>, Memory>
+    requires { EdgesFit nodes edges.now }
+    ensures { IfOk result (λ degrees. AreDegrees nodes edges.now degrees.items) }
+{
+    let mut degrees = vec![in alloc; 0u32; nodes as usize + 1]?;
+    count_ends(nodes, edges, &mut degrees);
+    Ok(degrees)
+}
+
+// The network, in which no vertex is crowded and all identifiers differ.
+fn packed(
+    alloc: Global,
+    nodes: u32,
+    ids: &[u64],
+    edges: &[(u32, u32)],
+    degrees: Vec<u32>,
+) -> Result<Network, Memory>
+    requires ids { length ids.now ≡ nodes }
+    requires edges { EdgesFit nodes edges.now }
+    requires degrees { AreDegrees nodes edges.now degrees.items }
+    requires network { IsNetwork (network_of ids.now edges.now) }
+    ensures { IfOk result (λ net. net ≡ network_of ids.now edges.now) }
+{
+    let greatest_degree = greatest(&degrees);
+    let starts = starts_of(degrees);
+    let (ports, backs) = rows_of(alloc, nodes, edges, &starts)?;
+    let forest_count = forest_count(ids, &starts, &ports);
+    let ids = Vec::from_slice(alloc, ids)?;
+    Ok(Network::from_parts(ids, starts, ports, backs, greatest_degree, forest_count))
+}
+
+// The neighbours of each vertex, and beside each the port that leads back.
+fn rows_of(
+    alloc: Global,
+    nodes: u32,
+    edges: &[(u32, u32)],
+    starts: &[u32],
+) -> Result<(Vec<u32>, Vec<u32>), Memory>
+    requires fit { EdgesFit nodes edges.now }
+    requires starts { AreStarts nodes edges.now starts.now (2 * length edges.now) }
+    ensures { IfOk result (λ lists. IsFilled nodes edges.now starts.now lists.0.items lists.1.items) }
+{
+    let mut cursors = Vec::from_slice(alloc, starts)?;
+    let mut ports = vec![in alloc; 0u32; 2 * edges.len()]?;
+    let mut backs = vec![in alloc; 0u32; 2 * edges.len()]?;
+    fill(nodes, edges, starts, &mut cursors, &mut ports, &mut backs);
+    Ok((ports, backs))
+}

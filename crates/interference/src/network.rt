@@ -1,0 +1,160 @@
+ghost use Rattle.std.specs.Prelude.{◌≡◌, ◌<◌, ◌≤◌, ◌+◌, ◌-◌, IfOk, length};
+ghost use Rattle.interference.specs.Net.{Net, IsNetwork, IsVertex, count_of, id_of, neighbours, degree_limit, degree_of, neighbour_of, back_port_of, greatest_degree_of, forest_count_of};
+ghost use Rattle.interference.specs.Rows.{IsPacked, HasBacks, net_from};
+
+use crate::fault::Memory;
+use std::alloc::Global;
+use std::marker::Model;
+
+/// A network. Contracts see its `Net`: identifiers and neighbours.
+#[derive(Drop)]
+pub struct Network {
+    ids: Vec<u64>,
+    // Entry v - 1 is where the neighbours of v begin, entry v where they end.
+    starts: Vec<u32>,
+    ports: Vec<u32>,
+    // Beside each neighbour the port of it that leads back.
+    backs: Vec<u32>,
+    greatest_degree: u32,
+    forest_count: u32,
+}
+
+impl Model for Network {
+    ghost use Rattle.std.specs.Prelude.{◌≡◌};
+    ghost use Rattle.interference.specs.Net.{Net, greatest_degree_of, forest_count_of};
+    ghost use Rattle.interference.specs.Rows.{IsPacked, HasBacks, net_from};
+
+    ghost Value = { Net };
+
+    ghost view = { λ a. net_from a.ids.items a.starts.items a.ports.items };
+
+    ghost invariant = { λ a. IsPacked a.ids.items a.starts.items a.ports.items
+        × HasBacks a.starts.items a.backs.items (net_from a.ids.items a.starts.items a.ports.items)
+        × (a.greatest_degree ≡ greatest_degree_of (net_from a.ids.items a.starts.items a.ports.items))
+        × (a.forest_count ≡ forest_count_of (net_from a.ids.items a.starts.items a.ports.items)) };
+}
+
+impl Network {
+    // A network of its packed parts.
+    pub(crate) fn from_parts(
+        ids: Vec<u64>,
+        starts: Vec<u32>,
+        ports: Vec<u32>,
+        backs: Vec<u32>,
+        greatest_degree: u32,
+        forest_count: u32,
+    ) -> Network
+        requires packed { IsPacked ids.items starts.items ports.items }
+        requires backs { HasBacks starts.items backs.items (net_from ids.items starts.items ports.items) }
+        requires greatest { greatest_degree ≡ greatest_degree_of (net_from ids.items starts.items ports.items) }
+        requires forests { forest_count ≡ forest_count_of (net_from ids.items starts.items ports.items) }
+        ensures { result ≡ net_from ids.items starts.items ports.items }
+    {
+        Network {
+            ids,
+            starts,
+            ports,
+            backs,
+            greatest_degree,
+            forest_count,
+        }
+    }
+
+    /// Gives callers what every network keeps.
+    pub fn is_network(&self)
+        ensures { IsNetwork self.now }
+    {
+        let _ = &self.ids;
+    }
+
+    /// How many nodes there are: the vertices are 1 to this.
+    pub fn nodes(&self) -> u32
+        ensures { result ≡ count_of self.now }
+    {
+        self.ids.len() as u32
+    }
+
+    /// Δ: the greatest degree of any node, 0 for no nodes.
+    pub fn greatest_degree(&self) -> u32
+        ensures { result ≡ greatest_degree_of self.now }
+    {
+        self.greatest_degree
+    }
+
+    /// U: the greatest number of neighbours of higher identifier of any node, 0 for no nodes.
+    pub fn forest_count(&self) -> u32
+        ensures { result ≡ forest_count_of self.now }
+    {
+        self.forest_count
+    }
+
+    /// The identifier of vertex `v`.
+    pub fn id(&self, v: u32) -> u64
+        requires { IsVertex self.now v }
+        ensures { result ≡ id_of self.now v }
+    {
+        self.ids[(v - 1) as usize]
+    }
+
+    /// How many neighbours vertex `v` has: its ports are 0 to one less.
+    pub fn degree(&self, v: u32) -> u32
+        requires { IsVertex self.now v }
+        ensures value { result ≡ degree_of self.now v }
+        ensures limit { result ≤ degree_limit }
+    {
+        self.starts[v as usize] - self.starts[(v - 1) as usize]
+    }
+
+    /// The neighbour of vertex `v` at `port`.
+    pub fn neighbour(&self, v: u32, port: u32) -> u32
+        requires vertex { IsVertex self.now v }
+        requires port { port < degree_of self.now v }
+        ensures value { result ≡ neighbour_of self.now v port }
+        ensures vertex { IsVertex self.now result }
+    {
+        self.ports[(self.starts[(v - 1) as usize] + port) as usize]
+    }
+
+    /// The port at the neighbour of vertex `v` at `port` that leads back to `v`.
+    pub fn back_port(&self, v: u32, port: u32) -> u32
+        requires vertex { IsVertex self.now v }
+        requires port { port < degree_of self.now v }
+        ensures value { result ≡ back_port_of self.now v port }
+        ensures port { result < degree_of self.now (neighbour_of self.now v port) }
+    {
+        self.backs[(self.starts[(v - 1) as usize] + port) as usize]
+    }
+
+    /// The neighbours of vertex `v`, by port.
+    pub fn neighbours(&self, v: u32) -> &[u32]
+        requires { IsVertex self.now v }
+        ensures { result.now ≡ neighbours self.now v }
+    {
+        &self.ports[self.starts[(v - 1) as usize] as usize..self.starts[v as usize] as usize]
+    }
+
+    /// An equal network, in memory of its own.
+    ///
+    /// # Errors
+    ///
+    /// `Memory` where memory is refused.
+    pub fn copy(&self, alloc: Global) -> Result<Network, Memory>
+        ensures { IfOk result (λ net. net ≡ self.now) }
+    {
+        let ids = self.ids.to_vec(alloc)?;
+        let starts = self.starts.to_vec(alloc)?;
+        let ports = self.ports.to_vec(alloc)?;
+        let backs = self.backs.to_vec(alloc)?;
+        Ok(Network {
+            ids,
+            starts,
+            ports,
+            backs,
+            greatest_degree: self.greatest_degree,
+            forest_count: self.forest_count,
+        })
+    }
+}
+
+#[cfg(test)]
+mod tests;
