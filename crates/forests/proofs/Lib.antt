@@ -1,0 +1,11 @@
+pub mod Orders
+pub mod Sorts
+pub mod Places
+pub mod Ranks
+pub mod Roles
+pub mod Highers
+pub mod Dealing
+pub mod Parents
+pub mod Ends
+pub mod Triples
+pub mod Numbers

@@ -1,0 +1,30 @@
+//! The forests of a network (Panconesi and Rizzi, 2001).
+//!
+//! Each edge leads from its end of lower identifier, the child, to its end of higher identifier, the
+//! parent. A vertex numbers its edges up from 0, by ascending identifier of the parent, and forest f
+//! has the edges numbered f: so each vertex has one parent at most in it, and no cycle can close.
+//! Forests count from 0 to one less than U, the greatest number of higher neighbours of any vertex.
+//!
+//! `colour_program` numbers the ports of one node by `number_up`, and colours the forests one after
+//! another; `forestplan` prints what `decompose` gives of the whole network. A contract says
+//! `parent net f v` for the parent of v in forest f, and `number net v w` for the forest of an edge.
+//! `laws` has what holds of the forests of every network.
+//!
+//! ```text
+//! let mut roles = [Role::Unknown; 3];
+//! number_up(5, &[9, 2, 7], &mut roles);   // Up(1), Unknown, Up(0)
+//! let edges = decompose(alloc, &net)?;    // of a triangle: (0, 1, 2), (0, 2, 3), (1, 1, 3)
+//! ```
+//!
+//! Limits: those of a network, so 1,023 ports a node and 1,023 forests.
+#![tactic(auto)]
+
+mod decomposition;
+pub mod laws;
+mod numbering;
+
+pub use decomposition::decompose;
+pub use numbering::{Role, number_up};
+
+#[cfg(test)]
+mod tests;
