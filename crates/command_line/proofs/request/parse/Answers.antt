@@ -1,0 +1,44 @@
+use Rattle.std.proofs.Common.{rules, ◌≡◌, ◌∙◌, ℕ, Bool, true, false, List, [], Some, None, Option, is_some, refl, sym, ap, ap₂, subst, inl, inr, option_map}
+use Rattle.clap.specs.Words.{App, app_of, fault_of, is_simple, kind_of, subcommand_of, subcommand_rows_of}
+use Rattle.clap.specs.Walk.{Row, Text, texts}
+use Rattle.clap.specs.Faults.{is_simple_and_free}
+use Rattle.clap.specs.Kinds.{FailsBy, HasKind, Kinds}
+use Rattle.command_line.specs.Line.{line}
+use Rattle.command_line.specs.Asked.{choice_of}
+use Rattle.command_line.proofs.KnownCommands.{known, line_is_free, line_is_simple, refused, taken}
+use Rattle.command_line.proofs.request.parse.Goals as goal
+
+mapped : {X Y : Type 0} (f : X → Y) (o : Option X) → is_some o ≡ true → is_some (option_map f o) ≡ true
+mapped f None h = h
+mapped f (Some x) h = refl
+
+pub unreachable-requires : goal.unreachable-requires
+unreachable-requires c =
+    let e = c.in-Ok-try_get_matches_from.ensures in
+    let shape = c.in-Ok.ensures.shape in
+    let rows_are = (e.matches (ap is_simple shape ∙ line_is_simple)).1 ∙ ap (λ (a : App). subcommand_of a (texts c.args.words.now)) shape in
+    let wanted = e.parsed.from.needs_subcommand ∙ ap (λ (a : App). a.top.subcommand_required) shape in
+    let parsed = e.parsed.parsed (e.parsed.from.globals ∙ c.in-Ok.ensures.local) in
+    let there = mapped _ _ (parsed.checked.subcommand wanted) in
+    let some = known (texts c.args.words.now) (ap is_some (sym rows_are) ∙ there) in
+    let bad : false ≡ true = ap is_some (c.in-None.ensures ∙ ap choice_of rows_are) ∙ some in
+    cc
+
+pub returns-in-Some-clause-ok : goal.returns-in-Some-clause-ok
+returns-in-Some-clause-ok c =
+    let e = c.in-Ok-try_get_matches_from.ensures in
+    let shape = c.in-Ok.ensures.shape in
+    let rows_are = (e.matches (ap is_simple shape ∙ line_is_simple)).1 ∙ ap (λ (a : App). subcommand_of a (texts c.args.words.now)) shape in
+    let none = ap (λ (a : App). fault_of a (texts c.args.words.now)) (sym shape) ∙ e.kinds (ap is_simple_and_free shape ∙ line_is_free) in
+    taken (texts c.args.words.now) c.in-Some.request none (ap choice_of (sym rows_are) ∙ sym c.in-Some.ensures)
+
+pub returns-in-Err-try_get_matches_from-clause-err : goal.returns-in-Err-try_get_matches_from-clause-err
+returns-in-Err-try_get_matches_from-clause-err c =
+    let e = c.in-Err-try_get_matches_from.ensures in
+    let shape = c.in-Ok.ensures.shape in
+    let has = subst (λ (a : App). HasKind (fault_of a (texts c.args.words.now)) c.in-Err-try_get_matches_from.error) shape
+    (e.kinds (ap is_simple_and_free shape ∙ line_is_free)) in
+    elim has [
+      | inl memory ↦ inl memory
+      | inr among ↦ inr (refused (texts c.args.words.now) _ among, among)
+    ]

@@ -1,0 +1,27 @@
+-- What words ask for.
+use Rattle.std.specs.Prelude.{List, [], ◌∷◌, Option, Some, None, if◌then◌else◌, codes, option_and_then}
+use Rattle.std.specs.Str.{bytes_eq}
+use Rattle.clap.specs.Words.{Row, Text, fault_of, subcommand_of}
+use Rattle.clap.specs.Kinds.{Kinds}
+use Rattle.command_line.specs.Line.{line}
+use Rattle.command_line.specs.declared.request.Request.{Request}
+use Rattle.command_line.specs.declared.request.Request.TheVariants.{Forests}
+
+-- what the command of a name asks for, given the values of its options; each command is a line
+abbrev pub named : Text → List Row → Option Request
+named name rows =
+    if bytes_eq name (codes "forests") then Some Forests
+    else None
+
+-- what the command that was found asks for
+abbrev pub choice_of : Option (Text × List Row) → Option Request
+choice_of found = option_and_then (λ command. named command.0 command.1) found
+
+-- an answer, where nothing is at fault
+abbrev pub unless_at_fault : Kinds → Option Request → Option Request
+unless_at_fault [] answer = answer
+unless_at_fault (kind ∷ kinds) answer = None
+
+-- what the words ask for: their command's request, where clap finds no fault in them
+abbrev pub request_of : List Text → Option Request
+request_of words = unless_at_fault (fault_of line words) (choice_of (subcommand_of line words))

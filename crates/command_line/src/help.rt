@@ -1,0 +1,55 @@
+//! The texts of help.
+
+/// What the program does, in a line.
+pub const ABOUT: &str = "Forests of an interference graph, read from a DIMACS text";
+
+/// The same, at length.
+pub const LONG_ABOUT: &str = "Forests of an interference graph, read from a DIMACS text.
+
+The program reads a graph from standard input and writes its answer to standard
+output. A fault is one line on standard error, and nothing is then on output.";
+
+/// What the input looks like, its faults, and the statuses.
+pub const FORMAT: &str = "Input: a graph in the DIMACS format, a line each
+  p edge NODES EDGES   first: the number of vertices (EDGES is not looked at)
+  e V W                an edge between two different vertices from 1 to NODES
+Lines that begin with c, n, d, v or x, and empty lines, are skipped.
+
+Faults of the input, each told as `forestplan: F6 line 2`:
+  F1  no p line                    F5  a vertex is 0 or above NODES
+  F2  a second p line              F6  an edge from a vertex to itself
+  F3  an e line before the p line  F7  above 20000 vertices or 400000 edges
+  F4  a field is missing or wrong  F8  a line of an unknown kind
+and as `forestplan: N1 vertex 1` a vertex with more than 1023 neighbours.
+
+Status: 0 done, 1 input refused, 2 command line refused, 4 memory ran out, or
+the input could not be read or the output not written.
+
+Example:
+  printf 'p edge 3 3\\ne 1 2\\ne 1 3\\ne 2 3\\n' | forestplan forests";
+
+/// What `forests` does, in a line.
+pub const FORESTS_ABOUT: &str = "Prints the forests into which the edges are parted";
+
+/// The same, at length.
+pub const FORESTS_LONG_ABOUT: &str = "Prints the forests into which the edges are parted.
+
+Every vertex numbers its neighbours above it, ascending, from 0. The edges with
+number F are forest F, in which the higher end of an edge is the lower's parent.";
+
+/// What `forests` reads and writes, and an example.
+pub const FORESTS_FORMAT: &str =
+    "Input: a graph in the DIMACS format, as `p edge NODES EDGES` and then `e V W`.
+
+Output, a line each:
+  forests N U          the number of vertices, and of forests
+  F CHILD PARENT       for each edge: its forest, from 0, and its two ends
+The lines are in ascending order by forest, then by child.
+
+Example: the triangle
+  printf 'p edge 3 3\\ne 1 2\\ne 1 3\\ne 2 3\\n' | forestplan forests
+prints
+  forests 3 2
+  0 1 2
+  0 2 3
+  1 1 3";
