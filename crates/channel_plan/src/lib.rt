@@ -1,0 +1,16 @@
+//! Channel plans as text: `plan`, and then a line for each vertex with its channel.
+//!
+//! The program's commands that plan channels stand on it.
+//!
+//! ```
+//! plan_text(alloc, &[1, 2, 0])?;          // "plan", "1 2", "2 3", "3 1", a line each
+//! ```
+//!
+//! A channel is a colour plus one. Colours are below 2^16, as nodes have at most 1,023 neighbours.
+#![tactic(auto)]
+
+#[cfg(test)]
+mod tests;
+mod writing;
+
+pub use writing::plan_text;
