@@ -1,0 +1,4 @@
+pub mod Boxes
+pub mod Pairs
+pub mod Run
+pub mod Laws

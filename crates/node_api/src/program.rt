@@ -1,0 +1,88 @@
+// Programs of nodes.
+
+ghost use Rattle.std.specs.Prelude.{◌≡◌, ◌≤◌, ℕ, List, Option, Result, IfOk, MatchResult, OnErr, length};
+ghost use Rattle.interference.specs.Net.{Net, IsVertex};
+ghost use Rattle.node_api.specs.Boxes.{nothing};
+ghost use Rattle.node_api.specs.Run.{Own, Sizes, own_of};
+ghost use Rattle.node_api.specs.Laws.{IsProgram, last_of};
+
+use crate::inbox::Inbox;
+use crate::outbox::Outbox;
+use crate::payload::PayloadText;
+use interference::{Memory, Network};
+use std::alloc::Global;
+
+/// Why a node refuses an inbox: the number of the rule that is broken, and the port, if it is one's.
+#[derive(Debug, Clone, Copy, PartialEq, Eq)]
+pub struct Refused {
+    pub rule: u16,
+    pub port: Option<u32>,
+}
+
+/// A program that every node of a network runs, pulse by pulse.
+///
+/// At pulse 0 `init` is called. At each later pulse, up to the last, `pre_step`, `handle_messages` and
+/// `post_step` are called in this order, also with an empty inbox. The names of the calls are Sinalgo's
+/// (ETH Zurich).
+pub trait NodeProgram: Sized + Drop + Send {
+    ghost use Rattle.node_api.specs.declared.program.Refused.{Refused};
+
+    /// What nodes send one another.
+    type Payload: PayloadText;
+
+    /// The last pulse: it goes by n, Δ and U alone.
+    ghost last: { Sizes → ℕ };
+
+    /// How many ports a node has.
+    ghost ports: { Self → ℕ };
+
+    /// A node before `init`: it goes by its vertex's own data alone.
+    ghost made: { Own → Self };
+
+    /// What `init` leaves, and what it sends.
+    ghost greet: { Self → Self × List (Option Self.Payload) };
+
+    /// The next state and what is sent, or a refusal, by state, pulse and inbox.
+    ghost next: { Self → ℕ → List (Option Self.Payload) → Result (Self × List (Option Self.Payload)) Refused };
+
+    /// On the synchronous run of every network nothing is refused, and the last pulse sends nothing.
+    ghost laws: { IsProgram last ports made greet next };
+
+    /// The pulse after which a node is done.
+    fn last_pulse(net: &Network) -> u32
+        ensures last { result ≡ last_of last net.now };
+
+    /// The node of a vertex, before `init`.
+    fn make(alloc: Global, net: &Network, v: u32) -> Result<Self, Memory>
+        requires vertex { IsVertex net.now v }
+        ensures made { IfOk result (λ program. program ≡ made (own_of net.now v)) };
+
+    /// Sends the first messages, at pulse 0.
+    fn init(&mut self, out: &mut Outbox<Self::Payload>)
+        requires out { out.old ≡ nothing (ports self.old) }
+        ensures node { (self.new, out.new) ≡ greet self.old };
+
+    /// Prepares working space for a pulse; the state stays.
+    fn pre_step(&mut self, pulse: u32)
+        requires pulse { 1 ≤ pulse }
+        ensures same { self.new ≡ self.old };
+
+    /// Reads what came, changes the state and sends; a refusal leaves the state and the empty outbox.
+    fn handle_messages(
+        &mut self,
+        pulse: u32,
+        inbox: &mut Inbox<Self::Payload>,
+        out: &mut Outbox<Self::Payload>,
+    ) -> Result<(), Refused>
+        requires rewound { inbox.old.place ≡ 0 }
+        requires inbox { length inbox.old.slots ≡ ports self.old }
+        requires out { out.old ≡ nothing (ports self.old) }
+        ensures answer { MatchResult result (λ _. next self.old pulse inbox.old.slots ≡ Result.Ok (self.new, out.new)) (λ refused. next self.old pulse inbox.old.slots ≡ Result.Err refused) }
+        ensures refused { OnErr result ((self.new ≡ self.old) × (out.new ≡ out.old)) }
+        ensures inbox { inbox.new.slots ≡ inbox.old.slots };
+
+    /// Tidies working space after a pulse; the state stays.
+    fn post_step(&mut self, pulse: u32)
+        requires pulse { 1 ≤ pulse }
+        ensures same { self.new ≡ self.old };
+}

@@ -1,0 +1,5 @@
+pub mod Received
+pub mod Deliveries
+pub mod Steps
+pub mod Spreading
+pub mod Reaching

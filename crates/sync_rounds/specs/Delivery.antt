@@ -1,0 +1,17 @@
+-- How far the messages of a pulse have been delivered: senders ascend, and the ports of each.
+use Rattle.std.specs.Prelude.{◌≡◌, ◌⊎◌, ℕ, ◌-◌, ◌<◌, List, length, Option, None, slice_index_or}
+use Rattle.interference.specs.Net.{Net, IsVertex, count_of, degree_of, neighbour_of, back_port_of}
+use Rattle.node_api.specs.Boxes.{at_port, Mail}
+use Rattle.sync_rounds.specs.Lists.{sent_at}
+
+-- the message to v at this port is of a sender before w, or one of w's at a port before q
+abbrev pub IsDone : Net → ℕ → ℕ → ℕ → ℕ → Type 0
+IsDone net w q v port = (neighbour_of net v port < w) ⊎ ((neighbour_of net v port ≡ w) × (back_port_of net v port < q))
+
+-- Each vertex has an unread inbox with what was delivered to it, and nothing else.
+pub record Delivered {M : Type 0} (net : Net) (outs : List (List (Option M))) (w q : ℕ) (inboxes : List (Mail M)) : Type 0 where
+  pub count : length inboxes ≡ count_of net
+  pub start : (v : ℕ) (d : Mail M) → IsVertex net v → (slice_index_or inboxes (v - 1) d).place ≡ 0
+  pub ports : (v : ℕ) (d : Mail M) → IsVertex net v → length (slice_index_or inboxes (v - 1) d).slots ≡ degree_of net v
+  pub done : (v port : ℕ) (d : Mail M) → IsVertex net v → port < degree_of net v → IsDone net w q v port → at_port (slice_index_or inboxes (v - 1) d).slots port ≡ sent_at outs (neighbour_of net v port) (back_port_of net v port)
+  pub left : (v port : ℕ) (d : Mail M) → IsVertex net v → port < degree_of net v → (IsDone net w q v port → ⊥) → at_port (slice_index_or inboxes (v - 1) d).slots port ≡ None

@@ -1,0 +1,7 @@
+pub mod Lists
+pub mod Delivery
+pub mod Greatest
+pub mod Spread
+pub mod Words
+pub mod SpreadLaws
+pub mod Reach

@@ -1,0 +1,46 @@
+// From the outboxes of a pulse to the inboxes of the next one.
+
+ghost use Rattle.std.specs.Prelude.{◌≡◌, ◌<◌, ◌-◌, ◌+◌, ℕ, Option, [], length, slice_index_or};
+ghost use Rattle.interference.specs.Net.{Net, IsNetwork, IsVertex, count_of, degree_of};
+ghost use Rattle.node_api.specs.Boxes.{Mail, unread};
+ghost use Rattle.sync_rounds.specs.Lists.{Lists, empty_inbox, received};
+ghost use Rattle.sync_rounds.specs.Delivery.{Delivered};
+
+use interference::Network;
+use node_api::{Inbox, Outbox};
+
+/// Puts what was sent into the empty inboxes. Senders ascend by vertex, so an inbox gets its payloads
+/// by ascending port.
+pub(crate) fn deliver<T: Copy>(net: &Network, outs: &[Outbox<T>], inboxes: &mut [Inbox<T>])
+    requires outs { length outs.now ≡ count_of net.now }
+    requires ports { (w : ℕ) → IsVertex net.now w → length (slice_index_or outs.now (w - 1) []) ≡ degree_of net.now w }
+    requires inboxes { Lists (count_of net.now) (empty_inbox net.now) inboxes.old }
+    ensures received { Lists (count_of net.now) (λ v. unread (received net.now outs.now v)) inboxes.new }
+{
+    net.is_network();
+    for i in 0..net.nodes() {
+        let out = &outs[i as usize];
+        if !out.is_quiet() {
+            deliver_from(net, i + 1, outs, inboxes);
+        }
+    }
+}
+
+/// Puts what one vertex sent into its neighbours' inboxes, each at the port that leads back to it.
+fn deliver_from<T: Copy>(net: &Network, w: u32, outs: &[Outbox<T>], inboxes: &mut [Inbox<T>])
+    requires vertex { IsVertex net.now w }
+    requires outs { length outs.now ≡ count_of net.now }
+    requires ports { length (slice_index_or outs.now (w - 1) []) ≡ degree_of net.now w }
+    requires before { Delivered net.now outs.now w 0 inboxes.old }
+    ensures after { Delivered net.now outs.now (w + 1) 0 inboxes.new }
+{
+    net.is_network();
+    let out = &outs[(w - 1) as usize];
+    for port in 0..net.degree(w) {
+        if let Some(payload) = out.get(port) {
+            let v = net.neighbour(w, port);
+            let inbox = &mut inboxes[(v - 1) as usize];
+            inbox.put(net.back_port(w, port), payload);
+        }
+    }
+}

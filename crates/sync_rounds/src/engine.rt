@@ -1,0 +1,123 @@
+// The rounds of a program, pulse by pulse.
+
+ghost use Rattle.std.specs.Prelude.{◌≡◌, ◌<◌, ◌≤◌, ◌+◌, ◌^◌, ℕ, List, Option, IfOk, length, suc, map};
+ghost use Rattle.interference.specs.Net.{Net, IsVertex, count_of, degree_of, vertices};
+ghost use Rattle.node_api.specs.Boxes.{nothing, at_port, Mail, unread};
+ghost use Rattle.node_api.specs.Run.{own_of, node_at, inbox_from, after};
+ghost use Rattle.node_api.specs.Laws.{IsProgram, last_of, first_of};
+ghost use Rattle.sync_rounds.specs.Lists.{Lists, empty_inbox};
+
+use crate::delivery::deliver;
+use interference::{Memory, Network};
+use node_api::{Inbox, NodeProgram, Outbox};
+use std::alloc::Global;
+
+/// All nodes after the last pulse of the synchronous run: entry `v - 1` is vertex `v`.
+///
+/// # Errors
+///
+/// `Memory` where memory is refused, which can be at the start alone.
+pub fn run_rounds<P: NodeProgram>(alloc: Global, net: &Network) -> Result<Vec<P>, Memory>
+    ensures states { IfOk result (λ programs. programs.items ≡ map (λ v. (node_at (first_of P.made P.greet) P.next net.now (last_of P.last net.now) v).0) (vertices net.now)) }
+{
+    let (mut programs, mut inboxes, mut outs) = start::<P>(alloc, net)?;
+    rounds(
+        net,
+        P::last_pulse(net),
+        &mut programs,
+        &mut inboxes,
+        &mut outs,
+    );
+    Ok(programs)
+}
+
+/// All nodes after pulse 0, with what they sent and empty inboxes.
+fn start<P: NodeProgram>(
+    alloc: Global,
+    net: &Network,
+) -> Result<(Vec<P>, Vec<Inbox<P::Payload>>, Vec<Outbox<P::Payload>>), Memory>
+    ensures programs { IfOk result (λ all. Lists (count_of net.now) (λ v. (node_at (first_of P.made P.greet) P.next net.now 0 v).0) all.0.items) }
+    ensures inboxes { IfOk result (λ all. Lists (count_of net.now) (empty_inbox net.now) all.1.items) }
+    ensures outs { IfOk result (λ all. Lists (count_of net.now) (λ v. (node_at (first_of P.made P.greet) P.next net.now 0 v).1) all.2.items) }
+{
+    let mut programs = Vec::new(alloc);
+    let mut inboxes = Vec::new(alloc);
+    let mut outs = Vec::new(alloc);
+    for i in 0..net.nodes() {
+        let degree = net.degree(i + 1);
+        let inbox = Inbox::new(alloc, degree)?;
+        let mut out = Outbox::new(alloc, degree)?;
+        let mut program = P::make(alloc, net, i + 1)?;
+        program.init(&mut out);
+        programs.push(program)?;
+        inboxes.push(inbox)?;
+        outs.push(out)?;
+    }
+    Ok((programs, inboxes, outs))
+}
+
+/// The pulses 1 to `last` of all nodes.
+fn rounds<P: NodeProgram>(
+    net: &Network,
+    last: u32,
+    programs: &mut [P],
+    inboxes: &mut [Inbox<P::Payload>],
+    outs: &mut [Outbox<P::Payload>],
+)
+    requires programs { Lists (count_of net.now) (λ v. (node_at (first_of P.made P.greet) P.next net.now 0 v).0) programs.old }
+    requires inboxes { Lists (count_of net.now) (empty_inbox net.now) inboxes.old }
+    requires outs { Lists (count_of net.now) (λ v. (node_at (first_of P.made P.greet) P.next net.now 0 v).1) outs.old }
+    ensures programs { Lists (count_of net.now) (λ v. (node_at (first_of P.made P.greet) P.next net.now last v).0) programs.new }
+{
+    net.is_network();
+    for done in 0..last {
+        deliver(net, outs, inboxes);
+        pulse_all(net, done, programs, inboxes, outs);
+    }
+}
+
+/// The pulse after `done` of all nodes. It leaves the inboxes empty.
+fn pulse_all<P: NodeProgram>(
+    net: &Network,
+    done: u32,
+    programs: &mut [P],
+    inboxes: &mut [Inbox<P::Payload>],
+    outs: &mut [Outbox<P::Payload>],
+)
+    requires done { done + 1 < 2 ^ 32 }
+    requires programs { Lists (count_of net.now) (λ v. (node_at (first_of P.made P.greet) P.next net.now done v).0) programs.old }
+    requires inboxes { Lists (count_of net.now) (λ v. unread (inbox_from net.now (node_at (first_of P.made P.greet) P.next net.now done) v)) inboxes.old }
+    requires outs { Lists (count_of net.now) (λ v. (node_at (first_of P.made P.greet) P.next net.now done v).1) outs.old }
+    ensures programs { Lists (count_of net.now) (λ v. (node_at (first_of P.made P.greet) P.next net.now (suc done) v).0) programs.new }
+    ensures inboxes { Lists (count_of net.now) (empty_inbox net.now) inboxes.new }
+    ensures outs { Lists (count_of net.now) (λ v. (node_at (first_of P.made P.greet) P.next net.now (suc done) v).1) outs.new }
+{
+    for i in 0..net.nodes() {
+        let program = &mut programs[i as usize];
+        let inbox = &mut inboxes[i as usize];
+        let out = &mut outs[i as usize];
+        step(program, done + 1, inbox, out);
+    }
+}
+
+/// One pulse of one node. It leaves the inbox empty.
+fn step<P: NodeProgram>(
+    program: &mut P,
+    pulse: u32,
+    inbox: &mut Inbox<P::Payload>,
+    out: &mut Outbox<P::Payload>,
+)
+    requires pulse { 1 ≤ pulse }
+    requires unread { inbox.old ≡ unread inbox.old.slots }
+    requires ports { length inbox.old.slots ≡ P.ports program.old }
+    requires out { length out.old ≡ P.ports program.old }
+    ensures node { (program.new, out.new) ≡ after program.old (P.ports program.old) (P.next program.old pulse inbox.old.slots) }
+    ensures empty { inbox.new ≡ unread (nothing (length inbox.old.slots)) }
+{
+    out.clear();
+    program.pre_step(pulse);
+    // No program refuses what comes in the synchronous run; after a refusal the state would stay.
+    let _ = program.handle_messages(pulse, inbox, out);
+    program.post_step(pulse);
+    inbox.clear();
+}
