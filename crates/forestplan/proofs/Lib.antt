@@ -1,0 +1,2 @@
+mod Giving
+pub mod Numbering

@@ -1,0 +1,40 @@
+-- What a command may answer to the bytes of its input.
+use Rattle.std.specs.Prelude.{◌≡◌, ℕ, List, Result, Ok, Err}
+use Rattle.std.specs.List.{range_with_len}
+use Rattle.dimacs_col.specs.Lines.{lines_of}
+use Rattle.dimacs_col.specs.Reading.{IsFault, IsGraph}
+use Rattle.interference.specs.Net.{Net, IsNetwork}
+use Rattle.interference.specs.Making.{IsFaultOf, network_of}
+use Rattle.command_line.specs.declared.request.Request.{Request}
+use Rattle.command_line.specs.declared.request.Request.TheVariants.{Forests}
+use Rattle.forestplan.specs.Texts.{forests_text}
+use Rattle.forestplan.specs.declared.fault.PlanFault.{PlanFault}
+use Rattle.forestplan.specs.declared.fault.PlanFault.TheVariants as plan
+
+-- the network of a graph, in which vertex v has the identifier v
+abbrev pub network_with : ℕ → List (ℕ × ℕ) → Net
+network_with nodes edges = network_of (range_with_len 1 nodes) edges
+
+-- the text is that of a graph, of whose network something holds
+abbrev pub ReadsAs : List ℕ → (Net → Type 0) → Type 0
+ReadsAs text holds = (nodes : ℕ) × (edges : List (ℕ × ℕ))
+    × IsGraph (lines_of text) nodes edges × holds (network_with nodes edges)
+
+-- the fault of a text: that of its reading, or that of the network which was read
+abbrev pub IsFaultOfText : List ℕ → PlanFault → Type 0
+IsFaultOfText text (plan.Col fault) = IsFault (lines_of text) fault
+IsFaultOfText text (plan.Net fault) = ReadsAs text (λ net. IsFaultOf net fault)
+IsFaultOfText text plan.Memory = Unit {0}
+
+-- the answer is the forests text of the network that the input describes
+abbrev pub IsForestsAnswer : List ℕ → List ℕ → Type 0
+IsForestsAnswer input answer = ReadsAs input (λ net. IsNetwork net × (answer ≡ forests_text net))
+
+-- what each command answers where its input is good, a line for each
+abbrev pub IsGoodAnswer : Request → List ℕ → List ℕ → Type 0
+IsGoodAnswer Forests input answer = IsForestsAnswer input answer
+
+-- the bytes that a command may answer, or its fault
+abbrev pub MayAnswer : Request → List ℕ → Result (List ℕ) PlanFault → Type 0
+MayAnswer request input (Ok answer) = IsGoodAnswer request input answer
+MayAnswer request input (Err fault) = IsFaultOfText input fault

@@ -1,0 +1,86 @@
+//! What a command answers to the bytes of its input.
+
+ghost use Rattle.std.specs.Prelude.{◌≡◌, IfOk, IfErr, Ok, Err};
+ghost use Rattle.std.specs.List.{range_with_len};
+ghost use Rattle.interference.specs.Making.{EdgesFit, IsFaultOf};
+ghost use Rattle.interference.specs.Net.{IsNetwork};
+ghost use Rattle.forestplan.specs.Answers.{IsFaultOfText, IsForestsAnswer, MayAnswer, ReadsAs, network_with};
+
+use crate::fault::PlanFault;
+use crate::forests_text::text_of_forests;
+use command_line::Request;
+use dimacs_col::{ColFile, read};
+use interference::{NetFault, Network};
+use std::alloc::{AllocError, Global};
+
+// The identifiers 1 to n.
+#[tactic(auto, using(crate::proofs::Numbering::one_more))]
+fn identifiers(alloc: Global, nodes: u32) -> Result<Vec<u64>, AllocError>
+    ensures { IfOk result (λ ids. ids.items ≡ range_with_len 1 nodes) }
+{
+    let mut ids = Vec::new(alloc);
+    for v in 0..nodes {
+        ids.push(u64::from(v) + 1)?;
+    }
+    Ok(ids)
+}
+
+// The network of a graph, in which each vertex is its own identifier.
+fn network_of_graph(alloc: Global, graph: &ColFile) -> Result<Network, NetFault>
+    requires { EdgesFit graph.now.nodes graph.now.edges.items }
+    ensures ok { IfOk result (λ net. (net ≡ network_with graph.now.nodes graph.now.edges.items) × IsNetwork net) }
+    ensures fault { IfErr result (IsFaultOf (network_with graph.now.nodes graph.now.edges.items)) }
+{
+    let Ok(ids) = identifiers(alloc, graph.nodes) else {
+        return Err(NetFault::Memory);
+    };
+    let network = Network::new(alloc, graph.nodes, ids.as_slice(), graph.edges.as_slice())?;
+    network.is_network();
+    Ok(network)
+}
+
+// The network that a text describes.
+fn network_of_text(alloc: Global, input: &[u8]) -> Result<Network, PlanFault>
+    ensures ok { IfOk result (λ net. ReadsAs input.now (λ read. IsNetwork read × (net ≡ read))) }
+    ensures fault { IfErr result (IsFaultOfText input.now) }
+{
+    match read(alloc, input) {
+        Ok(graph) => match network_of_graph(alloc, &graph) {
+            Ok(network) => Ok(network),
+            Err(fault) => Err(PlanFault::Net(fault)),
+        },
+        Err(fault) => Err(PlanFault::Col(fault)),
+    }
+}
+
+/// The forests text of the network that a DIMACS text describes, in which vertex v has the
+/// identifier v.
+///
+/// # Errors
+/// `Col` with the fault of the reading, else `Net` with that of the network. Want of memory may be
+/// told in place of any answer: `ColFault::Memory`, `NetFault::Memory` or `Memory`.
+pub fn forest_bytes(alloc: Global, input: &[u8]) -> Result<Vec<u8>, PlanFault>
+    ensures ok { IfOk result (λ text. IsForestsAnswer input.now text.items) }
+    ensures fault { IfErr result (IsFaultOfText input.now) }
+{
+    match network_of_text(alloc, input) {
+        Ok(network) => match text_of_forests(alloc, &network) {
+            Ok(text) => Ok(text),
+            Err(_) => Err(PlanFault::Memory),
+        },
+        Err(fault) => Err(fault),
+    }
+}
+
+/// What a command answers to its input.
+///
+/// # Errors
+/// The fault of the input, or of memory.
+pub fn answer_bytes(alloc: Global, request: Request, input: &[u8]) -> Result<Vec<u8>, PlanFault>
+    ensures ok { IfOk result (λ bytes. MayAnswer request input.now (Ok bytes.items)) }
+    ensures fault { IfErr result (λ fault. MayAnswer request input.now (Err fault)) }
+{
+    match request {
+        Request::Forests => forest_bytes(alloc, input),
+    }
+}

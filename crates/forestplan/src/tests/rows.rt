@@ -1,0 +1,158 @@
+//! Worked networks and faults, from words and input to output, errors and status.
+
+use crate::fault::{PlanFault, told_of};
+use crate::serving::serve;
+use crate::tests::fakes::{NEVER, Reader, Writer};
+use dimacs_col::ColFault;
+use interference::NetFault;
+use std::test::Fail;
+
+const TRIANGLE: &str = "p edge 3 3\ne 1 2\ne 1 3\ne 2 3\n";
+
+const PATH: &str =
+    "c path\r\np edges 3 99 extra\r\n\r\nn 1 2\r\ne 1 2 7\r\ne 2 1\r\ne 3 2\r\ne 2 3\r\n";
+
+const FOUR_CYCLE: &str = "p edge 4 4\ne 1 2\ne 2 3\ne 3 4\ne 1 4\n";
+
+#[test]
+fn prints_forests(rt: HostRuntime) -> Result<(), Fail> {
+    let alloc = rt.alloc();
+    for (text, forests) in [
+        (TRIANGLE, "forests 3 2\n0 1 2\n0 2 3\n1 1 3\n"),
+        (PATH, "forests 3 1\n0 1 2\n0 2 3\n"),
+        (FOUR_CYCLE, "forests 4 2\n0 1 2\n0 2 3\n0 3 4\n1 1 4\n"),
+        ("p col 2 0\n", "forests 2 0\n"),
+        ("p edge 3 3\ne 1 2", "forests 3 1\n0 1 2\n"),
+    ] {
+        let mut input = Reader::new(text.as_bytes(), NEVER);
+        let mut output = Writer::new(alloc, NEVER, false);
+        let mut errors = Writer::new(alloc, NEVER, false);
+        let status = serve(
+            alloc,
+            &["forestplan", "forests"],
+            &mut input,
+            &mut output,
+            &mut errors,
+        );
+        assert_eq!(rt; status, 0, "at {text}");
+        assert!(rt; output.bytes.as_slice() == forests.as_bytes(), "at {text}");
+        assert!(rt; errors.bytes.is_empty(), "at {text}");
+    }
+    Ok(())
+}
+
+#[test]
+fn tells_the_fault_of_the_input(rt: HostRuntime) -> Result<(), Fail> {
+    let alloc = rt.alloc();
+    for (text, line) in [
+        ("", "forestplan: F1\n"),
+        ("c x\n", "forestplan: F1\n"),
+        ("p edge 2 1\np x\n", "forestplan: F2 line 2\n"),
+        ("e 1 2\np edge 2 1\n", "forestplan: F3 line 1\n"),
+        ("p edge 3\n", "forestplan: F4 line 1\n"),
+        ("p edge 2 1\ne 0 1\n", "forestplan: F5 line 2\n"),
+        ("p edge 2 1\ne 1 1\n", "forestplan: F6 line 2\n"),
+        ("p edge 20001 0\n", "forestplan: F7 line 1\n"),
+        ("q 1\n", "forestplan: F8 line 1\n"),
+    ] {
+        let mut input = Reader::new(text.as_bytes(), NEVER);
+        let mut output = Writer::new(alloc, NEVER, false);
+        let mut errors = Writer::new(alloc, NEVER, false);
+        let status = serve(
+            alloc,
+            &["forestplan", "forests"],
+            &mut input,
+            &mut output,
+            &mut errors,
+        );
+        assert_eq!(rt; status, 1, "at {text}");
+        assert!(rt; output.bytes.is_empty(), "at {text}");
+        assert!(rt; errors.bytes.as_slice() == line.as_bytes(), "at {text}");
+    }
+    Ok(())
+}
+
+// A centre with 1,024 neighbours has one too many.
+#[test]
+fn tells_the_crowded_vertex(rt: HostRuntime) -> Result<(), Fail> {
+    let alloc = rt.alloc();
+    let mut text = format!(in alloc; "p edge 1025 1024\n")?;
+    for leaf in 2..1026 {
+        text.push_str(format!(in alloc; "e 1 {leaf}\n")?.as_str())?;
+    }
+    let mut input = text.as_bytes();
+    let mut output = Vec::new(alloc);
+    let mut errors = Vec::new(alloc);
+    let status = serve(
+        alloc,
+        &["forestplan", "forests"],
+        &mut input,
+        &mut output,
+        &mut errors,
+    );
+    assert_eq!(rt; status, 1);
+    assert!(rt; output.is_empty());
+    assert!(rt; errors.as_slice() == b"forestplan: N1 vertex 1\n".as_slice());
+    Ok(())
+}
+
+// Each fault, in the order of the table, with its line and its status.
+#[test]
+fn tells_each_fault(rt: HostRuntime) -> Result<(), Fail> {
+    for (fault, line, status) in [
+        (PlanFault::Col(ColFault::NoProblem), "forestplan: F1\n", 1),
+        (
+            PlanFault::Col(ColFault::SecondProblem(2)),
+            "forestplan: F2 line 2\n",
+            1,
+        ),
+        (
+            PlanFault::Col(ColFault::EdgeBeforeProblem(3)),
+            "forestplan: F3 line 3\n",
+            1,
+        ),
+        (
+            PlanFault::Col(ColFault::BadField(4)),
+            "forestplan: F4 line 4\n",
+            1,
+        ),
+        (
+            PlanFault::Col(ColFault::VertexRange(5)),
+            "forestplan: F5 line 5\n",
+            1,
+        ),
+        (
+            PlanFault::Col(ColFault::SelfLoop(6)),
+            "forestplan: F6 line 6\n",
+            1,
+        ),
+        (
+            PlanFault::Col(ColFault::TooLarge(400_002)),
+            "forestplan: F7 line 400002\n",
+            1,
+        ),
+        (
+            PlanFault::Col(ColFault::UnknownLine(8)),
+            "forestplan: F8 line 8\n",
+            1,
+        ),
+        (PlanFault::Col(ColFault::Memory), "forestplan: memory\n", 4),
+        (
+            PlanFault::Net(NetFault::Degree(1)),
+            "forestplan: N1 vertex 1\n",
+            1,
+        ),
+        (
+            PlanFault::Net(NetFault::SameId(1, 2)),
+            "forestplan: N2 vertices 1 2\n",
+            1,
+        ),
+        (PlanFault::Net(NetFault::Memory), "forestplan: memory\n", 4),
+        (PlanFault::Memory, "forestplan: memory\n", 4),
+    ] {
+        let told = told_of(rt.alloc(), fault)?;
+        assert!(rt; told.line.as_bytes() == line.as_bytes());
+        assert_eq!(rt; told.status, status);
+    }
+    Ok(())
+}
