@@ -5,6 +5,7 @@ use crate::serving::serve;
 use crate::tests::fakes::{NEVER, Reader, Writer};
 use dimacs_col::ColFault;
 use interference::NetFault;
+use std::alloc::Global;
 use std::test::Fail;
 
 const TRIANGLE: &str = "p edge 3 3\ne 1 2\ne 1 3\ne 2 3\n";
@@ -96,63 +97,67 @@ fn tells_the_crowded_vertex(rt: HostRuntime) -> Result<(), Fail> {
     Ok(())
 }
 
-// Each fault, in the order of the table, with its line and its status.
+// Whether a fault is told by this line, with this status.
+fn is_told(alloc: Global, fault: PlanFault, line: &str, status: u8) -> Result<bool, Fail> {
+    let told = told_of(alloc, fault)?;
+    Ok(told.line.as_bytes() == line.as_bytes() && told.status == status)
+}
+
+// Each fault of a reading, in the order of the table.
 #[test]
-fn tells_each_fault(rt: HostRuntime) -> Result<(), Fail> {
-    for (fault, line, status) in [
-        (PlanFault::Col(ColFault::NoProblem), "forestplan: F1\n", 1),
-        (
-            PlanFault::Col(ColFault::SecondProblem(2)),
-            "forestplan: F2 line 2\n",
-            1,
-        ),
-        (
-            PlanFault::Col(ColFault::EdgeBeforeProblem(3)),
-            "forestplan: F3 line 3\n",
-            1,
-        ),
-        (
-            PlanFault::Col(ColFault::BadField(4)),
-            "forestplan: F4 line 4\n",
-            1,
-        ),
-        (
-            PlanFault::Col(ColFault::VertexRange(5)),
-            "forestplan: F5 line 5\n",
-            1,
-        ),
-        (
-            PlanFault::Col(ColFault::SelfLoop(6)),
-            "forestplan: F6 line 6\n",
-            1,
-        ),
-        (
-            PlanFault::Col(ColFault::TooLarge(400_002)),
-            "forestplan: F7 line 400002\n",
-            1,
-        ),
-        (
-            PlanFault::Col(ColFault::UnknownLine(8)),
-            "forestplan: F8 line 8\n",
-            1,
-        ),
-        (PlanFault::Col(ColFault::Memory), "forestplan: memory\n", 4),
-        (
+fn tells_each_fault_of_a_reading(rt: HostRuntime) -> Result<(), Fail> {
+    let alloc = rt.alloc();
+    for (fault, line) in [
+        (ColFault::NoProblem, "forestplan: F1\n"),
+        (ColFault::SecondProblem(2), "forestplan: F2 line 2\n"),
+        (ColFault::EdgeBeforeProblem(3), "forestplan: F3 line 3\n"),
+        (ColFault::BadField(4), "forestplan: F4 line 4\n"),
+        (ColFault::VertexRange(5), "forestplan: F5 line 5\n"),
+        (ColFault::SelfLoop(6), "forestplan: F6 line 6\n"),
+        (ColFault::TooLarge(400_002), "forestplan: F7 line 400002\n"),
+        (ColFault::UnknownLine(8), "forestplan: F8 line 8\n"),
+    ] {
+        assert!(rt; is_told(alloc, PlanFault::Col(fault), line, 1)?);
+    }
+    assert!(rt;
+        is_told(
+            alloc,
+            PlanFault::Col(ColFault::Memory),
+            "forestplan: memory\n",
+            4
+        )?
+    );
+    Ok(())
+}
+
+// Each fault of a network, and want of memory.
+#[test]
+fn tells_each_fault_of_a_network(rt: HostRuntime) -> Result<(), Fail> {
+    let alloc = rt.alloc();
+    assert!(rt;
+        is_told(
+            alloc,
             PlanFault::Net(NetFault::Degree(1)),
             "forestplan: N1 vertex 1\n",
-            1,
-        ),
-        (
+            1
+        )?
+    );
+    assert!(rt;
+        is_told(
+            alloc,
             PlanFault::Net(NetFault::SameId(1, 2)),
             "forestplan: N2 vertices 1 2\n",
-            1,
-        ),
-        (PlanFault::Net(NetFault::Memory), "forestplan: memory\n", 4),
-        (PlanFault::Memory, "forestplan: memory\n", 4),
-    ] {
-        let told = told_of(rt.alloc(), fault)?;
-        assert!(rt; told.line.as_bytes() == line.as_bytes());
-        assert_eq!(rt; told.status, status);
-    }
+            1
+        )?
+    );
+    assert!(rt;
+        is_told(
+            alloc,
+            PlanFault::Net(NetFault::Memory),
+            "forestplan: memory\n",
+            4
+        )?
+    );
+    assert!(rt; is_told(alloc, PlanFault::Memory, "forestplan: memory\n", 4)?);
     Ok(())
 }
