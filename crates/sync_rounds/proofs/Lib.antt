@@ -1,5 +1,6 @@
 pub mod Received
 pub mod Deliveries
+pub mod Messages
 pub mod Steps
 pub mod Spreading
 pub mod Reaching

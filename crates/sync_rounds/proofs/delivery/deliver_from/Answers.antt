@@ -5,7 +5,8 @@ use Rattle.interference.specs.Net.{degree_of, neighbour_of, back_port_of}
 use Rattle.node_api.specs.Boxes.{at_port, Mail}
 use Rattle.sync_rounds.specs.Lists.{sent_at}
 use Rattle.sync_rounds.specs.Delivery.{Delivered}
-use Rattle.sync_rounds.proofs.Deliveries.{free_there, delivered_put, delivered_none, delivered_sender}
+use Rattle.sync_rounds.proofs.Deliveries.{delivered_none, delivered_sender}
+use Rattle.sync_rounds.proofs.Messages.{free_there, delivered_put}
 use Rattle.sync_rounds.proofs.delivery.deliver_from.Goals as goal
 use Rattle.sync_rounds.proofs.delivery.deliver_from.Goals.{in-Some, in_default}
 
