@@ -1,17 +1,14 @@
 // Each call once, with ample memory, at a type of payload of this crate's own.
 
+ghost use Rattle.std.specs.Prelude.{◌≡◌};
+
 use crate::{Inbox, Outbox};
 
-fn read_all(inbox: &mut Inbox<u8>) -> (u32, u32) {
-    let mut ports = 0;
-    let mut payloads = 0;
-    for _i in 0..9u32 {
-        if inbox.has_next() {
-            payloads = (payloads * 10 + u32::from(inbox.next())) % 1000000;
-            ports = (ports * 10 + inbox.sender() % 10) % 1000000;
-        }
-    }
-    (ports, payloads)
+// Whether this payload of this port is the next to be read.
+fn next_is(inbox: &mut Inbox<u8>, port: u32, payload: u8) -> bool
+    ensures { inbox.new.slots ≡ inbox.old.slots }
+{
+    inbox.has_next() && inbox.next() == payload && inbox.sender() == port
 }
 
 #[test]
@@ -21,10 +18,16 @@ fn an_inbox_is_read_by_ascending_port(rt: HostRuntime) {
     inbox.put(0, 4);
     inbox.put(2, 9);
     assert!(rt; inbox.is_empty(1) && !inbox.is_empty(2) && inbox.is_empty(4));
-    assert_eq!(rt; read_all(&mut inbox), (23, 497));
+    assert!(rt; next_is(&mut inbox, 0, 4));
+    assert!(rt; next_is(&mut inbox, 2, 9));
+    assert!(rt; next_is(&mut inbox, 3, 7));
+    assert!(rt; !inbox.has_next());
     inbox.rewind();
     inbox.put(4, 1);
-    assert_eq!(rt; read_all(&mut inbox), (234, 4971));
+    assert!(rt; next_is(&mut inbox, 0, 4));
+    assert!(rt; next_is(&mut inbox, 2, 9));
+    assert!(rt; next_is(&mut inbox, 3, 7));
+    assert!(rt; next_is(&mut inbox, 4, 1));
     inbox.clear();
     assert!(rt; !inbox.has_next() && inbox.is_empty(3));
 }
