@@ -1,0 +1,28 @@
+-- How a node chooses its colour when a forest is merged with those before it.
+use Rattle.std.specs.Prelude.{ℕ, ◌+◌, ◌/◌, ◌%◌, ◌==◌, Bool, false, List, [], ◌∷◌, Option, Some, if◌then◌else◌, slice_index}
+use Rattle.std.specs.Ordering.{nat_cmp}
+use Rattle.std.specs.FinSet.{FinSet, empty, insert, contains}
+use Rattle.forest_merge.specs.Free.{least_free_colour}
+use Rattle.colour_rules.specs.declared.payload.Payload.{Payload}
+use Rattle.colour_rules.specs.declared.payload.Payload.TheVariants.{Chosen}
+use Rattle.colour_rules.specs.Node.{Node}
+
+-- the colours that came as chosen put into a set
+abbrev pub with_chosen : FinSet nat_cmp → List (Option Payload) → FinSet nat_cmp
+with_chosen set [] = set
+with_chosen set (Some (Chosen c) ∷ slots) = with_chosen (insert set c) slots
+with_chosen set (slot ∷ slots) = with_chosen set slots
+
+-- a node at a step of the merging once it has heard: the first step of a forest begins with the colour so far
+-- and nothing heard
+abbrev pub gathered : Node → ℕ → List (Option Payload) → Node
+gathered node s inbox =
+    record node { former = if s == 0 then node.merged else node.former; chosen = if s == 0 then empty else with_chosen node.chosen inbox }
+
+-- whether a node chooses at step s of forest f: its three-colour and its old colour are the pair of the step
+abbrev pub chooses : Node → ℕ → ℕ → Bool
+chooses node f s = if slice_index node.colours f == s / (node.sizes.greatest_degree + 1) then node.former == s % (node.sizes.greatest_degree + 1) else false
+
+-- the colour that a node chooses: the least that no neighbour before it chose
+abbrev pub free_for : Node → ℕ
+free_for node = least_free_colour node.sizes.greatest_degree (contains node.chosen)

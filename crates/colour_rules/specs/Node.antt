@@ -1,0 +1,74 @@
+-- What a node of the colouring keeps, and which phase of the rounds a pulse is in.
+use Rattle.std.specs.Prelude.{ℕ, ◌+◌, ◌-◌, ◌*◌, ◌/◌, ◌%◌, ◌==◌, List, length, map, replicate, Option, Some, if◌then◌else◌, nat_le}
+use Rattle.std.specs.Ordering.{nat_cmp}
+use Rattle.std.specs.FinSet.{FinSet, empty}
+use Rattle.node_api.specs.Run.{Own, Sizes}
+use Rattle.forests.specs.declared.numbering.Role.{Role}
+use Rattle.forests.specs.declared.numbering.Role.TheVariants.{Unknown, Up, Down}
+use Rattle.colour_rules.specs.declared.phase.Kind.{Kind}
+use Rattle.colour_rules.specs.declared.phase.Kind.TheVariants.{Step, Shift, Drop}
+use Rattle.colour_rules.specs.declared.phase.Phase.{Phase}
+use Rattle.colour_rules.specs.declared.phase.Phase.TheVariants.{Greet, Orient, Seed, Work, Merge, Halted}
+use Rattle.colour_rules.specs.declared.payload.Payload.{Payload}
+use Rattle.colour_rules.specs.declared.payload.Payload.TheVariants.{Hello}
+
+-- A node between two pulses.
+pub record Node : Type 0 where
+  pub id : ℕ
+  pub sizes : Sizes
+  -- by port, what the port is
+  pub roles : List Role
+  -- by forest, the node's colour there, and the one before the last shift
+  pub colours : List ℕ
+  pub before : List ℕ
+  -- its merged colour before the forest that is being merged, and its merged colour now
+  pub former : ℕ
+  pub merged : ℕ
+  -- the colours that neighbours chose in that forest
+  pub chosen : FinSet nat_cmp
+
+-- a node before it greets: it knows no port, and every colour is 0
+abbrev pub made : Own → Node
+made own =
+    record {
+      id = own.id;
+      sizes = own.sizes;
+      roles = replicate own.degree Unknown;
+      colours = replicate own.sizes.forests 0;
+      before = replicate own.sizes.forests 0;
+      former = 0;
+      merged = 0;
+      chosen = empty;
+    }
+
+-- pulse 0: every neighbour is told the identifier
+abbrev pub greet : Node → Node × List (Option Payload)
+greet node = (node, map (λ role. Some (Hello node.id)) node.roles)
+
+-- how many ports a node has
+abbrev pub ports : Node → ℕ
+ports node = length node.roles
+
+-- the forest of a port
+abbrev pub number_of : Role → ℕ
+number_of Unknown = 0
+number_of (Up f) = f
+number_of (Down f) = f
+
+-- how many steps the merging of one forest takes: one for each pair of a three-colour and an old colour
+abbrev pub steps : Sizes → ℕ
+steps sizes = 3 * (sizes.greatest_degree + 1)
+
+-- the last pulse: after the colouring of the forests, the steps of each
+abbrev pub last : Sizes → ℕ
+last sizes = 12 + sizes.forests * steps sizes
+
+-- what is made of the colours at pulses 3 to 12: four bit steps, and a shift before each of the drops of 5, 4 and 3
+abbrev pub kind_of : ℕ → Kind
+kind_of p = if nat_le p 6 then Step else if p == 8 then Drop 5 else if p == 10 then Drop 4 else if p == 12 then Drop 3 else Shift
+
+-- the phase of a pulse
+abbrev pub phase_of : Sizes → ℕ → Phase
+phase_of sizes p =
+    if p == 0 then Greet else if p == 1 then Orient else if p == 2 then Seed else if nat_le p 12 then Work (kind_of p)
+    else if nat_le p (last sizes) then Merge ((p - 13) / steps sizes) ((p - 13) % steps sizes) else Halted

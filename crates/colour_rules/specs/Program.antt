@@ -1,0 +1,117 @@
+-- What a node makes of a pulse, where nothing is refused.
+use Rattle.std.specs.Prelude.{ℕ, suc, ◌==◌, Bool, false, List, [], ◌∷◌, map, replicate, Option, Some, None, Result, Ok, Err, if◌then◌else◌, nat_le, slice_index}
+use Rattle.std.specs.List.{range_with_len}
+use Rattle.node_api.specs.declared.program.Refused.{Refused}
+use Rattle.cole_vishkin.specs.BitStep.{bit_by}
+use Rattle.shift_down.specs.Steps.{shift_by, drop_by}
+use Rattle.forests.specs.Forests.{role_by}
+use Rattle.forests.specs.declared.numbering.Role.{Role}
+use Rattle.forests.specs.declared.numbering.Role.TheVariants.{Unknown, Up, Down}
+use Rattle.colour_rules.specs.declared.phase.Kind.{Kind}
+use Rattle.colour_rules.specs.declared.phase.Kind.TheVariants.{Step, Shift, Drop}
+use Rattle.colour_rules.specs.declared.phase.Phase.{Phase}
+use Rattle.colour_rules.specs.declared.phase.Phase.TheVariants.{Greet, Orient, Seed, Work, Merge, Halted}
+use Rattle.colour_rules.specs.declared.payload.Payload.{Payload}
+use Rattle.colour_rules.specs.declared.payload.Payload.TheVariants.{Hello, Label, Colour, Chosen}
+use Rattle.colour_rules.specs.Node.{Node, number_of, steps, phase_of}
+use Rattle.colour_rules.specs.Choice.{gathered, chooses, free_for}
+use Rattle.colour_rules.specs.Refusals.{ids_in, refusal}
+
+-- what a port is after Orient, by the identifier that it brought
+abbrev pub oriented_slot : ℕ → List ℕ → Option Payload → Role
+oriented_slot own ids (Some (Hello n)) = role_by own ids n
+oriented_slot own ids slot = Unknown
+
+-- what a port is after Seed: where the neighbour says which forest, the port leads to a child there
+abbrev pub labelled : Role → Option Payload → Role
+labelled Unknown (Some (Label f)) = Down f
+labelled role slot = role
+
+-- every port after Seed
+abbrev pub all_labelled : List Role → List (Option Payload) → List Role
+all_labelled (role ∷ roles) (slot ∷ slots) = labelled role slot ∷ all_labelled roles slots
+all_labelled roles slots = []
+
+-- the node tells each parent the forest
+abbrev pub tells_label : Role → Option Payload
+tells_label (Up f) = Some (Label f)
+tells_label Unknown = None
+tells_label (Down f) = None
+
+-- and each child its colour in that forest
+abbrev pub tells_colour : List ℕ → Role → Option Payload
+tells_colour colours (Down f) = Some (Colour (slice_index colours f))
+tells_colour colours Unknown = None
+tells_colour colours (Up f) = None
+
+-- and each neighbour of the forests merged so far the colour that it chose
+abbrev pub tells_chosen : ℕ → ℕ → Role → Option Payload
+tells_chosen f c role = if nat_le (number_of role) f then Some (Chosen c) else None
+
+-- nothing to anyone
+abbrev pub silent : {A : Type 0} → List A → List (Option Payload)
+silent xs = map (λ x. None) xs
+
+-- whether a port leads to the parent in forest f
+abbrev pub is_up : ℕ → Role → Bool
+is_up f (Up g) = f == g
+is_up f Unknown = false
+is_up f (Down g) = false
+
+-- the colour in a slot
+abbrev pub colour_in : Option Payload → Option ℕ
+colour_in (Some (Colour c)) = Some c
+colour_in slot = None
+
+-- the colour that came from the parent in forest f, if there is a parent
+abbrev pub from_parent : ℕ → List Role → List (Option Payload) → Option ℕ
+from_parent f (role ∷ roles) (slot ∷ slots) = if is_up f role then colour_in slot else from_parent f roles slots
+from_parent f roles slots = None
+
+-- the next colour in a forest
+abbrev pub turned : Kind → ℕ → ℕ → Option ℕ → ℕ
+turned Step own before parent = bit_by own parent
+turned Shift own before parent = shift_by own parent
+turned (Drop x) own before parent = drop_by x own before parent
+
+-- the colour that is kept beside it: the one before a shift
+abbrev pub kept : Kind → ℕ → ℕ → ℕ
+kept Step own before = before
+kept Shift own before = own
+kept (Drop x) own before = before
+
+-- the work of Orient
+abbrev pub with_orient : Node → List (Option Payload) → List Role → Node × List (Option Payload)
+with_orient node inbox roles = (record node { roles = roles }, map tells_label roles)
+
+-- the work on the colours; at its end, pulse 12, nothing is told
+abbrev pub with_colours : Node → ℕ → List ℕ → List ℕ → Node × List (Option Payload)
+with_colours node p colours before = (record node { colours = colours; before = before }, if p == 12 then silent node.roles else map (tells_colour colours) node.roles)
+
+-- The work of each phase: the node after it, and what is sent.
+abbrev pub done : Node → ℕ → Phase → List (Option Payload) → Node × List (Option Payload)
+done node p Greet inbox = (node, silent node.roles)
+done node p Orient inbox = with_orient node inbox (map (oriented_slot node.id (ids_in inbox)) inbox)
+done node p Seed inbox =
+    let colours : List ℕ = replicate node.sizes.forests node.id in
+    (record node { roles = all_labelled node.roles inbox; colours = colours }, map (tells_colour colours) (all_labelled node.roles inbox))
+done node p (Work kind) inbox =
+    with_colours node p
+    (map (λ f. turned kind (slice_index node.colours f) (slice_index node.before f) (from_parent f node.roles inbox)) (range_with_len 0 node.sizes.forests))
+    (map (λ f. kept kind (slice_index node.colours f) (slice_index node.before f)) (range_with_len 0 node.sizes.forests))
+done node p (Merge f s) inbox =
+    let here : Node = gathered node s inbox in
+    let turn : Bool = chooses here f s in (
+      record here { merged = if turn then free_for here else node.merged },
+      if turn then (if suc s == steps node.sizes then silent node.roles else map (tells_chosen f (free_for here)) node.roles) else silent node.roles,
+    )
+done node p Halted inbox = (node, silent node.roles)
+
+-- a refusal, or the node
+abbrev pub answered : Option Refused → Node × List (Option Payload) → Result (Node × List (Option Payload)) Refused
+answered (Some refused) node = Err refused
+answered None node = Ok node
+
+-- A pulse: the first refusal, or the work of the phase.
+abbrev pub next : Node → ℕ → List (Option Payload) → Result (Node × List (Option Payload)) Refused
+next node p inbox = answered (refusal node p (phase_of node.sizes p) inbox) (done node p (phase_of node.sizes p) inbox)

@@ -1,0 +1,52 @@
+-- The text of a payload: a word for its kind, and its number.
+use Rattle.std.specs.Prelude.{◌≡◌, ℕ, ◌<◌, ◌^◌, List, length, Option, Some, None, if◌then◌else◌, nat_lt, codes, All, ◌&&◌, nat_eq}
+use Rattle.std.specs.Cmp.Lexicographic.{pointwise}
+use Rattle.std.proofs.Common.{arith, rules}
+use Rattle.std.proofs.lemmas.Bool.Decides.{nat_tests}
+use Rattle.std.specs.Char.{IsAsciiAlphabetic}
+use Rattle.colour_rules.specs.declared.payload.Payload.{Payload}
+use Rattle.colour_rules.specs.declared.payload.Payload.TheVariants.{Hello, Label, Colour, Chosen}
+
+-- identifiers and the colours made of them have 64 binary digits, forests and chosen colours 16
+abbrev pub IsPayload : Payload → Type 0
+IsPayload (Hello id) = id < 2 ^ 64
+IsPayload (Label forest) = forest < 2 ^ 16
+IsPayload (Colour colour) = colour < 2 ^ 64
+IsPayload (Chosen colour) = colour < 2 ^ 16
+
+-- the word of its kind
+abbrev pub word_in : Payload → List ℕ
+word_in (Hello id) = codes "hello"
+word_in (Label forest) = codes "label"
+word_in (Colour colour) = codes "colour"
+word_in (Chosen colour) = codes "chosen"
+
+-- its number
+abbrev pub number_in : Payload → ℕ
+number_in (Hello id) = id
+number_in (Label forest) = forest
+number_in (Colour colour) = colour
+number_in (Chosen colour) = colour
+
+-- what a word and a number say: a number of so many binary digits, after its word
+abbrev pub payload_from : List ℕ → ℕ → Option Payload
+payload_from word number =
+    if pointwise nat_eq word (codes "hello") && nat_lt number (2 ^ 64) then Some (Hello number)
+    else if pointwise nat_eq word (codes "label") && nat_lt number (2 ^ 16) then Some (Label number)
+    else if pointwise nat_eq word (codes "colour") && nat_lt number (2 ^ 64) then Some (Colour number)
+    else if pointwise nat_eq word (codes "chosen") && nat_lt number (2 ^ 16) then Some (Chosen number)
+    else None
+
+-- each word is of letters
+pub words_are_letters : (payload : Payload) → (0 < length (word_in payload)) × All IsAsciiAlphabetic (word_in payload)
+words_are_letters (Hello id) = (omega arith, grind (arith, rules))
+words_are_letters (Label forest) = (omega arith, grind (arith, rules))
+words_are_letters (Colour colour) = (omega arith, grind (arith, rules))
+words_are_letters (Chosen colour) = (omega arith, grind (arith, rules))
+
+-- the word and the number of a payload say it
+pub words_read_back : (payload : Payload) → IsPayload payload → payload_from (word_in payload) (number_in payload) ≡ Some payload
+words_read_back (Hello id) h = grind (arith, nat_tests)
+words_read_back (Label forest) h = grind (arith, nat_tests)
+words_read_back (Colour colour) h = grind (arith, nat_tests)
+words_read_back (Chosen colour) h = grind (arith, nat_tests)

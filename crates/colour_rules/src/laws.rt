@@ -1,0 +1,9 @@
+//! What the rounds keep at every node, whatever comes to it.
+ghost use Rattle.node_api.specs.Laws.{KeepsPorts};
+ghost use Rattle.colour_rules.specs.Node.{greet, made, ports};
+ghost use Rattle.colour_rules.specs.Program.{next};
+
+/// A node keeps its ports, and its outbox has a slot for each.
+pub fn ports_are_kept()
+    ensures { KeepsPorts ports made greet next }
+{}

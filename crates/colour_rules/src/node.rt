@@ -1,0 +1,124 @@
+// A node of the colouring: making it, its greeting, and the phases of its pulses.
+ghost use Rattle.std.specs.Prelude.{◌≡◌, IfOk};
+ghost use Rattle.interference.specs.Net.{IsVertex};
+ghost use Rattle.node_api.specs.Boxes.{nothing};
+ghost use Rattle.node_api.specs.Run.{own_of};
+ghost use Rattle.colour_rules.specs.Node.{greet, made, phase_of as phase_at, ports};
+
+use crate::payload::Payload;
+use crate::phase::{Kind, Phase};
+use forest_merge::ChosenSet;
+use forests::Role;
+use interference::{Memory, Network};
+use node_api::Outbox;
+use std::alloc::Global;
+use std::marker::Model;
+
+/// A node of the colouring. Contracts see the `Node` of `specs/Node.antt`.
+#[derive(Drop)]
+pub struct ColourNode {
+    id: u64,
+    nodes: u32,
+    greatest_degree: u16,
+    forests: u16,
+    // By port.
+    roles: Vec<Role>,
+    // By forest: the colour, and the one before the last shift.
+    colours: Vec<u64>,
+    before: Vec<u64>,
+    // The merged colour before the forest that is being merged, and now.
+    former: u16,
+    merged: u16,
+    chosen: ChosenSet,
+}
+
+impl Model for ColourNode {
+    ghost use Rattle.std.specs.Prelude.{◌≡◌, ◌≤◌, length};
+    ghost use Rattle.colour_rules.specs.Node.{Node};
+    ghost use Rattle.colour_rules.specs.Stored.{node_code};
+
+    ghost Value = { Node };
+
+    ghost coded = { node_code };
+
+    ghost view = { λ a. record {
+      id = a.id;
+      sizes = record { nodes = a.nodes; greatest_degree = a.greatest_degree; forests = a.forests };
+      roles = a.roles.items;
+      colours = a.colours.items;
+      before = a.before.items;
+      former = a.former;
+      merged = a.merged;
+      chosen = a.chosen;
+    } };
+
+    ghost invariant = { λ a. (a.greatest_degree ≤ 1023) × (a.forests ≤ 1023) × (length a.roles.items ≤ 1023)
+        × (length a.colours.items ≡ a.forests) × (length a.before.items ≡ a.forests) };
+}
+
+impl ColourNode {
+    /// The node of vertex `v`, before it greets: every role is unknown, every colour is 0, and nothing
+    /// is chosen. `Memory` where its lists get none.
+    pub fn make(alloc: Global, net: &Network, v: u32) -> Result<ColourNode, Memory>
+        requires { IsVertex net.now v }
+        ensures { IfOk result (λ node. node ≡ made (own_of net.now v)) }
+    {
+        net.is_network();
+        let degree = net.degree(v) as usize;
+        let greatest_degree = net.greatest_degree() as u16;
+        let forests = net.forest_count() as u16;
+        let roles = vec![in alloc; Role::Unknown; degree]?;
+        let colours = vec![in alloc; 0; forests as usize]?;
+        let before = vec![in alloc; 0; forests as usize]?;
+        Ok(ColourNode {
+            id: net.id(v),
+            nodes: net.nodes(),
+            greatest_degree,
+            forests,
+            roles,
+            colours,
+            before,
+            former: 0,
+            merged: 0,
+            chosen: ChosenSet::new(),
+        })
+    }
+
+    /// Pulse 0: tells every neighbour the node's identifier.
+    pub fn greet(&mut self, out: &mut Outbox<Payload>)
+        requires { out.old ≡ nothing (ports self.old) }
+        ensures { (self.new, out.new) ≡ greet self.old }
+    {
+        out.broadcast(Payload::Hello(self.id));
+    }
+
+    /// The node's colour so far: 0 before its first choice, and its colour once the rounds are over.
+    pub fn colour(&self) -> u16
+        ensures { result ≡ self.now.merged }
+    {
+        self.merged
+    }
+
+    /// The phase of a pulse: greeting, orienting, seeding, ten pulses of work on the colours of the
+    /// forests, the merging of one forest after another, and after the last pulse `Halted`.
+    pub fn phase(&self, pulse: u32) -> Phase
+        ensures { result ≡ phase_at self.now.sizes pulse }
+    {
+        let width = 3 * (u32::from(self.greatest_degree) + 1);
+        match pulse {
+            0 => Phase::Greet,
+            1 => Phase::Orient,
+            2 => Phase::Seed,
+            8 => Phase::Work(Kind::Drop(5)),
+            10 => Phase::Work(Kind::Drop(4)),
+            12 => Phase::Work(Kind::Drop(3)),
+            3..=6 => Phase::Work(Kind::Step),
+            7..=12 => Phase::Work(Kind::Shift),
+            _ if pulse - 12 <= u32::from(self.forests) * width => Phase::Merge(
+                (pulse - 13) / width,
+                (pulse - 13) % width,
+            ),
+            _ => Phase::Halted,
+        }
+    }
+}
