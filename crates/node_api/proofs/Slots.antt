@@ -27,13 +27,6 @@ some_unless : {M : Type 0} (x : Option M) → x ≢ None → IsSome x
 some_unless None other = absurd (other refl)
 some_unless (Some x) other = refl
 
--- an outbox that sends is not quiet
-pub sent-quiet : {M : Type 0} (slots : List (Option M)) (port : ℕ) (x : M) → port < length slots → IsTrue false ↔ (slice_set slots port (Some x) ≡ nothing (length (slice_set slots port (Some x))))
-sent-quiet {M} slots port x below = (
-  λ wrong. let e : IsTrue false = wrong in (cc),
-  λ same. absurd (some_or_none (Some x) refl (sym (get_or-set_same slots port (Some x) None below) ∙ (ap (λ (s : List (Option M)). at_port s port) same ∙ at_port-nothing (length (slice_set slots port (Some x))) port))),
-)
-
 -- the slots of a list of pairs
 pub length-slots_of : {M : Type 0} (n : ℕ) (pairs : List (ℕ × M)) → length (slots_of n pairs) ≡ n
 length-slots_of n pairs = length-map-range_with_len (payload_at pairs) 0 n

@@ -1,5 +1,5 @@
 -- What an inbox and an outbox hold: a payload or none at each port.
-use Rattle.std.specs.Prelude.{◌≡◌, ℕ, ◌+◌, ◌<◌, ◌≤◌, List, [], ◌∷◌, length, Option, Some, None, IsSome, slice_index_or, drop, replicate}
+use Rattle.std.specs.Prelude.{◌≡◌, ◌≢◌, ◌↔◌, ℕ, ◌+◌, ◌<◌, ◌≤◌, List, [], ◌∷◌, length, Option, Some, None, IsSome, slice_index_or, drop, replicate, AllPairs, Contains}
 
 -- nothing at each of n ports
 abbrev pub nothing : {M : Type 0} → ℕ → List (Option M)
@@ -8,6 +8,11 @@ nothing n = replicate n None
 -- the payload at a port, if there is one
 abbrev pub at_port : {M : Type 0} → List (Option M) → ℕ → Option M
 at_port slots port = slice_index_or slots port None
+
+-- A list of ports has those at which a box holds a payload, each once.
+pub record FilledPorts {M : Type 0} (slots : List (Option M)) (ports : List ℕ) : Type 0 where
+  pub distinct : AllPairs (λ p q. p ≢ q) ports
+  pub filled : (port : ℕ) → Contains ports port ↔ IsSome (at_port slots port)
 
 -- An inbox: a payload or none at each port, and the port from which reading goes on.
 pub record Mail (M : Type 0) : Type 0 where

@@ -1,4 +1,6 @@
 pub mod Boxes
 pub mod Pairs
+pub mod Sending
+pub mod Sent
 pub mod Run
 pub mod Laws

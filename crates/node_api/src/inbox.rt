@@ -1,6 +1,7 @@
 // What a node reads at a pulse.
 
-ghost use Rattle.std.specs.Prelude.{◌≡◌, ◌<◌, ◌≤◌, ◌+◌, ◌-◌, ◌↔◌, ℕ, Option, IfOk, IsTrue, length, slice_set, slice_index};
+ghost use Rattle.std.specs.Prelude.{◌≡◌, ◌<◌, ◌≤◌, ◌+◌, ◌-◌, ◌↔◌, ℕ, Option, IfOk, IsTrue, length, slice_set, slice_index, vec_capacity};
+ghost use Rattle.std.specs.List.{insert};
 ghost use Rattle.interference.specs.Net.{degree_limit};
 ghost use Rattle.node_api.specs.Boxes.{Mail, nothing, at_port, unread, HasFrom, Reads};
 ghost use Rattle.node_api.specs.Pairs.{ports_of};
@@ -49,6 +50,20 @@ fn rank<T: Copy>(pairs: &[(u32, T)], port: u32) -> usize
     rank
 }
 
+// Puts a pair in among others, where there is room for it. Most come last, which moves none.
+fn put_pair<T: Copy>(pairs: &mut Vec<(u32, T)>, rank: usize, pair: (u32, T))
+    requires rank { rank ≤ length pairs.old.items }
+    requires room { length pairs.old.items < vec_capacity pairs.old }
+    ensures items { pairs.new.items ≡ insert pairs.old.items rank pair }
+    ensures capacity { vec_capacity pairs.old ≤ vec_capacity pairs.new }
+{
+    if rank == pairs.len() {
+        pairs.push(pair).unwrap();
+    } else {
+        pairs.insert(rank, pair).unwrap();
+    }
+}
+
 impl<T: Copy> Inbox<T> {
     /// An empty inbox of `degree` ports, at most 1,023. No later call takes memory.
     pub fn new(alloc: Global, degree: u32) -> Result<Inbox<T>, Memory>
@@ -81,10 +96,7 @@ impl<T: Copy> Inbox<T> {
         ensures place { self.new.place ≡ self.old.place }
     {
         let rank = rank(&self.pairs, port);
-        match self.pairs.insert(rank, (port, payload)) {
-            Ok(()) => {}
-            Err(_) => unreachable!(),
-        }
+        put_pair(&mut self.pairs, rank, (port, payload));
         if port < self.place {
             self.read += 1;
         }
@@ -101,6 +113,15 @@ impl<T: Copy> Inbox<T> {
     /// Empties the inbox, and begins reading again.
     pub fn clear(&mut self)
         ensures empty { self.new ≡ unread (nothing (length self.old.slots)) }
+    {
+        // An inbox to which nothing came isn't written to.
+        if !self.pairs.is_empty() || self.place != 0 {
+            self.empty();
+        }
+    }
+
+    fn empty(&mut self)
+        ensures { self.new ≡ unread (nothing (length self.old.slots)) }
     {
         self.pairs.clear();
         self.read = 0;

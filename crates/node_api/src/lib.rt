@@ -1,7 +1,7 @@
 //! Programs of nodes that talk in synchronous rounds, and the boxes of their messages.
 //!
-//! `sync_rounds` runs a program on one thread; the asynchronous nodes and the colouring are written
-//! to the same trait.
+//! `sync_rounds` runs a program on one thread, as the colouring of `colour_program`; the asynchronous
+//! nodes will run the same programs.
 //!
 //! A program is a type with `NodeProgram`. Contracts see its value alone, so a field that its `Model`
 //! leaves out is working space. What it means are the trait's ghost members `last`, `made`, `greet`
@@ -29,6 +29,9 @@
 //! out.broadcast(answer);
 //! ```
 //!
+//! An outbox lists the ports at which it sends, or keeps one payload for all; an inbox keeps what came.
+//! So a node costs the messages, and not its ports.
+//!
 //! Limits: degree 1,023.
 #![tactic(auto)]
 
@@ -40,6 +43,6 @@ mod program;
 mod tests;
 
 pub use inbox::Inbox;
-pub use outbox::Outbox;
+pub use outbox::{Outbox, Sent};
 pub use payload::PayloadText;
 pub use program::{NodeProgram, Refused};

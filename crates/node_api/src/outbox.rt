@@ -3,6 +3,7 @@
 ghost use Rattle.std.specs.Prelude.{◌≡◌, ◌<◌, ◌≤◌, ◌↔◌, List, Option, IfOk, IsTrue, length, replicate, slice_set};
 ghost use Rattle.interference.specs.Net.{degree_limit};
 ghost use Rattle.node_api.specs.Boxes.{nothing, at_port};
+ghost use Rattle.node_api.specs.Sent.{IsSent};
 
 use interference::Memory;
 use std::alloc::Global;
@@ -12,34 +13,47 @@ use std::marker::Model;
 #[derive(Drop)]
 pub struct Outbox<T> {
     slots: Vec<Option<T>>,
-    // Whether each slot is free, so that a silent node costs no walk.
-    quiet: bool,
+    // The ports of the payloads in `slots` in order of sending, in places that `new` reserved, so that
+    // free ports cost no walk.
+    filled: Vec<u32>,
+    // A broadcast payload is kept once; the slots are free then.
+    everywhere: Option<T>,
+}
+
+/// What an outbox sends: one payload at every port, or payloads at some ports, each listed once.
+pub enum Sent<'a, T> {
+    Everywhere(T),
+    At(&'a [u32]),
 }
 
 impl<T> Model for Outbox<T> {
-    ghost use Rattle.std.specs.Prelude.{◌≡◌, ◌≤◌, ◌↔◌, List, Option, IsTrue, length};
-    ghost use Rattle.interference.specs.Net.{degree_limit};
-    ghost use Rattle.node_api.specs.Boxes.{nothing};
+    ghost use Rattle.std.specs.Prelude.{◌≤◌, List, Option, vec_capacity, length};
+    ghost use Rattle.node_api.specs.Sending.{sent_slots, IsKept};
 
     ghost Value = { List (Option T) };
 
-    ghost view = { λ a. a.slots.items };
+    ghost view = { λ a. sent_slots a.everywhere a.slots.items };
 
-    ghost invariant = { λ a. (length a.slots.items ≤ degree_limit)
-        × (IsTrue a.quiet ↔ (a.slots.items ≡ nothing (length a.slots.items))) };
+    ghost invariant = { λ a. (length a.slots.items ≤ vec_capacity a.filled)
+        × IsKept a.everywhere a.slots.items a.filled.items };
 }
 
 impl<T: Copy> Outbox<T> {
-    /// An empty outbox of `degree` ports, at most 1,023.
+    /// An empty outbox of `degree` ports, at most 1,023. No later call takes memory.
     pub fn new(alloc: Global, degree: u32) -> Result<Outbox<T>, Memory>
         requires degree { degree ≤ degree_limit }
         ensures empty { IfOk result (λ out. out ≡ nothing degree) }
     {
+        let filled = Vec::with_capacity(alloc, degree as usize)?;
         let mut slots = Vec::with_capacity(alloc, degree as usize)?;
         for _i in 0..degree {
             slots.push(None)?;
         }
-        Ok(Outbox { slots, quiet: true })
+        Ok(Outbox {
+            slots,
+            filled,
+            everywhere: None,
+        })
     }
 
     /// What is sent at a port, if anything.
@@ -47,14 +61,27 @@ impl<T: Copy> Outbox<T> {
         requires port { port < length self.now }
         ensures payload { result ≡ at_port self.now port }
     {
-        self.slots[port as usize]
+        match self.everywhere {
+            Some(payload) => Some(payload),
+            None => self.slots[port as usize],
+        }
+    }
+
+    /// What is sent: a broadcast payload, or the ports at which something is sent, in order of sending.
+    pub fn sent(&self) -> Sent<'_, T>
+        ensures sent { IsSent self.now result }
+    {
+        match self.everywhere {
+            Some(payload) => Sent::Everywhere(payload),
+            None => Sent::At(&self.filled),
+        }
     }
 
     /// Whether nothing is sent at all, told without a walk.
     pub fn is_quiet(&self) -> bool
         ensures nothing { IsTrue result ↔ (self.now ≡ nothing (length self.now)) }
     {
-        self.quiet
+        self.everywhere.is_none() && self.filled.is_empty()
     }
 
     /// Whether nothing is sent at a port yet.
@@ -62,7 +89,7 @@ impl<T: Copy> Outbox<T> {
         requires port { port < length self.now }
         ensures free { IsTrue result ↔ (at_port self.now port ≡ Option.None) }
     {
-        self.slots[port as usize].is_none()
+        self.get(port).is_none()
     }
 
     /// Sends a payload at a port that is free (`is_free`).
@@ -72,35 +99,35 @@ impl<T: Copy> Outbox<T> {
         ensures sent { self.new ≡ slice_set self.old port (Option.Some payload) }
     {
         self.slots[port as usize] = Some(payload);
-        self.quiet = false;
+        self.filled.push(port).unwrap();
     }
 
-    /// Sends a payload at every port; all are free (`is_quiet`).
+    /// Sends a payload at every port, without a walk; all are free (`is_quiet`).
     pub fn broadcast(&mut self, payload: T)
         requires free { self.old ≡ nothing (length self.old) }
         ensures sent { self.new ≡ replicate (length self.old) (Option.Some payload) }
     {
-        for slot in self.slots.iter_mut() {
-            *slot = Some(payload);
+        if !self.slots.is_empty() {
+            self.everywhere = Some(payload);
         }
-        self.quiet = self.slots.is_empty();
     }
 
-    /// Empties the outbox, at no cost where it is empty.
+    /// Empties the outbox, at the cost of what `send` sent.
     pub fn clear(&mut self)
         ensures empty { self.new ≡ nothing (length self.old) }
     {
-        if !self.quiet {
-            self.fill_none();
+        // An outbox that sends nothing isn't written to.
+        if !self.is_quiet() {
+            self.empty();
         }
     }
 
-    fn fill_none(&mut self)
+    fn empty(&mut self)
         ensures empty { self.new ≡ nothing (length self.old) }
     {
-        for slot in self.slots.iter_mut() {
-            *slot = None;
+        self.everywhere = None;
+        while let Some(port) = self.filled.pop() {
+            self.slots[port as usize] = None;
         }
-        self.quiet = true;
     }
 }

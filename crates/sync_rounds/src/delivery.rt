@@ -1,13 +1,13 @@
 // From the outboxes of a pulse to the inboxes of the next one.
 
-ghost use Rattle.std.specs.Prelude.{◌≡◌, ◌<◌, ◌-◌, ◌+◌, ℕ, Option, [], length, slice_index_or};
+ghost use Rattle.std.specs.Prelude.{◌≡◌, ◌<◌, ◌-◌, ◌+◌, ℕ, Option, [], length, slice_index_or, replicate};
 ghost use Rattle.interference.specs.Net.{Net, IsNetwork, IsVertex, count_of, degree_of};
-ghost use Rattle.node_api.specs.Boxes.{Mail, unread};
+ghost use Rattle.node_api.specs.Boxes.{Mail, unread, FilledPorts};
 ghost use Rattle.sync_rounds.specs.Lists.{Lists, empty_inbox, received};
 ghost use Rattle.sync_rounds.specs.Delivery.{Delivered};
 
 use interference::Network;
-use node_api::{Inbox, Outbox};
+use node_api::{Inbox, Outbox, Sent};
 
 /// Puts what was sent into the empty inboxes. Senders ascend by vertex, so an inbox gets its payloads
 /// by ascending port.
@@ -19,10 +19,7 @@ pub(crate) fn deliver<T: Copy>(net: &Network, outs: &[Outbox<T>], inboxes: &mut 
 {
     net.is_network();
     for i in 0..net.nodes() {
-        let out = &outs[i as usize];
-        if !out.is_quiet() {
-            deliver_from(net, i + 1, outs, inboxes);
-        }
+        deliver_from(net, i + 1, outs, inboxes);
     }
 }
 
@@ -31,16 +28,59 @@ fn deliver_from<T: Copy>(net: &Network, w: u32, outs: &[Outbox<T>], inboxes: &mu
     requires vertex { IsVertex net.now w }
     requires outs { length outs.now ≡ count_of net.now }
     requires ports { length (slice_index_or outs.now (w - 1) []) ≡ degree_of net.now w }
-    requires before { Delivered net.now outs.now w 0 inboxes.old }
-    ensures after { Delivered net.now outs.now (w + 1) 0 inboxes.new }
+    requires before { Delivered net.now outs.now w [] inboxes.old }
+    ensures after { Delivered net.now outs.now (w + 1) [] inboxes.new }
+{
+    match outs[(w - 1) as usize].sent() {
+        Sent::Everywhere(payload) => deliver_everywhere(net, w, payload, outs, inboxes),
+        Sent::At(ports) => deliver_at(net, w, ports, outs, inboxes),
+    }
+}
+
+/// Puts what one vertex sent at every port. The outboxes are there for the contract alone.
+fn deliver_everywhere<T: Copy>(
+    net: &Network,
+    w: u32,
+    payload: T,
+    _outs: &[Outbox<T>],
+    inboxes: &mut [Inbox<T>],
+)
+    requires vertex { IsVertex net.now w }
+    requires sent { slice_index_or _outs.now (w - 1) [] ≡ replicate (degree_of net.now w) (Option.Some payload) }
+    requires before { Delivered net.now _outs.now w [] inboxes.old }
+    ensures after { Delivered net.now _outs.now (w + 1) [] inboxes.new }
+{
+    net.is_network();
+    for port in 0..net.degree(w) {
+        let v = net.neighbour(w, port);
+        let inbox = &mut inboxes[(v - 1) as usize];
+        inbox.put(net.back_port(w, port), payload);
+    }
+}
+
+/// Puts what one vertex sent at these ports.
+fn deliver_at<T: Copy>(
+    net: &Network,
+    w: u32,
+    ports: &[u32],
+    outs: &[Outbox<T>],
+    inboxes: &mut [Inbox<T>],
+)
+    requires vertex { IsVertex net.now w }
+    requires outs { length outs.now ≡ count_of net.now }
+    requires size { length (slice_index_or outs.now (w - 1) []) ≡ degree_of net.now w }
+    requires sent { FilledPorts (slice_index_or outs.now (w - 1) []) ports.now }
+    requires before { Delivered net.now outs.now w [] inboxes.old }
+    ensures after { Delivered net.now outs.now (w + 1) [] inboxes.new }
 {
     net.is_network();
     let out = &outs[(w - 1) as usize];
-    for port in 0..net.degree(w) {
-        if let Some(payload) = out.get(port) {
-            let v = net.neighbour(w, port);
-            let inbox = &mut inboxes[(v - 1) as usize];
-            inbox.put(net.back_port(w, port), payload);
+    for &port in ports {
+        let v = net.neighbour(w, port);
+        let inbox = &mut inboxes[(v - 1) as usize];
+        match out.get(port) {
+            Some(payload) => inbox.put(net.back_port(w, port), payload),
+            None => unreachable!(),
         }
     }
 }

@@ -1,15 +1,15 @@
 //! All rounds of a node program on one thread.
 //!
 //! `run_rounds` answers the states of the last pulse of the synchronous run, for every program. The
-//! plain plan and its check stand on it. `Greatest` is a small program, to try engines with.
+//! command `plain` stands on it. `Greatest` is a small program, to try engines with.
 //!
 //! ```text
 //! let nodes = run_rounds::<Greatest<2>>(alloc, &net)?;
 //! let best = nodes[0].best();    // the greatest identifier within two links of vertex 1
 //! ```
 //!
-//! Memory is taken at the start alone: an inbox and an outbox a node. A pulse looks at each node, and
-//! at the ports of those nodes that send; a node that is idle costs no walk over its ports.
+//! Memory is taken at the start alone: an inbox and an outbox a node. A pulse costs the nodes and the
+//! messages that are sent: a port at which nothing is sent isn't looked at.
 #![tactic(auto)]
 
 mod delivery;
