@@ -1,2 +1,3 @@
 pub mod LeastLemmas
+pub mod LeastKnown
 pub mod TestLemmas

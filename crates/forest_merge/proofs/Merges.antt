@@ -4,7 +4,7 @@ use Rattle.std.specs.Prelude.{not, if◌then◌else◌, nat_lt}
 use Rattle.std.proofs.lemmas.Bool.Decides.{nat_tests}
 use Rattle.forest_merge.specs.Free.{is_among, least_free_colour}
 use Rattle.forest_merge.specs.Merge.{IsMerge, Merging, is_looked_at, is_taken, merge, merge_below, merge_in_class}
-use Rattle.forest_merge.proofs.Leasts.{least-same}
+use Rattle.colour_base.proofs.LeastKnown.{least-same}
 use Rattle.forest_merge.proofs.Pairs.{by_pairs, looked_at-before}
 use Rattle.forest_merge.proofs.Taken.{map-filter-same}
 

@@ -38,6 +38,13 @@ impl ChosenSet {
         Self { words: [0; WORDS] }
     }
 
+    /// A set of the same colours.
+    pub fn copy(&self) -> Self
+        ensures { result ≡ self.now }
+    {
+        Self { words: self.words }
+    }
+
     /// Empties the set.
     pub fn clear(&mut self)
         ensures { self.new ≡ set.empty }

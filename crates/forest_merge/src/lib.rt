@@ -3,14 +3,15 @@
 //! of which forest a pulse is. `laws` says what a merge is, that it is the one solution of its
 //! equation, and that it keeps neighbours apart.
 //!
-//! The colouring program calls it at each vertex, in every pulse of the merging:
+//! A node of `colour_rules` calls it in the pulses of the merging, but for `step_of`, since it knows
+//! its turn by a product:
 //!
 //! ```text
-//! let (forest, three, old) = step_of(step, delta);
-//! chosen.add(colour);                       // each colour that a neighbour has chosen
+//! chosen.add(colour);                              // each colour that a neighbour has chosen
 //! if has_free(&chosen, delta) {
-//!     let own = least_free(&chosen, delta); // the colour to choose
+//!     let own = least_free(&chosen, delta);        // the colour to choose
 //! }
+//! let (forest, three, old) = step_of(step, delta); // whose turn a step is
 //! ```
 //!
 //! A set holds colours below `COLOURS` only. Nothing here takes memory or refuses.
