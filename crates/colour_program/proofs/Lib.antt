@@ -1,13 +1,2 @@
-pub mod Expected
-pub mod Lists
-pub mod Sound
-pub mod Ports
-pub mod Work
-pub mod Choices
-pub mod Heard
-pub mod Merging
-pub mod Steps
-pub mod Runs
-pub mod Starts
-pub mod Forests
-pub mod Proper
+mod Pulses
+mod Quiet

@@ -1,16 +1,22 @@
-//! The colouring of a network, and what its rounds make of it: `laws` says that the colours of
-//! neighbours differ and are 0 to Δ, and that the synchronous run of the rounds of `colour_rules`
-//! refuses nothing, is silent at its last pulse and ends with these colours.
+//! The colouring of a network as a program of nodes: the rounds of `colour_rules`, with a place to
+//! write on, behind the trait of `node_api`. `forestplan` prints its last colours as channels.
 //!
-//! The colours of `specs/Colours.antt` are those of the whole network at once, with no rounds in them:
-//! the three colours of each forest, merged forest by forest. What runs the rounds cites the laws here,
-//! and so does what prints the colours as channels.
+//! What runs node programs runs it, as `run_rounds` of `sync_rounds` does. That its nodes end with the
+//! colours of the network, which differ on every edge and are 0 to Δ, are the laws of `colour_laws`.
 //!
 //! ```text
-//! colour_program::laws::rounds_end_with_the_colours(); // brings the law into a proof
+//! for node in &run_rounds::<Colouring>(alloc, &net)? {
+//!     colours.push(node.colour())?;
+//! }
 //! ```
 //!
-//! Limits: it is laws alone. No code that runs the rounds stands here.
+//! Limits: those of `colour_rules`.
 #![tactic(auto)]
 
-pub mod laws;
+mod colouring;
+
+pub use colour_rules::Payload;
+pub use colouring::Colouring;
+
+#[cfg(test)]
+mod tests;

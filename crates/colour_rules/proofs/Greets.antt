@@ -7,7 +7,8 @@ use Rattle.colour_rules.specs.declared.payload.Payload.{Payload}
 use Rattle.colour_rules.specs.declared.payload.Payload.TheVariants.{Hello}
 use Rattle.colour_rules.specs.Node.{Node, greet, ports}
 
-same-for_all : {X Y : Type 0} (y : Y) (xs : List X) → replicate (length xs) y ≡ map (λ x. y) xs
+-- one thing for each entry of a list
+pub same-for_all : {X Y : Type 0} (y : Y) (xs : List X) → replicate (length xs) y ≡ map (λ x. y) xs
 same-for_all y [] = refl
 same-for_all y (x ∷ xs) = ap (λ rest. y ∷ rest) (same-for_all y xs)
 

@@ -5,3 +5,5 @@ pub mod Refusals
 pub mod Program
 pub mod Stored
 pub mod Words
+pub mod Room
+pub mod Rest

@@ -1,5 +1,5 @@
 -- What a node of the colouring keeps, and which phase of the rounds a pulse is in.
-use Rattle.std.specs.Prelude.{ℕ, ◌+◌, ◌-◌, ◌*◌, ◌/◌, ◌%◌, ◌==◌, List, length, map, replicate, Option, Some, if◌then◌else◌, nat_le}
+use Rattle.std.specs.Prelude.{ℕ, ◌+◌, ◌-◌, ◌*◌, ◌/◌, ◌%◌, ◌<◌, ◌==◌, List, length, map, replicate, Option, Some, if◌then◌else◌, nat_le, slice_index, slice_index_or, ⊤}
 use Rattle.std.specs.Ordering.{nat_cmp}
 use Rattle.std.specs.FinSet.{FinSet, empty}
 use Rattle.node_api.specs.Run.{Own, Sizes}
@@ -54,6 +54,20 @@ abbrev pub number_of : Role → ℕ
 number_of Unknown = 0
 number_of (Up f) = f
 number_of (Down f) = f
+
+-- whether a role, where it is known, names one of n forests
+abbrev pub IsIn : ℕ → Role → Type 0
+IsIn n Unknown = ⊤
+IsIn n (Up f) = f < n
+IsIn n (Down f) = f < n
+
+-- every role that is known names one of n forests
+abbrev pub HasForests : ℕ → List Role → Type 0
+HasForests n roles = (port : ℕ) → port < length roles → IsIn n (slice_index_or roles port Unknown)
+
+-- every number of a list is below n
+abbrev pub AreBelow : ℕ → List ℕ → Type 0
+AreBelow n numbers = (i : ℕ) → i < length numbers → slice_index numbers i < n
 
 -- how many steps the merging of one forest takes: one for each pair of a three-colour and an old colour
 abbrev pub steps : Sizes → ℕ

@@ -1,5 +1,5 @@
 -- What a node makes of a pulse, where nothing is refused.
-use Rattle.std.specs.Prelude.{ℕ, suc, ◌==◌, Bool, false, List, [], ◌∷◌, map, replicate, Option, Some, None, Result, Ok, Err, if◌then◌else◌, nat_le, slice_index}
+use Rattle.std.specs.Prelude.{◌≢◌, ℕ, suc, ◌<◌, ◌≤◌, ◌==◌, Bool, IfSome, false, List, [], ◌∷◌, map, replicate, Option, Some, None, Result, Ok, Err, if◌then◌else◌, nat_le, slice_index}
 use Rattle.std.specs.List.{range_with_len}
 use Rattle.node_api.specs.declared.program.Refused.{Refused}
 use Rattle.cole_vishkin.specs.BitStep.{bit_by}
@@ -13,7 +13,7 @@ use Rattle.colour_rules.specs.declared.phase.Phase.{Phase}
 use Rattle.colour_rules.specs.declared.phase.Phase.TheVariants.{Greet, Orient, Seed, Work, Merge, Halted}
 use Rattle.colour_rules.specs.declared.payload.Payload.{Payload}
 use Rattle.colour_rules.specs.declared.payload.Payload.TheVariants.{Hello, Label, Colour, Chosen}
-use Rattle.colour_rules.specs.Node.{Node, number_of, steps, phase_of}
+use Rattle.colour_rules.specs.Node.{Node, steps, phase_of}
 use Rattle.colour_rules.specs.Choice.{gathered, chooses, free_for}
 use Rattle.colour_rules.specs.Refusals.{ids_in, refusal}
 
@@ -46,7 +46,9 @@ tells_colour colours (Up f) = None
 
 -- and each neighbour of the forests merged so far the colour that it chose
 abbrev pub tells_chosen : ℕ → ℕ → Role → Option Payload
-tells_chosen f c role = if nat_le (number_of role) f then Some (Chosen c) else None
+tells_chosen f c Unknown = None
+tells_chosen f c (Up g) = if nat_le g f then Some (Chosen c) else None
+tells_chosen f c (Down g) = if nat_le g f then Some (Chosen c) else None
 
 -- nothing to anyone
 abbrev pub silent : {A : Type 0} → List A → List (Option Payload)
@@ -80,9 +82,20 @@ kept Step own before = before
 kept Shift own before = own
 kept (Drop x) own before = before
 
+-- What a turn asks for: the parent has another colour, and but for a bit step all colours are 0 to 5
+-- and what is dropped is 3 to 5.
+abbrev pub IsReady : Kind → ℕ → ℕ → Option ℕ → Type 0
+IsReady Step own before parent = parent ≢ Some own
+IsReady Shift own before parent = (parent ≢ Some own) × (own < 6) × (before < 6) × IfSome parent (λ c. c < 6)
+IsReady (Drop x) own before parent = (parent ≢ Some own) × (own < 6) × (before < 6) × IfSome parent (λ c. c < 6) × (3 ≤ x) × (x ≤ 5)
+
+-- a node that knows its ports
+abbrev pub with_roles : Node → List Role → Node
+with_roles node roles = record node { roles = roles }
+
 -- the work of Orient
 abbrev pub with_orient : Node → List (Option Payload) → List Role → Node × List (Option Payload)
-with_orient node inbox roles = (record node { roles = roles }, map tells_label roles)
+with_orient node inbox roles = (with_roles node roles, map tells_label roles)
 
 -- the work on the colours; at its end, pulse 12, nothing is told
 abbrev pub with_colours : Node → ℕ → List ℕ → List ℕ → Node × List (Option Payload)

@@ -1,7 +1,9 @@
 -- What a node refuses: the first broken rule, by ascending port and then its own.
-use Rattle.std.specs.Prelude.{ℕ, suc, Bool, true, false, List, [], ◌∷◌, Option, Some, None, if◌then◌else◌, nat_lt, count_by}
+use Rattle.std.specs.Prelude.{◌≡◌, ℕ, suc, ◌<◌, ◌≤◌, true, false, List, [], ◌∷◌, ◌++◌, Option, Some, None, if◌then◌else◌, nat_lt, count_by, slice_index_or}
+use Rattle.std.specs.List.{list_any}
 use Rattle.node_api.specs.declared.program.Refused.{Refused}
 use Rattle.forests.specs.declared.numbering.Role.{Role}
+use Rattle.forests.specs.declared.numbering.Role.TheVariants.{Unknown}
 use Rattle.colour_rules.specs.declared.phase.Kind.TheVariants.{Shift, Drop}
 use Rattle.colour_rules.specs.declared.phase.Phase.{Phase}
 use Rattle.colour_rules.specs.declared.phase.Phase.TheVariants.{Orient, Work, Merge}
@@ -23,7 +25,7 @@ port_rule node p earlier phase role (Some payload) = or_else (cell phase role pa
 
 -- the identifiers that came, with one port more
 abbrev pub and_id : List ℕ → Option Payload → List ℕ
-and_id earlier (Some (Hello n)) = n ∷ earlier
+and_id earlier (Some (Hello n)) = earlier ++ (n ∷ [])
 and_id earlier slot = earlier
 
 -- the refusal of a port, or that of the ports after it
@@ -37,23 +39,27 @@ ports_refusal node p phase port earlier (role ∷ roles) (slot ∷ slots) =
     at_port_or (port_rule node p earlier phase role slot) port (ports_refusal node p phase (suc port) (and_id earlier slot) roles slots)
 ports_refusal node p phase port earlier roles slots = None
 
+-- A refusal tells the first port of from to to - 1, which brought nothing, that has to bring something.
+pub record IsFirstMissing (phase : Phase) (roles : List Role) (from to : ℕ) (refused : Refused) : Type 0 where
+  pub port : ℕ
+  pub is : refused ≡ record { rule = 5; port = Some port }
+  pub low : from ≤ port
+  pub high : port < to
+  pub due : is_due phase (slice_index_or roles port Unknown) ≡ true
+  pub first : (before : ℕ) → from ≤ before → before < port → is_due phase (slice_index_or roles before Unknown) ≡ false
+
 -- the identifiers that came
 abbrev pub ids_in : List (Option Payload) → List ℕ
 ids_in [] = []
 ids_in (Some (Hello n) ∷ slots) = n ∷ ids_in slots
 ids_in (slot ∷ slots) = ids_in slots
 
--- whether some number of a list passes a test
-abbrev pub any_of : (ℕ → Bool) → List ℕ → Bool
-any_of test [] = false
-any_of test (c ∷ cs) = if test c then true else any_of test cs
-
 -- The rule that a node itself breaks, once its ports break none: 3 more neighbours of higher identifier than
 -- forests, 4 an own colour too high, or no colour free.
 abbrev pub own_rule : Node → ℕ → Phase → List (Option Payload) → Option ℕ
 own_rule node p Orient inbox = if nat_lt node.sizes.forests (count_by (nat_lt node.id) (ids_in inbox)) then Some 3 else None
-own_rule node p (Work Shift) inbox = if any_of (is_above p) node.colours then Some 4 else None
-own_rule node p (Work (Drop x)) inbox = if any_of (is_above p) node.colours then Some 4 else None
+own_rule node p (Work Shift) inbox = if list_any (is_above p) node.colours then Some 4 else None
+own_rule node p (Work (Drop x)) inbox = if list_any (is_above p) node.colours then Some 4 else None
 own_rule node p (Merge f s) inbox = if chooses (gathered node s inbox) f s then (if nat_lt node.sizes.greatest_degree (free_for (gathered node s inbox)) then Some 4 else None) else None
 own_rule node p phase inbox = None
 

@@ -3,29 +3,45 @@
 //!
 //! The rounds stand in `specs`: `Table` says which payload is due in which phase from which port,
 //! `Refusals` which broken rule is told, `Choice` and `Program` what a node does, and `next` of
-//! `Program` is a whole pulse. `colour_program` proves what they make of a network. The code here makes
-//! a node, lets it greet and tells the phase of a pulse:
+//! `Program` is a whole pulse. `colour_laws` proves what they make of a network. The code here is one
+//! node, which `colour_program` runs as a program of nodes:
 //!
 //! ```text
 //! let mut node = ColourNode::make(alloc, &net, v)?;
-//! node.greet(&mut out);
-//! match node.phase(pulse) { .. }
+//! let mut space = Space::make(alloc, &net, v)?;
+//! node.greet(&mut out);                                              // pulse 0
+//! let phase = node.phase(pulse);
+//! let answer = node.pulse(&mut space, phase, pulse, &mut inbox, &mut out);
 //! ```
+//!
+//! `rest_after` tells pulses in which the node does nothing if nothing comes, so that a caller may
+//! leave them out.
 //!
 //! The forests are those of A. Panconesi and R. Rizzi, Some simple distributed algorithms for sparse
 //! networks, 2001. Merging them is this project's own.
 //!
-//! Limits: degree 1,023, and so colours 0 to 1,023. There is no code of a later pulse here.
+//! Limits: degree 1,023, and so 1,023 forests and colours 0 to 1,023. Only the two `make` take memory.
 #![tactic(auto)]
 
 pub mod laws;
+mod merge;
 mod node;
 mod payload;
 mod phase;
+mod ports;
+mod pulse;
+mod rest;
+mod rules;
+mod space;
+mod table;
+mod tell;
+mod work;
 
 pub use node::ColourNode;
 pub use payload::Payload;
 pub use phase::{Kind, Phase};
+pub use rest::Rest;
+pub use space::Space;
 
 #[cfg(test)]
 mod tests;

@@ -1,12 +1,11 @@
-// A node of the colouring: making it, its greeting, and the phases of its pulses.
+// A node of the colouring: making it and its greeting.
 ghost use Rattle.std.specs.Prelude.{◌≡◌, IfOk};
 ghost use Rattle.interference.specs.Net.{IsVertex};
 ghost use Rattle.node_api.specs.Boxes.{nothing};
 ghost use Rattle.node_api.specs.Run.{own_of};
-ghost use Rattle.colour_rules.specs.Node.{greet, made, phase_of as phase_at, ports};
+ghost use Rattle.colour_rules.specs.Node.{greet, made, ports};
 
 use crate::payload::Payload;
-use crate::phase::{Kind, Phase};
 use forest_merge::ChosenSet;
 use forests::Role;
 use interference::{Memory, Network};
@@ -17,24 +16,24 @@ use std::marker::Model;
 /// A node of the colouring. Contracts see the `Node` of `specs/Node.antt`.
 #[derive(Drop)]
 pub struct ColourNode {
-    id: u64,
-    nodes: u32,
-    greatest_degree: u16,
-    forests: u16,
-    // By port.
-    roles: Vec<Role>,
-    // By forest: the colour, and the one before the last shift.
-    colours: Vec<u64>,
-    before: Vec<u64>,
-    // The merged colour before the forest that is being merged, and now.
-    former: u16,
-    merged: u16,
-    chosen: ChosenSet,
+    pub(crate) id: u64,
+    pub(crate) nodes: u32,
+    pub(crate) greatest_degree: u16,
+    pub(crate) forests: u16,
+    // By port. A known role names one of the forests.
+    pub(crate) roles: Vec<Role>,
+    // By forest: the colour, and the one before the last shift, which is 0 to 5.
+    pub(crate) colours: Vec<u64>,
+    pub(crate) before: Vec<u8>,
+    // The merged colour before the forest that is being merged, and now: 0 to the greatest degree.
+    pub(crate) former: u16,
+    pub(crate) merged: u16,
+    pub(crate) chosen: ChosenSet,
 }
 
 impl Model for ColourNode {
     ghost use Rattle.std.specs.Prelude.{◌≡◌, ◌≤◌, length};
-    ghost use Rattle.colour_rules.specs.Node.{Node};
+    ghost use Rattle.colour_rules.specs.Node.{AreBelow, HasForests, Node};
     ghost use Rattle.colour_rules.specs.Stored.{node_code};
 
     ghost Value = { Node };
@@ -53,7 +52,9 @@ impl Model for ColourNode {
     } };
 
     ghost invariant = { λ a. (a.greatest_degree ≤ 1023) × (a.forests ≤ 1023) × (length a.roles.items ≤ 1023)
-        × (length a.colours.items ≡ a.forests) × (length a.before.items ≡ a.forests) };
+        × (length a.colours.items ≡ a.forests) × (length a.before.items ≡ a.forests)
+        × HasForests a.forests a.roles.items × AreBelow 6 a.before.items
+        × (a.former ≤ a.greatest_degree) × (a.merged ≤ a.greatest_degree) };
 }
 
 impl ColourNode {
@@ -97,28 +98,5 @@ impl ColourNode {
         ensures { result ≡ self.now.merged }
     {
         self.merged
-    }
-
-    /// The phase of a pulse: greeting, orienting, seeding, ten pulses of work on the colours of the
-    /// forests, the merging of one forest after another, and after the last pulse `Halted`.
-    pub fn phase(&self, pulse: u32) -> Phase
-        ensures { result ≡ phase_at self.now.sizes pulse }
-    {
-        let width = 3 * (u32::from(self.greatest_degree) + 1);
-        match pulse {
-            0 => Phase::Greet,
-            1 => Phase::Orient,
-            2 => Phase::Seed,
-            8 => Phase::Work(Kind::Drop(5)),
-            10 => Phase::Work(Kind::Drop(4)),
-            12 => Phase::Work(Kind::Drop(3)),
-            3..=6 => Phase::Work(Kind::Step),
-            7..=12 => Phase::Work(Kind::Shift),
-            _ if pulse - 12 <= u32::from(self.forests) * width => Phase::Merge(
-                (pulse - 13) / width,
-                (pulse - 13) % width,
-            ),
-            _ => Phase::Halted,
-        }
     }
 }

@@ -1,6 +1,7 @@
-//! The text of each kind of payload, at its greatest number and one beyond.
+//! The text of each kind of payload, at its greatest number and one beyond; and each call once.
 use super::*;
-use node_api::PayloadText;
+use interference::{Network, edges_fit};
+use node_api::{Inbox, Outbox, PayloadText};
 
 #[test]
 fn payloads_have_their_text(rt: HostRuntime) {
@@ -23,4 +24,44 @@ fn payloads_have_their_text(rt: HostRuntime) {
         assert_eq!(rt; Payload::from_words(word, number + 1), None, "{word}");
     }
     assert_eq!(rt; Payload::from_words("best", 1), None);
+}
+
+// Two nodes with identifiers 1 and 2 and an edge: one forest, degree 1, last pulse 18.
+#[test]
+fn a_node_begins(rt: HostRuntime) {
+    let alloc = rt.alloc();
+    assert!(rt; edges_fit(2, &[(1, 2)]));
+    let net = Network::new(alloc, 2, &[1, 2], &[(1, 2)]).expect(&rt, "network");
+    assert!(rt; net.nodes() == 2);
+    assert!(rt; net.degree(1) == 1);
+    let mut node = ColourNode::make(alloc, &net, 1).expect(&rt, "memory");
+    let mut out = Outbox::new(alloc, 1).expect(&rt, "memory");
+    node.greet(&mut out);
+    assert_eq!(rt; out.get(0), Some(Payload::Hello(1)));
+    assert_eq!(rt; node.colour(), 0);
+    for (pulse, phase) in [
+        (0, Phase::Greet),
+        (1, Phase::Orient),
+        (2, Phase::Seed),
+        (3, Phase::Work(Kind::Step)),
+        (7, Phase::Work(Kind::Shift)),
+        (8, Phase::Work(Kind::Drop(5))),
+        (10, Phase::Work(Kind::Drop(4))),
+        (12, Phase::Work(Kind::Drop(3))),
+        (13, Phase::Merge(0, 0)),
+        (18, Phase::Merge(0, 5)),
+        (19, Phase::Halted),
+    ] {
+        assert_eq!(rt; node.phase(pulse), phase, "at {pulse}");
+    }
+    let mut space = Space::make(alloc, &net, 1).expect(&rt, "memory");
+    let mut inbox = Inbox::new(alloc, 1).expect(&rt, "memory");
+    inbox.put(0, Payload::Hello(2));
+    out.clear();
+    let phase = node.phase(1);
+    assert!(rt;
+        node.pulse(&mut space, phase, 1, &mut inbox, &mut out)
+            .is_ok()
+    );
+    assert_eq!(rt; out.get(0), Some(Payload::Label(0)));
 }

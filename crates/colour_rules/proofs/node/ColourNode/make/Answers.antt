@@ -1,6 +1,9 @@
-use Rattle.std.proofs.Common.{rules, ◌≤◌, arith}
+use Rattle.std.proofs.Common.{rules, ◌≡◌, ◌≤◌, replicate, subst, sym, arith}
 use Rattle.interference.specs.Net.{greatest_degree_of, forest_count_of}
 use Rattle.interference.proofs.Neighbours.{greatest_degree-within, forest_count-within}
+use Rattle.forests.specs.declared.numbering.Role.TheVariants.{Unknown}
+use Rattle.colour_rules.specs.Node.{HasForests, AreBelow}
+use Rattle.colour_rules.proofs.Valid.{unknown-known, zeros-below}
 use Rattle.colour_rules.proofs.node.ColourNode.make.Goals as goal
 
 pub overflow_cast-greatest_degree : goal.overflow_cast-greatest_degree
@@ -21,4 +24,8 @@ invariant_of-result c =
     let fewer : forest_count_of c.args.net.now ≤ greatest_degree_of c.args.net.now = forest_count-within c.args.net.now c.is_network.ensures in
     let e : c.forest_count-forests.result ≤ 1023 = rw c.forest_count-forests.ensures (omega arith) in
     let d : c.greatest_degree-greatest_degree.result ≤ 1023 = rw c.greatest_degree-greatest_degree.ensures few in
-    (d, e, search rules, search rules, search rules)
+    let roles : c.in_ok-roles.roles.items ≡ replicate c.degree-degree.result Unknown = search rules in
+    let before : c.in_ok-before.before.items ≡ replicate c.forest_count-forests.result 0 = search rules in
+    let known : HasForests c.forest_count-forests.result c.in_ok-roles.roles.items = subst (HasForests c.forest_count-forests.result) (sym roles) (unknown-known c.forest_count-forests.result c.degree-degree.result) in
+    let low : AreBelow 6 c.in_ok-before.before.items = subst (AreBelow 6) (sym before) (zeros-below c.forest_count-forests.result) in
+    (d, e, search rules, search rules, search rules, known, low, omega arith, omega arith)

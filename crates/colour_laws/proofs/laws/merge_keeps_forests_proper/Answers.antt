@@ -1,0 +1,12 @@
+use Rattle.std.proofs.Common.{arith}
+use Rattle.forest_merge.proofs.Proper.{merge-within_few}
+use Rattle.colour_laws.specs.Colours.{merging}
+use Rattle.colour_laws.proofs.Forests.{has_forest}
+use Rattle.colour_laws.proofs.Proper.{merge_apart}
+use Rattle.colour_laws.proofs.laws.merge_keeps_forests_proper.Goals as goal
+
+pub returns-clause-proper : goal.returns-clause-proper
+returns-clause-proper c = λ net ok f old apart v w is_vertex near low. merge_apart net ok f old apart v w is_vertex near (omega arith)
+
+pub returns-clause-within : goal.returns-clause-within
+returns-clause-within c = λ net ok f old v. merge-within_few (merging net f old) v ((has_forest net ok).few v)

@@ -1,0 +1,44 @@
+//! What the rounds of the colouring make of a whole network, and what the colours are.
+ghost use Rattle.std.specs.Prelude.{◌≡◌, ◌≢◌, ◌<◌, ◌≤◌, IsOk, suc, ℕ};
+ghost use Rattle.std.specs.List.{Contains};
+ghost use Rattle.interference.specs.Net.{IsNetwork, IsVertex, Net, greatest_degree_of, id_of, neighbours};
+ghost use Rattle.node_api.specs.Laws.{IsProgram, first_of, last_of};
+ghost use Rattle.node_api.specs.Run.{node_at};
+ghost use Rattle.colour_rules.specs.Node.{greet, last, made, ports};
+ghost use Rattle.colour_rules.specs.Program.{next};
+ghost use Rattle.cole_vishkin.specs.BitStep.{six};
+ghost use Rattle.colour_base.specs.Forest.{IsProper, IsWithin};
+ghost use Rattle.forests.specs.Forests.{number, parent};
+ghost use Rattle.colour_laws.specs.Colours.{colours, merging, three};
+ghost use Rattle.forest_merge.specs.Merge.{merge};
+
+/// In each forest of a network the six colours and the three colours of the nodes are proper, 0 to 5
+/// and 0 to 2.
+pub fn forest_colours_are_proper()
+    ensures six { (net : Net) → IsNetwork net → (f : ℕ) → IsProper (parent net f) (six (parent net f) (id_of net)) × IsWithin 5 (six (parent net f) (id_of net)) }
+    ensures three { (net : Net) → IsNetwork net → (f : ℕ) → IsProper (parent net f) (three (parent net f) (id_of net)) × IsWithin 2 (three (parent net f) (id_of net)) }
+{}
+
+/// Where old colours differ on the edges of the forests before forest f, its merge with them differs
+/// on those up to f, and is 0 to Δ.
+pub fn merge_keeps_forests_proper()
+    ensures proper { (net : Net) → IsNetwork net → (f : ℕ) (old : ℕ → ℕ) → ((v w : ℕ) → IsVertex net v → Contains (neighbours net v) w → number net v w < f → old v ≢ old w) → (v w : ℕ) → IsVertex net v → Contains (neighbours net v) w → number net v w ≤ f → merge (merging net f old) v ≢ merge (merging net f old) w }
+    ensures within { (net : Net) → IsNetwork net → (f : ℕ) (old : ℕ → ℕ) (v : ℕ) → merge (merging net f old) v ≤ greatest_degree_of net }
+{}
+
+/// The colours of a network differ on its edges, and are 0 to Δ.
+pub fn colours_are_proper()
+    ensures proper { (net : Net) → IsNetwork net → (v w : ℕ) → IsVertex net v → Contains (neighbours net v) w → colours net v ≢ colours net w }
+    ensures within { (net : Net) → IsNetwork net → (v : ℕ) → colours net v ≤ greatest_degree_of net }
+{}
+
+/// The rounds are a node program: in the synchronous run of every network nothing is refused, and
+/// nothing is sent at the last pulse.
+pub fn rounds_are_a_program()
+    ensures { IsProgram last ports made greet next }
+{}
+
+/// At the last pulse of the synchronous run each node has its colour.
+pub fn rounds_end_with_the_colours()
+    ensures { (net : Net) → IsNetwork net → (v : ℕ) → IsVertex net v → (node_at (first_of made greet) next net (last_of last net) v).0.merged ≡ colours net v }
+{}

@@ -1,0 +1,20 @@
+use Rattle.std.proofs.Common.{◌≡◌, ℕ, List, Ok, ap, sym, ◌∙◌, subst}
+use Rattle.std.specs.Prelude.{Option, IsTrue, false}
+use Rattle.node_api.specs.Boxes.{HasFrom, nothing}
+use Rattle.colour_rules.specs.declared.payload.Payload.{Payload}
+use Rattle.colour_rules.specs.Node.{Node, ports}
+use Rattle.colour_rules.specs.Program.{next}
+use Rattle.colour_program.proofs.Quiet.{nothing-came}
+use Rattle.colour_program.proofs.colouring.ColouringNodeProgram.handle_messages.Goals as goal
+
+pub returns-then-not-has_next-clause-answer : goal.returns-then-not-has_next-clause-answer
+returns-then-not-has_next-clause-answer c =
+    let node : Node = c.args.self.now in
+    let slots : List (Option Payload) = c.args.inbox.now.slots in
+    let covered = c.covers.ensures.0 c.if-covers.true in
+    let quiet : HasFrom slots 0 → ⊥ =
+    subst (λ (place : ℕ). HasFrom slots place → ⊥) c.requires.rewound (λ some. let e : IsTrue false = c.if-not-has_next.ensures.more.1 some in (cc)) in
+    let empty : slots ≡ nothing (ports node) = nothing-came slots quiet ∙ ap (λ (n : ℕ). nothing n) c.requires.inbox in
+    let stays : next node c.args.pulse (nothing (ports node)) ≡ Ok (node, nothing (ports node)) =
+    subst (λ (n : Node). next n c.args.pulse (nothing (ports n)) ≡ Ok (n, nothing (ports n))) c.self.view_is (c.self.invariant.1 c.args.pulse covered.0 covered.1) in
+    ap (next node c.args.pulse) empty ∙ (stays ∙ ap (λ (out : List (Option Payload)). Ok (node, out)) (sym c.requires.out))

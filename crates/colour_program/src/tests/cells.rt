@@ -1,0 +1,117 @@
+// The table of what may come to a node: 96 cells, by phase, kind of payload and role of the port.
+
+use crate::tests::fed::{feed, made};
+use crate::tests::make;
+use colour_rules::Payload;
+use interference::Network;
+use node_api::Refused;
+use std::alloc::Global;
+use std::process::Abort;
+use std::test::Fail;
+
+// Two nodes with identifiers 1 and 2 and an edge. No rule forbids these payloads by their value.
+const HELLO: Payload = Payload::Hello(3);
+
+const LOWER_HELLO: Payload = Payload::Hello(1);
+
+const LABEL: Payload = Payload::Label(0);
+
+const COLOUR: Payload = Payload::Colour(3);
+
+const CHOSEN: Payload = Payload::Chosen(0);
+
+// The rule that a cell breaks.
+const DUE: Option<u16> = None;
+
+const P1: Option<u16> = Some(1);
+
+const P2: Option<u16> = Some(2);
+
+const P6: Option<u16> = Some(6);
+
+// Pulse, payload, and what it breaks from a port that is Unknown, Up and Down.
+const TABLE: [(u32, Payload, [Option<u16>; 3]); 32] = [
+    // Greet
+    (0, HELLO, [P1, P1, P1]),
+    (0, LABEL, [P1, P1, P1]),
+    (0, COLOUR, [P1, P1, P1]),
+    (0, CHOSEN, [P1, P1, P1]),
+    // Orient
+    (1, HELLO, [DUE, P2, P2]),
+    (1, LABEL, [P1, P1, P1]),
+    (1, COLOUR, [P1, P1, P1]),
+    (1, CHOSEN, [P1, P1, P1]),
+    // Seed
+    (2, LABEL, [DUE, P2, P2]),
+    (2, HELLO, [P1, P1, P1]),
+    (2, COLOUR, [P1, P1, P1]),
+    (2, CHOSEN, [P1, P1, P1]),
+    // Step
+    (3, COLOUR, [P2, DUE, P2]),
+    (3, HELLO, [P1, P1, P1]),
+    (3, LABEL, [P1, P1, P1]),
+    (3, CHOSEN, [P1, P1, P1]),
+    // Shift
+    (7, COLOUR, [P2, DUE, P2]),
+    (7, HELLO, [P1, P1, P1]),
+    (7, LABEL, [P1, P1, P1]),
+    (7, CHOSEN, [P1, P1, P1]),
+    // Drop
+    (8, COLOUR, [P2, DUE, P2]),
+    (8, HELLO, [P1, P1, P1]),
+    (8, LABEL, [P1, P1, P1]),
+    (8, CHOSEN, [P1, P1, P1]),
+    // Merge
+    (14, CHOSEN, [P2, DUE, DUE]),
+    (14, HELLO, [P1, P1, P1]),
+    (14, LABEL, [P1, P1, P1]),
+    (14, COLOUR, [P1, P1, P1]),
+    // Halted
+    (19, HELLO, [P6, P6, P6]),
+    (19, LABEL, [P6, P6, P6]),
+    (19, COLOUR, [P6, P6, P6]),
+    (19, CHOSEN, [P6, P6, P6]),
+];
+
+// What a node made anew answers to a payload, once it was told others at the pulses from 1 on.
+fn answer(
+    rt: &impl Abort,
+    alloc: Global,
+    net: &Network,
+    v: u32,
+    told: &[Payload],
+    pulse: u32,
+    payload: Payload,
+) -> Result<Result<(), Refused>, Fail> {
+    assert!(rt; 1 <= v && v <= net.nodes());
+    assert!(rt; net.degree(v) == 1 && told.len() <= 2);
+    let mut node = made(alloc, net, v)?;
+    for i in 0..told.len() {
+        let (answer, _) = feed(alloc, &mut node, i as u32 + 1, &[Some(told[i])])?;
+        assert_eq!(rt; answer, Ok(()));
+    }
+    let (answer, _) = feed(alloc, &mut node, pulse, &[Some(payload)])?;
+    Ok(answer)
+}
+
+#[test]
+fn each_cell_of_the_table_has_its_answer(rt: HostRuntime) -> Result<(), Fail> {
+    let alloc = rt.alloc();
+    let net = make(&rt, alloc, &[1, 2], &[(1, 2)])?;
+    for (pulse, payload, broken) in TABLE {
+        let answers = [
+            answer(&rt, alloc, &net, 1, &[], pulse, payload)?,
+            answer(&rt, alloc, &net, 1, &[HELLO], pulse, payload)?,
+            answer(&rt, alloc, &net, 2, &[LOWER_HELLO, LABEL], pulse, payload)?,
+        ];
+        let want = broken.map(|rule| match rule {
+            Some(rule) => Err(Refused {
+                rule,
+                port: Some(0),
+            }),
+            None => Ok(()),
+        });
+        assert_eq!(rt; answers, want, "{payload:?} at {pulse}");
+    }
+    Ok(())
+}

@@ -1,0 +1,55 @@
+// A node made for a test, and fed by hand. A caller may skip pulses.
+
+ghost use Rattle.std.specs.Prelude.{◌≡◌, ◌≤◌, IfOk, length};
+ghost use Rattle.interference.specs.Net.{IsVertex, degree_of};
+ghost use Rattle.colour_rules.specs.Node.{ports};
+
+use crate::Colouring;
+use colour_rules::Payload;
+use interference::{Memory, Network};
+use node_api::{Inbox, NodeProgram, Outbox, Refused};
+use std::alloc::Global;
+
+/// The node of a vertex, which knows no port.
+pub fn made(alloc: Global, net: &Network, v: u32) -> Result<Colouring, Memory>
+    requires vertex { IsVertex net.now v }
+    ensures ports { IfOk result (λ node. ports node ≡ degree_of net.now v) }
+{
+    Colouring::make(alloc, net, v)
+}
+
+/// What a node answers to these payloads at its ports, and what it sends.
+pub fn feed(
+    alloc: Global,
+    node: &mut Colouring,
+    pulse: u32,
+    payloads: &[Option<Payload>],
+) -> Result<(Result<(), Refused>, Outbox<Payload>), Memory>
+    requires ports { length payloads.now ≡ ports node.old }
+    requires few { length payloads.now ≤ 1023 }
+    ensures ports { ports node.new ≡ ports node.old }
+{
+    let degree = payloads.len() as u32;
+    let mut inbox = inbox_of(alloc, payloads)?;
+    let mut out = Outbox::new(alloc, degree)?;
+    let answer = node.handle_messages(pulse, &mut inbox, &mut out);
+    Ok((answer, out))
+}
+
+// An inbox of these payloads.
+fn inbox_of(alloc: Global, payloads: &[Option<Payload>]) -> Result<Inbox<Payload>, Memory>
+    requires few { length payloads.now ≤ 1023 }
+    ensures ports { IfOk result (λ inbox. length inbox.slots ≡ length payloads.now) }
+    ensures rewound { IfOk result (λ inbox. inbox.place ≡ 0) }
+{
+    let degree = payloads.len() as u32;
+    let mut inbox = Inbox::new(alloc, degree)?;
+    for port in 0..degree {
+        if let Some(payload) = payloads[port as usize] {
+            if inbox.is_empty(port) {
+                inbox.put(port, payload);
+            }
+        }
+    }
+    Ok(inbox)
+}

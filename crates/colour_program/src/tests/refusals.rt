@@ -1,0 +1,179 @@
+// Refusals by value, by what is missing and by the node itself, and that they leave the node as it was.
+
+ghost use Rattle.std.specs.Prelude.{◌≡◌, IfOk};
+ghost use Rattle.interference.specs.Net.{IsVertex};
+ghost use Rattle.colour_rules.specs.Node.{ports};
+
+use crate::Colouring;
+use crate::tests::fed::{feed, made};
+use crate::tests::make;
+use colour_rules::Payload;
+use colour_rules::Payload::{Chosen, Colour, Hello, Label};
+use interference::{Memory, Network};
+use node_api::{Outbox, Refused};
+use std::alloc::Global;
+use std::process::Abort;
+use std::test::Fail;
+
+// A pulse, and what comes to the two ports of a node at it.
+type Told = (u32, [Option<Payload>; 2]);
+
+// A triangle with identifiers 1, 2 and 30: two forests, degree 2, last pulse 30. Vertex 1 has two
+// parents, vertex 2 a child and a parent, vertex 3 two children.
+const IDS: [u64; 3] = [1, 2, 30];
+
+const EDGES: [(u32, u32); 3] = [(1, 2), (1, 3), (2, 3)];
+
+// What its vertices are told before, in turn.
+fn told_before(v: u32, turn: u32) -> Told {
+    match (v, turn) {
+        (1, 0) => (1, [Some(Hello(2)), Some(Hello(30))]),
+        (1, 1) => (2, [None, None]),
+        (1, _) => (24, [Some(Chosen(0)), Some(Chosen(1))]),
+        (2, _) => (1, [Some(Hello(1)), Some(Hello(30))]),
+        (_, 0) => (1, [Some(Hello(1)), Some(Hello(2))]),
+        (_, _) => (2, [Some(Label(1)), Some(Label(0))]),
+    }
+}
+
+// A vertex, how often it was told before, what it refuses then, by which rule and of which port.
+const REFUSALS: [(u32, u32, Told, u16, Option<u32>); 20] = [
+    // A wrong kind, and a wrong role.
+    (1, 0, (1, [Some(Hello(2)), Some(Label(0))]), 1, Some(1)),
+    (2, 1, (1, [Some(Hello(1)), Some(Hello(30))]), 2, Some(1)),
+    // No such forest; a choice at the first step of a forest; one from a later forest.
+    (2, 1, (2, [Some(Label(2)), None]), 3, Some(0)),
+    (1, 1, (13, [Some(Chosen(0)), None]), 3, Some(0)),
+    (1, 1, (14, [None, Some(Chosen(0))]), 3, Some(1)),
+    // The node's own identifier; one that came before.
+    (1, 0, (1, [Some(Hello(2)), Some(Hello(1))]), 4, Some(1)),
+    (1, 0, (1, [Some(Hello(2)), Some(Hello(2))]), 4, Some(1)),
+    // The node's own colour, which is 0 until it is seeded with the identifier.
+    (1, 1, (3, [Some(Colour(2)), Some(Colour(0))]), 4, Some(1)),
+    (1, 2, (3, [Some(Colour(2)), Some(Colour(1))]), 4, Some(1)),
+    // A chosen colour above the greatest degree.
+    (1, 1, (14, [Some(Chosen(3)), None]), 4, Some(0)),
+    // The node's own colour is 30 at a shift and at a drop, where the steps are left out.
+    (3, 2, (7, [None, None]), 4, None),
+    (3, 2, (8, [None, None]), 4, None),
+    // No colour is free at the step of the pair of colours 1 and 0 in forest 1.
+    (1, 3, (25, [Some(Chosen(2)), None]), 4, None),
+    // Nothing where something is due.
+    (1, 0, (1, [Some(Hello(2)), None]), 5, Some(1)),
+    (2, 1, (2, [None, None]), 5, Some(0)),
+    (1, 1, (3, [Some(Colour(2)), None]), 5, Some(1)),
+    // After the last pulse.
+    (1, 1, (31, [None, Some(Chosen(0))]), 6, Some(1)),
+    // The first of two broken ports, and a port before the node itself.
+    (1, 0, (1, [Some(Hello(1)), Some(Label(0))]), 4, Some(0)),
+    (1, 0, (1, [None, Some(Label(0))]), 5, Some(0)),
+    (3, 2, (7, [None, Some(Colour(6))]), 2, Some(1)),
+];
+
+// What the node answers and sends at a pulse.
+fn tell(
+    alloc: Global,
+    node: &mut Colouring,
+    told: Told,
+) -> Result<(Result<(), Refused>, Outbox<Payload>), Memory>
+    requires ports { ports node.old ≡ 2 }
+    ensures ports { ports node.new ≡ 2 }
+{
+    let (pulse, payloads) = told;
+    feed(alloc, node, pulse, payloads.as_slice())
+}
+
+// The node of a vertex with two neighbours, once it was told so often.
+fn node_after(
+    rt: &impl Abort,
+    alloc: Global,
+    net: &Network,
+    v: u32,
+    turns: u32,
+) -> Result<Colouring, Fail>
+    requires vertex { IsVertex net.now v }
+    ensures ports { IfOk result (λ node. ports node ≡ 2) }
+{
+    assert!(rt; net.degree(v) == 2);
+    let mut node = made(alloc, net, v)?;
+    for turn in 0..turns {
+        let (answer, _) = tell(alloc, &mut node, told_before(v, turn))?;
+        assert_eq!(rt; answer, Ok(()), "vertex {v}, turn {turn}");
+    }
+    Ok(node)
+}
+
+#[test]
+fn a_refusal_tells_its_rule_and_its_port(rt: HostRuntime) -> Result<(), Fail> {
+    let alloc = rt.alloc();
+    let net = make(&rt, alloc, &IDS, &EDGES)?;
+    for (v, turns, told, rule, port) in REFUSALS {
+        assert!(rt; 1 <= v && v <= net.nodes());
+        let mut node = node_after(&rt, alloc, &net, v, turns)?;
+        let colour = node.colour();
+        let (answer, out) = tell(alloc, &mut node, told)?;
+        let want = Err(Refused { rule, port });
+        assert_eq!(rt; answer, want, "vertex {v}, {told:?}");
+        assert!(rt; out.is_quiet() && node.colour() == colour);
+    }
+    Ok(())
+}
+
+// On a path a node has one parent at most, and here both neighbours say that they are higher.
+#[test]
+fn more_parents_than_forests_are_refused(rt: HostRuntime) -> Result<(), Fail> {
+    let alloc = rt.alloc();
+    let net = make(&rt, alloc, &[1, 2, 3], &[(1, 2), (2, 3)])?;
+    assert!(rt; net.nodes() == 3);
+    let mut node = node_after(&rt, alloc, &net, 2, 0)?;
+    let (answer, _) = tell(alloc, &mut node, (1, [Some(Hello(4)), Some(Hello(3))]))?;
+    assert_eq!(rt;
+        answer,
+        Err(Refused {
+            rule: 3,
+            port: None
+        })
+    );
+    Ok(())
+}
+
+// The greatest colour that may come from a parent at each pulse from 4 on, and one more.
+#[test]
+fn colours_have_their_bounds(rt: HostRuntime) -> Result<(), Fail> {
+    let alloc = rt.alloc();
+    let net = make(&rt, alloc, &IDS, &EDGES)?;
+    assert!(rt; net.nodes() == 3);
+    for (pulse, bound) in [
+        (4, 127),
+        (5, 13),
+        (6, 7),
+        (7, 5),
+        (8, 5),
+        (9, 4),
+        (10, 4),
+        (11, 3),
+        (12, 3),
+    ] {
+        let mut node = node_after(&rt, alloc, &net, 1, 1)?;
+        let (above, _) = tell(
+            alloc,
+            &mut node,
+            (pulse, [Some(Colour(1)), Some(Colour(bound + 1))]),
+        )?;
+        assert_eq!(rt;
+            above,
+            Err(Refused {
+                rule: 4,
+                port: Some(1)
+            }),
+            "at {pulse}"
+        );
+        let (within, _) = tell(
+            alloc,
+            &mut node,
+            (pulse, [Some(Colour(1)), Some(Colour(bound))]),
+        )?;
+        assert_eq!(rt; within, Ok(()), "at {pulse}");
+    }
+    Ok(())
+}

@@ -1,0 +1,37 @@
+-- A step of the merging, at the node's turn and at the others.
+use Rattle.std.proofs.Common.{◌≡◌, ℕ, suc, ◌==◌, Bool, true, false, List, ap, sym, ◌∙◌}
+use Rattle.std.specs.Prelude.{if◌then◌else◌, map, Option}
+use Rattle.node_api.specs.Boxes.{nothing}
+use Rattle.colour_rules.specs.declared.payload.Payload.{Payload}
+use Rattle.colour_rules.specs.declared.phase.Phase.TheVariants.{Merge}
+use Rattle.colour_rules.specs.Node.{Node, ports, steps}
+use Rattle.colour_rules.specs.Choice.{chooses, free_for, gathered}
+use Rattle.colour_rules.specs.Program.{done, silent, tells_chosen}
+use Rattle.colour_rules.proofs.Greets.{same-for_all}
+
+abbrev Sent : Type 0
+Sent = List (Option Payload)
+
+-- nothing at any port is silence
+pub silent-is : (node : Node) → nothing (ports node) ≡ silent node.roles
+silent-is node = same-for_all _ node.roles
+
+-- what is sent where something is so
+pub told-if : (b : Bool) (out x y : Sent) → b ≡ true → out ≡ x → out ≡ (if b then x else y)
+told-if true out x y e h = h
+told-if false out x y e h = absurd (cc)
+
+module _ (node : Node) (p f s : ℕ) (inbox out : Sent) (here : Node) (is : here ≡ gathered node s inbox) where
+  -- a node whose turn it isn't has gathered, and is silent
+  pub waits-is : false ≡ chooses (gathered node s inbox) f s → out ≡ nothing (ports node) → (here, out) ≡ done node p (Merge f s) inbox
+  waits-is wait quiet =
+      rw (sym wait) (ap (λ (n : Node). (n, out)) is ∙ ap (λ (o : Sent). (gathered node s inbox, o)) (quiet ∙ silent-is node))
+
+  -- a node at its turn takes a colour and tells it, but for the last step
+  pub turns-is : true ≡ chooses (gathered node s inbox) f s → (c : ℕ) → c ≡ free_for here → out ≡ (if suc s == steps node.sizes then silent node.roles else map (tells_chosen f c) node.roles) → (record here { merged = c }, out) ≡ done node p (Merge f s) inbox
+  turns-is turn c free told =
+      let same : c ≡ free_for (gathered node s inbox) = free ∙ ap free_for is in
+      rw (sym turn)
+      (ap (λ (n : Node). (record n { merged = c }, out)) is
+      ∙ (ap (λ (o : Sent). (record (gathered node s inbox) { merged = c }, o)) told
+      ∙ ap (λ (d : ℕ). (record (gathered node s inbox) { merged = d }, if suc s == steps node.sizes then silent node.roles else map (tells_chosen f d) node.roles)) same))

@@ -1,0 +1,57 @@
+use Rattle.std.proofs.Common.{◌≡◌, ◌-◌, ◌≤◌, ℕ, List, refl, ap, sym, ◌∙◌, arith}
+use Rattle.std.specs.Prelude.{Option, Some, IsTrue, false}
+use Rattle.std.specs.Ordering.{nat_cmp}
+use Rattle.std.specs.FinSet.{FinSet}
+use Rattle.node_api.specs.Boxes.{at_port, fold_rest}
+use Rattle.node_api.proofs.Reading.{fold_rest-read, fold_rest-end}
+use Rattle.colour_rules.specs.declared.payload.Payload.{Payload}
+use Rattle.colour_rules.specs.declared.payload.Payload.TheVariants.{Chosen}
+use Rattle.colour_rules.proofs.Reading.{taken_in, taken_in-other, with_chosen-fold, read-is, read-less}
+use Rattle.colour_rules.proofs.merge.add_chosen.Goals as goal
+
+pub loop-inbox-init : goal.loop-inbox-init
+loop-inbox-init c = record {
+  same = refl;
+  rest = ap (fold_rest taken_in c.args.chosen.now) c.requires.unread ∙ with_chosen-fold c.args.chosen.now 0 c.args.inbox.now.slots;
+}
+
+pub add-requires : goal.add-requires
+add-requires c =
+    let l = c.loop-inbox in
+    let there : at_port c.args.inbox.now.slots (c.next.new.self.place - 1) ≡ Some (Chosen c.in-Chosen.colour) =
+    ap (λ (slots : List (Option Payload)). at_port slots (c.next.new.self.place - 1)) (sym l.invariant.same) ∙ (read-is l.inbox c.next.result c.next.new.self c.next.ensures.reads ∙ ap Some c.in-Chosen.is) in
+    let low : c.in-Chosen.colour ≤ 1023 = c.requires.colours (c.next.new.self.place - 1) c.in-Chosen.colour there in
+    omega arith
+
+pub loop-inbox-smaller-in-Chosen : goal.loop-inbox-smaller-in-Chosen
+loop-inbox-smaller-in-Chosen c = read-less c.loop-inbox.inbox c.next.result c.next.new.self c.next.ensures.reads
+
+pub loop-inbox-preserved-in-Chosen : goal.loop-inbox-preserved-in-Chosen
+loop-inbox-preserved-in-Chosen c =
+    let l = c.loop-inbox in
+    let port : ℕ = c.next.new.self.place - 1 in
+    record {
+      same = c.next.ensures.reads.same ∙ l.invariant.same;
+      rest =
+          ap (λ (set : FinSet nat_cmp). fold_rest taken_in set c.next.new.self) (c.add.ensures ∙ ap (taken_in l.chosen port) (sym c.in-Chosen.is))
+          ∙ (sym (fold_rest-read taken_in l.inbox c.next.result c.next.new.self l.chosen c.next.ensures.reads) ∙ l.invariant.rest);
+    }
+
+pub loop-inbox-smaller : goal.loop-inbox-smaller
+loop-inbox-smaller c = read-less c.loop-inbox.inbox c.next.result c.next.new.self c.next.ensures.reads
+
+pub loop-inbox-preserved : goal.loop-inbox-preserved
+loop-inbox-preserved c =
+    record {
+      same = c.next.ensures.reads.same ∙ c.loop-inbox.invariant.same;
+      rest =
+          ap (λ (set : FinSet nat_cmp). fold_rest taken_in set c.next.new.self) (sym (taken_in-other c.loop-inbox.chosen (c.next.new.self.place - 1) c.next.result c.in_default.not-Chosen))
+          ∙ (sym (fold_rest-read taken_in c.loop-inbox.inbox c.next.result c.next.new.self c.loop-inbox.chosen c.next.ensures.reads)
+          ∙ c.loop-inbox.invariant.rest);
+    }
+
+pub returns-clause-chosen : goal.returns-clause-chosen
+returns-clause-chosen c = sym (fold_rest-end taken_in c.loop-inbox.inbox c.loop-inbox.chosen (λ h. let e : IsTrue false = c.loop-inbox-test.ensures.more.1 h in (cc))) ∙ c.loop-inbox.invariant.rest
+
+pub returns-clause-slots : goal.returns-clause-slots
+returns-clause-slots c = c.loop-inbox.invariant.same

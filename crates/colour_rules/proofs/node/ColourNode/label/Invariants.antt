@@ -1,0 +1,16 @@
+use Rattle.std.proofs.Common.{◌≡◌, ◌-◌, length}
+use Rattle.colour_rules.specs.Program.{with_roles}
+use Rattle.colour_rules.specs.contracts.node.ColourNode.{the_view}
+use Rattle.colour_rules.proofs.Labelling.{Labelled}
+use Rattle.colour_rules.proofs.node.ColourNode.label.Given as goal
+
+abbrev pub invariant-loop-self : goal.invariant-loop-self
+invariant-loop-self l =
+    record {
+      same : l.inbox.slots ≡ l.fn.inbox.slots;
+      node : the_view l.self-inside ≡ with_roles l.fn.self l.self-inside.roles.items;
+      roles : Labelled l.fn.self.roles l.fn.inbox.slots l.inbox.place l.self-inside.roles.items;
+    }
+
+abbrev pub decreases-loop-self : goal.decreases-loop-self
+decreases-loop-self l = length l.inbox.slots - l.inbox.place

@@ -1,0 +1,6 @@
+use Rattle.colour_rules.specs.Program.{tells_label}
+use Rattle.colour_rules.proofs.Telling.{Told}
+use Rattle.colour_rules.proofs.node.ColourNode.tell_labels.Given as goal
+
+abbrev pub invariant-loop-port : goal.invariant-loop-port
+invariant-loop-port l = Told tells_label l.self-inside.roles.items l.port l.out
