@@ -1,5 +1,5 @@
 -- The command line computes, and each of its commands has a request.
-use Rattle.std.proofs.Common.{◌≡◌, ◌==◌, ℕ, Bool, true, false, List, [], ◌∷◌, Option, Some, None, refl, ap, sym, ◌∙◌, is_some, find, option_map, length, cond}
+use Rattle.std.proofs.Common.{◌≡◌, Bool, true, false, List, [], ◌∷◌, Option, Some, None, refl, ap, ◌∙◌, is_some, find, option_map, cond}
 use Rattle.std.specs.List.{AllByRecursion}
 use Rattle.clap.specs.Walk.{Row, Text, answers_to, stop_after}
 use Rattle.clap.specs.Simple.{Shape, argument_words, built, entered, label_of, names_of, is_simple, rows_at, subcommand_of}
@@ -40,7 +40,7 @@ pub entered_known : (stop : Option (Text × List Text)) → is_some (entered (bu
     → is_some (choice_of (entered (built line) stop)) ≡ true
 entered_known None h = h
 entered_known (Some p) h = found (λ x. answers_to p.0 (label_of x)) p.1 (built line).subs
-    ((λ rows. refl), tt) h
+    ((λ rows. refl), ((λ rows. refl), tt)) h
 
 pub known : (words : List Text) → is_some (subcommand_of line words) ≡ true
     → is_some (choice_of (subcommand_of line words)) ≡ true

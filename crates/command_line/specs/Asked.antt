@@ -5,12 +5,13 @@ use Rattle.clap.specs.Words.{Row, Text, fault_of, subcommand_of}
 use Rattle.clap.specs.Kinds.{Kinds}
 use Rattle.command_line.specs.Line.{line}
 use Rattle.command_line.specs.declared.request.Request.{Request}
-use Rattle.command_line.specs.declared.request.Request.TheVariants.{Forests}
+use Rattle.command_line.specs.declared.request.Request.TheVariants.{Forests, Plain}
 
 -- what the command of a name asks for, given the values of its options; each command is a line
 abbrev pub named : Text → List Row → Option Request
 named name rows =
     if bytes_eq name (codes "forests") then Some Forests
+    else if bytes_eq name (codes "plain") then Some Plain
     else None
 
 -- what the command that was found asks for

@@ -15,9 +15,15 @@ without_commands = record (new_app (codes "forestplan")) {
 abbrev pub forests_command : App
 forests_command = new_app (codes "forests")
 
+-- `plain`, with no options
+abbrev pub plain_command : App
+plain_command = new_app (codes "plain")
+
 -- the commands, each a line
 abbrev pub with_commands : App → App
-with_commands program = with_subcommand program forests_command.top
+with_commands program =
+    let with_forests : App = with_subcommand program forests_command.top in
+    with_subcommand with_forests plain_command.top
 
 -- the whole command line
 abbrev pub line : App

@@ -1,12 +1,13 @@
 //! The texts of help.
 
 /// What the program does, in a line.
-pub const ABOUT: &str = "Forests of an interference graph, read from a DIMACS text";
+pub const ABOUT: &str = "Plans channels for transmitters: no two that interfere share one";
 
 /// The same, at length.
-pub const LONG_ABOUT: &str = "Forests of an interference graph, read from a DIMACS text.
+pub const LONG_ABOUT: &str = "Plans channels for transmitters: no two that interfere share one.
 
-The program reads a graph from standard input and writes its answer to standard
+The program reads a graph from standard input, in which transmitters are the
+vertices and edges join those that interfere, and writes its answer to standard
 output. A fault is one line on standard error, and nothing is then on output.";
 
 /// What the input looks like, its faults, and the statuses.
@@ -25,8 +26,8 @@ and as `forestplan: N1 vertex 1` a vertex with more than 1023 neighbours.
 Status: 0 done, 1 input refused, 2 command line refused, 4 memory ran out, or
 the input could not be read or the output not written.
 
-Example:
-  printf 'p edge 3 3\\ne 1 2\\ne 1 3\\ne 2 3\\n' | forestplan forests";
+Example: three transmitters, each in reach of the other two
+  printf 'p edge 3 3\\ne 1 2\\ne 1 3\\ne 2 3\\n' | forestplan plain";
 
 /// What `forests` does, in a line.
 pub const FORESTS_ABOUT: &str = "Prints the forests into which the edges are parted";
@@ -53,3 +54,31 @@ prints
   0 1 2
   0 2 3
   1 1 3";
+
+/// What `plain` does, in a line.
+pub const PLAIN_ABOUT: &str = "Prints a channel plan, in which neighbours have different channels";
+
+/// The same, at length.
+pub const PLAIN_LONG_ABOUT: &str =
+    "Prints a channel plan, in which neighbours have different channels.
+
+Channels count from 1, and none is above the greatest number of neighbours, plus
+one. The vertices find them by messages to their neighbours, round by round on
+one thread: each forest gets three colours, and the forests are merged one by
+one. The plan depends on the graph alone.";
+
+/// What `plain` reads and writes, and an example.
+pub const PLAIN_FORMAT: &str =
+    "Input: a graph in the DIMACS format, as `p edge NODES EDGES` and then `e V W`.
+
+Output, a line each:
+  plan                 the first line
+  V CHANNEL            for each vertex, ascending: its channel
+
+Example: the triangle
+  printf 'p edge 3 3\\ne 1 2\\ne 1 3\\ne 2 3\\n' | forestplan plain
+prints
+  plan
+  1 2
+  2 3
+  3 1";

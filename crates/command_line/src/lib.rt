@@ -3,7 +3,8 @@
 //! `forestplan` calls `parse` with the words that it was started with, its own name first.
 //!
 //! ```
-//! match parse(alloc, &["forestplan", "forests"]) {
+//! match parse(alloc, &["forestplan", "plain"]) {
+//!     Ok(Request::Plain) => ..,
 //!     Ok(Request::Forests) => ..,
 //!     Err(error) => ..,                  // help too: `error.kind()` tells them apart
 //! }

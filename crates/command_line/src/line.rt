@@ -3,7 +3,7 @@
 ghost use Rattle.std.specs.Prelude.{◌≡◌, IfOk, false};
 ghost use Rattle.clap.specs.Words.{app_of, with_subcommand};
 ghost use Rattle.clap.specs.declared.builder.command.Command.TheViews.{out-Command};
-ghost use Rattle.command_line.specs.Line.{forests_command, line, with_commands, without_commands};
+ghost use Rattle.command_line.specs.Line.{forests_command, line, plain_command, with_commands, without_commands};
 
 use crate::help;
 use clap::Command;
@@ -33,6 +33,16 @@ fn forests<'a>(alloc: Global) -> Command<'a>
         .after_help(help::FORESTS_FORMAT)
 }
 
+fn plain<'a>(alloc: Global) -> Command<'a>
+    ensures shape { app_of result ≡ plain_command }
+    ensures local { (out-Command result).has_globals ≡ false }
+{
+    Command::new(alloc, "plain")
+        .about(help::PLAIN_ABOUT)
+        .long_about(help::PLAIN_LONG_ABOUT)
+        .after_help(help::PLAIN_FORMAT)
+}
+
 fn with_command<'a>(command: Command<'a>, sub: Command<'a>) -> Result<Command<'a>, AllocError>
     requires locals { (out-Command command).has_globals ≡ false }
     requires local { (out-Command sub).has_globals ≡ false }
@@ -48,7 +58,8 @@ fn with_all_commands<'a>(alloc: Global, command: Command<'a>) -> Result<Command<
     ensures shape { IfOk result (λ c. app_of c ≡ with_commands (app_of command.entry)) }
     ensures local { IfOk result (λ c. (out-Command c).has_globals ≡ false) }
 {
-    with_command(command, forests(alloc))
+    let command = with_command(command, forests(alloc))?;
+    with_command(command, plain(alloc))
 }
 
 /// The whole command line.

@@ -17,6 +17,8 @@ use std::alloc::Global;
 pub enum Request {
     /// The forests of a network.
     Forests,
+    /// A channel plan of a network, by rounds on one thread.
+    Plain,
 }
 
 fn request_named(name: &str, _matches: &ArgMatches<'_>) -> Option<Request>
@@ -24,6 +26,7 @@ fn request_named(name: &str, _matches: &ArgMatches<'_>) -> Option<Request>
 {
     match name {
         "forests" => Some(Request::Forests),
+        "plain" => Some(Request::Plain),
         _ => None,
     }
 }

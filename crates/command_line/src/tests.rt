@@ -3,11 +3,14 @@ use clap::error::ErrorKind;
 use std::test::Fail;
 
 #[test]
-fn knows_the_command_and_refuses_other_words(rt: HostRuntime) -> Result<(), Fail> {
+fn knows_the_commands_and_refuses_other_words(rt: HostRuntime) -> Result<(), Fail> {
     let alloc = rt.alloc();
-    assert!(rt;
-        parse(alloc, &["forestplan", "forests"]).is_ok_and(|request| request == Request::Forests)
-    );
+    for (word, wanted) in [("forests", Request::Forests), ("plain", Request::Plain)] {
+        assert!(rt;
+            parse(alloc, &["forestplan", word]).is_ok_and(|request| request == wanted),
+            "{word}"
+        );
+    }
     for (words, kind) in [
         (["forestplan"].as_slice(), ErrorKind::MissingSubcommand),
         (
@@ -15,7 +18,7 @@ fn knows_the_command_and_refuses_other_words(rt: HostRuntime) -> Result<(), Fail
             ErrorKind::InvalidSubcommand,
         ),
         (
-            ["forestplan", "plain"].as_slice(),
+            ["forestplan", "plan"].as_slice(),
             ErrorKind::InvalidSubcommand,
         ),
         (
@@ -26,9 +29,17 @@ fn knows_the_command_and_refuses_other_words(rt: HostRuntime) -> Result<(), Fail
             ["forestplan", "forests", "extra"].as_slice(),
             ErrorKind::UnknownArgument,
         ),
+        (
+            ["forestplan", "plain", "--workers"].as_slice(),
+            ErrorKind::UnknownArgument,
+        ),
         (["forestplan", "--help"].as_slice(), ErrorKind::DisplayHelp),
         (
             ["forestplan", "forests", "-h"].as_slice(),
+            ErrorKind::DisplayHelp,
+        ),
+        (
+            ["forestplan", "plain", "--help"].as_slice(),
             ErrorKind::DisplayHelp,
         ),
     ] {

@@ -1,2 +1,3 @@
+mod Ends
 mod Giving
 pub mod Numbering

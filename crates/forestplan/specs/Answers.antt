@@ -6,8 +6,9 @@ use Rattle.dimacs_col.specs.Reading.{IsFault, IsGraph}
 use Rattle.interference.specs.Net.{Net, IsNetwork}
 use Rattle.interference.specs.Making.{IsFaultOf, network_of}
 use Rattle.command_line.specs.declared.request.Request.{Request}
-use Rattle.command_line.specs.declared.request.Request.TheVariants.{Forests}
-use Rattle.forestplan.specs.Texts.{forests_text}
+use Rattle.command_line.specs.declared.request.Request.TheVariants.{Forests, Plain}
+use Rattle.forestplan.specs.Plans.{IsChannelPlan}
+use Rattle.forestplan.specs.Texts.{colours_text, forests_text}
 use Rattle.forestplan.specs.declared.fault.PlanFault.{PlanFault}
 use Rattle.forestplan.specs.declared.fault.PlanFault.TheVariants as plan
 
@@ -30,9 +31,14 @@ IsFaultOfText text plan.Memory = Unit {0}
 abbrev pub IsForestsAnswer : List ℕ → List ℕ → Type 0
 IsForestsAnswer input answer = ReadsAs input (λ net. IsNetwork net × (answer ≡ forests_text net))
 
+-- the answer is the plan of the colours of the network that the input describes, and a channel plan of it
+abbrev pub IsPlainAnswer : List ℕ → List ℕ → Type 0
+IsPlainAnswer input answer = ReadsAs input (λ net. IsNetwork net × (answer ≡ colours_text net) × IsChannelPlan net answer)
+
 -- what each command answers where its input is good, a line for each
 abbrev pub IsGoodAnswer : Request → List ℕ → List ℕ → Type 0
 IsGoodAnswer Forests input answer = IsForestsAnswer input answer
+IsGoodAnswer Plain input answer = IsPlainAnswer input answer
 
 -- the bytes that a command may answer, or its fault
 abbrev pub MayAnswer : Request → List ℕ → Result (List ℕ) PlanFault → Type 0

@@ -1,4 +1,5 @@
 pub mod Texts
+pub mod Plans
 pub mod Faults
 pub mod Answers
 pub mod Streams

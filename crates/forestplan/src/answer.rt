@@ -4,10 +4,12 @@ ghost use Rattle.std.specs.Prelude.{◌≡◌, IfOk, IfErr, Ok, Err};
 ghost use Rattle.std.specs.List.{range_with_len};
 ghost use Rattle.interference.specs.Making.{EdgesFit, IsFaultOf};
 ghost use Rattle.interference.specs.Net.{IsNetwork};
-ghost use Rattle.forestplan.specs.Answers.{IsFaultOfText, IsForestsAnswer, MayAnswer, ReadsAs, network_with};
+ghost use Rattle.forestplan.specs.Answers.{IsFaultOfText, IsForestsAnswer, IsPlainAnswer, MayAnswer, ReadsAs, network_with};
 
 use crate::fault::PlanFault;
 use crate::forests_text::text_of_forests;
+use crate::plain::text_of_plan;
+use colour_laws::laws::colours_are_proper;
 use command_line::Request;
 use dimacs_col::{ColFile, read};
 use interference::{NetFault, Network};
@@ -72,6 +74,25 @@ pub fn forest_bytes(alloc: Global, input: &[u8]) -> Result<Vec<u8>, PlanFault>
     }
 }
 
+/// The channel plan of the network that a DIMACS text describes, in which vertex v has the identifier
+/// v: the plan text of its colours. The nodes find them by messages in rounds, on one thread.
+///
+/// # Errors
+/// As of `forest_bytes`.
+pub fn plain_bytes(alloc: Global, input: &[u8]) -> Result<Vec<u8>, PlanFault>
+    ensures ok { IfOk result (λ text. IsPlainAnswer input.now text.items) }
+    ensures fault { IfErr result (IsFaultOfText input.now) }
+{
+    colours_are_proper();
+    match network_of_text(alloc, input) {
+        Ok(network) => match text_of_plan(alloc, &network) {
+            Ok(text) => Ok(text),
+            Err(_) => Err(PlanFault::Memory),
+        },
+        Err(fault) => Err(fault),
+    }
+}
+
 /// What a command answers to its input.
 ///
 /// # Errors
@@ -82,5 +103,6 @@ pub fn answer_bytes(alloc: Global, request: Request, input: &[u8]) -> Result<Vec
 {
     match request {
         Request::Forests => forest_bytes(alloc, input),
+        Request::Plain => plain_bytes(alloc, input),
     }
 }

@@ -1,7 +1,8 @@
-//! The program `forestplan`: the forests of an interference graph, from bytes to bytes.
+//! The program `forestplan`: a channel plan for an interference graph, or its forests, from bytes to
+//! bytes.
 //!
 //! ```sh
-//! printf 'p edge 3 3\ne 1 2\ne 1 3\ne 2 3\n' | forestplan forests
+//! printf 'p edge 3 3\ne 1 2\ne 1 3\ne 2 3\n' | forestplan plain
 //! ```
 //!
 //! `serve` is all that it runs, and its contract says what stands on the output, on the errors and in
@@ -12,6 +13,7 @@
 mod answer;
 mod fault;
 mod forests_text;
+mod plain;
 mod serving;
 #[cfg(test)]
 mod tests;

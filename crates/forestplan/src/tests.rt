@@ -2,5 +2,6 @@
 
 mod fakes;
 mod faults;
+mod plans;
 mod rows;
 mod words;

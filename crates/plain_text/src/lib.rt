@@ -1,5 +1,5 @@
 //! Numbers as decimal text, appended to bytes. The crates that write a text of many rows of numbers
-//! stand on it: `forestplan`, `channel_plan`, `net_core`.
+//! stand on it: `forestplan` and `channel_plan`.
 //!
 //! ```
 //! push_row(&mut text, &[0, 1, 2])?;          // appends "0 1 2" and a line feed

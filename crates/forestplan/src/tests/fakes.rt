@@ -1,5 +1,7 @@
-//! Streams that fail once, at a read or write of their own choice.
+//! Streams that fail once, at a read or write of their own choice, and the serving of a command over
+//! streams that do not.
 
+use crate::serving::serve;
 use std::alloc::Global;
 use std::io::{Error, ErrorKind, Read, Result, Write};
 use whole_streams::{Sink, Source};
@@ -88,5 +90,27 @@ impl Write for Writer {
 impl Sink for Writer {
     fn put_some(&mut self, buf: &[u8]) -> Result<usize> {
         self.write(buf)
+    }
+}
+
+/// What serving a command leaves: the status, and what stands on output and on errors.
+#[derive(Drop)]
+pub struct Served {
+    pub status: u8,
+    pub output: Writer,
+    pub errors: Writer,
+}
+
+/// Serves a command over a text, by streams that never fail.
+pub fn serve_text(alloc: Global, command: &str, text: &str) -> Served {
+    let mut input = Reader::new(text.as_bytes(), NEVER);
+    let mut output = Writer::new(alloc, NEVER, false);
+    let mut errors = Writer::new(alloc, NEVER, false);
+    let words = ["forestplan", command];
+    let status = serve(alloc, &words, &mut input, &mut output, &mut errors);
+    Served {
+        status,
+        output,
+        errors,
     }
 }

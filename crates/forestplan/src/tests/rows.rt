@@ -2,7 +2,7 @@
 
 use crate::fault::{PlanFault, told_of};
 use crate::serving::serve;
-use crate::tests::fakes::{NEVER, Reader, Writer};
+use crate::tests::fakes::serve_text;
 use dimacs_col::ColFault;
 use interference::NetFault;
 use std::alloc::Global;
@@ -25,19 +25,13 @@ fn prints_forests(rt: HostRuntime) -> Result<(), Fail> {
         ("p col 2 0\n", "forests 2 0\n"),
         ("p edge 3 3\ne 1 2", "forests 3 1\n0 1 2\n"),
     ] {
-        let mut input = Reader::new(text.as_bytes(), NEVER);
-        let mut output = Writer::new(alloc, NEVER, false);
-        let mut errors = Writer::new(alloc, NEVER, false);
-        let status = serve(
-            alloc,
-            &["forestplan", "forests"],
-            &mut input,
-            &mut output,
-            &mut errors,
+        let told = serve_text(alloc, "forests", text);
+        assert_eq!(rt; told.status, 0, "at {text}");
+        assert!(rt;
+            told.output.bytes.as_slice() == forests.as_bytes(),
+            "at {text}"
         );
-        assert_eq!(rt; status, 0, "at {text}");
-        assert!(rt; output.bytes.as_slice() == forests.as_bytes(), "at {text}");
-        assert!(rt; errors.bytes.is_empty(), "at {text}");
+        assert!(rt; told.errors.bytes.is_empty(), "at {text}");
     }
     Ok(())
 }
@@ -56,19 +50,15 @@ fn tells_the_fault_of_the_input(rt: HostRuntime) -> Result<(), Fail> {
         ("p edge 20001 0\n", "forestplan: F7 line 1\n"),
         ("q 1\n", "forestplan: F8 line 1\n"),
     ] {
-        let mut input = Reader::new(text.as_bytes(), NEVER);
-        let mut output = Writer::new(alloc, NEVER, false);
-        let mut errors = Writer::new(alloc, NEVER, false);
-        let status = serve(
-            alloc,
-            &["forestplan", "forests"],
-            &mut input,
-            &mut output,
-            &mut errors,
-        );
-        assert_eq!(rt; status, 1, "at {text}");
-        assert!(rt; output.bytes.is_empty(), "at {text}");
-        assert!(rt; errors.bytes.as_slice() == line.as_bytes(), "at {text}");
+        for command in ["forests", "plain"] {
+            let told = serve_text(alloc, command, text);
+            assert_eq!(rt; told.status, 1, "{command} at {text}");
+            assert!(rt; told.output.bytes.is_empty(), "{command} at {text}");
+            assert!(rt;
+                told.errors.bytes.as_slice() == line.as_bytes(),
+                "{command} at {text}"
+            );
+        }
     }
     Ok(())
 }

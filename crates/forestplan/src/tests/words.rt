@@ -11,15 +11,19 @@ fn puts_help_on_output(rt: HostRuntime) -> Result<(), Fail> {
     for (words, opening) in [
         (
             ["forestplan", "--help"].as_slice(),
-            "Forests of an interference graph, read from a DIMACS text.",
+            "Plans channels for transmitters: no two that interfere share one.",
         ),
         (
             ["forestplan", "-h"].as_slice(),
-            "Forests of an interference graph, read from a DIMACS text",
+            "Plans channels for transmitters: no two that interfere share one",
         ),
         (
             ["forestplan", "forests", "--help"].as_slice(),
             "Prints the forests into which the edges are parted.",
+        ),
+        (
+            ["forestplan", "plain", "--help"].as_slice(),
+            "Prints a channel plan, in which neighbours have different channels.",
         ),
     ] {
         let mut input = Reader::new(b"p edge 0 0", NEVER);
@@ -52,7 +56,8 @@ fn tells_refused_words_on_errors(rt: HostRuntime) -> Result<(), Fail> {
         ["forestplan"].as_slice(),
         ["forestplan", "help"].as_slice(),
         ["forestplan", "nothing"].as_slice(),
-        ["forestplan", "plain"].as_slice(),
+        ["forestplan", "plan"].as_slice(),
+        ["forestplan", "plain", "--turns", "1"].as_slice(),
         ["forestplan", "--version"].as_slice(),
         ["forestplan", "forests", "extra"].as_slice(),
         ["forestplan", "forests", "--workers", "1"].as_slice(),

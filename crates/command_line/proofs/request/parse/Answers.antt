@@ -1,9 +1,8 @@
-use Rattle.std.proofs.Common.{rules, ◌≡◌, ◌∙◌, ℕ, Bool, true, false, List, [], Some, None, Option, is_some, refl, sym, ap, ap₂, subst, inl, inr, option_map}
-use Rattle.clap.specs.Words.{App, app_of, fault_of, is_simple, kind_of, subcommand_of, subcommand_rows_of}
-use Rattle.clap.specs.Walk.{Row, Text, texts}
+use Rattle.std.proofs.Common.{◌≡◌, ◌∙◌, true, false, Some, None, Option, is_some, refl, sym, ap, subst, inl, inr, option_map}
+use Rattle.clap.specs.Words.{App, fault_of, is_simple, subcommand_of}
+use Rattle.clap.specs.Walk.{texts}
 use Rattle.clap.specs.Faults.{is_simple_and_free}
-use Rattle.clap.specs.Kinds.{FailsBy, HasKind, Kinds}
-use Rattle.command_line.specs.Line.{line}
+use Rattle.clap.specs.Kinds.{HasKind}
 use Rattle.command_line.specs.Asked.{choice_of}
 use Rattle.command_line.proofs.KnownCommands.{known, line_is_free, line_is_simple, refused, taken}
 use Rattle.command_line.proofs.request.parse.Goals as goal

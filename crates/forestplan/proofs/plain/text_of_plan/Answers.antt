@@ -1,0 +1,21 @@
+use Rattle.std.proofs.Common.{◌≡◌, ◌∙◌, IfOk, List, ℕ, ap, map, subst}
+use Rattle.interference.specs.Net.{vertices}
+use Rattle.node_api.specs.Laws.{first_of, last_of}
+use Rattle.node_api.specs.Run.{node_at}
+use Rattle.channel_plan.specs.PlanText.{plan_of}
+use Rattle.colour_rules.specs.Node.{Node, greet, last, made}
+use Rattle.colour_rules.specs.Program.{next}
+use Rattle.colour_laws.specs.Colours.{colours}
+use Rattle.forestplan.proofs.Ends.{at-vertices}
+use Rattle.forestplan.proofs.plain.text_of_plan.Goals as goal
+
+pub returns : goal.returns
+returns c =
+    let net = c.args.network.now in
+    let merged : Node → ℕ = λ node. node.merged in
+    let at_end : ℕ → Node = λ v. (node_at (first_of made greet) next net (last_of last net) v).0 in
+    let read : map merged (map at_end (vertices net)) ≡ map (colours net) (vertices net) =
+    at-vertices net merged at_end (colours net) (c.rounds_end_with_the_colours.ensures net c.is_network.ensures) in
+    subst (λ (told : List ℕ). IfOk c.plan_text.result (λ text. text.items ≡ plan_of told))
+    (c.as_slice-2.ensures.value ∙ c.in_ok-colours.ensures ∙ ap (map merged) (c.as_slice.ensures.value ∙ c.in_ok-nodes.ensures.states) ∙ read)
+    c.plan_text.ensures.text
