@@ -14,6 +14,7 @@ import sys
 import tempfile
 
 from plain_definition import forests_text
+from plain_networks import plain_network_rows
 from refused_memory import refused_memory_rows
 
 TOP = os.path.dirname(os.path.dirname(os.path.abspath(__file__)))
@@ -69,6 +70,33 @@ def forests_rows():
     ]
     for name, network, wanted in rows:
         expect(name, run(["forests"], text(network)), 0, text(wanted), b"")
+
+
+def plain_rows():
+    rows = [
+        ("one edge", "p edge 2 1|e 1 2|", [1, 2]),
+        ("triangle", TRIANGLE, [2, 3, 1]),
+        ("path in an odd layout", "c path\r|p edges 3 99 extra\r|\r|n 1 2\r|e 1 2 7\r|e 2 1\r|e 3 2\r|e 2 3\r|", [1, 2, 1]),
+        ("two nodes alone", "p col 2 0|", [1, 1]),
+        ("no node", "p edge 0 0|", []),
+        ("four-cycle", "p edge 4 4|e 1 2|e 2 3|e 3 4|e 1 4|", [1, 2, 1, 2]),
+        ("complete graph on four", "p edge 4 6|e 1 2|e 1 3|e 1 4|e 2 3|e 2 4|e 3 4|", [2, 3, 1, 4]),
+        ("the greatest star", "p edge 1024 1023|" + "".join(f"e {v} 1024|" for v in range(1, 1024)), [1] * 1023 + [2]),
+        ("a path of seven, one node alone", "p edge 8 6|e 1 2|e 2 4|e 4 5|e 5 6|e 6 7|e 7 8|", [2, 1, 1, 2, 1, 2, 1, 2]),
+        ("a path of six, three nodes alone", "p edge 9 5|e 3 4|e 4 5|e 5 6|e 6 7|e 7 9|", [1, 1, 1, 3, 2, 1, 2, 1, 1]),
+        ("a path of seven, three nodes alone", "p edge 10 6|e 2 3|e 3 5|e 5 6|e 6 7|e 7 8|e 8 10|",
+         [1, 2, 1, 1, 2, 1, 2, 1, 1, 2]),
+    ]
+    for name, network, channels in rows:
+        wanted = "plan|" + "".join(f"{v} {channel}|" for v, channel in enumerate(channels, 1))
+        expect(f"plan of {name}", run(["plain"], text(network)), 0, text(wanted), b"")
+    faults = [
+        ("", "F1"), ("e 1 2|p edge 2 1|", "F3 line 1"), ("p edge 2 1|e 1 1|", "F6 line 2"),
+        ("p edge 1025 1024|" + "".join(f"e 1 {v}|" for v in range(2, 1026)), "N1 vertex 1"),
+    ]
+    for network, fault in faults:
+        done = run(["plain"], text(network))
+        expect(f"plan of {network[:30]!r}", done, 1, b"", f"forestplan: {fault}\n".encode())
 
 
 def example_rows():
@@ -153,12 +181,12 @@ def definition_rows():
 
 
 def command_line_rows():
-    for words in (["--help"], ["-h"], ["forests", "--help"]):
+    for words in (["--help"], ["-h"], ["forests", "--help"], ["plain", "--help"]):
         done = run(words, b"no network")
         good = done.returncode == 0 and done.stderr == b"" and b"forestplan" in done.stdout and b"Usage" in done.stdout
         note(f"help by {words}", good, done)
     for words in ([], ["nothing"], ["help"], ["--version"], ["forests", "extra"], ["forests", "--workers", "1"],
-                  ["plain"], ["plan"], ["check"], ["transcript"], [b"\xff"]):
+                  ["plain", "extra"], ["plan"], ["check"], ["transcript"], [b"\xff"]):
         done = run(words, text(TRIANGLE))
         good = done.returncode == 2 and done.stdout == b"" and done.stderr.startswith(b"error: ")
         note(f"refused words {words}", good, done)
@@ -198,10 +226,11 @@ def main():
         note("the program builds", built.returncode == 0, built)
         PROGRAM = os.path.join(TOP, "crates", "forestplan", "out", "forestplan")
     if TALLY["failed"] == 0:
-        for rows in (forests_rows, example_rows, fault_rows, beginning_rows, edge_limit_rows, definition_rows,
-                     command_line_rows, stream_rows):
+        for rows in (forests_rows, plain_rows, example_rows, fault_rows, beginning_rows, edge_limit_rows,
+                     definition_rows, command_line_rows, stream_rows):
             rows()
-        for name, good, what in refused_memory_rows(PROGRAM, text(TRIANGLE), text(TRIANGLE_FORESTS)):
+        given = plain_network_rows(PROGRAM) + refused_memory_rows(PROGRAM, text(TRIANGLE), text(TRIANGLE_FORESTS))
+        for name, good, what in given:
             note(name, good, what)
     print(f"{TALLY['passed']} passed, {TALLY['failed']} failed")
     return 1 if TALLY["failed"] else 0

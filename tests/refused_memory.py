@@ -3,6 +3,8 @@ import os
 import subprocess
 import tempfile
 
+from plain_definition import plan_text
+
 HERE = os.path.dirname(os.path.abspath(__file__))
 MOST = 5000
 
@@ -17,6 +19,7 @@ def refused_memory_rows(program, network, answer):
             return [("the refusing allocator builds", False, built.stderr)]
         rows = [("the refusing allocator builds", True, "")]
         rows.append(sweep(program, front, ["forests"], network, (0, answer, b"")))
+        rows.append(sweep(program, front, ["plain"], network, (0, plan_text(network), b"")))
         rows.append(sweep(program, front, ["forests"], b"q\n", (1, b"", b"forestplan: F8 line 1\n")))
         rows.append(sweep(program, front, ["nothing"], b"", None))
         rows.append(sweep(program, front, ["--help"], b"", None))

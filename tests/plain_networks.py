@@ -1,0 +1,163 @@
+"""`plain` on 400 networks, beside the definition of the colours; and that definition on plans worked by hand.
+
+The networks are the same in every run. A difference is told with its number in the family and the text of the network.
+Vertex V has the identifier V, as in every text that there is today."""
+import itertools
+import random
+import re
+import subprocess
+from collections import Counter
+
+from plain_definition import Network, bit, colours, merge, plan_text, three
+
+SEED = 2026
+LIMIT = 60
+MOST_TOLD = 4000
+
+# (text in which '|' stands for a line feed, channels of vertices 1, 2, ..)
+WORKED_PLANS = [
+    ("p edge 2 1|e 1 2|", [1, 2]),
+    ("p edge 3 3|e 1 2|e 1 3|e 2 3|", [2, 3, 1]),
+    ("c path\r|p edges 3 99 extra\r|\r|n 1 2\r|e 1 2 7\r|e 2 1\r|e 3 2\r|e 2 3\r|", [1, 2, 1]),
+    ("p col 2 0|", [1, 1]),
+    ("p edge 0 0|", []),
+    ("p edge 4 4|e 1 2|e 2 3|e 3 4|e 1 4|", [1, 2, 1, 2]),
+    ("p edge 4 6|e 1 2|e 1 3|e 1 4|e 2 3|e 2 4|e 3 4|", [2, 3, 1, 4]),
+    ("p edge 1024 1023|" + "".join(f"e {v} 1024|" for v in range(1, 1024)), [1] * 1023 + [2]),
+    ("p edge 8 6|e 1 2|e 2 4|e 4 5|e 5 6|e 6 7|e 7 8|", [2, 1, 1, 2, 1, 2, 1, 2]),
+    ("p edge 9 5|e 3 4|e 4 5|e 5 6|e 6 7|e 7 9|", [1, 1, 1, 3, 2, 1, 2, 1, 1]),
+    ("p edge 10 6|e 2 3|e 3 5|e 5 6|e 6 7|e 7 8|e 8 10|", [1, 2, 1, 1, 2, 1, 2, 1, 1, 2]),
+]
+
+
+def plain_network_rows(program):
+    """Rows (name, good, what) of the definition, and of the program beside it."""
+    return worked_rows() + [row for family in FAMILIES for row in family_rows(program, family)]
+
+
+def worked_rows():
+    rows = []
+    for text, channels in WORKED_PLANS:
+        wanted = "plan\n" + "".join(f"{v} {channel}\n" for v, channel in enumerate(channels, 1))
+        got = plan_text(text.replace("|", "\n").encode())
+        rows.append((f"the definition on {text[:50]!r}", got == wanted.encode(), got))
+    triangle = Network({1: 1, 2: 2, 3: 3}, {(1, 2), (1, 3), (2, 3)})
+    highest_digit = Network({1: 2**63 - 1, 2: 2**64 - 1}, {(1, 2)})
+    for name, got, wanted in [
+        ("three colours of the triangle", [three(triangle, f) for f in (0, 1)], [{1: 0, 2: 1, 3: 0}, {1: 1, 2: 1, 3: 0}]),
+        ("the triangle after one forest", merge(triangle, 0, {1: 0, 2: 0, 3: 0}), {1: 0, 2: 1, 3: 0}),
+        ("bit step of 64 digits", bit(highest_digit, 0, highest_digit.identifiers), {1: 126, 2: 1}),
+        ("identifiers of 64 digits", colours(highest_digit), {1: 1, 2: 0}),
+    ]:
+        rows.append((f"the definition: {name}", got == wanted, got))
+    return rows
+
+
+def family_rows(program, family):
+    """One row for the bytes, and one that looks at neighbours and channels without the definition."""
+    title, networks = family
+    source = random.Random(f"{SEED} {title}")
+    different, unfit, count = [], [], 0
+    for count, (nodes, edges) in enumerate(networks(source), 1):
+        network = text_of(source, nodes, edges)
+        done = subprocess.run([program, "plain"], input=network, capture_output=True, timeout=LIMIT)
+        if (done.returncode, done.stdout, done.stderr) != (0, plan_text(network), b""):
+            different.append((count, network, done))
+        if not is_fit(nodes, edges, done.stdout):
+            unfit.append((count, network, done.stdout))
+    return [(f"plain by the definition, {count} networks, {title}", count > 0 and not different,
+             f"{len(different)} differ, the first is {different[:1]}"[:MOST_TOLD]),
+            (f"plain has neighbours apart and few channels, {count} networks, {title}", not unfit,
+             f"{len(unfit)} have not, the first is {unfit[:1]}"[:MOST_TOLD])]
+
+
+def is_fit(nodes, edges, plan):
+    """Whether each vertex has a channel of 1 to the greatest degree plus one, and no two neighbours have the same."""
+    rows = [(int(v), int(channel)) for v, channel in re.findall(rb"(\d+) (\d+)\n", plan)]
+    channels = dict(rows)
+    greatest_degree = max(Counter(v for edge in edges for v in edge).values(), default=0)
+    return (re.fullmatch(rb"plan\n(\d+ \d+\n)*", plan) is not None
+            and [v for v, _ in rows] == list(range(1, nodes + 1))
+            and all(1 <= channel <= greatest_degree + 1 for channel in channels.values())
+            and all(channels[v] != channels[w] for v, w in edges))
+
+
+def text_of(source, nodes, edges):
+    """A network text with the edges in any order and direction, some of them again from the other end."""
+    lines = [pair if source.random() < 0.5 else pair[::-1] for pair in sorted(edges)]
+    lines += [pair[::-1] for pair in lines if source.random() < 0.1]
+    source.shuffle(lines)
+    return f"p edge {nodes} {len(lines)}\n".encode() + b"".join(b"e %d %d\n" % pair for pair in lines)
+
+
+def pairs_of(nodes):
+    return list(itertools.combinations(range(1, nodes + 1), 2))
+
+
+def all_small(_):
+    for nodes in range(5):
+        for mask in itertools.product((False, True), repeat=len(pairs_of(nodes))):
+            yield nodes, set(itertools.compress(pairs_of(nodes), mask))
+
+
+def random_of(count, least, greatest):
+    """Any density from none to all."""
+    def networks(source):
+        for _ in range(count):
+            nodes, density = source.randint(least, greatest), source.random()
+            yield nodes, {pair for pair in pairs_of(nodes) if source.random() < density}
+    return networks
+
+
+def shapes(source):
+    """Paths, cycles, trees, stars, two-sided and complete graphs on names in any order, among vertices without an edge."""
+    for shape, most in [(path, 40), (cycle, 40), (tree, 40), (star, 40), (two_sided, 40), (complete, 16)] * 8:
+        nodes = source.randint(13, 40)
+        names = source.sample(range(1, nodes + 1), source.randint(3, min(nodes, most)))
+        yield nodes, {(min(pair), max(pair)) for pair in shape(source, names)}
+
+
+def path(_, names):
+    return zip(names, names[1:])
+
+
+def cycle(_, names):
+    return zip(names, names[1:] + names[:1])
+
+
+def tree(source, names):
+    return [(names[i], source.choice(names[:i])) for i in range(1, len(names))]
+
+
+def star(_, names):
+    return [(names[0], name) for name in names[1:]]
+
+
+def two_sided(source, names):
+    split = source.randint(1, len(names) - 1)
+    return itertools.product(names[:split], names[split:])
+
+
+def complete(_, names):
+    return itertools.combinations(names, 2)
+
+
+def climbing(count, nodes):
+    """Long ways to the roots, on which the least digit in which a vertex differs from its parent is any that there is:
+    here it shows how many bit steps there are, and what a drop looks at, in which order. Up to three parents."""
+    def networks(source):
+        for i in range(count):
+            yield nodes, {(v, v + 2 ** source.randrange((nodes - v).bit_length()))
+                          for v in range(1, nodes) for _ in range(1 + i % 3)}
+    return networks
+
+
+FAMILIES = [
+    ("all on up to 4 nodes", all_small),
+    ("random on up to 12 nodes", random_of(160, 0, 12)),
+    ("random on 20 to 40 nodes", random_of(46, 20, 40)),
+    ("shapes on up to 40 nodes", shapes),
+    ("climbing on 40 nodes", climbing(45, 40)),
+    ("climbing on 1,000 nodes", climbing(22, 1000)),
+    ("climbing on 20,000 nodes", climbing(3, 20_000)),
+]
