@@ -24,8 +24,9 @@ mod laws;
 mod reader;
 
 pub use fault::ColFault;
+pub use fields::Fields;
 pub use laws::reading_is_one;
-pub use reader::{ColFile, read};
+pub use reader::{ColFile, read, without_carriage_return};
 
 #[cfg(test)]
 mod tests;

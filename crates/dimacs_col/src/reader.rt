@@ -142,7 +142,8 @@ fn ordered(v: u32, w: u32) -> (u32, u32)
     (v.min(w), v.max(w))
 }
 
-fn without_carriage_return(line: &[u8]) -> &[u8]
+/// A line without the carriage return at its end, where it has one.
+pub fn without_carriage_return(line: &[u8]) -> &[u8]
     ensures { result.now ≡ strip_carriage_return line.now }
 {
     line.strip_suffix(b"\r").unwrap_or(line)
