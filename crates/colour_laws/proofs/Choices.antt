@@ -6,7 +6,7 @@ use Rattle.std.proofs.Math.Nat.{mul-le-mul_right}
 use Rattle.std.proofs.lemmas.Bool.{cases_order}
 use Rattle.std.proofs.Common.{inl, inr}
 use Rattle.interference.specs.Net.{Net, id_of, neighbours, greatest_degree_of}
-use Rattle.node_api.specs.Run.{sizes_of}
+use Rattle.node_api.specs.Program.{sizes_of}
 use Rattle.colour_base.specs.Forest.{IsProper, IsWithin}
 use Rattle.cole_vishkin.specs.Digits.{HasDigits}
 use Rattle.cole_vishkin.specs.declared.step.TheConstants.{IDENTIFIER_DIGITS}

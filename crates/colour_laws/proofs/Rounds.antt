@@ -3,13 +3,12 @@ use Rattle.std.proofs.Common.{sym, ◌∙◌}
 use Rattle.std.specs.Prelude.{None}
 use Rattle.interference.specs.Net.{neighbours}
 use Rattle.node_api.specs.Laws.{IsProgram}
-use Rattle.colour_rules.specs.Node.{last, ports, made, greet}
-use Rattle.colour_rules.specs.Program.{next}
+use Rattle.colour_rules.specs.Program.{colouring}
 use Rattle.colour_rules.proofs.KeptPorts.{keeps}
 use Rattle.colour_laws.proofs.Forests.{has_forest, has_start}
 use Rattle.colour_laws.proofs.Starts.{fine_all, colour_at_last, same-all}
 
-pub rounds_are_program : IsProgram last ports made greet next
+pub rounds_are_program : IsProgram colouring
 rounds_are_program = record {
   keeps_ports = keeps;
   accepts = λ net ok p v is_vertex below. fine_all net ok (has_forest net ok) (has_start net ok) p below v is_vertex;

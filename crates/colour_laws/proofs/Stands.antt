@@ -3,15 +3,14 @@ use Rattle.std.proofs.Common.{◌≡◌, ℕ, suc, List, refl, ap, ◌∙◌}
 use Rattle.std.specs.Prelude.{map, Option, Ok, IsOk}
 use Rattle.interference.specs.Net.{Net, IsNetwork, IsVertex, neighbours, degree_of}
 use Rattle.node_api.specs.Run.{node_at, inbox_from, after}
-use Rattle.node_api.specs.Laws.{first_of}
 use Rattle.node_api.proofs.Runs.{node_at-more}
 use Rattle.colour_rules.specs.declared.payload.Payload.{Payload}
-use Rattle.colour_rules.specs.Node.{Node, made, greet}
-use Rattle.colour_rules.specs.Program.{next}
+use Rattle.colour_rules.specs.Node.{Node}
+use Rattle.colour_rules.specs.Program.{colouring, next}
 use Rattle.colour_laws.proofs.Lists.{inbox_is}
 
 abbrev pub at : Net → ℕ → ℕ → Node × List (Option Payload)
-at net p v = node_at (first_of made greet) next net p v
+at net p v = node_at colouring net p v
 
 -- after pulse p each node is this and has sent this
 abbrev pub Stand : Net → ℕ → (ℕ → Node) → (ℕ → ℕ → Option Payload) → Type 0
@@ -27,7 +26,7 @@ Fine net p = (v : ℕ) → IsVertex net v → IsOk (next (at net p v).0 (suc p) 
 
 pub stand_next : (net : Net) (p : ℕ) (state : ℕ → Node) (sent : ℕ → ℕ → Option Payload) → Goes net p state sent → Stand net (suc p) state sent
 stand_next net p state sent goes v is_vertex =
-    node_at-more (first_of made greet) next net p v ∙ ap (λ r. after (at net p v).0 (degree_of net v) r) (goes v is_vertex)
+    node_at-more colouring net p v ∙ ap (λ r. after (at net p v).0 (degree_of net v) r) (goes v is_vertex)
 
 pub fine_next : (net : Net) (p : ℕ) (state : ℕ → Node) (sent : ℕ → ℕ → Option Payload) → Goes net p state sent → Fine net p
 fine_next net p state sent goes v is_vertex = rw (goes v is_vertex) refl

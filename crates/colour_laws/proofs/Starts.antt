@@ -5,16 +5,15 @@ use Rattle.std.specs.List.{range_with_len}
 use Rattle.std.proofs.lemmas.Bool.Decides.{nat_tests}
 use Rattle.std.proofs.lemmas.Bool.{cases_order}
 use Rattle.interference.specs.Net.{Net, IsNetwork, IsVertex, id_of, neighbours, degree_of, neighbour_of, forest_count_of, place_of}
-use Rattle.node_api.specs.Run.{own_of, sizes_of}
-use Rattle.node_api.specs.Laws.{first_of}
+use Rattle.node_api.specs.Program.{own_of, sizes_of}
 use Rattle.node_api.proofs.Runs.{node_at-none}
 use Rattle.colour_rules.specs.declared.payload.Payload.{Payload}
 use Rattle.colour_rules.specs.declared.payload.Payload.TheVariants.{Hello}
 use Rattle.forests.specs.declared.numbering.Role.{Role}
 use Rattle.forests.specs.declared.numbering.Role.TheVariants.{Unknown, Up}
-use Rattle.colour_rules.specs.Node.{Node, made, greet, last}
+use Rattle.colour_rules.specs.Node.{Node, made, last}
 use Rattle.colour_rules.specs.Refusals.{ports_refusal, port_rule, own_rule, ids_in}
-use Rattle.colour_rules.specs.Program.{next, oriented_slot, tells_label, labelled, all_labelled, tells_colour, with_orient}
+use Rattle.colour_rules.specs.Program.{colouring, next, oriented_slot, tells_label, labelled, all_labelled, tells_colour, with_orient}
 use Rattle.colour_rules.specs.declared.phase.Phase.TheVariants.{Orient, Seed}
 use Rattle.colour_laws.specs.Colours.{colours}
 use Rattle.colour_laws.proofs.Expected.{stages, by_forest, worked, tells, IsForest, IsOriented, Fresh}
@@ -63,7 +62,7 @@ labelled-map role slot (w ∷ ws) = ap (λ rest. labelled (role w) (slot w) ∷ 
 
 module _ (net : Net) (ok : IsNetwork net) (forest : IsForest net) (start : IsOriented net) where
   pub greets : Stand net 0 (greeted net) (hello net)
-  greets v is_vertex = node_at-none (first_of made greet) next net v ∙ ap (λ (out : List (Option Payload)). (greeted net v, out)) (hello-all v)
+  greets v is_vertex = node_at-none colouring net v ∙ ap (λ (out : List (Option Payload)). (greeted net v, out)) (hello-all v)
     where
       hello-all : (v : ℕ) → map (λ (role : Role). Some (Hello (id_of net v))) (replicate (degree_of net v) Unknown) ≡ map (hello net v) (neighbours net v)
       hello-all v = ap (map (λ (role : Role). Some (Hello (id_of net v)))) (same-all Unknown (neighbours net v)) ∙ map-map (λ (role : Role). Some (Hello (id_of net v))) (λ w. Unknown) (neighbours net v)

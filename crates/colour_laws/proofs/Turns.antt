@@ -6,7 +6,8 @@ use Rattle.std.proofs.lemmas.Bool.Decides.{nat_tests}
 use Rattle.std.specs.Ordering.{nat_cmp}
 use Rattle.std.specs.FinSet.{FinSet, empty}
 use Rattle.interference.specs.Net.{Net, IsNetwork, neighbours, neighbour_of, forest_count_of}
-use Rattle.node_api.specs.Run.{inbox_from, sizes_of}
+use Rattle.node_api.specs.Program.{sizes_of}
+use Rattle.node_api.specs.Run.{inbox_from}
 use Rattle.colour_rules.specs.declared.payload.Payload.{Payload}
 use Rattle.colour_rules.specs.Node.{steps}
 use Rattle.colour_rules.specs.Choice.{gathered}

@@ -2,10 +2,10 @@
 ghost use Rattle.std.specs.Prelude.{◌≡◌, ◌≢◌, ◌<◌, ◌≤◌, IsOk, suc, ℕ};
 ghost use Rattle.std.specs.List.{Contains};
 ghost use Rattle.interference.specs.Net.{IsNetwork, IsVertex, Net, greatest_degree_of, id_of, neighbours};
-ghost use Rattle.node_api.specs.Laws.{IsProgram, first_of, last_of};
-ghost use Rattle.node_api.specs.Run.{node_at};
-ghost use Rattle.colour_rules.specs.Node.{greet, last, made, ports};
-ghost use Rattle.colour_rules.specs.Program.{next};
+ghost use Rattle.node_api.specs.Laws.{IsProgram};
+ghost use Rattle.node_api.specs.Program.{last_pulse_on};
+ghost use Rattle.node_api.specs.Run.{state_at};
+ghost use Rattle.colour_rules.specs.Program.{colouring};
 ghost use Rattle.cole_vishkin.specs.BitStep.{six};
 ghost use Rattle.colour_base.specs.Forest.{IsProper, IsWithin};
 ghost use Rattle.forests.specs.Forests.{number, parent};
@@ -35,10 +35,10 @@ pub fn colours_are_proper()
 /// The rounds are a node program: in the synchronous run of every network nothing is refused, and
 /// nothing is sent at the last pulse.
 pub fn rounds_are_a_program()
-    ensures { IsProgram last ports made greet next }
+    ensures { IsProgram colouring }
 {}
 
 /// At the last pulse of the synchronous run each node has its colour.
 pub fn rounds_end_with_the_colours()
-    ensures { (net : Net) → IsNetwork net → (v : ℕ) → IsVertex net v → (node_at (first_of made greet) next net (last_of last net) v).0.merged ≡ colours net v }
+    ensures { (net : Net) → IsNetwork net → (v : ℕ) → IsVertex net v → (state_at colouring net (last_pulse_on colouring net) v).merged ≡ colours net v }
 {}

@@ -48,21 +48,12 @@ impl Colouring {
 }
 
 impl NodeProgram for Colouring {
-    ghost use Rattle.colour_rules.specs.Node.{greet, last, made, ports};
-    ghost use Rattle.colour_rules.specs.Program.{next};
+    ghost use Rattle.colour_rules.specs.Program.{colouring};
     ghost use Rattle.colour_laws.proofs.Rounds.{rounds_are_program};
 
     type Payload = Payload;
 
-    ghost last = { last };
-
-    ghost ports = { ports };
-
-    ghost made = { made };
-
-    ghost greet = { greet };
-
-    ghost next = { next };
+    ghost program = { colouring };
 
     ghost laws = { rounds_are_program };
 

@@ -7,7 +7,7 @@ use Rattle.std.proofs.Math.ListN.{get_or-eq_default}
 use native.Mathlib.Decide.{dec_lt}
 use Prim.{yes, no}
 use Rattle.node_api.specs.Boxes.{at_port}
-use Rattle.node_api.specs.Run.{Sizes}
+use Rattle.node_api.specs.Program.{Sizes}
 use Rattle.forests.specs.declared.numbering.Role.{Role}
 use Rattle.forests.specs.declared.numbering.Role.TheVariants.{Unknown, Up, Down}
 use Rattle.colour_rules.specs.declared.payload.Payload.{Payload}

@@ -6,10 +6,10 @@ use Rattle.node_api.specs.Laws.{KeepsPorts}
 use Rattle.node_api.specs.declared.program.Refused.{Refused}
 use Rattle.colour_rules.specs.declared.payload.Payload.{Payload}
 use Rattle.forests.specs.declared.numbering.Role.{Role}
-use Rattle.colour_rules.specs.Node.{Node, phase_of, made, greet, ports, steps}
+use Rattle.colour_rules.specs.Node.{Node, phase_of, ports, steps}
 use Rattle.colour_rules.specs.Choice.{free_for, gathered, chooses}
 use Rattle.colour_rules.specs.Refusals.{refusal, ids_in}
-use Rattle.colour_rules.specs.Program.{next, done, answered, all_labelled, silent, tells_colour, tells_chosen, oriented_slot}
+use Rattle.colour_rules.specs.Program.{colouring, done, answered, all_labelled, silent, tells_colour, tells_chosen, oriented_slot}
 use Rattle.colour_rules.specs.declared.phase.Phase.{Phase}
 use Rattle.colour_rules.specs.declared.phase.Phase.TheVariants.{Greet, Orient, Seed, Work, Merge, Halted}
 
@@ -38,7 +38,7 @@ answered-keeps : (n : ℕ) (r : Option Refused) (node : Node × List (Option Pay
 answered-keeps n None node h = h
 answered-keeps n (Some refused) node h = tt
 
-pub keeps : KeepsPorts ports made greet next
+pub keeps : KeepsPorts colouring
 keeps = record {
   made_ports = λ own. length-replicate own.degree _;
   greet_shape = λ node. (refl, length-map node.roles _);

@@ -2,7 +2,7 @@
 use Rattle.std.proofs.Common.{◌≡◌, ℕ, ◌<◌, ◌≤◌, ◌==◌, Bool, true, false, refl, arith}
 use Rattle.std.specs.Prelude.{if◌then◌else◌, nat_le, nat_lt}
 use Rattle.std.proofs.lemmas.Bool.Decides.{nat_tests}
-use Rattle.node_api.specs.Run.{Sizes}
+use Rattle.node_api.specs.Program.{Sizes}
 use Rattle.colour_rules.specs.declared.phase.Kind.{Kind}
 use Rattle.colour_rules.specs.declared.phase.Kind.TheVariants.{Step, Shift, Drop}
 use Rattle.colour_rules.specs.declared.phase.Phase.TheVariants.{Greet, Orient, Seed, Work, Merge, Halted}

@@ -2,7 +2,7 @@
 use Rattle.std.specs.Prelude.{ℕ, ◌+◌, ◌-◌, ◌*◌, ◌/◌, ◌%◌, ◌<◌, ◌==◌, List, length, map, replicate, Option, Some, if◌then◌else◌, nat_le, slice_index, slice_index_or, ⊤}
 use Rattle.std.specs.Ordering.{nat_cmp}
 use Rattle.std.specs.FinSet.{FinSet, empty}
-use Rattle.node_api.specs.Run.{Own, Sizes}
+use Rattle.node_api.specs.Program.{Own, Sizes}
 use Rattle.forests.specs.declared.numbering.Role.{Role}
 use Rattle.forests.specs.declared.numbering.Role.TheVariants.{Unknown, Up, Down}
 use Rattle.colour_rules.specs.declared.phase.Kind.{Kind}

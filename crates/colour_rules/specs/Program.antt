@@ -1,6 +1,7 @@
--- What a node makes of a pulse, where nothing is refused.
+-- What a node makes of a pulse, where nothing is refused, and the node program of the rounds.
 use Rattle.std.specs.Prelude.{◌≢◌, ℕ, suc, ◌<◌, ◌≤◌, ◌==◌, Bool, IfSome, false, List, [], ◌∷◌, map, replicate, Option, Some, None, Result, Ok, Err, if◌then◌else◌, nat_le, slice_index}
 use Rattle.std.specs.List.{range_with_len}
+use Rattle.node_api.specs.Program.{Program}
 use Rattle.node_api.specs.declared.program.Refused.{Refused}
 use Rattle.cole_vishkin.specs.BitStep.{bit_by}
 use Rattle.shift_down.specs.Steps.{shift_by, drop_by}
@@ -13,7 +14,7 @@ use Rattle.colour_rules.specs.declared.phase.Phase.{Phase}
 use Rattle.colour_rules.specs.declared.phase.Phase.TheVariants.{Greet, Orient, Seed, Work, Merge, Halted}
 use Rattle.colour_rules.specs.declared.payload.Payload.{Payload}
 use Rattle.colour_rules.specs.declared.payload.Payload.TheVariants.{Hello, Label, Colour, Chosen}
-use Rattle.colour_rules.specs.Node.{Node, steps, phase_of}
+use Rattle.colour_rules.specs.Node.{Node, steps, phase_of, last, ports, made, greet}
 use Rattle.colour_rules.specs.Choice.{gathered, chooses, free_for}
 use Rattle.colour_rules.specs.Refusals.{ids_in, refusal}
 
@@ -128,3 +129,7 @@ answered None node = Ok node
 -- A pulse: the first refusal, or the work of the phase.
 abbrev pub next : Node → ℕ → List (Option Payload) → Result (Node × List (Option Payload)) Refused
 next node p inbox = answered (refusal node p (phase_of node.sizes p) inbox) (done node p (phase_of node.sizes p) inbox)
+
+-- the rounds of the colouring as a node program
+abbrev pub colouring : Program Node Payload Refused
+colouring = record { last = last; ports = ports; made = made; greet = greet; next = next }

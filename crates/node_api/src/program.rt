@@ -1,10 +1,10 @@
-// Programs of nodes.
+//! Programs of nodes.
 
-ghost use Rattle.std.specs.Prelude.{◌≡◌, ◌≤◌, ℕ, List, Option, Result, IfOk, MatchResult, OnErr, length};
+ghost use Rattle.std.specs.Prelude.{◌≡◌, ◌≤◌, IfOk, OnErr, length};
 ghost use Rattle.interference.specs.Net.{Net, IsVertex};
 ghost use Rattle.node_api.specs.Boxes.{nothing};
-ghost use Rattle.node_api.specs.Run.{Own, Sizes, own_of};
-ghost use Rattle.node_api.specs.Laws.{IsProgram, last_of};
+ghost use Rattle.node_api.specs.Program.{Program, Matches, last_pulse_on, own_of};
+ghost use Rattle.node_api.specs.Laws.{IsProgram};
 
 use crate::inbox::Inbox;
 use crate::outbox::Outbox;
@@ -30,37 +30,26 @@ pub trait NodeProgram: Sized + Drop + Send {
     /// What nodes send one another.
     type Payload: PayloadText;
 
-    /// The last pulse: it goes by n, Δ and U alone.
-    ghost last: { Sizes → ℕ };
+    /// What the program is to contracts: its last pulse, its first state and messages, and what it makes
+    /// of each inbox.
+    ghost program: { Program Self Self.Payload Refused };
 
-    /// How many ports a node has.
-    ghost ports: { Self → ℕ };
-
-    /// A node before `init`: it goes by its vertex's own data alone.
-    ghost made: { Own → Self };
-
-    /// What `init` leaves, and what it sends.
-    ghost greet: { Self → Self × List (Option Self.Payload) };
-
-    /// The next state and what is sent, or a refusal, by state, pulse and inbox.
-    ghost next: { Self → ℕ → List (Option Self.Payload) → Result (Self × List (Option Self.Payload)) Refused };
-
-    /// On the synchronous run of every network nothing is refused, and the last pulse sends nothing.
-    ghost laws: { IsProgram last ports made greet next };
+    /// On the synchronous run of every network nothing is refused, and nothing is sent at the last pulse.
+    ghost laws: { IsProgram program };
 
     /// The pulse after which a node is done.
     fn last_pulse(net: &Network) -> u32
-        ensures last { result ≡ last_of last net.now };
+        ensures last { result ≡ last_pulse_on program net.now };
 
     /// The node of a vertex, before `init`.
     fn make(alloc: Global, net: &Network, v: u32) -> Result<Self, Memory>
         requires vertex { IsVertex net.now v }
-        ensures made { IfOk result (λ program. program ≡ made (own_of net.now v)) };
+        ensures made { IfOk result (λ node. node ≡ program.made (own_of net.now v)) };
 
     /// Sends the first messages, at pulse 0.
     fn init(&mut self, out: &mut Outbox<Self::Payload>)
-        requires out { out.old ≡ nothing (ports self.old) }
-        ensures node { (self.new, out.new) ≡ greet self.old };
+        requires out { out.old ≡ nothing (program.ports self.old) }
+        ensures node { (self.new, out.new) ≡ program.greet self.old };
 
     /// Prepares working space for a pulse; the state stays.
     fn pre_step(&mut self, pulse: u32)
@@ -75,9 +64,9 @@ pub trait NodeProgram: Sized + Drop + Send {
         out: &mut Outbox<Self::Payload>,
     ) -> Result<(), Refused>
         requires rewound { inbox.old.place ≡ 0 }
-        requires inbox { length inbox.old.slots ≡ ports self.old }
-        requires out { out.old ≡ nothing (ports self.old) }
-        ensures answer { MatchResult result (λ _. next self.old pulse inbox.old.slots ≡ Result.Ok (self.new, out.new)) (λ refused. next self.old pulse inbox.old.slots ≡ Result.Err refused) }
+        requires inbox { length inbox.old.slots ≡ program.ports self.old }
+        requires out { out.old ≡ nothing (program.ports self.old) }
+        ensures answer { Matches result (program.next self.old pulse inbox.old.slots) (self.new, out.new) }
         ensures refused { OnErr result ((self.new ≡ self.old) × (out.new ≡ out.old)) }
         ensures inbox { inbox.new.slots ≡ inbox.old.slots };
 

@@ -7,7 +7,7 @@ use Prim.{yes, no}
 use Rattle.interference.specs.Net.{Net, IsNetwork, IsVertex, count_of, degree_of, neighbour_of, back_port_of}
 use Rattle.node_api.specs.Boxes.{at_port, Mail, unread, FilledPorts}
 use Rattle.node_api.proofs.Slots.{at_port-nothing, some_or_none}
-use Rattle.sync_rounds.specs.Lists.{Lists, empty_inbox, received, sent_at}
+use Rattle.sync_rounds.specs.Lists.{Lists, empty_inbox, received, sent_in}
 use Rattle.sync_rounds.specs.Delivery.{Delivered}
 use Rattle.sync_rounds.proofs.Received.{at_vertex, length-received, at_port-received}
 
@@ -39,11 +39,11 @@ module _ {M : Type 0} (net : Net) (ok : IsNetwork net) (outs : List (List (Optio
             | no other ↦
                 let same : neighbour_of net v port ≡ w = omega arith in
                 let q : ℕ = back_port_of net v port in
-                elim (some_or_free (sent_at outs w q)) [
+                elim (some_or_free (sent_in outs w q)) [
                   | inl some ↦ h.done v port d is_vertex below (inr (same, (whole.filled q).1 some))
                   | inr free ↦
-                      h.left v port d is_vertex below (λ was. elim was [ inl low ↦ omega (arith, same) | inr (again, has) ↦ some_or_none (sent_at outs w q) ((whole.filled q).0 has) free ])
-                      ∙ sym (ap (λ (u : ℕ). sent_at outs u q) same ∙ free)
+                      h.left v port d is_vertex below (λ was. elim was [ inl low ↦ omega (arith, same) | inr (again, has) ↦ some_or_none (sent_in outs w q) ((whole.filled q).0 has) free ])
+                      ∙ sym (ap (λ (u : ℕ). sent_in outs u q) same ∙ free)
                 ]
           ]
       | inr (same, (k, within, is)) ↦ absurd (omega arith)

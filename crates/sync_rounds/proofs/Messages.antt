@@ -9,7 +9,7 @@ use Prim.{yes, no}
 use Rattle.interference.specs.Net.{Net, IsNetwork, IsVertex, degree_of, neighbour_of, back_port_of}
 use Rattle.interference.proofs.Neighbours.{at-back_port, back-of-back_port}
 use Rattle.node_api.specs.Boxes.{at_port, Mail}
-use Rattle.sync_rounds.specs.Lists.{sent_at}
+use Rattle.sync_rounds.specs.Lists.{sent_in}
 use Rattle.sync_rounds.specs.Delivery.{Delivered, IsDone}
 use Rattle.sync_rounds.proofs.Received.{set_cases}
 
@@ -49,7 +49,7 @@ module _ {M : Type 0} (net : Net) (ok : IsNetwork net) (outs : List (List (Optio
               ]
         ]
 
-    module _ (x : M) (sent : sent_at outs w q ≡ Some x) (old new : Mail M) (is_old : old ≡ get_or inboxes (neighbour_of net w q - 1) old) (slots : new.slots ≡ set old.slots (back_port_of net w q) (Some x)) (place : new.place ≡ old.place) where
+    module _ (x : M) (sent : sent_in outs w q ≡ Some x) (old new : Mail M) (is_old : old ≡ get_or inboxes (neighbour_of net w q - 1) old) (slots : new.slots ≡ set old.slots (back_port_of net w q) (Some x)) (place : new.place ≡ old.place) where
       old_ports : length old.slots ≡ degree_of net (neighbour_of net w q)
       old_ports = ap (λ (mail : Mail M). length mail.slots) is_old ∙ h.ports (neighbour_of net w q) old is_to
 
@@ -62,9 +62,9 @@ module _ {M : Type 0} (net : Net) (ok : IsNetwork net) (outs : List (List (Optio
       within : neighbour_of net w q - 1 < length inboxes
       within = omega (arith, h.count, is_to.0, is_to.1)
 
-      done_after : (v port : ℕ) (d : Mail M) → IsVertex net v → port < degree_of net v → IsDone net w (of_w ++ q ∷ []) v port → at_port (get_or (set inboxes (neighbour_of net w q - 1) new) (v - 1) d).slots port ≡ sent_at outs (neighbour_of net v port) (back_port_of net v port)
+      done_after : (v port : ℕ) (d : Mail M) → IsVertex net v → port < degree_of net v → IsDone net w (of_w ++ q ∷ []) v port → at_port (get_or (set inboxes (neighbour_of net w q - 1) new) (v - 1) d).slots port ≡ sent_in outs (neighbour_of net v port) (back_port_of net v port)
       done_after v port d is_vertex below is_done =
-          set_cases (λ (mail : Mail M). at_port mail.slots port ≡ sent_at outs (neighbour_of net v port) (back_port_of net v port)) inboxes (neighbour_of net w q - 1) (v - 1) new d within
+          set_cases (λ (mail : Mail M). at_port mail.slots port ≡ sent_in outs (neighbour_of net v port) (back_port_of net v port)) inboxes (neighbour_of net w q - 1) (v - 1) new d within
           (λ here.
           let is_v : v ≡ neighbour_of net w q = omega (arith, is_to.0, is_vertex.0) in
           elim (dec_same port (back_port_of net w q)) [
@@ -72,9 +72,9 @@ module _ {M : Type 0} (net : Net) (ok : IsNetwork net) (outs : List (List (Optio
                 ap (at_port new.slots) it
                 ∙ (new_here
                 ∙ (sym sent
-                ∙ sym (ap (λ (u : ℕ). sent_at outs (neighbour_of net u port) (back_port_of net u port)) is_v
-                ∙ (ap (λ (k : ℕ). sent_at outs (neighbour_of net (neighbour_of net w q) k) (back_port_of net (neighbour_of net w q) k)) it
-                ∙ (ap (λ (u : ℕ). sent_at outs u (back_port_of net (neighbour_of net w q) (back_port_of net w q))) leads_back ∙ ap (sent_at outs w) leads_again)))))
+                ∙ sym (ap (λ (u : ℕ). sent_in outs (neighbour_of net u port) (back_port_of net u port)) is_v
+                ∙ (ap (λ (k : ℕ). sent_in outs (neighbour_of net (neighbour_of net w q) k) (back_port_of net (neighbour_of net w q) k)) it
+                ∙ (ap (λ (u : ℕ). sent_in outs u (back_port_of net (neighbour_of net w q) (back_port_of net w q))) leads_back ∙ ap (sent_in outs w) leads_again)))))
             | inr other ↦
                 new_there port other
                 ∙ (ap (λ (u : ℕ). at_port (get_or inboxes (u - 1) old).slots port) (sym is_v)

@@ -8,14 +8,13 @@ use Prim.{yes, no}
 use Rattle.interference.specs.Net.{Net, IsNetwork, IsVertex, id_of, degree_of, neighbours, neighbour_of, port_to}
 use Rattle.node_api.specs.Boxes.{at_port, fold_slots}
 use Rattle.node_api.specs.Run.{node_at, inbox_from}
-use Rattle.node_api.specs.Laws.{first_of}
-use Rattle.node_api.proofs.Runs.{node_at-none, node_at-more, node_at-shape, length-inbox}
+use Rattle.node_api.proofs.Runs.{node_at-none, node_at-more, node_at-ports, length-inbox}
 use Rattle.sync_rounds.specs.Greatest.{Known}
-use Rattle.sync_rounds.specs.Spread.{greater, known_first, with_told, known_next}
-use Rattle.sync_rounds.specs.SpreadLaws.{known_ports, sent_is}
+use Rattle.sync_rounds.specs.Spread.{greater, spread}
+use Rattle.sync_rounds.specs.SpreadLaws.{spread_ports, outbox_is}
 use Rattle.sync_rounds.specs.Reach.{IsGreatestWithin}
 use Rattle.sync_rounds.specs.declared.greatest.Best.{Best}
-use Rattle.sync_rounds.proofs.Spreading.{told_early}
+use Rattle.sync_rounds.proofs.Spreading.{sends_early}
 
 -- the greatest of b and of what is in the slots is b at least, each of these at least, and one of them
 fold-start : (b port : ℕ) (slots : List (Option Best)) → b ≤ fold_slots greater b port slots
@@ -47,21 +46,21 @@ number (Some x) = x.0
 
 module _ (last : ℕ) (net : Net) (ok : IsNetwork net) where
   abbrev node : ℕ → ℕ → Known × List (Option Best)
-  node p v = node_at (first_of known_first (with_told last 0)) (known_next last) net p v
+  node p v = node_at (spread last) net p v
 
   -- what comes from a neighbour is the greatest that it knew
   comes : (p v k : ℕ) → p < last → IsVertex net v → k < degree_of net v → at_port (inbox_from net (node p) v) k ≡ Some (record { 0 = (node p (neighbour_of net v k)).0.best })
   comes p v k early is_vertex below =
       let w : ℕ = neighbour_of net v k in
       let s : Known = (node p w).0 in
-      let shape : s.degree ≡ degree_of net w = (node_at-shape (λ (t : Known). t.degree) known_first (with_told last 0) (known_next last) (known_ports last) net p w).0 in
+      let shape : s.degree ≡ degree_of net w = (node_at-ports (spread last) net (spread_ports last) p w).0 in
       get_or-map (λ (u : ℕ). at_port (node p u).1 (port_to net u v)) (neighbours net v) k 0 None below
-      ∙ (ap (λ (out : List (Option Best)). at_port out (port_to net w v)) (sent_is last net p w ∙ told_early last p s early)
+      ∙ (ap (λ (out : List (Option Best)). at_port out (port_to net w v)) (outbox_is last net p w ∙ sends_early last p s early)
       ∙ get_or-replicate s.degree (port_to net w v) (Some (record { 0 = s.best })) None (omega (arith, shape, ok.symmetric v k is_vertex below)))
 
   pub spreads : (p v : ℕ) → p ≤ last → IsVertex net v → IsGreatestWithin net p v (node p v).0.best
   spreads zero v early is_vertex =
-      let own : (node zero v).0.best ≡ id_of net v = ap (λ (n : Known × List (Option Best)). n.0.best) (node_at-none (first_of known_first (with_told last 0)) (known_next last) net v) in
+      let own : (node zero v).0.best ≡ id_of net v = ap (λ (n : Known × List (Option Best)). n.0.best) (node_at-none (spread last) net v) in
       record {
         reached = (v, is_vertex, refl, own);
         bound = λ w same. omega (arith, own, ap (id_of net) same);
@@ -70,7 +69,7 @@ module _ (last : ℕ) (net : Net) (ok : IsNetwork net) where
       let slots : List (Option Best) = inbox_from net (node p) v in
       let old : ℕ = (node p v).0.best in
       let size : length slots ≡ degree_of net v = length-inbox net (node p) v in
-      let new : (node (suc p) v).0.best ≡ fold_slots greater old 0 slots = ap (λ (n : Known × List (Option Best)). n.0.best) (node_at-more (first_of known_first (with_told last 0)) (known_next last) net p v) in
+      let new : (node (suc p) v).0.best ≡ fold_slots greater old 0 slots = ap (λ (n : Known × List (Option Best)). n.0.best) (node_at-more (spread last) net p v) in
       let before : IsGreatestWithin net p v old = spreads p v (omega arith) is_vertex in
       let beside : (k : ℕ) → k < degree_of net v → IsGreatestWithin net p (neighbour_of net v k) (node p (neighbour_of net v k)).0.best = λ k below. spreads p (neighbour_of net v k) (omega arith) (ok.vertices v k is_vertex below) in
       record {

@@ -9,7 +9,7 @@ use Rattle.interference.specs.Net.{Net, IsNetwork, IsVertex, count_of, degree_of
 use Rattle.node_api.specs.Boxes.{at_port}
 use Rattle.node_api.specs.Run.{inbox_from}
 use Rattle.node_api.proofs.Runs.{length-inbox}
-use Rattle.sync_rounds.specs.Lists.{Lists, received, sent_at}
+use Rattle.sync_rounds.specs.Lists.{Lists, received, sent_in}
 
 -- a list with an entry for each vertex is f at the vertices
 pub listed_from : {X : Type 0} (net : Net) (f : ℕ → X) (xs : List X) → Lists (count_of net) f xs → xs ≡ map f (vertices net)
@@ -48,8 +48,8 @@ set_cases P xs i k x d within here there =
 pub length-received : {M : Type 0} (net : Net) (outs : List (List (Option M))) (v : ℕ) → length (received net outs v) ≡ degree_of net v
 length-received net outs v = length-map (neighbours net v) _
 
-pub at_port-received : {M : Type 0} (net : Net) (outs : List (List (Option M))) (v k : ℕ) → k < degree_of net v → at_port (received net outs v) k ≡ sent_at outs (neighbour_of net v k) (back_port_of net v k)
-at_port-received net outs v k h = get_or-map (λ (w : ℕ). sent_at outs w (port_to net w v)) (neighbours net v) k 0 None h
+pub at_port-received : {M : Type 0} (net : Net) (outs : List (List (Option M))) (v k : ℕ) → k < degree_of net v → at_port (received net outs v) k ≡ sent_in outs (neighbour_of net v k) (back_port_of net v k)
+at_port-received net outs v k h = get_or-map (λ (w : ℕ). sent_in outs w (port_to net w v)) (neighbours net v) k 0 None h
 
 -- the same outboxes, seen as a list and as what each vertex sent
 pub received_is : {S M : Type 0} (net : Net) (nodes : ℕ → S × List (Option M)) (outs : List (List (Option M))) (v : ℕ) → IsNetwork net → IsVertex net v → Lists (count_of net) (λ w. (nodes w).1) outs → received net outs v ≡ inbox_from net nodes v

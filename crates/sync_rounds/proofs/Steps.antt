@@ -3,9 +3,10 @@ use Rattle.std.proofs.Common.{◌≡◌, ◌≢◌, ℕ, suc, ◌+◌, ◌-◌, 
 use Rattle.std.specs.Prelude.{Option, Result}
 use Rattle.interference.specs.Net.{Net, IsNetwork, IsVertex, count_of, degree_of}
 use Rattle.node_api.specs.Boxes.{Mail, nothing, unread}
-use Rattle.node_api.specs.Run.{Own, own_of, node_at, inbox_from, after}
-use Rattle.node_api.specs.Laws.{KeepsPorts, first_of}
-use Rattle.node_api.proofs.Runs.{length-inbox, node_at-shape, node_at-more, node_at-none}
+use Rattle.node_api.specs.Program.{Program, own_of}
+use Rattle.node_api.specs.Run.{node_at, state_at, outbox_at, inbox_from, after}
+use Rattle.node_api.specs.Laws.{KeepsPorts}
+use Rattle.node_api.proofs.Runs.{length-inbox, node_at-ports, node_at-more, node_at-none}
 use Rattle.sync_rounds.specs.Lists.{Lists, received, empty_inbox}
 use Rattle.sync_rounds.proofs.Received.{at_vertex, below_or_last, received_is}
 
@@ -30,38 +31,38 @@ left_more P n i xs x before k d low high =
     let other : k ≢ i = omega arith in
     subst (P k) (sym (get_or-set_other xs i k x d other)) (before k d (omega arith) high)
 
-module _ {S M E : Type 0} (ports : S → ℕ) (made : Own → S) (greet : S → S × List (Option M)) (next : S → ℕ → List (Option M) → Result (S × List (Option M)) E) (laws : KeepsPorts ports made greet next) (net : Net) where
+module _ {S M E : Type 0} (program : Program S M E) (laws : KeepsPorts program) (net : Net) where
   -- a node that was made and has greeted is at pulse 0
-  pub started : (v : ℕ) (s : S) (node : S × List (Option M)) → s ≡ made (own_of net v) → node ≡ greet s → node ≡ node_at (first_of made greet) next net 0 v
-  started v s node at_s is_greet = is_greet ∙ (ap greet at_s ∙ sym (node_at-none (first_of made greet) next net v))
+  pub started : (v : ℕ) (s : S) (node : S × List (Option M)) → s ≡ program.made (own_of net v) → node ≡ program.greet s → node ≡ node_at program net 0 v
+  started v s node at_s is_greet = is_greet ∙ (ap program.greet at_s ∙ sym (node_at-none program net v))
 
   -- a node at a pulse that has stepped on its inbox is at the next one
-  pub stepped : (p v q : ℕ) (s : S) (slots : List (Option M)) (node : S × List (Option M)) → q ≡ suc p → s ≡ (node_at (first_of made greet) next net p v).0 → slots ≡ inbox_from net (node_at (first_of made greet) next net p) v → node ≡ after s (ports s) (next s q slots) → node ≡ node_at (first_of made greet) next net (suc p) v
+  pub stepped : (p v q : ℕ) (s : S) (slots : List (Option M)) (node : S × List (Option M)) → q ≡ suc p → s ≡ state_at program net p v → slots ≡ inbox_from net (node_at program net p) v → node ≡ after s (program.ports s) (program.next s q slots) → node ≡ node_at program net (suc p) v
   stepped p v q s slots node at_q at_s at_slots is_after =
-      let before = node_at (first_of made greet) next net p v in
-      let inbox = inbox_from net (node_at (first_of made greet) next net p) v in
+      let before = node_at program net p v in
+      let inbox = inbox_from net (node_at program net p) v in
       is_after
-      ∙ (ap (λ (t : S). after t (ports t) (next t q slots)) at_s
-      ∙ (ap (λ (r : ℕ). after before.0 (ports before.0) (next before.0 r slots)) at_q
-      ∙ (ap (λ (i : List (Option M)). after before.0 (ports before.0) (next before.0 (suc p) i)) at_slots
-      ∙ (ap (λ (d : ℕ). after before.0 d (next before.0 (suc p) inbox)) (node_at-shape ports made greet next laws net p v).0
-      ∙ sym (node_at-more (first_of made greet) next net p v)))))
+      ∙ (ap (λ (t : S). after t (program.ports t) (program.next t q slots)) at_s
+      ∙ (ap (λ (r : ℕ). after before.0 (program.ports before.0) (program.next before.0 r slots)) at_q
+      ∙ (ap (λ (i : List (Option M)). after before.0 (program.ports before.0) (program.next before.0 (suc p) i)) at_slots
+      ∙ (ap (λ (d : ℕ). after before.0 d (program.next before.0 (suc p) inbox)) (node_at-ports program net laws p v).0
+      ∙ sym (node_at-more program net p v)))))
 
   -- its inbox and its outbox have its ports
-  pub inbox_fits : (p v : ℕ) (s : S) (slots : List (Option M)) → s ≡ (node_at (first_of made greet) next net p v).0 → slots ≡ inbox_from net (node_at (first_of made greet) next net p) v → length slots ≡ ports s
+  pub inbox_fits : (p v : ℕ) (s : S) (slots : List (Option M)) → s ≡ state_at program net p v → slots ≡ inbox_from net (node_at program net p) v → length slots ≡ program.ports s
   inbox_fits p v s slots at_s at_slots =
-      ap length at_slots ∙ (length-inbox net (node_at (first_of made greet) next net p) v ∙ sym (ap ports at_s ∙ (node_at-shape ports made greet next laws net p v).0))
+      ap length at_slots ∙ (length-inbox net (node_at program net p) v ∙ sym (ap program.ports at_s ∙ (node_at-ports program net laws p v).0))
 
-  pub out_fits : (p v : ℕ) (s : S) (out : List (Option M)) → s ≡ (node_at (first_of made greet) next net p v).0 → out ≡ (node_at (first_of made greet) next net p v).1 → length out ≡ ports s
+  pub out_fits : (p v : ℕ) (s : S) (out : List (Option M)) → s ≡ state_at program net p v → out ≡ outbox_at program net p v → length out ≡ program.ports s
   out_fits p v s out at_s at_out =
-      ap length at_out ∙ ((node_at-shape ports made greet next laws net p v).1 ∙ sym (ap ports at_s ∙ (node_at-shape ports made greet next laws net p v).0))
+      ap length at_out ∙ ((node_at-ports program net laws p v).1 ∙ sym (ap program.ports at_s ∙ (node_at-ports program net laws p v).0))
 
   -- every outbox has a slot for each port
-  pub outs_fit : (p : ℕ) (outs : List (List (Option M))) → Lists (count_of net) (λ v. (node_at (first_of made greet) next net p v).1) outs → (w : ℕ) → IsVertex net w → length (get_or outs (w - 1) []) ≡ degree_of net w
+  pub outs_fit : (p : ℕ) (outs : List (List (Option M))) → Lists (count_of net) (outbox_at program net p) outs → (w : ℕ) → IsVertex net w → length (get_or outs (w - 1) []) ≡ degree_of net w
   outs_fit p outs h w is_vertex =
-      ap length (at_vertex net (λ (v : ℕ). (node_at (first_of made greet) next net p v).1) outs w [] h is_vertex) ∙ (node_at-shape ports made greet next laws net p w).1
+      ap length (at_vertex net (outbox_at program net p) outs w [] h is_vertex) ∙ (node_at-ports program net laws p w).1
 
   -- the inbox that it leaves is empty
-  pub left_empty : (p v : ℕ) (slots : List (Option M)) (inbox : Mail M) → slots ≡ inbox_from net (node_at (first_of made greet) next net p) v → inbox ≡ unread (nothing (length slots)) → inbox ≡ empty_inbox net v
+  pub left_empty : (p v : ℕ) (slots : List (Option M)) (inbox : Mail M) → slots ≡ inbox_from net (node_at program net p) v → inbox ≡ unread (nothing (length slots)) → inbox ≡ empty_inbox net v
   left_empty p v slots inbox at_slots is_empty =
-      is_empty ∙ ap (λ (n : ℕ). unread (nothing n)) (ap length at_slots ∙ length-inbox net (node_at (first_of made greet) next net p) v)
+      is_empty ∙ ap (λ (n : ℕ). unread (nothing n)) (ap length at_slots ∙ length-inbox net (node_at program net p) v)

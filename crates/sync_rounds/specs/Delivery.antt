@@ -2,7 +2,7 @@
 use Rattle.std.specs.Prelude.{◌≡◌, ◌⊎◌, ℕ, ◌-◌, ◌<◌, List, length, Option, None, slice_index_or, Contains}
 use Rattle.interference.specs.Net.{Net, IsVertex, count_of, degree_of, neighbour_of, back_port_of}
 use Rattle.node_api.specs.Boxes.{at_port, Mail}
-use Rattle.sync_rounds.specs.Lists.{sent_at}
+use Rattle.sync_rounds.specs.Lists.{sent_in}
 
 -- the message to v at this port is of a sender before w, or w's at one of these ports
 abbrev pub IsDone : Net → ℕ → List ℕ → ℕ → ℕ → Type 0
@@ -13,5 +13,5 @@ pub record Delivered {M : Type 0} (net : Net) (outs : List (List (Option M))) (w
   pub count : length inboxes ≡ count_of net
   pub start : (v : ℕ) (d : Mail M) → IsVertex net v → (slice_index_or inboxes (v - 1) d).place ≡ 0
   pub ports : (v : ℕ) (d : Mail M) → IsVertex net v → length (slice_index_or inboxes (v - 1) d).slots ≡ degree_of net v
-  pub done : (v port : ℕ) (d : Mail M) → IsVertex net v → port < degree_of net v → IsDone net w of_w v port → at_port (slice_index_or inboxes (v - 1) d).slots port ≡ sent_at outs (neighbour_of net v port) (back_port_of net v port)
+  pub done : (v port : ℕ) (d : Mail M) → IsVertex net v → port < degree_of net v → IsDone net w of_w v port → at_port (slice_index_or inboxes (v - 1) d).slots port ≡ sent_in outs (neighbour_of net v port) (back_port_of net v port)
   pub left : (v port : ℕ) (d : Mail M) → IsVertex net v → port < degree_of net v → (IsDone net w of_w v port → ⊥) → at_port (slice_index_or inboxes (v - 1) d).slots port ≡ None

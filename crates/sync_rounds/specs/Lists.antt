@@ -13,9 +13,9 @@ abbrev pub empty_inbox : {M : Type 0} → Net → ℕ → Mail M
 empty_inbox net v = unread (nothing (degree_of net v))
 
 -- what a list of outboxes holds of vertex w at a port
-abbrev pub sent_at : {M : Type 0} → List (List (Option M)) → ℕ → ℕ → Option M
-sent_at outs w port = at_port (slice_index_or outs (w - 1) []) port
+abbrev pub sent_in : {M : Type 0} → List (List (Option M)) → ℕ → ℕ → Option M
+sent_in outs w port = at_port (slice_index_or outs (w - 1) []) port
 
 -- what comes to v from these outboxes: what each neighbour's holds at the port that leads back to v
 abbrev pub received : {M : Type 0} → Net → List (List (Option M)) → ℕ → List (Option M)
-received net outs v = map (λ w. sent_at outs w (port_to net w v)) (neighbours net v)
+received net outs v = map (λ w. sent_in outs w (port_to net w v)) (neighbours net v)

@@ -1,10 +1,10 @@
-// The rounds of a program, pulse by pulse.
+//! The rounds of a program, pulse by pulse.
 
 ghost use Rattle.std.specs.Prelude.{◌≡◌, ◌<◌, ◌≤◌, ◌+◌, ◌^◌, ℕ, List, Option, IfOk, length, suc, map};
 ghost use Rattle.interference.specs.Net.{Net, IsVertex, count_of, degree_of, vertices};
 ghost use Rattle.node_api.specs.Boxes.{nothing, at_port, Mail, unread};
-ghost use Rattle.node_api.specs.Run.{own_of, node_at, inbox_from, after};
-ghost use Rattle.node_api.specs.Laws.{IsProgram, last_of, first_of};
+ghost use Rattle.node_api.specs.Program.{last_pulse_on};
+ghost use Rattle.node_api.specs.Run.{state_at, outbox_at, inbox_at, after};
 ghost use Rattle.sync_rounds.specs.Lists.{Lists, empty_inbox};
 
 use crate::delivery::deliver;
@@ -18,7 +18,7 @@ use std::alloc::Global;
 ///
 /// `Memory` where memory is refused, which can be at the start alone.
 pub fn run_rounds<P: NodeProgram>(alloc: Global, net: &Network) -> Result<Vec<P>, Memory>
-    ensures states { IfOk result (λ programs. programs.items ≡ map (λ v. (node_at (first_of P.made P.greet) P.next net.now (last_of P.last net.now) v).0) (vertices net.now)) }
+    ensures states { IfOk result (λ programs. programs.items ≡ map (state_at P.program net.now (last_pulse_on P.program net.now)) (vertices net.now)) }
 {
     let (mut programs, mut inboxes, mut outs) = start::<P>(alloc, net)?;
     rounds(
@@ -36,9 +36,9 @@ fn start<P: NodeProgram>(
     alloc: Global,
     net: &Network,
 ) -> Result<(Vec<P>, Vec<Inbox<P::Payload>>, Vec<Outbox<P::Payload>>), Memory>
-    ensures programs { IfOk result (λ all. Lists (count_of net.now) (λ v. (node_at (first_of P.made P.greet) P.next net.now 0 v).0) all.0.items) }
+    ensures programs { IfOk result (λ all. Lists (count_of net.now) (state_at P.program net.now 0) all.0.items) }
     ensures inboxes { IfOk result (λ all. Lists (count_of net.now) (empty_inbox net.now) all.1.items) }
-    ensures outs { IfOk result (λ all. Lists (count_of net.now) (λ v. (node_at (first_of P.made P.greet) P.next net.now 0 v).1) all.2.items) }
+    ensures outs { IfOk result (λ all. Lists (count_of net.now) (outbox_at P.program net.now 0) all.2.items) }
 {
     let mut programs = Vec::new(alloc);
     let mut inboxes = Vec::new(alloc);
@@ -64,10 +64,10 @@ fn rounds<P: NodeProgram>(
     inboxes: &mut [Inbox<P::Payload>],
     outs: &mut [Outbox<P::Payload>],
 )
-    requires programs { Lists (count_of net.now) (λ v. (node_at (first_of P.made P.greet) P.next net.now 0 v).0) programs.old }
+    requires programs { Lists (count_of net.now) (state_at P.program net.now 0) programs.old }
     requires inboxes { Lists (count_of net.now) (empty_inbox net.now) inboxes.old }
-    requires outs { Lists (count_of net.now) (λ v. (node_at (first_of P.made P.greet) P.next net.now 0 v).1) outs.old }
-    ensures programs { Lists (count_of net.now) (λ v. (node_at (first_of P.made P.greet) P.next net.now last v).0) programs.new }
+    requires outs { Lists (count_of net.now) (outbox_at P.program net.now 0) outs.old }
+    ensures programs { Lists (count_of net.now) (state_at P.program net.now last) programs.new }
 {
     net.is_network();
     for done in 0..last {
@@ -85,12 +85,12 @@ fn pulse_all<P: NodeProgram>(
     outs: &mut [Outbox<P::Payload>],
 )
     requires done { done + 1 < 2 ^ 32 }
-    requires programs { Lists (count_of net.now) (λ v. (node_at (first_of P.made P.greet) P.next net.now done v).0) programs.old }
-    requires inboxes { Lists (count_of net.now) (λ v. unread (inbox_from net.now (node_at (first_of P.made P.greet) P.next net.now done) v)) inboxes.old }
-    requires outs { Lists (count_of net.now) (λ v. (node_at (first_of P.made P.greet) P.next net.now done v).1) outs.old }
-    ensures programs { Lists (count_of net.now) (λ v. (node_at (first_of P.made P.greet) P.next net.now (suc done) v).0) programs.new }
+    requires programs { Lists (count_of net.now) (state_at P.program net.now done) programs.old }
+    requires inboxes { Lists (count_of net.now) (λ v. unread (inbox_at P.program net.now (suc done) v)) inboxes.old }
+    requires outs { Lists (count_of net.now) (outbox_at P.program net.now done) outs.old }
+    ensures programs { Lists (count_of net.now) (state_at P.program net.now (suc done)) programs.new }
     ensures inboxes { Lists (count_of net.now) (empty_inbox net.now) inboxes.new }
-    ensures outs { Lists (count_of net.now) (λ v. (node_at (first_of P.made P.greet) P.next net.now (suc done) v).1) outs.new }
+    ensures outs { Lists (count_of net.now) (outbox_at P.program net.now (suc done)) outs.new }
 {
     for i in 0..net.nodes() {
         let program = &mut programs[i as usize];
@@ -109,9 +109,9 @@ fn step<P: NodeProgram>(
 )
     requires pulse { 1 ≤ pulse }
     requires unread { inbox.old ≡ unread inbox.old.slots }
-    requires ports { length inbox.old.slots ≡ P.ports program.old }
-    requires out { length out.old ≡ P.ports program.old }
-    ensures node { (program.new, out.new) ≡ after program.old (P.ports program.old) (P.next program.old pulse inbox.old.slots) }
+    requires ports { length inbox.old.slots ≡ P.program.ports program.old }
+    requires out { length out.old ≡ P.program.ports program.old }
+    ensures node { (program.new, out.new) ≡ after program.old (P.program.ports program.old) (P.program.next program.old pulse inbox.old.slots) }
     ensures empty { inbox.new ≡ unread (nothing (length inbox.old.slots)) }
 {
     out.clear();

@@ -67,22 +67,14 @@ impl<const D: u32> Greatest<D> {
 }
 
 impl<const D: u32> NodeProgram for Greatest<D> {
-    ghost use Rattle.sync_rounds.specs.Spread.{known_first, with_told, known_next};
-    ghost use Rattle.sync_rounds.specs.SpreadLaws.{known_laws};
+    ghost use Rattle.sync_rounds.specs.Spread.{spread};
+    ghost use Rattle.sync_rounds.specs.SpreadLaws.{spread_laws};
 
     type Payload = Best;
 
-    ghost last = { λ sizes. D };
+    ghost program = { spread D };
 
-    ghost ports = { λ s. s.degree };
-
-    ghost made = { known_first };
-
-    ghost greet = { with_told D 0 };
-
-    ghost next = { known_next D };
-
-    ghost laws = { known_laws D };
+    ghost laws = { spread_laws D };
 
     fn last_pulse(_net: &Network) -> u32 {
         D

@@ -1,10 +1,10 @@
 use Rattle.std.proofs.Common.{◌≡◌, ◌∙◌, IfOk, List, ℕ, ap, map, subst}
 use Rattle.interference.specs.Net.{vertices}
-use Rattle.node_api.specs.Laws.{first_of, last_of}
-use Rattle.node_api.specs.Run.{node_at}
+use Rattle.node_api.specs.Program.{last_pulse_on}
+use Rattle.node_api.specs.Run.{state_at}
 use Rattle.channel_plan.specs.PlanText.{plan_of}
-use Rattle.colour_rules.specs.Node.{Node, greet, last, made}
-use Rattle.colour_rules.specs.Program.{next}
+use Rattle.colour_rules.specs.Node.{Node}
+use Rattle.colour_rules.specs.Program.{colouring}
 use Rattle.colour_laws.specs.Colours.{colours}
 use Rattle.forestplan.proofs.Ends.{at-vertices}
 use Rattle.forestplan.proofs.plain.text_of_plan.Goals as goal
@@ -13,7 +13,7 @@ pub returns : goal.returns
 returns c =
     let net = c.args.network.now in
     let merged : Node → ℕ = λ node. node.merged in
-    let at_end : ℕ → Node = λ v. (node_at (first_of made greet) next net (last_of last net) v).0 in
+    let at_end : ℕ → Node = state_at colouring net (last_pulse_on colouring net) in
     let read : map merged (map at_end (vertices net)) ≡ map (colours net) (vertices net) =
     at-vertices net merged at_end (colours net) (c.rounds_end_with_the_colours.ensures net c.is_network.ensures) in
     subst (λ (told : List ℕ). IfOk c.plan_text.result (λ text. text.items ≡ plan_of told))

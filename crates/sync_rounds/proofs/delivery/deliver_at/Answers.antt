@@ -4,7 +4,7 @@ use Rattle.std.proofs.lemmas.List.{take_more, take_all}
 use Rattle.interference.specs.Net.{degree_of, neighbour_of, back_port_of}
 use Rattle.node_api.specs.Boxes.{at_port, Mail}
 use Rattle.node_api.proofs.Slots.{some_or_none}
-use Rattle.sync_rounds.specs.Lists.{sent_at}
+use Rattle.sync_rounds.specs.Lists.{sent_in}
 use Rattle.sync_rounds.specs.Delivery.{Delivered}
 use Rattle.sync_rounds.proofs.Deliveries.{delivered_sender}
 use Rattle.sync_rounds.proofs.Messages.{free_there, delivered_put}
@@ -25,7 +25,7 @@ unreachable-requires g c =
     let port = get_or c.args.ports.now c.loop-port.port-index 0 in
     let out = out_of c.args.net.now outs c.args.w c.requires.vertex c.requires.outs c.index-outs-w.result c.index-outs-w.is in
     let some = port-some (get_or outs (c.args.w - 1) []) c.args.ports.now c.requires.sent c.loop-port.port-index c.loop-port-test.true in
-    some_or_none (sent_at outs c.args.w port) some (ap (λ (slots : List (Option g.row.T.Denot)). at_port slots port) out ∙ (sym c.get.ensures.payload ∙ c.in-None.is))
+    some_or_none (sent_in outs c.args.w port) some (ap (λ (slots : List (Option g.row.T.Denot)). at_port slots port) out ∙ (sym c.get.ensures.payload ∙ c.in-None.is))
 
 pub put-requires-clause-empty : goal.put-requires-clause-empty
 put-requires-clause-empty g c =
@@ -55,7 +55,7 @@ loop-port-preserved g c =
     let in_row : port < degree_of net w = port-below row ports c.requires.sent k c.loop-port-test.true (degree_of net w) c.requires.size in
     let fresh = port-fresh row ports c.requires.sent k c.loop-port-test.true in
     let out = out_of net outs w c.requires.vertex c.requires.outs c.index-outs-w.result c.index-outs-w.is in
-    let got : sent_at outs w port ≡ Some c.in-Some.payload = ap (λ (slots : List (Option g.row.T.Denot)). at_port slots port) out ∙ (sym c.get.ensures.payload ∙ c.in-Some.is) in
+    let got : sent_in outs w port ≡ Some c.in-Some.payload = ap (λ (slots : List (Option g.row.T.Denot)). at_port slots port) out ∙ (sym c.get.ensures.payload ∙ c.in-Some.is) in
     let to : c.neighbour-v.result ≡ neighbour_of net w port = c.neighbour-v.ensures.value in
     let old = c.index-inboxes-v.result in
     let is_old : old ≡ get_or inboxes (neighbour_of net w port - 1) old = c.index-inboxes-v.is ∙ ap (λ (v : ℕ). get_or inboxes (v - 1) old) to in

@@ -4,7 +4,7 @@ use Rattle.std.specs.List.{range_with_len}
 use Rattle.std.proofs.lemmas.List.{get_or-replicate}
 use Rattle.interference.specs.Net.{degree_of, neighbour_of, back_port_of}
 use Rattle.node_api.specs.Boxes.{at_port, Mail, FilledPorts}
-use Rattle.sync_rounds.specs.Lists.{sent_at}
+use Rattle.sync_rounds.specs.Lists.{sent_in}
 use Rattle.sync_rounds.specs.Delivery.{Delivered}
 use Rattle.sync_rounds.proofs.Deliveries.{delivered_sender}
 use Rattle.sync_rounds.proofs.Messages.{free_there, delivered_put}
@@ -34,7 +34,7 @@ loop-port-preserved g c =
     let inboxes = c.loop-port.inboxes in
     let payload = c.args.payload in
     let in_row : port < degree_of net w = omega (arith, c.loop-port-test.true, c.degree-port-end.ensures.value) in
-    let got : sent_at outs w port ≡ Some payload = ap (λ (slots : List (Option g.row.T.Denot)). at_port slots port) c.requires.sent ∙ get_or-replicate (degree_of net w) port (Some payload) None in_row in
+    let got : sent_in outs w port ≡ Some payload = ap (λ (slots : List (Option g.row.T.Denot)). at_port slots port) c.requires.sent ∙ get_or-replicate (degree_of net w) port (Some payload) None in_row in
     let to : c.neighbour-v.result ≡ neighbour_of net w port = c.neighbour-v.ensures.value in
     let old = c.index-inboxes-v.result in
     let is_old : old ≡ get_or inboxes (neighbour_of net w port - 1) old = c.index-inboxes-v.is ∙ ap (λ (v : ℕ). get_or inboxes (v - 1) old) to in

@@ -2,8 +2,7 @@ use Rattle.std.proofs.Common.{◌≡◌, ℕ, length, ap, ◌∙◌, arith}
 use Rattle.std.specs.Prelude.{map}
 use Rattle.std.proofs.lemmas.List.{take_at}
 use Rattle.interference.specs.Net.{vertices}
-use Rattle.node_api.specs.Run.{node_at}
-use Rattle.node_api.specs.Laws.{first_of}
+use Rattle.node_api.specs.Run.{state_at, outbox_at}
 use Rattle.sync_rounds.proofs.Received.{listed_from}
 use Rattle.sync_rounds.proofs.engine.run_rounds.Goals as goal
 
@@ -14,6 +13,6 @@ returns g c =
     let size : length c.rounds.new.programs ≡ c.in_ok-programs.programs.len = omega (arith, c.rounds.ensures.programs.count, c.in_ok-programs.ensures.programs.count, c.in_ok-programs.programs.ok.0) in
     record {
       states = take_at c.rounds.new.programs _ c.in_ok-programs.programs.len size
-          ∙ (listed_from net (λ v. (node_at (first_of m.made m.greet) m.next net c.last_pulse.result v).0) c.rounds.new.programs c.rounds.ensures.programs
-          ∙ ap (λ (p : ℕ). map (λ v. (node_at (first_of m.made m.greet) m.next net p v).0) (vertices net)) c.last_pulse.ensures.last);
+          ∙ (listed_from net (state_at m.program net c.last_pulse.result) c.rounds.new.programs c.rounds.ensures.programs
+          ∙ ap (λ (p : ℕ). map (state_at m.program net p) (vertices net)) c.last_pulse.ensures.last);
     }

@@ -1,7 +1,7 @@
 use Rattle.std.proofs.Common.{◌≡◌, ℕ, ◌+◌, List, ap, sym, ◌∙◌, subst}
 use Rattle.node_api.specs.Boxes.{Mail, nothing, unread}
-use Rattle.node_api.specs.Run.{own_of, node_at}
-use Rattle.node_api.specs.Laws.{first_of}
+use Rattle.node_api.specs.Run.{state_at, outbox_at}
+use Rattle.node_api.specs.Program.{own_of}
 use Rattle.sync_rounds.specs.Lists.{Lists, empty_inbox}
 use Rattle.sync_rounds.proofs.Received.{Lists-push}
 use Rattle.sync_rounds.proofs.Steps.{started}
@@ -12,7 +12,7 @@ init-requires g c =
     let m = g.P.NodeProgram in
     let net = c.args.net.now in
     let own = own_of net (c.loop-i.i + 1) in
-    let ports : c.degree-degree.result ≡ m.ports c.in_ok-program.program = c.degree-degree.ensures.value ∙ sym (ap m.ports c.in_ok-program.ensures.made ∙ m.laws.keeps_ports.made_ports own) in
+    let ports : c.degree-degree.result ≡ m.program.ports c.in_ok-program.program = c.degree-degree.ensures.value ∙ sym (ap m.program.ports c.in_ok-program.ensures.made ∙ m.laws.keeps_ports.made_ports own) in
     record { out = c.in_ok-out.ensures.empty ∙ ap (λ (n : ℕ). nothing n) ports }
 
 pub loop-i-preserved : goal.loop-i-preserved
@@ -20,13 +20,13 @@ loop-i-preserved g c =
     let m = g.P.NodeProgram in
     let net = c.args.net.now in
     let i = c.loop-i.i in
-    let node = started m.ports m.made m.greet m.next m.laws.keeps_ports net (i + 1) c.in_ok-program.program (c.init.new.self, c.init.new.out) c.in_ok-program.ensures.made c.init.ensures.node in
+    let node = started m.program m.laws.keeps_ports net (i + 1) c.in_ok-program.program (c.init.new.self, c.init.new.out) c.in_ok-program.ensures.made c.init.ensures.node in
     let empty : c.in_ok-inbox.inbox ≡ empty_inbox net (i + 1) = c.in_ok-inbox.ensures.empty ∙ ap (λ (n : ℕ). unread (nothing n)) c.degree-degree.ensures.value in
     record {
-      programs = subst (λ (xs : List _). Lists (i + 1) (λ v. (node_at (first_of m.made m.greet) m.next net 0 v).0) xs) (sym c.in_ok-push.ensures.items)
-          (Lists-push i (λ v. (node_at (first_of m.made m.greet) m.next net 0 v).0) c.loop-i.programs.items c.init.new.self c.loop-i.invariant.programs (ap (λ x. x.0) node));
+      programs = subst (λ (xs : List _). Lists (i + 1) (state_at m.program net 0) xs) (sym c.in_ok-push.ensures.items)
+          (Lists-push i (state_at m.program net 0) c.loop-i.programs.items c.init.new.self c.loop-i.invariant.programs (ap (λ x. x.0) node));
       inboxes = subst (λ (xs : List (Mail _)). Lists (i + 1) (empty_inbox net) xs) (sym c.in_ok-push-2.ensures.items)
           (Lists-push i (empty_inbox net) c.loop-i.inboxes.items c.in_ok-inbox.inbox c.loop-i.invariant.inboxes empty);
-      outs = subst (λ (xs : List _). Lists (i + 1) (λ v. (node_at (first_of m.made m.greet) m.next net 0 v).1) xs) (sym c.in_ok-push-3.ensures.items)
-          (Lists-push i (λ v. (node_at (first_of m.made m.greet) m.next net 0 v).1) c.loop-i.outs.items c.init.new.out c.loop-i.invariant.outs (ap (λ x. x.1) node));
+      outs = subst (λ (xs : List _). Lists (i + 1) (outbox_at m.program net 0) xs) (sym c.in_ok-push-3.ensures.items)
+          (Lists-push i (outbox_at m.program net 0) c.loop-i.outs.items c.init.new.out c.loop-i.invariant.outs (ap (λ x. x.1) node));
     }

@@ -6,7 +6,7 @@ use Rattle.node_api.proofs.Reading.{fold_rest-read, fold_rest-end}
 use Rattle.sync_rounds.specs.Greatest.{Known}
 use Rattle.sync_rounds.specs.Spread.{greater}
 use Rattle.sync_rounds.specs.declared.greatest.Best.{Best}
-use Rattle.sync_rounds.proofs.Spreading.{answer_is, told_early, told_late}
+use Rattle.sync_rounds.proofs.Spreading.{answer_is, sends_early, sends_late}
 use Rattle.sync_rounds.proofs.greatest.GreatestNodeProgram.handle_messages.Goals as goal
 use Rattle.sync_rounds.proofs.greatest.GreatestNodeProgram.handle_messages.Goals.{then-pulse, else-pulse}
 
@@ -40,6 +40,6 @@ returns-clause-answer g c =
     let size : length c.args.out.now ≡ degree = ap length c.requires.out ∙ (length-replicate _ _ ∙ sym c.loop-inbox.invariant.degree) in
     answer_is g.row.D c.args.pulse c.args.self.now known c.args.inbox.now.slots c.if-pulse.out end c.loop-inbox.invariant.degree
     (elim c.if-pulse.branch [
-      | then-pulse w ↦ w.out-is ∙ (w.broadcast.ensures.sent ∙ (ap (λ (n : ℕ). replicate n (Some sent)) size ∙ sym (told_early g.row.D c.args.pulse known w.if-pulse.true)))
-      | else-pulse w ↦ w.out-is ∙ (c.requires.out ∙ (ap (λ (n : ℕ). nothing n) (sym c.loop-inbox.invariant.degree) ∙ sym (told_late g.row.D c.args.pulse known w.if-pulse.false)))
+      | then-pulse w ↦ w.out-is ∙ (w.broadcast.ensures.sent ∙ (ap (λ (n : ℕ). replicate n (Some sent)) size ∙ sym (sends_early g.row.D c.args.pulse known w.if-pulse.true)))
+      | else-pulse w ↦ w.out-is ∙ (c.requires.out ∙ (ap (λ (n : ℕ). nothing n) (sym c.loop-inbox.invariant.degree) ∙ sym (sends_late g.row.D c.args.pulse known w.if-pulse.false)))
     ])

@@ -1,0 +1,42 @@
+-- What a node program is to contracts: the functions that say all of its states and messages.
+use Rattle.std.specs.Prelude.{◌≡◌, ℕ, List, Option, Result, Ok, Err, MatchResult}
+use Rattle.interference.specs.Net.{Net, count_of, id_of, degree_of, greatest_degree_of, forest_count_of}
+
+-- What every vertex knows of its network: n, Δ and U.
+pub record Sizes : Type 0 where
+  pub nodes : ℕ
+  pub greatest_degree : ℕ
+  pub forests : ℕ
+
+abbrev pub sizes_of : Net → Sizes
+sizes_of net = record { nodes = count_of net; greatest_degree = greatest_degree_of net; forests = forest_count_of net }
+
+-- A vertex's own data: all that its first state may look at.
+pub record Own : Type 0 where
+  pub id : ℕ
+  pub degree : ℕ
+  pub sizes : Sizes
+
+abbrev pub own_of : Net → ℕ → Own
+own_of net v = record { id = id_of net v; degree = degree_of net v; sizes = sizes_of net }
+
+-- A program with states S, payloads M and refusals E. Nothing is asked of `next` at a pulse above the last one.
+pub record Program (S M E : Type 0) : Type 0 where
+  -- the last pulse: it depends on n, Δ and U alone
+  pub last : Sizes → ℕ
+  -- how many ports a node has
+  pub ports : S → ℕ
+  -- a node before `init`: it depends on its vertex's own data alone
+  pub made : Own → S
+  -- what `init` leaves, and what it sends at pulse 0
+  pub greet : S → S × List (Option M)
+  -- the next state and what it sends, or a refusal, by state, pulse and inbox
+  pub next : S → ℕ → List (Option M) → Result (S × List (Option M)) E
+
+-- the last pulse on a network
+abbrev pub last_pulse_on : {S M E : Type 0} → Program S M E → Net → ℕ
+last_pulse_on program net = program.last (sizes_of net)
+
+-- A call's result matches what `next` says: it is the refusal, or there is none and this is the node.
+abbrev pub Matches : {A X E : Type 0} → Result A E → Result X E → X → Type 0
+Matches result answer node = MatchResult result (λ _. answer ≡ Ok node) (λ refused. answer ≡ Err refused)
