@@ -1,0 +1,6 @@
+pub mod Wires
+pub mod Streams
+pub mod View
+pub mod Table
+pub mod Alpha
+pub mod Program

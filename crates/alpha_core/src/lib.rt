@@ -1,0 +1,20 @@
+//! One node under synchroniser alpha (Awerbuch 1985): the wires of a link, and how a node reacts to them.
+//!
+//! A node acknowledges each payload as it takes it, says that it is safe at a pulse once its own payloads
+//! of the pulse are acknowledged, and makes the next pulse once it and all its neighbours are safe.
+//!
+//! What a node keeps is `Node` of `specs/View.antt`: its program's state and a view, with a record for each
+//! port. How it reacts is `reaction` and `pulse` of `specs/Alpha.antt`, by the 36 cells of
+//! `specs/Table.antt`. What the synchronous run sends over a link is `stream` of `specs/Streams.antt`, and
+//! `Legal` lists of wires are those that begin it.
+//!
+//! Limits: degree 1,023, four wires in an out-list.
+#![tactic(auto)]
+
+pub mod laws;
+mod refused;
+mod table;
+mod wire;
+
+pub use refused::AlphaRefused;
+pub use wire::Wire;
