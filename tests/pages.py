@@ -1,0 +1,236 @@
+#!/usr/bin/env python3
+"""Checks what the pages README.md and docs/*.md show and name. The last line is 'N passed, M failed'.
+
+  pages.py [PROGRAM]      default: the program as `./forestplan` builds it
+
+- Each command shown, a line `$ ..` with `./forestplan`, is run at the top of the repository; what stands under it, in
+  the same columns, has to be its output (notes behind two blanks are left out).
+- Each table of docs/LESSONS.md is worked out from the definitions (plain_definition.py), not from the program.
+- Each excerpt of code, a fence whose first line names its file, has its lines in that file, in this order.
+- Each file named in backquotes exists, each link leads to a page and a heading, and each function and clause that a row of
+  docs/PROMISES.md names is in the code.
+"""
+import os
+import re
+import subprocess
+import sys
+
+from plain_definition import bit, colours, drop, merge, network_of, shift, three
+
+TOP = os.path.dirname(os.path.dirname(os.path.abspath(__file__)))
+PAGES = ["README.md"] + sorted(f"docs/{name}" for name in os.listdir(os.path.join(TOP, "docs")) if name.endswith(".md"))
+LIMIT = 60
+TALLY = {"passed": 0, "failed": 0}
+
+
+def note(name, good, what=""):
+    TALLY["passed" if good else "failed"] += 1
+    if not good:
+        print(f"FAILED {name}: {what}")
+
+
+def lines_of(page):
+    with open(os.path.join(TOP, page), encoding="utf-8") as file:
+        return file.read().split("\n")
+
+
+def shown_commands(lines):
+    """(line number, command, lines shown under it), of each command in an indented block."""
+    for number, line in enumerate(lines):
+        found = re.match(r"^( {4}.*?)\$ (.*\./forestplan .*)$", line)
+        if not found:
+            continue
+        column, shown = len(found.group(1)), []
+        for below in lines[number + 1:]:
+            if not below.startswith("    ") or "$ " in below:
+                break
+            shown.append(re.split(r" {2,}", below[column:].rstrip())[0])
+        yield number + 1, re.split(r" {2,}", found.group(2))[0], shown
+
+
+def check_commands(page, program):
+    for number, command, shown in shown_commands(lines_of(page)):
+        words = command.replace("./forestplan", program)
+        done = subprocess.run(["sh", "-c", words], cwd=TOP, capture_output=True, timeout=LIMIT)
+        wanted = "".join(line + "\n" for line in shown)
+        note(f"{page}:{number} {command}", done.stdout.decode() == wanted and done.returncode == 0,
+             f"shown {wanted!r}, written {done.stdout!r}")
+
+
+def tables_of(lines):
+    """(line number, line above, rows) of each table; a row is its cells."""
+    start = None
+    for number, line in enumerate(lines + [""]):
+        if line.startswith("|") and start is None:
+            start = number
+        elif not line.startswith("|") and start is not None:
+            rows = [[cell.strip() for cell in row.strip("|").split("|")] for row in lines[start:number]]
+            yield start + 1, next((above for above in reversed(lines[:start]) if above), ""), rows
+            start = None
+
+
+def example(name):
+    with open(os.path.join(TOP, name), "rb") as file:
+        return network_of(file.read())
+
+
+def entries(c):
+    return [str(c[v]) for v in sorted(c)]
+
+
+def pulses_of(net, f):
+    """The colours in forest f after each of the pulses 2 to 12."""
+    c = net.identifiers
+    rows = [entries(c)]
+    for _ in range(4):
+        c = bit(net, f, c)
+        rows.append(entries(c))
+    for x in (5, 4, 3):
+        before, c = c, shift(net, f, c)
+        rows.append(entries(c))
+        c = drop(x, net, f, c, before)
+        rows.append(entries(c))
+    return rows
+
+
+def merges_of(net):
+    c, rows = dict.fromkeys(net.neighbours, 0), []
+    for f in range(net.forest_count):
+        c = merge(net, f, c)
+        rows += [entries(three(net, f)), entries(c)]
+    return rows
+
+
+def lesson_table(title, rows):
+    """What the rows of a lesson's table have to be, behind the first cell of each; None for a table that is no lesson's."""
+    found = re.match(r"Forest (\d+) of `(.*)`, pulse by pulse:", title)
+    if found:
+        net, f = example(found.group(2)), int(found.group(1))
+        parents = [str(net.parent(f, v) or "-") for v in sorted(net.neighbours)]
+        return [entries(net.identifiers), parents] + pulses_of(net, f)
+    found = re.match(r"Merges of `(.*)`:", title)
+    if found:
+        net = example(found.group(1))
+        return [entries(net.identifiers)] + merges_of(net)
+    if rows[0][0] == "network":
+        wanted = [rows[0][1:]]
+        for row in rows[2:]:
+            net = example(row[0].strip("`"))
+            last = 12 + 3 * net.forest_count * (net.greatest_degree + 1)
+            channels = max(colours(net).values(), default=-1) + 1
+            wanted.append([str(x) for x in (len(net.neighbours), net.greatest_degree, net.forest_count, last, channels)])
+        return wanted
+    return None
+
+
+def check_lessons():
+    count = 0
+    for number, title, rows in tables_of(lines_of("docs/LESSONS.md")):
+        wanted = lesson_table(title, rows)
+        if wanted is not None:
+            count += 1
+            got = [row[1:] for row in rows[:1] + rows[2:]]
+            note(f"docs/LESSONS.md:{number}", got == wanted, f"wanted {wanted}")
+    note("tables of the lessons", count >= 4, count)
+
+
+def heading_anchor(line):
+    text = re.sub(r"[`*,.:;()?/+·']", "", line.lstrip("#").strip().lower())
+    return text.replace(" ", "-")
+
+
+def check_names(page):
+    lines = lines_of(page)
+    for number, line in enumerate(lines, 1):
+        for name in re.findall(r"`((?:crates|docs|tests|bench|examples|wrong-bodies)/[\w./-]+)`", line):
+            if "NAME" not in name:
+                note(f"{page}:{number} {name}", os.path.exists(os.path.join(TOP, name)), "there is no such file")
+        for target in re.findall(r"\]\(([^)]*)\)", line):
+            if re.match(r"https?:", target):
+                continue
+            path, _, anchor = target.partition("#")
+            path = os.path.normpath(os.path.join(os.path.dirname(page), path)) if path else page
+            good = os.path.exists(os.path.join(TOP, path))
+            if good and anchor:
+                good = anchor in {heading_anchor(head) for head in lines_of(path) if head.startswith("#")}
+            note(f"{page}:{number} {target}", good, "the link leads nowhere")
+
+
+def check_excerpts(page):
+    """Excerpts leave lines out, so their lines are looked for one after another."""
+    lines = iter(enumerate(lines_of(page), 1))
+    for _, line in lines:
+        if line.strip() != "```rust":
+            continue
+        number, head = next(lines)
+        path = head.strip().removeprefix("// ")
+        excerpt = []
+        for _, line in lines:
+            if line.strip() == "```":
+                break
+            excerpt.append(line.strip())
+        source = iter([line.strip() for line in lines_of(path)])
+        missing = [line for line in excerpt if line not in source]
+        note(f"{page}:{number} excerpt of {path}", not missing, f"not there, or not in this order: {missing}")
+
+
+def clauses_of_crate(crate):
+    """The names of the clauses and ghost members of each function and type of a crate, by the name of the function."""
+    found = {}
+    folder = os.path.join(TOP, "crates", crate, "src")
+    for root, _, names in os.walk(folder):
+        for name in (n for n in names if n.endswith(".rt")):
+            with open(os.path.join(root, name), encoding="utf-8") as file:
+                owner = None
+                for line in file:
+                    head = re.match(r"\s*(?:pub(?:\(\w+\))? )?(?:fn|trait|struct|enum|type|const) (\w+)", line)
+                    for title in re.findall(r"\bimpl(?:<[^{]*?>)? (?:[\w:<>, ]* for )?(\w+)", line):
+                        found.setdefault(title, set())
+                    if head:
+                        owner = head.group(1)
+                        found.setdefault(owner, set())
+                    clause = re.match(r"\s*(?:ensures|requires) (\w+) ", line)
+                    ghost = re.match(r"\s*ghost (\w+)\s*[:=]", line)
+                    if owner and clause:
+                        found[owner].add(clause.group(1))
+                    if ghost:
+                        found.setdefault("ghost", set()).add(ghost.group(1))
+    return found
+
+
+def check_promises():
+    crates = {}
+    for number, _, rows in tables_of(lines_of("docs/PROMISES.md")):
+        if rows[0][1:2] != ["Carried by"]:
+            continue
+        for row in rows[2:]:
+            for path, clauses in re.findall(r"`(\w+(?:::\w+)+)`(?:: ((?:`\w+`(?:, |))+))?", row[1]):
+                parts = path.split("::")
+                crate = crates.setdefault(parts[0], clauses_of_crate(parts[0]))
+                name = parts[-1]
+                missing = [] if name in crate else [name]
+                for clause in re.findall(r"`(\w+)`", clauses):
+                    if clause not in crate.get(name, set()) and clause not in crate.get("ghost", set()):
+                        missing.append(clause)
+                note(f"docs/PROMISES.md:{number} {path}", not missing, f"not in the code: {missing}")
+
+
+def main():
+    program = os.path.join(TOP, "crates", "forestplan", "out", "forestplan")
+    if len(sys.argv) > 1:
+        program = os.path.abspath(sys.argv[1])
+    else:
+        built = subprocess.run([os.path.join(TOP, "forestplan"), "--help"], stdout=subprocess.DEVNULL)
+        note("the program builds", built.returncode == 0, built)
+    for page in PAGES:
+        check_commands(page, program)
+        check_names(page)
+        check_excerpts(page)
+    check_lessons()
+    check_promises()
+    print(f"{TALLY['passed']} passed, {TALLY['failed']} failed")
+    return 1 if TALLY["failed"] else 0
+
+
+if __name__ == "__main__":
+    sys.exit(main())
