@@ -6,7 +6,8 @@ use Rattle.std.proofs.lemmas.Bool.{ltb-false}
 use Rattle.dimacs_col.specs.Lines.{Line, number_of, field_at}
 use Rattle.dimacs_col.specs.Kinds.{kind_of_word}
 use Rattle.dimacs_col.specs.Reading.{verdict, nodes_of, edges_of, edge_count, first_of, number_after}
-use Rattle.dimacs_col.specs.Pairs.{same_pair, FitsIn, node_limit, edge_limit}
+use Rattle.dimacs_col.specs.Pairs.{same_pair, FitsIn}
+use Rattle.dimacs_col.specs.declared.limits.TheConstants.{MAX_NODES, MAX_EDGES}
 use Rattle.dimacs_col.specs.Bag.{SameMembers}
 use Rattle.dimacs_col.specs.State.{Knows, kept_number}
 use Rattle.dimacs_col.specs.declared.reader.Reader.{Reader}
@@ -32,7 +33,7 @@ pub record IsEdge (before : List Line) (word : List ℕ) (fields : Line) (r : Re
   pub first : kept_number (field_at fields 0) ≡ Some v
   pub second : kept_number (field_at fields 1) ≡ Some w
 
-pub small-nodes : (o : Option ℕ) (nodes : ℕ) → o ≡ Some nodes → IfSome o (λ n. n ≤ node_limit) → nodes ≤ node_limit
+pub small-nodes : (o : Option ℕ) (nodes : ℕ) → o ≡ Some nodes → IfSome o (λ n. n ≤ MAX_NODES) → nodes ≤ MAX_NODES
 small-nodes None nodes e h = absurd cc
 small-nodes (Some n) nodes e h = let s : n ≡ nodes = cc in omega arith
 
@@ -41,7 +42,7 @@ told-range before word fields r nodes v w e bad =
     let small = small-nodes r.nodes nodes e.nodes_is e.knows.nodes_fit in
     let a = kept-from (field_at fields 0) v e.first in
     let b = kept-from (field_at fields 1) w e.second in
-    verdict-edge before word fields nodes a.number b.number true (a.number == b.number) (nat_lt edge_limit (edge_count (before ++ (word ∷ fields) ∷ []))) e.kind (sym e.knows.nodes_are ∙ e.nodes_is) a.is b.is (outside-any nodes a.number b.number v w small a.kept_is b.kept_is bad) refl refl
+    verdict-edge before word fields nodes a.number b.number true (a.number == b.number) (nat_lt MAX_EDGES (edge_count (before ++ (word ∷ fields) ∷ []))) e.kind (sym e.knows.nodes_are ∙ e.nodes_is) a.is b.is (outside-any nodes a.number b.number v w small a.kept_is b.kept_is bad) refl refl
 
 -- a pair in range whose ends differ, in the set that the reader then has
 pub record IsPut (before : List Line) (word : List ℕ) (fields : Line) (r : Reader) (nodes v w : ℕ) (edges : List (ℕ × ℕ)) : Type 0 where
@@ -93,22 +94,22 @@ put-fits before word fields r nodes v w edges p pair h =
     (λ e. subst (λ o. FitsIn o pair) (sym p.edge.nodes_is) (subst (λ q. FitsIn (Some nodes) q) (same_pair-exact (min v w, max v w) pair e) fits))
     (λ e. p.edge.knows.edges_fit pair e)
 
-put-verdict : (before : List Line) (word : List ℕ) (fields : Line) (r : Reader) (nodes v w : ℕ) (edges : List (ℕ × ℕ)) (large : Bool) → IsPut before word fields r nodes v w edges → nat_lt edge_limit (distinct_count same_pair edges) ≡ large → verdict before (word ∷ fields) ≡ first_of ((large, TooLarge (number_after before)) ∷ [])
+put-verdict : (before : List Line) (word : List ℕ) (fields : Line) (r : Reader) (nodes v w : ℕ) (edges : List (ℕ × ℕ)) (large : Bool) → IsPut before word fields r nodes v w edges → nat_lt MAX_EDGES (distinct_count same_pair edges) ≡ large → verdict before (word ∷ fields) ≡ first_of ((large, TooLarge (number_after before)) ∷ [])
 put-verdict before word fields r nodes v w edges large p e =
     let read = put-read before word fields r nodes v w edges p in
     let count = edge_count-of edges (before ++ (word ∷ fields) ∷ []) (put-members before word fields r nodes v w edges p) in
-    verdict-edge before word fields nodes v w false false large p.edge.kind (sym p.edge.knows.nodes_are ∙ p.edge.nodes_is) read.first read.second (inside nodes v w p.first_low p.first_high p.second_low p.second_high) (differ v w p.apart) (ap (nat_lt edge_limit) (sym count) ∙ e)
+    verdict-edge before word fields nodes v w false false large p.edge.kind (sym p.edge.knows.nodes_are ∙ p.edge.nodes_is) read.first read.second (inside nodes v w p.first_low p.first_high p.second_low p.second_high) (differ v w p.apart) (ap (nat_lt MAX_EDGES) (sym count) ∙ e)
 
-pub told-large : (before : List Line) (word : List ℕ) (fields : Line) (r : Reader) (nodes v w : ℕ) (edges : List (ℕ × ℕ)) → IsPut before word fields r nodes v w edges → nat_lt edge_limit (distinct_count same_pair edges) ≡ true → verdict before (word ∷ fields) ≡ Some (TooLarge (number_after before))
+pub told-large : (before : List Line) (word : List ℕ) (fields : Line) (r : Reader) (nodes v w : ℕ) (edges : List (ℕ × ℕ)) → IsPut before word fields r nodes v w edges → nat_lt MAX_EDGES (distinct_count same_pair edges) ≡ true → verdict before (word ∷ fields) ≡ Some (TooLarge (number_after before))
 told-large before word fields r nodes v w edges p h = put-verdict before word fields r nodes v w edges true p h
 
-pub knows-put : (before : List Line) (word : List ℕ) (fields : Line) (r : Reader) (number nodes v w : ℕ) (edges : List (ℕ × ℕ)) → IsPut before word fields r nodes v w edges → nat_lt edge_limit (distinct_count same_pair edges) ≡ false → Knows (before ++ (word ∷ fields) ∷ []) (record { line = number; nodes = r.nodes; edges = edges })
+pub knows-put : (before : List Line) (word : List ℕ) (fields : Line) (r : Reader) (number nodes v w : ℕ) (edges : List (ℕ × ℕ)) → IsPut before word fields r nodes v w edges → nat_lt MAX_EDGES (distinct_count same_pair edges) ≡ false → Knows (before ++ (word ∷ fields) ∷ []) (record { line = number; nodes = r.nodes; edges = edges })
 knows-put before word fields r number nodes v w edges p h =
     let same = put-members before word fields r nodes v w edges p in record {
       good = AllGood-push before (word ∷ fields) p.edge.knows.good (put-verdict before word fields r nodes v w edges false p h);
       nodes_are = p.edge.knows.nodes_are ∙ sym (nodes_of-same before (word ∷ fields) (edge-nodes word fields p.edge.kind));
       nodes_fit = p.edge.knows.nodes_fit;
       edges_are = same;
-      edges_few = ltb-false edge_limit (edge_count (before ++ (word ∷ fields) ∷ [])) (ap (nat_lt edge_limit) (sym (edge_count-of edges (before ++ (word ∷ fields) ∷ []) same)) ∙ h);
+      edges_few = ltb-false MAX_EDGES (edge_count (before ++ (word ∷ fields) ∷ [])) (ap (nat_lt MAX_EDGES) (sym (edge_count-of edges (before ++ (word ∷ fields) ∷ []) same)) ∙ h);
       edges_fit = put-fits before word fields r nodes v w edges p;
     }

@@ -4,7 +4,8 @@ use Rattle.std.specs.Set.{is_member}
 use Rattle.dimacs_col.specs.Lines.{Line, number_of, field_at}
 use Rattle.dimacs_col.specs.Kinds.{kind_of, kind_of_word}
 use Rattle.dimacs_col.specs.Reading.{verdict, nodes_of, edges_of}
-use Rattle.dimacs_col.specs.Pairs.{same_pair, FitsIn, node_limit}
+use Rattle.dimacs_col.specs.Pairs.{same_pair, FitsIn}
+use Rattle.dimacs_col.specs.declared.limits.TheConstants.{MAX_NODES}
 use Rattle.dimacs_col.specs.State.{Knows}
 use Rattle.dimacs_col.specs.declared.reader.Reader.{Reader}
 use Rattle.dimacs_col.specs.declared.kind.Kind.TheVariants.{Skipped, Problem}
@@ -37,7 +38,7 @@ problem-edges : (word : List ℕ) (fields : Line) → kind_of_word word ≡ Prob
 unfolding edges_of
 problem-edges word fields e = rw e refl
 
-pub knows-problem : (before : List Line) (word : List ℕ) (fields : Line) (r : Reader) (number nodes : ℕ) → kind_of_word word ≡ Problem → Knows before r → r.nodes ≡ None → number_of (field_at fields 1) ≡ Some nodes → nodes ≤ node_limit → verdict before (word ∷ fields) ≡ None → Knows (before ++ (word ∷ fields) ∷ []) (record { line = number; nodes = Some nodes; edges = r.edges })
+pub knows-problem : (before : List Line) (word : List ℕ) (fields : Line) (r : Reader) (number nodes : ℕ) → kind_of_word word ≡ Problem → Knows before r → r.nodes ≡ None → number_of (field_at fields 1) ≡ Some nodes → nodes ≤ MAX_NODES → verdict before (word ∷ fields) ≡ None → Knows (before ++ (word ∷ fields) ∷ []) (record { line = number; nodes = Some nodes; edges = r.edges })
 knows-problem before word fields r number nodes e k none n small good = let same = problem-edges word fields e in record {
   good = AllGood-push before (word ∷ fields) k.good good;
   nodes_are = sym (nodes_of-push before (word ∷ fields) (Some nodes) (sym k.nodes_are ∙ none) (problem-nodes word fields nodes e n));

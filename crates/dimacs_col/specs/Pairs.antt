@@ -2,6 +2,7 @@
 use Rattle.std.specs.Prelude.{ℕ, Bool, Option, Some, None, List, ◌<◌, ◌≤◌, length, Contains}
 use Rattle.std.specs.Ordering.{nat_cmp, ordering_then, eq_by_cmp}
 use Rattle.std.specs.declared.cmp.Ordering.{Ordering}
+use Rattle.dimacs_col.specs.declared.limits.TheConstants.{MAX_NODES, MAX_EDGES}
 
 -- pairs in order: by the first vertex, then by the second
 abbrev pub pair_cmp : ℕ × ℕ → ℕ × ℕ → Ordering
@@ -10,14 +11,6 @@ pair_cmp p q = ordering_then (nat_cmp p.0 q.0) (nat_cmp p.1 q.1)
 abbrev pub same_pair : ℕ × ℕ → ℕ × ℕ → Bool
 same_pair = eq_by_cmp pair_cmp
 
--- how many vertices a graph may have
-abbrev pub node_limit : ℕ
-node_limit = 20000
-
--- how many distinct edges a graph may have
-abbrev pub edge_limit : ℕ
-edge_limit = 400000
-
 -- both are vertices, from 1, and the smaller one comes first
 abbrev pub FitsIn : Option ℕ → ℕ × ℕ → Type 0
 FitsIn None pair = ⊥
@@ -25,6 +18,6 @@ FitsIn (Some nodes) pair = (0 < pair.0) × (pair.0 < pair.1) × (pair.1 ≤ node
 
 -- a graph within the limits
 pub record IsWithinLimits (nodes : ℕ) (edges : List (ℕ × ℕ)) : Type 0 where
-  pub nodes_fit : nodes ≤ node_limit
-  pub edges_few : length edges ≤ edge_limit
+  pub nodes_fit : nodes ≤ MAX_NODES
+  pub edges_few : length edges ≤ MAX_EDGES
   pub edges_fit : (pair : ℕ × ℕ) → Contains edges pair → FitsIn (Some nodes) pair

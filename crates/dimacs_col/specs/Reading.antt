@@ -4,7 +4,8 @@ use Rattle.std.specs.List.Sorted.{IsStrictlySortedBy}
 use Rattle.std.specs.Set.{distinct_count}
 use Rattle.dimacs_col.specs.Lines.{Line, field_at, no_number_at, value_at}
 use Rattle.dimacs_col.specs.Kinds.{kind_of, is_problem_kind, is_edge_kind, is_format}
-use Rattle.dimacs_col.specs.Pairs.{pair_cmp, same_pair, node_limit, edge_limit}
+use Rattle.dimacs_col.specs.Pairs.{pair_cmp, same_pair}
+use Rattle.dimacs_col.specs.declared.limits.TheConstants.{MAX_NODES, MAX_EDGES}
 use Rattle.dimacs_col.specs.declared.kind.Kind.{Kind}
 use Rattle.dimacs_col.specs.declared.kind.Kind.TheVariants.{Skipped, Problem, Edge, Unknown}
 use Rattle.dimacs_col.specs.declared.fault.ColFault.{ColFault}
@@ -45,14 +46,14 @@ faults_of Skipped before line = []
 faults_of Problem before line =
     (has_problem before, SecondProblem (number_after before))
     ∷ (not (is_format (field_at line 1)) || no_number_at line 2 || no_number_at line 3, BadField (number_after before))
-    ∷ (nat_lt node_limit (value_at line 2), TooLarge (number_after before))
+    ∷ (nat_lt MAX_NODES (value_at line 2), TooLarge (number_after before))
     ∷ []
 faults_of Edge before line =
     (not (has_problem before), EdgeBeforeProblem (number_after before))
     ∷ (no_number_at line 1 || no_number_at line 2, BadField (number_after before))
     ∷ (not (is_vertex before (value_at line 1)) || not (is_vertex before (value_at line 2)), VertexRange (number_after before))
     ∷ (value_at line 1 == value_at line 2, SelfLoop (number_after before))
-    ∷ (nat_lt edge_limit (edge_count (before ++ line ∷ [])), TooLarge (number_after before))
+    ∷ (nat_lt MAX_EDGES (edge_count (before ++ line ∷ [])), TooLarge (number_after before))
     ∷ []
 faults_of Unknown before line = (true, UnknownLine (number_after before)) ∷ []
 

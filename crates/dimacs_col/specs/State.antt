@@ -5,7 +5,8 @@ use Rattle.std.specs.Set.{is_member}
 use Rattle.dimacs_col.specs.Lines.{Line, number_of}
 use Rattle.dimacs_col.specs.Reading.{AllGood, nodes_of, edges_of, edge_count, verdict}
 use Rattle.dimacs_col.specs.Bag.{SameMembers}
-use Rattle.dimacs_col.specs.Pairs.{same_pair, FitsIn, node_limit, edge_limit}
+use Rattle.dimacs_col.specs.Pairs.{same_pair, FitsIn}
+use Rattle.dimacs_col.specs.declared.limits.TheConstants.{MAX_NODES, MAX_EDGES}
 use Rattle.dimacs_col.specs.declared.reader.Reader.{Reader}
 use Rattle.dimacs_col.specs.declared.fault.ColFault.{ColFault}
 use Rattle.dimacs_col.specs.declared.fault.ColFault.TheVariants.{NoProblem, Memory}
@@ -21,9 +22,9 @@ kept_number field = option_map kept (number_of field)
 pub record Knows (before : List Line) (reader : Reader) : Type 0 where
   pub good : AllGood before
   pub nodes_are : reader.nodes ≡ nodes_of before
-  pub nodes_fit : IfSome reader.nodes (λ nodes. nodes ≤ node_limit)
+  pub nodes_fit : IfSome reader.nodes (λ nodes. nodes ≤ MAX_NODES)
   pub edges_are : SameMembers reader.edges (edges_of before)
-  pub edges_few : edge_count before ≤ edge_limit
+  pub edges_few : edge_count before ≤ MAX_EDGES
   pub edges_fit : (pair : ℕ × ℕ) → is_member same_pair (edges_of before) pair ≡ true → FitsIn reader.nodes pair
 
 -- the fault is the verdict, or memory ran out

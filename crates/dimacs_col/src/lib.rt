@@ -21,11 +21,13 @@ mod fault;
 mod fields;
 mod kind;
 mod laws;
+mod limits;
 mod reader;
 
 pub use fault::ColFault;
 pub use fields::Fields;
 pub use laws::reading_is_one;
+pub use limits::{MAX_EDGES, MAX_NODES};
 pub use reader::{ColFile, read, without_carriage_return};
 
 #[cfg(test)]

@@ -11,10 +11,8 @@ use crate::bag::EdgeBag;
 use crate::fault::ColFault;
 use crate::fields::Fields;
 use crate::kind::{Kind, is_format};
+use crate::limits::MAX_NODES;
 use std::alloc::Global;
-
-/// How many vertices a graph may have.
-const MAX_NODES: u32 = 20_000;
 
 /// A graph: the vertices are 1 to `nodes`, and `edges` has each edge once, the smaller vertex
 /// first, ascending.

@@ -1,0 +1,7 @@
+//! The limits of a graph.
+
+/// How many vertices a graph may have.
+pub const MAX_NODES: u32 = 20_000;
+
+/// How many distinct edges a graph may have.
+pub const MAX_EDGES: usize = 400_000;
