@@ -1,7 +1,8 @@
 -- What the degrees and the identifiers tell of the faults of the network that they are of.
 use Rattle.std.proofs.Common.{All, ◌≡◌, ◌⊎◌, ⊎_elim, ℕ, ◌<◌, ◌≤◌, List, length, slice_index, sym, ap, ◌∙◌, arith}
 use Rattle.std.proofs.lemmas.Bool.{cases_lt}
-use Rattle.interference.specs.Net.{IsVertex, degree_limit, degree_of}
+use Rattle.interference.specs.Net.{IsVertex, degree_of}
+use Rattle.interference.specs.declared.limits.TheConstants.{MAX_DEGREE}
 use Rattle.interference.specs.Making.{EdgesFit, network_of, IsCrowded, IsClash}
 use Rattle.interference.specs.Filling.{AreDegrees, IsFirstCrowded, HasNoTwins, IsFirstTwins}
 use Rattle.interference.proofs.Made.{neighbours-network_of}
@@ -35,7 +36,7 @@ module _ (ids : List ℕ) (edges : List (ℕ × ℕ)) where
               ⊎_elim (λ less. absurd (omega (arith, first.2 u less, crowded.1, degree_is u vertex.0 vertex.1))) (λ more. more) (cases_lt u v)),
         )
 
-    pub none_crowded : All (λ degree. degree ≤ degree_limit) degrees → (v : ℕ) → IsCrowded (network_of ids edges) v → ⊥
+    pub none_crowded : All (λ degree. degree ≤ MAX_DEGREE) degrees → (v : ℕ) → IsCrowded (network_of ids edges) v → ⊥
     none_crowded few v crowded =
         let vertex = vertex_is v crowded.0 in
         omega (arith, few v 0 (omega (arith, are.size)), crowded.1, degree_is v vertex.0 vertex.1)

@@ -6,7 +6,8 @@ use Rattle.std.proofs.lemmas.List.FromFn.{length-map-range_with_len, get_or-map-
 use Rattle.std.proofs.lemmas.List.Elements.{Contains-get_or}
 use Rattle.std.proofs.lemmas.Map.Keys.{below_from_sorted}
 use Rattle.dimacs_col.specs.Pairs.{IsWithinLimits}
-use Rattle.interference.specs.Net.{IsNetwork, IsVertex, id_of, neighbours, degree_of, neighbour_of, back_port_of, degree_limit, id_bound}
+use Rattle.interference.specs.Net.{IsNetwork, IsVertex, id_of, neighbours, degree_of, neighbour_of, back_port_of, id_bound}
+use Rattle.interference.specs.declared.limits.TheConstants.{MAX_DEGREE}
 use Rattle.interference.specs.Making.{joins, joined_to, network_of, IsCrowded, IsClash}
 use Rattle.interference.proofs.Members.{place_of-below}
 use Rattle.interference.proofs.Joined.{joins-swap, joins-other, Contains-joined_to, joins-from_joined_to, bounds-from_joined_to, joined_to-ascends}
@@ -64,8 +65,8 @@ module _ (ids : List ℕ) (edges : List (ℕ × ℕ)) where
     symmetric = λ v port vertex below. back-port v vertex port below;
   }
     where
-      few : (v : ℕ) → IsVertex (network_of ids edges) v → degree_of (network_of ids edges) v ≤ degree_limit
-      few v vertex = elim (cases_order (degree_of (network_of ids edges) v) degree_limit) [
+      few : (v : ℕ) → IsVertex (network_of ids edges) v → degree_of (network_of ids edges) v ≤ MAX_DEGREE
+      few v vertex = elim (cases_order (degree_of (network_of ids edges) v) MAX_DEGREE) [
         | inl same ↦ omega arith
         | inr side ↦ elim side [
           | inl lt ↦ omega arith

@@ -1,7 +1,8 @@
 -- The forest count of packed lists, one vertex more.
 use Rattle.std.proofs.Common.{All, ◌≡◌, ℕ, zero, suc, ◌+◌, ◌-◌, ◌<◌, ◌≤◌, max, count_by, nat_lt, List, [], length, take, drop, get_or, slice_index, sym, ap, ◌∙◌, arith}
 use Rattle.std.proofs.lemmas.List.Elements.{All-same, All-from_get_or}
-use Rattle.interference.specs.Net.{degree_limit, IsVertex, neighbours, higher_count, greatest_from}
+use Rattle.interference.specs.Net.{IsVertex, neighbours, higher_count, greatest_from}
+use Rattle.interference.specs.declared.limits.TheConstants.{MAX_DEGREE}
 use Rattle.interference.specs.Rows.{rows, net_from, IsPacked}
 use Rattle.interference.proofs.RowsLemmas.{row_at}
 
@@ -31,7 +32,7 @@ module _ (ids starts ports : List ℕ) (p : IsPacked ids starts ports) (i : ℕ)
       ∙ sym (row_at starts ports i (omega (arith, p.sizes)))
       ∙ ap (λ x. get_or (rows starts ports) x []) back
 
-  pub row_few : length (take (slice_index starts (i + 1) - slice_index starts i) (drop (slice_index starts i) ports)) ≤ degree_limit
+  pub row_few : length (take (slice_index starts (i + 1) - slice_index starts i) (drop (slice_index starts i) ports)) ≤ MAX_DEGREE
   row_few = rw row_here (p.network.degrees (i + 1) is_vertex)
 
   pub row_vertices : All (λ w. (1 ≤ w) × (w ≤ length ids)) (take (slice_index starts (i + 1) - slice_index starts i) (drop (slice_index starts i) ports))

@@ -6,7 +6,8 @@ use Rattle.std.proofs.lemmas.List.{get_or_default, get_or_past}
 use Rattle.std.proofs.lemmas.List.Elements.{Contains-get_or}
 use Rattle.std.proofs.lemmas.List.Sums.{count_by-le-length}
 use Rattle.std.specs.Prelude.{nat_lt}
-use Rattle.interference.specs.Net.{Net, degree_limit, id_bound, IsNetwork, IsVertex, count_of, id_of, neighbours, degree_of, neighbour_of, port_to, back_port_of, greatest_degree_of, higher_count, forest_count_of}
+use Rattle.interference.specs.Net.{Net, id_bound, IsNetwork, IsVertex, count_of, id_of, neighbours, degree_of, neighbour_of, port_to, back_port_of, greatest_degree_of, higher_count, forest_count_of}
+use Rattle.interference.specs.declared.limits.TheConstants.{MAX_DEGREE}
 use Rattle.interference.proofs.Members.{place_of-below, place_of-is, Contains-place_of}
 use Rattle.interference.proofs.Greatest.{longest-holds, longest-within, longest-reached, greatest-holds, greatest-within, greatest-reached}
 
@@ -71,10 +72,10 @@ module _ (net : Net) (ok : IsNetwork net) where
   pub degree-within : (v : ℕ) → degree_of net v ≤ greatest_degree_of net
   degree-within v = longest-holds net.ports (v - 1)
 
-  pub greatest_degree-within : greatest_degree_of net ≤ degree_limit
-  greatest_degree-within = longest-within net.ports degree_limit (λ i below.
+  pub greatest_degree-within : greatest_degree_of net ≤ MAX_DEGREE
+  greatest_degree-within = longest-within net.ports MAX_DEGREE (λ i below.
       let e : i + 1 - 1 ≡ i = omega arith in
-      subst (λ (k : ℕ). length (get_or net.ports k []) ≤ degree_limit) e (ok.degrees (i + 1) (omega arith, omega (arith, ok.sizes))))
+      subst (λ (k : ℕ). length (get_or net.ports k []) ≤ MAX_DEGREE) e (ok.degrees (i + 1) (omega arith, omega (arith, ok.sizes))))
 
   pub greatest_degree-reached : 0 < count_of net → (v : ℕ) × IsVertex net v × (degree_of net v ≡ greatest_degree_of net)
   greatest_degree-reached some =

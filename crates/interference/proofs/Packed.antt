@@ -1,6 +1,7 @@
 -- What the packed lists say of the network that they are.
 use Rattle.std.proofs.Common.{◌≡◌, ℕ, suc, ◌+◌, ◌-◌, ◌<◌, ◌≤◌, List, [], length, get_or, ap, sym, ◌∙◌, arith, subst}
-use Rattle.interference.specs.Net.{Net, degree_limit, IsVertex, degree_of, neighbour_of}
+use Rattle.interference.specs.Net.{Net, IsVertex, degree_of, neighbour_of}
+use Rattle.interference.specs.declared.limits.TheConstants.{MAX_DEGREE}
 use Rattle.std.proofs.lemmas.List.{get_or_read}
 use Rattle.interference.specs.Rows.{rows, net_from, IsPacked}
 use Rattle.interference.proofs.RowsLemmas.{length-row, get_or-row}
@@ -34,8 +35,8 @@ module _ (ids starts ports : List ℕ) (p : IsPacked ids starts ports) (net : Ne
       let bottom : low ≡ get_or starts (v - 1) 0 = get_or_read starts (v - 1) low (omega (arith, p.sizes)) b 0 in
       subst (λ (n : Net). high - low ≡ degree_of n v) e (omega (arith, degree_is ids starts ports p v in_net))
 
-  pub degree-within_limit : degree_of net v ≤ degree_limit
-  degree-within_limit = subst (λ (n : Net). degree_of n v ≤ degree_limit) e (p.network.degrees v is_vertex_from)
+  pub degree-within_limit : degree_of net v ≤ MAX_DEGREE
+  degree-within_limit = subst (λ (n : Net). degree_of n v ≤ MAX_DEGREE) e (p.network.degrees v is_vertex_from)
 
   module _ (port : ℕ) (in_row : port < degree_of net v) (low : ℕ) (b : low ≡ get_or starts (v - 1) low) where
     in_row_from : port < degree_of (net_from ids starts ports) v

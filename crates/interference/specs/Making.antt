@@ -4,9 +4,12 @@ use Rattle.std.specs.List.{range_with_len}
 use Rattle.std.specs.Set.{is_member}
 use Rattle.std.specs.List.Sorted.{IsStrictlySortedBy}
 use Rattle.dimacs_col.specs.Pairs.{IsWithinLimits, pair_cmp, same_pair}
-use Rattle.interference.specs.Net.{Net, IsVertex, id_of, degree_of, degree_limit}
+use Rattle.interference.specs.Net.{Net, IsVertex, id_of, degree_of}
+use Rattle.interference.specs.declared.limits.TheConstants.{MAX_DEGREE}
 use Rattle.interference.specs.declared.fault.NetFault.{NetFault}
+use Rattle.interference.specs.declared.fault.TryFault.{TryFault}
 use Rattle.interference.specs.declared.fault.NetFault.TheVariants.{Degree, SameId, Memory}
+use Rattle.interference.specs.declared.fault.TryFault.TheVariants.{Edges, Refused}
 
 -- edges that a network takes: within the limits, ascending, none twice
 pub record EdgesFit (nodes : ℕ) (edges : List (ℕ × ℕ)) : Type 0 where
@@ -27,7 +30,7 @@ network_of ids edges = record { ids = ids; ports = map (joined_to (length ids) e
 
 -- a vertex has more neighbours than a node may have
 abbrev pub IsCrowded : Net → ℕ → Type 0
-IsCrowded net v = IsVertex net v × (degree_limit < degree_of net v)
+IsCrowded net v = IsVertex net v × (MAX_DEGREE < degree_of net v)
 
 -- two different vertices, the smaller first, have one identifier
 abbrev pub IsClash : Net → ℕ → ℕ → Type 0
@@ -39,3 +42,8 @@ IsFaultOf net (Degree v) = IsCrowded net v × ((u : ℕ) → IsCrowded net u →
 IsFaultOf net (SameId v w) = ((u : ℕ) → IsCrowded net u → ⊥) × IsClash net v w
     × ((t u : ℕ) → IsClash net t u → (v < t) ⊎ ((v ≡ t) × (w ≤ u)))
 IsFaultOf net Memory = Unit {0}
+
+-- what a checked making reports: edges that a network doesn't take, or why theirs is refused
+abbrev pub IsTryFaultOf : List ℕ → List (ℕ × ℕ) → TryFault → Type 0
+IsTryFaultOf ids edges Edges = EdgesFit (length ids) edges → ⊥
+IsTryFaultOf ids edges (Refused fault) = EdgesFit (length ids) edges × IsFaultOf (network_of ids edges) fault

@@ -1,6 +1,8 @@
 -- The network: numbered vertices with identifiers, each with its neighbours, ascending.
-use Rattle.std.specs.Prelude.{◌≡◌, ◌≢◌, ℕ, ◌+◌, ◌-◌, ◌^◌, ◌<◌, ◌≤◌, ◌==◌, if◌then◌else◌, List, [], ◌∷◌, length, slice_index, slice_index_or, max, count_by, nat_lt, zero, suc}
+use Rattle.std.specs.Prelude.{◌≡◌, ◌≢◌, ℕ, ◌+◌, ◌-◌, ◌^◌, ◌<◌, ◌≤◌, ◌==◌, if◌then◌else◌, List, [], ◌∷◌, length, slice_index, slice_index_or, max, count_by, nat_lt, zero, suc, Contains}
 use Rattle.std.specs.List.{range_with_len}
+use Rattle.dimacs_col.specs.declared.limits.TheConstants.{MAX_NODES}
+use Rattle.interference.specs.declared.limits.TheConstants.{MAX_DEGREE}
 
 -- The value of a network. Entry `v - 1` of each list is of vertex v.
 pub record Net : Type 0 where
@@ -24,6 +26,10 @@ id_of net v = slice_index net.ids (v - 1)
 -- the neighbours of a vertex, by port
 abbrev pub neighbours : Net → ℕ → List ℕ
 neighbours net v = slice_index_or net.ports (v - 1) []
+
+-- v is a vertex, and w a neighbour of it
+abbrev pub IsEdge : Net → ℕ → ℕ → Type 0
+IsEdge net v w = IsVertex net v × Contains (neighbours net v) w
 
 abbrev pub degree_of : Net → ℕ → ℕ
 degree_of net v = length (neighbours net v)
@@ -66,23 +72,17 @@ greatest_from f v (suc n) = max (f v) (greatest_from f (v + 1) n)
 abbrev pub forest_count_of : Net → ℕ
 forest_count_of net = greatest_from (higher_count net) 1 (count_of net)
 
--- the bounds of every network, and of an identifier
-abbrev pub greatest_count : ℕ
-greatest_count = 20000
-
-abbrev pub degree_limit : ℕ
-degree_limit = 1023
-
+-- every identifier is below this
 abbrev pub id_bound : ℕ
 id_bound = 2 ^ 64
 
 -- What every network keeps.
 pub record IsNetwork (net : Net) : Type 0 where
   pub sizes : length net.ports ≡ length net.ids
-  pub count : length net.ids ≤ greatest_count
+  pub count : length net.ids ≤ MAX_NODES
   pub identifiers : (v : ℕ) → IsVertex net v → id_of net v < id_bound
   pub distinct : (v w : ℕ) → IsVertex net v → IsVertex net w → id_of net v ≡ id_of net w → v ≡ w
-  pub degrees : (v : ℕ) → IsVertex net v → degree_of net v ≤ degree_limit
+  pub degrees : (v : ℕ) → IsVertex net v → degree_of net v ≤ MAX_DEGREE
   pub vertices : (v port : ℕ) → IsVertex net v → port < degree_of net v → IsVertex net (neighbour_of net v port)
   pub ascending : (v i j : ℕ) → IsVertex net v → i < j → j < degree_of net v → neighbour_of net v i < neighbour_of net v j
   pub other : (v port : ℕ) → IsVertex net v → port < degree_of net v → neighbour_of net v port ≢ v

@@ -1,5 +1,6 @@
 -- Lists of neighbours, packed into one list.
-use Rattle.std.specs.Prelude.{◌≡◌, ℕ, ◌+◌, ◌-◌, ◌<◌, ◌≤◌, List, [], ◌∷◌, length, slice_index, take, drop}
+use Rattle.std.specs.Prelude.{◌≡◌, ℕ, ◌+◌, ◌-◌, ◌*◌, ◌<◌, ◌≤◌, List, [], ◌∷◌, length, slice_index, take, drop}
+use Rattle.dimacs_col.specs.declared.limits.TheConstants.{MAX_EDGES}
 use Rattle.interference.specs.Net.{Net, IsNetwork, IsVertex, degree_of, back_port_of}
 
 -- the parts of a list between one start and the next
@@ -16,7 +17,7 @@ pub record IsPacked (ids starts ports : List ℕ) : Type 0 where
   pub sizes : length starts ≡ length ids + 1
   pub rising : (i : ℕ) → i < length ids → slice_index starts i ≤ slice_index starts (i + 1)
   pub within : (i : ℕ) → i ≤ length ids → slice_index starts i ≤ length ports
-  pub limit : length ports ≤ 800000
+  pub limit : length ports ≤ 2 * MAX_EDGES
   pub network : IsNetwork (net_from ids starts ports)
 
 -- beside each neighbour stands the port that leads back

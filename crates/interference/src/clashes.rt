@@ -2,10 +2,10 @@
 
 ghost use Rattle.std.specs.Prelude.{◌≡◌, ◌↔◌, ◌≤◌, IsTrue, IfOk, MatchOption, length};
 ghost use Rattle.std.specs.List.Sorted.{IsStrictlyIncreasing};
-ghost use Rattle.interference.specs.Net.{greatest_count};
 ghost use Rattle.interference.specs.Filling.{HasNoTwins, IsFirstTwins, earlier_of};
 
 use crate::fault::Memory;
+use dimacs_col::MAX_NODES;
 use std::alloc::Global;
 use std::collections::BTreeMap;
 
@@ -22,7 +22,7 @@ fn rise(ids: &[u64]) -> bool
 
 // The first two vertices, the smaller first, that have one identifier.
 pub(crate) fn first_twins(alloc: Global, ids: &[u64]) -> Result<Option<(u32, u32)>, Memory>
-    requires { length ids.now ≤ greatest_count }
+    requires { length ids.now ≤ MAX_NODES }
     ensures { IfOk result (λ found. MatchOption found (HasNoTwins ids.now (length ids.now)) (IsFirstTwins ids.now (length ids.now))) }
 {
     if rise(ids) {

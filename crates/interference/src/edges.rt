@@ -6,16 +6,14 @@ ghost use Rattle.std.specs.declared.cmp.Ordering.TheVariants.{Less};
 ghost use Rattle.dimacs_col.specs.Pairs.{pair_cmp, FitsIn};
 ghost use Rattle.interference.specs.Making.{EdgesFit};
 
-const GREATEST_COUNT: u32 = 20_000;
+use dimacs_col::{MAX_EDGES, MAX_NODES};
 
-const MOST_EDGES: usize = 400_000;
-
-/// Whether `Network::new` takes the edges: at most 20,000 nodes and 400,000 edges, each edge with
+/// Whether `Network::new` takes the edges: at most `MAX_NODES` nodes and `MAX_EDGES` edges, each edge with
 /// its smaller vertex first, both from 1 to `nodes`, the edges ascending, none twice.
 pub fn edges_fit(nodes: u32, edges: &[(u32, u32)]) -> bool
     ensures { IsTrue result ↔ EdgesFit nodes edges.now }
 {
-    nodes <= GREATEST_COUNT && edges.len() <= MOST_EDGES && all_fit(nodes, edges) && ascend(edges)
+    nodes <= MAX_NODES && edges.len() <= MAX_EDGES && all_fit(nodes, edges) && ascend(edges)
 }
 
 fn all_fit(nodes: u32, edges: &[(u32, u32)]) -> bool

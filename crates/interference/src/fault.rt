@@ -2,6 +2,7 @@
 
 ghost use Rattle.std.specs.Prelude.{◌≡◌};
 ghost use Rattle.interference.specs.declared.fault.NetFault.TheVariants as faults;
+ghost use Rattle.interference.specs.declared.fault.TryFault.TheVariants.{Refused};
 
 use std::alloc::{AllocError, AllocFailed};
 
@@ -37,5 +38,22 @@ impl From<Memory> for NetFault {
 
     fn from(_memory: Memory) -> NetFault {
         NetFault::Memory
+    }
+}
+
+/// Why `Network::try_new` makes no network.
+#[derive(Debug, Clone, Copy, PartialEq, Eq)]
+pub enum TryFault {
+    /// `edges_fit` refuses the edges, or there are more than `MAX_NODES` identifiers.
+    Edges,
+    /// `Network::new` refuses the network.
+    Refused(NetFault),
+}
+
+impl From<NetFault> for TryFault {
+    ghost from_gives = { λ net fault. fault ≡ Refused net };
+
+    fn from(fault: NetFault) -> TryFault {
+        TryFault::Refused(fault)
     }
 }

@@ -19,12 +19,15 @@ mod edges;
 mod fault;
 mod forests;
 pub mod laws;
+mod limits;
 mod making;
 mod network;
 mod rows;
 
+pub use dimacs_col::{MAX_EDGES, MAX_NODES};
 pub use edges::edges_fit;
-pub use fault::{Memory, NetFault};
+pub use fault::{Memory, NetFault, TryFault};
+pub use limits::MAX_DEGREE;
 pub use network::Network;
 
 #[cfg(test)]

@@ -2,15 +2,17 @@
 
 ghost use Rattle.std.specs.Prelude.{◌≡◌, ℕ, ◌*◌, IfOk, IfErr, length};
 ghost use Rattle.interference.specs.Net.{IsNetwork};
-ghost use Rattle.interference.specs.Making.{EdgesFit, network_of, IsCrowded, IsClash, IsFaultOf};
+ghost use Rattle.interference.specs.Making.{EdgesFit, network_of, IsCrowded, IsClash, IsFaultOf, IsTryFaultOf};
 ghost use Rattle.interference.specs.Filling.{AreDegrees, AreStarts, IsFilled};
 
 use crate::clashes::first_twins;
 use crate::degrees::{count_ends, first_crowded, greatest, starts_of};
-use crate::fault::{Memory, NetFault};
+use crate::edges::edges_fit;
+use crate::fault::{Memory, NetFault, TryFault};
 use crate::forests::forest_count;
 use crate::network::Network;
 use crate::rows::fill;
+use dimacs_col::MAX_NODES;
 use std::alloc::Global;
 
 impl Network {
@@ -42,6 +44,29 @@ impl Network {
             return Err(NetFault::SameId(v, w));
         }
         Ok(packed(alloc, nodes, ids, edges, degrees)?)
+    }
+
+    /// Makes the network of any identifiers and edges, one vertex for each identifier: as `new`, but
+    /// it tests `edges_fit` itself.
+    ///
+    /// # Errors
+    /// `Edges` if there are more than `MAX_NODES` identifiers or `edges_fit` refuses the edges; else
+    /// `Refused` with the fault that `new` returns.
+    pub fn try_new(alloc: Global, ids: &[u64], edges: &[(u32, u32)]) -> Result<Network, TryFault>
+        ensures made { IfOk result (λ net. net ≡ network_of ids.now edges.now) }
+        ensures fit { IfOk result (λ net. EdgesFit (length ids.now) edges.now) }
+        ensures uncrowded { IfOk result (λ net. (v : ℕ) → IsCrowded net v → ⊥) }
+        ensures distinct { IfOk result (λ net. (v w : ℕ) → IsClash net v w → ⊥) }
+        ensures fault { IfErr result (IsTryFaultOf ids.now edges.now) }
+    {
+        if ids.len() > MAX_NODES as usize {
+            return Err(TryFault::Edges);
+        }
+        let nodes = ids.len() as u32;
+        if !edges_fit(nodes, edges) {
+            return Err(TryFault::Edges);
+        }
+        Ok(Network::new(alloc, nodes, ids, edges)?)
     }
 }
 

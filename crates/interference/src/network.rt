@@ -1,8 +1,9 @@
 ghost use Rattle.std.specs.Prelude.{◌≡◌, ◌<◌, ◌≤◌, ◌+◌, ◌-◌, IfOk, length};
-ghost use Rattle.interference.specs.Net.{Net, IsNetwork, IsVertex, count_of, id_of, neighbours, degree_limit, degree_of, neighbour_of, back_port_of, greatest_degree_of, forest_count_of};
+ghost use Rattle.interference.specs.Net.{Net, IsNetwork, IsVertex, count_of, id_of, neighbours, degree_of, neighbour_of, back_port_of, greatest_degree_of, forest_count_of};
 ghost use Rattle.interference.specs.Rows.{IsPacked, HasBacks, net_from};
 
 use crate::fault::Memory;
+use crate::limits::MAX_DEGREE;
 use std::alloc::Global;
 use std::marker::Model;
 
@@ -60,7 +61,7 @@ impl Network {
         }
     }
 
-    /// Gives callers what every network keeps.
+    /// Gives a proof what every network keeps, where it asks for nothing else.
     pub fn is_network(&self)
         ensures { IsNetwork self.now }
     {
@@ -69,7 +70,8 @@ impl Network {
 
     /// How many nodes there are: the vertices are 1 to this.
     pub fn nodes(&self) -> u32
-        ensures { result ≡ count_of self.now }
+        ensures count { result ≡ count_of self.now }
+        ensures network { IsNetwork self.now }
     {
         self.ids.len() as u32
     }
@@ -100,7 +102,7 @@ impl Network {
     pub fn degree(&self, v: u32) -> u32
         requires { IsVertex self.now v }
         ensures value { result ≡ degree_of self.now v }
-        ensures limit { result ≤ degree_limit }
+        ensures limit { result ≤ MAX_DEGREE }
     {
         self.starts[v as usize] - self.starts[(v - 1) as usize]
     }

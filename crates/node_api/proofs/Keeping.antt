@@ -2,7 +2,7 @@
 use Rattle.std.proofs.Common.{◌≡◌, ℕ, ◌<◌, ◌≤◌, List, [], ◌∷◌, ◌++◌, length, refl, ap, sym, ◌∙◌, arith}
 use Rattle.std.specs.Prelude.{Option, Some, None, is_some, true, false, slice_set}
 use Rattle.std.proofs.lemmas.List.{get_or-replicate, length-replicate, length-set, nil_from_length}
-use Rattle.interference.specs.Net.{degree_limit}
+use Rattle.interference.specs.declared.limits.TheConstants.{MAX_DEGREE}
 use Rattle.node_api.specs.Boxes.{at_port, nothing}
 use Rattle.node_api.specs.Sending.{sent_slots, IsKept}
 use Rattle.node_api.proofs.Slots.{at_port-nothing, some_or_none}
@@ -17,7 +17,7 @@ none_by None none = refl
 none_by (Some x) some = absurd (let e : true ≡ false = some in (cc))
 
 -- an outbox as it is made
-pub kept-new : {M : Type 0} (n : ℕ) → n ≤ degree_limit → IsKept {M = M} None (nothing n) []
+pub kept-new : {M : Type 0} (n : ℕ) → n ≤ MAX_DEGREE → IsKept {M = M} None (nothing n) []
 kept-new {M} n small = record {
   fits = omega (arith, small, length-replicate {A = Option M} n None);
   listed = record {

@@ -2,7 +2,7 @@
 
 ghost use Rattle.std.specs.Prelude.{◌≡◌, ◌<◌, ◌≤◌, ◌+◌, ◌-◌, ◌↔◌, ℕ, Option, IfOk, IsTrue, length, slice_set, slice_index, vec_capacity};
 ghost use Rattle.std.specs.List.{insert};
-ghost use Rattle.interference.specs.Net.{degree_limit};
+ghost use Rattle.interference.specs.declared.limits.TheConstants.{MAX_DEGREE};
 ghost use Rattle.node_api.specs.Boxes.{Mail, nothing, at_port, unread, HasFrom, Reads};
 ghost use Rattle.node_api.specs.Pairs.{ports_of};
 
@@ -24,7 +24,7 @@ pub struct Inbox<T> {
 
 impl<T> Model for Inbox<T> {
     ghost use Rattle.std.specs.Prelude.{◌≤◌, vec_capacity};
-    ghost use Rattle.interference.specs.Net.{degree_limit};
+    ghost use Rattle.interference.specs.declared.limits.TheConstants.{MAX_DEGREE};
     ghost use Rattle.node_api.specs.Boxes.{Mail};
     ghost use Rattle.node_api.specs.Pairs.{IsRead, ports_of, slots_of};
 
@@ -32,7 +32,7 @@ impl<T> Model for Inbox<T> {
 
     ghost view = { λ a. record { slots = slots_of a.degree a.pairs.items; place = a.place } };
 
-    ghost invariant = { λ a. (a.degree ≤ degree_limit) × (a.degree ≤ vec_capacity a.pairs)
+    ghost invariant = { λ a. (a.degree ≤ MAX_DEGREE) × (a.degree ≤ vec_capacity a.pairs)
         × IsRead a.degree a.read a.place (ports_of a.pairs.items) };
 }
 
@@ -67,7 +67,7 @@ fn put_pair<T: Copy>(pairs: &mut Vec<(u32, T)>, rank: usize, pair: (u32, T))
 impl<T: Copy> Inbox<T> {
     /// An empty inbox of `degree` ports, at most 1,023. No later call takes memory.
     pub fn new(alloc: Global, degree: u32) -> Result<Inbox<T>, Memory>
-        requires degree { degree ≤ degree_limit }
+        requires degree { degree ≤ MAX_DEGREE }
         ensures empty { IfOk result (λ inbox. inbox ≡ unread (nothing degree)) }
     {
         let pairs = Vec::with_capacity(alloc, degree as usize)?;

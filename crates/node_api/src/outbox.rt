@@ -1,7 +1,7 @@
 // What a node sends at a pulse.
 
 ghost use Rattle.std.specs.Prelude.{◌≡◌, ◌<◌, ◌≤◌, ◌↔◌, List, Option, IfOk, IsTrue, length, replicate, slice_set};
-ghost use Rattle.interference.specs.Net.{degree_limit};
+ghost use Rattle.interference.specs.declared.limits.TheConstants.{MAX_DEGREE};
 ghost use Rattle.node_api.specs.Boxes.{nothing, at_port};
 ghost use Rattle.node_api.specs.Sent.{IsSent};
 
@@ -41,7 +41,7 @@ impl<T> Model for Outbox<T> {
 impl<T: Copy> Outbox<T> {
     /// An empty outbox of `degree` ports, at most 1,023. No later call takes memory.
     pub fn new(alloc: Global, degree: u32) -> Result<Outbox<T>, Memory>
-        requires degree { degree ≤ degree_limit }
+        requires degree { degree ≤ MAX_DEGREE }
         ensures empty { IfOk result (λ out. out ≡ nothing degree) }
     {
         let filled = Vec::with_capacity(alloc, degree as usize)?;

@@ -1,5 +1,5 @@
-use Rattle.interference.proofs.Neighbours.{both-ways}
+use Rattle.interference.proofs.Neighbours.{both-ways, neighbour-is_vertex}
 use Rattle.interference.proofs.laws.neighbours_are_mutual.Goals as goal
 
 pub returns : goal.returns
-returns c = λ net ok v w a b. (both-ways net ok v w a, both-ways net ok w v b)
+returns c = λ net ok v w edge. (neighbour-is_vertex net ok v w edge.0 edge.1, both-ways net ok v w edge.0 edge.1)

@@ -1,5 +1,6 @@
 use Rattle.std.proofs.Common.{◌≡◌, ◌≤◌, arith, ◌-◌}
-use Rattle.interference.specs.Net.{degree_limit, degree_of}
+use Rattle.interference.specs.Net.{degree_of}
+use Rattle.interference.specs.declared.limits.TheConstants.{MAX_DEGREE}
 use Rattle.interference.proofs.Packed.{degree_reads, degree-within_limit}
 use Rattle.interference.proofs.network.Network.degree.Goals as goal
 
@@ -10,5 +11,5 @@ returns-clause-value c = let s = c.self.inside in
 pub returns-clause-limit : goal.returns-clause-limit
 returns-clause-limit c = let s = c.self.inside in
     let e : c.index.result.now - c.index-2.result.now ≡ degree_of c.args.self.now c.args.v = degree_reads s.ids.items s.starts.items s.ports.items c.self.invariant.0 c.args.self.now c.self.view_is c.args.v c.requires _ _ c.index.ensures c.index-2.ensures in
-    let l : degree_of c.args.self.now c.args.v ≤ degree_limit = degree-within_limit s.ids.items s.starts.items s.ports.items c.self.invariant.0 c.args.self.now c.self.view_is c.args.v c.requires in
+    let l : degree_of c.args.self.now c.args.v ≤ MAX_DEGREE = degree-within_limit s.ids.items s.starts.items s.ports.items c.self.invariant.0 c.args.self.now c.self.view_is c.args.v c.requires in
     omega arith

@@ -1,11 +1,12 @@
-use Rattle.std.proofs.Common.{◌≤◌, ◌<◌, ◌+◌, arith, length}
+use Rattle.std.proofs.Common.{◌≤◌, ◌<◌, ◌+◌, ◌*◌, arith, length}
+use Rattle.dimacs_col.specs.declared.limits.TheConstants.{MAX_EDGES}
 use Rattle.interference.proofs.Packed.{neighbour_within, neighbour_reads, neighbour_vertex}
 use Rattle.interference.proofs.network.Network.neighbour.Goals as goal
 
 pub overflow_add-index : goal.overflow_add-index
 overflow_add-index c = let s = c.self.inside in
     let w : c.index.result.now + c.args.port < length s.ports.items = neighbour_within s.ids.items s.starts.items s.ports.items c.self.invariant.0 c.args.self.now c.self.view_is c.args.v c.requires.vertex c.args.port c.requires.port _ c.index.ensures in
-    let limit : length s.ports.items ≤ 800000 = c.self.invariant.0.limit in
+    let limit : length s.ports.items ≤ 2 * MAX_EDGES = c.self.invariant.0.limit in
     omega arith
 
 pub index-requires-2 : goal.index-requires-2
