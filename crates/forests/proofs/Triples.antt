@@ -6,7 +6,7 @@ use Rattle.std.proofs.lemmas.List.Elements.{All-cons, All-append, All-weaker, Al
 use Rattle.std.proofs.lemmas.List.Kept.{AllPairs-cons}
 use Rattle.interference.specs.Net.{Net, IsNetwork, IsVertex, count_of, vertices, forest_count_of}
 use Rattle.interference.proofs.Members.{Contains-range, range-bounds}
-use Rattle.forests.specs.Forests.{parent, edge_up, forest, triples, IsBefore}
+use Rattle.forests.specs.Forests.{parent, edge_up, forest_edges, triples, IsBefore}
 use Rattle.forests.proofs.Orders.{pairs-head, pairs-tail}
 use Rattle.forests.proofs.Parents.{parent-below}
 
@@ -74,7 +74,7 @@ edge-parts g u f v w (Some x) e =
 pub triple-from : (net : Net) (f v w : ℕ) → Contains (triples net) (f, v, w) → IsVertex net v × (parent net f v ≡ Some w)
 unfolding triples
 triple-from net f v w has =
-    let (g, numbered, there) = from-flat_map (forest net) (range_with_len 0 (forest_count_of net)) (f, v, w) has in
+    let (g, numbered, there) = from-flat_map (forest_edges net) (range_with_len 0 (forest_count_of net)) (f, v, w) has in
     let (u, vertex, is) = from-filter_map (edge_up net g) (vertices net) (f, v, w) there in
     let parts : (g ≡ f) × (u ≡ v) × (parent net g u ≡ Some w) = edge-parts g u f v w (parent net g u) is in
     let bounds : (1 ≤ u) × (u < 1 + count_of net) = All-contains (λ (x : ℕ). (1 ≤ x) × (x < 1 + count_of net)) (vertices net) u (range-bounds 1 (count_of net)) vertex in (
@@ -86,7 +86,7 @@ pub triple-in : (net : Net) → IsNetwork net → (f v w : ℕ) → IsVertex net
 unfolding triples
 triple-in net ok f v w vertex e =
     let below : f < forest_count_of net = parent-below net ok v vertex f w e in
-    in-flat_map (forest net) (range_with_len 0 (forest_count_of net)) f (f, v, w) (Contains-range 0 (forest_count_of net) f (omega arith) (omega arith))
+    in-flat_map (forest_edges net) (range_with_len 0 (forest_count_of net)) f (f, v, w) (Contains-range 0 (forest_count_of net) f (omega arith) (omega arith))
     (in-filter_map (edge_up net f) (vertices net) v (f, v, w) (Contains-range 1 (count_of net) v vertex.0 (omega (arith, vertex.1))) (ap (option_map (λ (x : ℕ). (f, v, x))) e))
 
 -- ---- that they ascend
@@ -114,17 +114,17 @@ forest-ascends net f a (suc n) =
     put-edge f a (parent net f a) (filter_map (edge_up net f) (range_with_len (a + 1) n)) rest.0 rest.1
 
 -- the edges of the forests a and on
-forests-ascend : (net : Net) (a n : ℕ) → All (λ e. a ≤ e.0) (flat_map (forest net) (range_with_len a n)) × AllPairs IsBefore (flat_map (forest net) (range_with_len a n))
+forests-ascend : (net : Net) (a n : ℕ) → All (λ e. a ≤ e.0) (flat_map (forest_edges net) (range_with_len a n)) × AllPairs IsBefore (flat_map (forest_edges net) (range_with_len a n))
 forests-ascend net a zero = (λ k d l. absurd (omega arith), λ i j d l m. absurd (omega arith))
 forests-ascend net a (suc n) =
-    let one : All (IsOf a 1) (forest net a) × AllPairs IsBefore (forest net a) = forest-ascends net a 1 (count_of net) in
-    let rest : All (λ e. a + 1 ≤ e.0) (flat_map (forest net) (range_with_len (a + 1) n)) × AllPairs IsBefore (flat_map (forest net) (range_with_len (a + 1) n)) = forests-ascend net (a + 1) n in
-    let low : All (λ e. a ≤ e.0) (forest net a) = All-weaker (IsOf a 1) (λ e. a ≤ e.0) (λ e h. omega (arith, h.0)) (forest net a) one.0 in
-    let more : All (λ e. a ≤ e.0) (flat_map (forest net) (range_with_len (a + 1) n)) = All-weaker (λ e. a + 1 ≤ e.0) (λ e. a ≤ e.0) (λ e h. omega arith) (flat_map (forest net) (range_with_len (a + 1) n)) rest.0 in (
-      All-append (λ e. a ≤ e.0) (forest net a) (flat_map (forest net) (range_with_len (a + 1) n)) low more,
-      pairs-append IsBefore (forest net a) (flat_map (forest net) (range_with_len (a + 1) n)) one.1 rest.1
-          (All-weaker (IsOf a 1) (λ x. All (IsBefore x) (flat_map (forest net) (range_with_len (a + 1) n)))
-          (λ x h. All-weaker (λ e. a + 1 ≤ e.0) (IsBefore x) (λ e l. inl (omega (arith, h.0))) (flat_map (forest net) (range_with_len (a + 1) n)) rest.0) (forest net a) one.0),
+    let one : All (IsOf a 1) (forest_edges net a) × AllPairs IsBefore (forest_edges net a) = forest-ascends net a 1 (count_of net) in
+    let rest : All (λ e. a + 1 ≤ e.0) (flat_map (forest_edges net) (range_with_len (a + 1) n)) × AllPairs IsBefore (flat_map (forest_edges net) (range_with_len (a + 1) n)) = forests-ascend net (a + 1) n in
+    let low : All (λ e. a ≤ e.0) (forest_edges net a) = All-weaker (IsOf a 1) (λ e. a ≤ e.0) (λ e h. omega (arith, h.0)) (forest_edges net a) one.0 in
+    let more : All (λ e. a ≤ e.0) (flat_map (forest_edges net) (range_with_len (a + 1) n)) = All-weaker (λ e. a + 1 ≤ e.0) (λ e. a ≤ e.0) (λ e h. omega arith) (flat_map (forest_edges net) (range_with_len (a + 1) n)) rest.0 in (
+      All-append (λ e. a ≤ e.0) (forest_edges net a) (flat_map (forest_edges net) (range_with_len (a + 1) n)) low more,
+      pairs-append IsBefore (forest_edges net a) (flat_map (forest_edges net) (range_with_len (a + 1) n)) one.1 rest.1
+          (All-weaker (IsOf a 1) (λ x. All (IsBefore x) (flat_map (forest_edges net) (range_with_len (a + 1) n)))
+          (λ x h. All-weaker (λ e. a + 1 ≤ e.0) (IsBefore x) (λ e l. inl (omega (arith, h.0))) (flat_map (forest_edges net) (range_with_len (a + 1) n)) rest.0) (forest_edges net a) one.0),
     )
 
 pub triples-ascend : (net : Net) → AllPairs IsBefore (triples net)

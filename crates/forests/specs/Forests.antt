@@ -1,6 +1,6 @@
 -- The forests of a network (Panconesi and Rizzi): in forest f the parent of a vertex is its neighbour
 -- number f of higher identifier, counted from 0 by ascending identifier.
-use Rattle.std.specs.Prelude.{◌≡◌, ◌⊎◌, ◌<◌, ◌&&◌, ℕ, List, Option, if◌then◌else◌, nat_lt, filter, count_by}
+use Rattle.std.specs.Prelude.{◌≡◌, ◌⊎◌, ◌<◌, ◌&&◌, ℕ, List, Option, Some, None, if◌then◌else◌, nat_lt, filter, count_by}
 use Rattle.std.specs.List.{slice_get, filter_map, flat_map, range_with_len}
 use Rattle.std.specs.Option.{option_map}
 use Rattle.interference.specs.Net.{Net, id_of, neighbours, vertices, place_of, forest_count_of}
@@ -29,12 +29,18 @@ abbrev pub edge_up : Net → ℕ → ℕ → Option (ℕ × ℕ × ℕ)
 edge_up net f v = option_map (λ w. (f, v, w)) (parent net f v)
 
 -- the edges of forest f, ascending by child
-abbrev pub forest : Net → ℕ → List (ℕ × ℕ × ℕ)
-forest net f = filter_map (edge_up net f) (vertices net)
+abbrev pub forest_edges : Net → ℕ → List (ℕ × ℕ × ℕ)
+forest_edges net f = filter_map (edge_up net f) (vertices net)
 
 -- the edges of all forests, one forest after another
 unfoldable pub triples : Net → List (ℕ × ℕ × ℕ)
-triples net = flat_map (forest net) (range_with_len 0 (forest_count_of net))
+triples net = flat_map (forest_edges net) (range_with_len 0 (forest_count_of net))
+
+-- the forest of a port's edge, if it is known
+abbrev pub forest : Role → Option ℕ
+forest Unknown = None
+forest (Up f) = Some f
+forest (Down f) = Some f
 
 -- what the node of identifier own makes of its port to the identifier id, where its ports lead to ids
 unfoldable pub role_by : ℕ → List ℕ → ℕ → Role

@@ -1,10 +1,12 @@
+//! The forests of a whole network, as triples.
+
 ghost use Rattle.std.specs.Prelude.{◌≡◌, ◌++◌, ◌+◌, ◌<◌, ◌≤◌, [], ◌∷◌, ℕ, IfOk, OnOk, length, map, replicate, slice_index_or};
 ghost use Rattle.std.specs.List.{flat_map, range_with_len};
-ghost use Rattle.interference.specs.Net.{IsVertex, degree_limit, forest_count_of};
-ghost use Rattle.forests.specs.Forests.{forest, higher, triples, up};
+ghost use Rattle.interference.specs.Net.{IsVertex, forest_count_of};
+ghost use Rattle.forests.specs.Forests.{forest_edges, higher, triples, up};
 ghost use Rattle.forests.specs.Dealing.{edge_at, with_id};
 
-use interference::{Memory, Network};
+use interference::{MAX_DEGREE, Memory, Network};
 use std::alloc::Global;
 
 // An edge of a forest: the forest, the child and its parent.
@@ -41,7 +43,7 @@ fn order_parents(net: &Network, v: u32, parents: &mut Vec<(u64, u32)>) -> Result
 // Adds the edge from `v` to each of its parents to the forest of that number.
 fn deal(v: u32, parents: &[(u64, u32)], forests: &mut [Vec<Edge>]) -> Result<(), Memory>
     requires room { length parents.now ≤ length forests.old }
-    requires few { length forests.old ≤ degree_limit }
+    requires few { length forests.old ≤ MAX_DEGREE }
     ensures same_count { length forests.new ≡ length forests.old }
     ensures dealt { OnOk result ((f : ℕ) → f < length forests.old → slice_index_or (map (λ edges. edges.items) forests.new) f [] ≡ slice_index_or (map (λ edges. edges.items) forests.old) f [] ++ edge_at f v parents.now) }
 {
@@ -64,9 +66,8 @@ fn empty_forests(alloc: Global, count: u32) -> Result<Vec<Vec<Edge>>, Memory>
 
 // The edges of each forest.
 fn deal_all(alloc: Global, net: &Network) -> Result<Vec<Vec<Edge>>, Memory>
-    ensures { IfOk result (λ forests. map (λ edges. edges.items) forests.items ≡ map (forest net.now) (range_with_len 0 (forest_count_of net.now))) }
+    ensures { IfOk result (λ forests. map (λ edges. edges.items) forests.items ≡ map (forest_edges net.now) (range_with_len 0 (forest_count_of net.now))) }
 {
-    net.is_network();
     let mut forests = empty_forests(alloc, net.forest_count())?;
     let mut parents = Vec::new(alloc);
     for v in 1..net.nodes() + 1 {

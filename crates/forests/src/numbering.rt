@@ -1,9 +1,13 @@
+//! What a port is to its node, and the numbering of the ports that lead up.
+
 ghost use Rattle.std.specs.Prelude.{◌≡◌, ◌≢◌, ◌≤◌, filter, length, map, nat_lt, take};
 ghost use Rattle.std.specs.List.{All, AllPairs, Contains};
-ghost use Rattle.interference.specs.Net.{degree_limit, place_of};
+ghost use Rattle.interference.specs.Net.{place_of};
 ghost use Rattle.forests.specs.Order.{IsAscendingBy, in_order};
-ghost use Rattle.forests.specs.Forests.{role_by};
+ghost use Rattle.forests.specs.Forests.{forest, role_by};
 ghost use Rattle.forests.specs.declared.numbering.Role.TheVariants as role;
+
+use interference::MAX_DEGREE;
 
 /// What a port is to a node.
 #[derive(Debug, Clone, Copy, PartialEq, Eq)]
@@ -16,13 +20,25 @@ pub enum Role {
     Down(u16),
 }
 
+impl Role {
+    /// The forest of the port's edge, if it is known.
+    pub fn forest(self) -> Option<u16>
+        ensures { result ≡ forest self }
+    {
+        match self {
+            Role::Unknown => None,
+            Role::Up(forest) | Role::Down(forest) => Some(forest),
+        }
+    }
+}
+
 // How many ports a node has at most.
-const MOST_PORTS: usize = 1023;
+const MAX_PORTS: usize = MAX_DEGREE as usize;
 
 // Writes the identifiers above `own` in front, in their order, and says how many they are.
-fn gather_higher(own: u64, ids: &[u64], higher: &mut [u64; MOST_PORTS]) -> usize
-    requires { length ids.now ≤ degree_limit }
-    ensures few { result ≤ degree_limit }
+fn gather_higher(own: u64, ids: &[u64], higher: &mut [u64; MAX_PORTS]) -> usize
+    requires { length ids.now ≤ MAX_DEGREE }
+    ensures few { result ≤ MAX_DEGREE }
     ensures gathered { take result higher.new ≡ filter (nat_lt own) ids.now }
 {
     let mut count = 0;
@@ -36,10 +52,10 @@ fn gather_higher(own: u64, ids: &[u64], higher: &mut [u64; MOST_PORTS]) -> usize
 }
 
 // Writes the identifiers above `own` in front, ascending, and says how many they are.
-fn order_higher(own: u64, ids: &[u64], higher: &mut [u64; MOST_PORTS]) -> usize
-    requires few { length ids.now ≤ degree_limit }
+fn order_higher(own: u64, ids: &[u64], higher: &mut [u64; MAX_PORTS]) -> usize
+    requires few { length ids.now ≤ MAX_DEGREE }
     requires distinct { AllPairs (λ x y. x ≢ y) ids.now }
-    ensures few { result ≤ degree_limit }
+    ensures few { result ≤ MAX_DEGREE }
     ensures ordered { take result higher.new ≡ in_order (λ i. i) (filter (nat_lt own) ids.now) }
     ensures ascending { IsAscendingBy (λ i. i) (take result higher.new) }
 {
@@ -50,7 +66,7 @@ fn order_higher(own: u64, ids: &[u64], higher: &mut [u64; MOST_PORTS]) -> usize
 
 // The role of the port to the identifier `id`, where `higher` has the higher identifiers in order.
 fn role_among(higher: &[u64], id: u64) -> Role
-    requires few { length higher.now ≤ degree_limit }
+    requires few { length higher.now ≤ MAX_DEGREE }
     requires ascending { IsAscendingBy (λ i. i) higher.now }
     ensures up { Contains higher.now id → result ≡ role.Up (place_of id higher.now) }
     ensures unknown { (Contains higher.now id → ⊥) → result ≡ role.Unknown }
@@ -64,17 +80,17 @@ fn role_among(higher: &[u64], id: u64) -> Role
 /// Numbers the ports of the node `own` that lead to higher identifiers by ascending identifier, as
 /// `Up(0)`, `Up(1)` and so on, and makes all others `Unknown`.
 ///
-/// `ids` and `roles` go by port, at most 1,023 of them; forests count from 0. No memory is taken: the
+/// `ids` and `roles` go by port, at most `MAX_DEGREE` of them; forests count from 0. No memory is taken: the
 /// higher identifiers are sorted on the stack, and each port looks its own up (Panconesi and Rizzi,
 /// 2001).
 pub fn number_up(own: u64, ids: &[u64], roles: &mut [Role])
     requires same_ports { length roles.old ≡ length ids.now }
-    requires few { length ids.now ≤ degree_limit }
+    requires few { length ids.now ≤ MAX_DEGREE }
     requires distinct { AllPairs (λ x y. x ≢ y) ids.now }
     requires others { All (λ id. id ≢ own) ids.now }
     ensures numbered { roles.new ≡ map (role_by own ids.now) ids.now }
 {
-    let mut higher = [0; MOST_PORTS];
+    let mut higher = [0; MAX_PORTS];
     let count = order_higher(own, ids, &mut higher);
     for (port, id) in ids.iter().enumerate() {
         roles[port] = role_among(&higher[..count], *id);

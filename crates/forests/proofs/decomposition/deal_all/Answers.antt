@@ -3,7 +3,7 @@ use Rattle.std.specs.List.{filter_map, range_with_len}
 use Rattle.std.proofs.lemmas.List.{length-map, with_items_is}
 use Rattle.interference.specs.Net.{forest_count_of, count_of, higher_count}
 use Rattle.interference.proofs.Neighbours.{higher_count-le-forests, forest_count-within, greatest_degree-within}
-use Rattle.forests.specs.Forests.{up, forest, edge_up}
+use Rattle.forests.specs.Forests.{up, forest_edges, edge_up}
 use Rattle.forests.specs.Dealing.{with_id, edge_at}
 use Rattle.forests.proofs.Highers.{length-up}
 use Rattle.forests.proofs.Dealing.{vertex-dealt, forests-are}
@@ -14,7 +14,7 @@ deal-requires-clause-room c =
     let net = c.args.net.now in
     let v = c.loop-v.v in
     let parents : length c.deref.result.now ≡ length (up net v) = ap length (c.deref.ensures.value ∙ c.in_ok-order_parents.ensures) ∙ length-map (up net v) (with_id net) in
-    let few : higher_count net v ≤ forest_count_of net = higher_count-le-forests net c.is_network.ensures v (omega arith, omega arith) in
+    let few : higher_count net v ≤ forest_count_of net = higher_count-le-forests net c.nodes-v-end.ensures.network v (omega arith, omega arith) in
     let rows : length c.deref_mut.result.now ≡ length c.loop-v.forests.items = ap length c.deref_mut.ensures.value in
     omega (arith, parents, length-up net v, few, rows, c.loop-v.invariant.0)
 
@@ -22,7 +22,7 @@ pub deal-requires-clause-few : goal.deal-requires-clause-few
 deal-requires-clause-few c =
     let net = c.args.net.now in
     let rows : length c.deref_mut.result.now ≡ length c.loop-v.forests.items = ap length c.deref_mut.ensures.value in
-    omega (arith, rows, c.loop-v.invariant.0, forest_count-within net c.is_network.ensures, greatest_degree-within net c.is_network.ensures)
+    omega (arith, rows, c.loop-v.invariant.0, forest_count-within net c.nodes-v-end.ensures.network, greatest_degree-within net c.nodes-v-end.ensures.network)
 
 pub loop-v-preserved : goal.loop-v-preserved
 loop-v-preserved c =
@@ -46,5 +46,5 @@ returns c =
     let edges_of = λ (list : Vec (ℕ × ℕ × ℕ) Global). list.items in
     let rows = map edges_of c.loop-v.forests.items in
     let all : c.loop-v.v - 1 ≡ count_of net = omega (arith, c.loop-v.auto.v-end (omega arith)) in
-    forests-are (forest net) rows (forest_count_of net) (length-map c.loop-v.forests.items edges_of ∙ c.loop-v.invariant.0)
+    forests-are (forest_edges net) rows (forest_count_of net) (length-map c.loop-v.forests.items edges_of ∙ c.loop-v.invariant.0)
     (λ f below. c.loop-v.invariant.1 f below ∙ ap (λ n. filter_map (edge_up net f) (range_with_len 1 n)) all)
