@@ -1,7 +1,6 @@
 //! What the rounds of the colouring make of a whole network, and what the colours are.
 ghost use Rattle.std.specs.Prelude.{◌≡◌, ◌≢◌, ◌<◌, ◌≤◌, IsOk, suc, ℕ};
-ghost use Rattle.std.specs.List.{Contains};
-ghost use Rattle.interference.specs.Net.{IsNetwork, IsVertex, Net, greatest_degree_of, id_of, neighbours};
+ghost use Rattle.interference.specs.Net.{IsEdge, IsNetwork, IsVertex, Net, greatest_degree_of, id_of};
 ghost use Rattle.node_api.specs.Laws.{IsProgram};
 ghost use Rattle.node_api.specs.Program.{last_pulse_on};
 ghost use Rattle.node_api.specs.Run.{state_at};
@@ -22,13 +21,14 @@ pub fn forest_colours_are_proper()
 /// Where old colours differ on the edges of the forests before forest f, its merge with them differs
 /// on those up to f, and is 0 to Δ.
 pub fn merge_keeps_forests_proper()
-    ensures proper { (net : Net) → IsNetwork net → (f : ℕ) (old : ℕ → ℕ) → ((v w : ℕ) → IsVertex net v → Contains (neighbours net v) w → number net v w < f → old v ≢ old w) → (v w : ℕ) → IsVertex net v → Contains (neighbours net v) w → number net v w ≤ f → merge (merging net f old) v ≢ merge (merging net f old) w }
+    ensures proper { (net : Net) → IsNetwork net → (f : ℕ) (old : ℕ → ℕ) → ((v w : ℕ) → IsEdge net v w → number net v w < f → old v ≢ old w) →
+        (v w : ℕ) → IsEdge net v w → number net v w ≤ f → merge (merging net f old) v ≢ merge (merging net f old) w }
     ensures within { (net : Net) → IsNetwork net → (f : ℕ) (old : ℕ → ℕ) (v : ℕ) → merge (merging net f old) v ≤ greatest_degree_of net }
 {}
 
 /// The colours of a network differ on its edges, and are 0 to Δ.
 pub fn colours_are_proper()
-    ensures proper { (net : Net) → IsNetwork net → (v w : ℕ) → IsVertex net v → Contains (neighbours net v) w → colours net v ≢ colours net w }
+    ensures proper { (net : Net) → IsNetwork net → (v w : ℕ) → IsEdge net v w → colours net v ≢ colours net w }
     ensures within { (net : Net) → IsNetwork net → (v : ℕ) → colours net v ≤ greatest_degree_of net }
 {}
 

@@ -1,7 +1,6 @@
 -- What a channel plan of a network is.
 use Rattle.std.specs.Prelude.{◌≡◌, ◌≢◌, ◌≤◌, ℕ, List, map}
-use Rattle.std.specs.List.{Contains}
-use Rattle.interference.specs.Net.{Net, IsVertex, greatest_degree_of, neighbours, vertices}
+use Rattle.interference.specs.Net.{Net, IsEdge, IsVertex, greatest_degree_of, vertices}
 use Rattle.channel_plan.specs.PlanText.{plan_of}
 
 -- The text has a row for each vertex, with its colour plus one as its channel. The colours of any two
@@ -9,5 +8,5 @@ use Rattle.channel_plan.specs.PlanText.{plan_of}
 pub record IsChannelPlan (net : Net) (text : List ℕ) : Type 0 where
   pub colour : ℕ → ℕ
   pub rows : text ≡ plan_of (map colour (vertices net))
-  pub differ : (v w : ℕ) → IsVertex net v → Contains (neighbours net v) w → colour v ≢ colour w
+  pub differ : (v w : ℕ) → IsEdge net v w → colour v ≢ colour w
   pub within : (v : ℕ) → IsVertex net v → colour v ≤ greatest_degree_of net

@@ -5,7 +5,7 @@ use Rattle.colour_laws.proofs.Proper.{colours_proper}
 use Rattle.colour_laws.proofs.laws.colours_are_proper.Goals as goal
 
 pub returns-clause-proper : goal.returns-clause-proper
-returns-clause-proper c = colours_proper
+returns-clause-proper c = λ net ok v w edge. colours_proper net ok v w edge.0 edge.1
 
 pub returns-clause-within : goal.returns-clause-within
 returns-clause-within c = λ net ok v. colours_within net (has_forest net ok) (forest_count_of net) v

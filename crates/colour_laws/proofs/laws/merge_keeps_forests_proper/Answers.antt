@@ -6,7 +6,8 @@ use Rattle.colour_laws.proofs.Proper.{merge_apart}
 use Rattle.colour_laws.proofs.laws.merge_keeps_forests_proper.Goals as goal
 
 pub returns-clause-proper : goal.returns-clause-proper
-returns-clause-proper c = λ net ok f old apart v w is_vertex near low. merge_apart net ok f old apart v w is_vertex near (omega arith)
+returns-clause-proper c = λ net ok f old apart v w edge low.
+    merge_apart net ok f old (λ a b is_vertex near. apart a b (is_vertex, near)) v w edge.0 edge.1 (omega arith)
 
 pub returns-clause-within : goal.returns-clause-within
 returns-clause-within c = λ net ok f old v. merge-within_few (merging net f old) v ((has_forest net ok).few v)
