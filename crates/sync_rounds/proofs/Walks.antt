@@ -5,12 +5,20 @@ use Rattle.std.specs.List.{range_with_len}
 use Rattle.std.proofs.lemmas.List.{get_or-replicate, get_or-take, get_or_default, length-replicate, length-take, map-id}
 use Rattle.std.proofs.lemmas.List.Elements.{Contains-get_or}
 use Rattle.std.proofs.lemmas.List.FromFn.{get_or-range_with_len, length-range_with_len, map-range_with_len_more}
-use Rattle.interference.specs.Net.{Net, IsVertex, count_of}
+use Rattle.interference.specs.Net.{Net, IsVertex, count_of, degree_of}
 use Rattle.node_api.specs.Boxes.{at_port, FilledPorts}
 use Rattle.node_api.proofs.Filled.{some_below}
 
 pub out_of : {M : Type 0} (net : Net) (outs : List (List (Option M))) (w : ℕ) → IsVertex net w → length outs ≡ count_of net → (out : List (Option M)) → out ≡ get_or outs (w - 1) out → get_or outs (w - 1) [] ≡ out
 out_of net outs w is_w count out is_out = get_or_default outs (w - 1) [] out (omega (arith, count, is_w.0, is_w.1)) ∙ sym is_out
+
+-- an outbox with one payload everywhere has it at each port of its vertex
+pub out_everywhere : {M : Type 0} (net : Net) (outs : List (List (Option M))) (w : ℕ) → IsVertex net w → length outs ≡ count_of net
+    → length (get_or outs (w - 1) []) ≡ degree_of net w → (out : List (Option M)) → out ≡ get_or outs (w - 1) out
+    → (x : M) → out ≡ replicate (length out) (Some x) → get_or outs (w - 1) [] ≡ replicate (degree_of net w) (Some x)
+out_everywhere net outs w is_w count ports out is_out x sent =
+    let row = out_of net outs w is_w count out is_out in
+    row ∙ (sent ∙ ap (λ (n : ℕ). replicate n (Some x)) (sym (ap length row) ∙ ports))
 
 -- the listed ports, one after another
 module _ {M : Type 0} (slots : List (Option M)) (ports : List ℕ) (h : FilledPorts slots ports) (k : ℕ) (within : k < length ports) where

@@ -1,16 +1,16 @@
-// From the outboxes of a pulse to the inboxes of the next one.
+//! From the outboxes of a pulse to the inboxes of the next one.
 
-ghost use Rattle.std.specs.Prelude.{◌≡◌, ◌<◌, ◌-◌, ◌+◌, ℕ, Option, [], length, slice_index_or, replicate};
+ghost use Rattle.std.specs.Prelude.{◌≡◌, ◌<◌, ◌-◌, ◌+◌, ℕ, List, Option, [], length, slice_index_or};
 ghost use Rattle.interference.specs.Net.{Net, IsNetwork, IsVertex, count_of, degree_of};
 ghost use Rattle.node_api.specs.Boxes.{Mail, unread, FilledPorts};
 ghost use Rattle.sync_rounds.specs.Lists.{Lists, empty_inbox, received};
-ghost use Rattle.sync_rounds.specs.Delivery.{Delivered};
+ghost use Rattle.sync_rounds.specs.Delivery.{Broadcasts, Delivered};
 
 use interference::Network;
 use node_api::{Inbox, Outbox, Sent};
 
-/// Puts what was sent into the empty inboxes. Senders ascend by vertex, so an inbox gets its payloads
-/// by ascending port.
+// Puts what was sent into the empty inboxes. Senders ascend by vertex, so an inbox gets its payloads by
+// ascending port.
 pub(crate) fn deliver<T: Copy>(net: &Network, outs: &[Outbox<T>], inboxes: &mut [Inbox<T>])
     requires outs { length outs.now ≡ count_of net.now }
     requires ports { (w : ℕ) → IsVertex net.now w → length (slice_index_or outs.now (w - 1) []) ≡ degree_of net.now w }
@@ -23,7 +23,7 @@ pub(crate) fn deliver<T: Copy>(net: &Network, outs: &[Outbox<T>], inboxes: &mut 
     }
 }
 
-/// Puts what one vertex sent into its neighbours' inboxes, each at the port that leads back to it.
+// Puts what one vertex sent into its neighbours' inboxes, each payload at the port that leads back to it.
 fn deliver_from<T: Copy>(net: &Network, w: u32, outs: &[Outbox<T>], inboxes: &mut [Inbox<T>])
     requires vertex { IsVertex net.now w }
     requires outs { length outs.now ≡ count_of net.now }
@@ -32,23 +32,16 @@ fn deliver_from<T: Copy>(net: &Network, w: u32, outs: &[Outbox<T>], inboxes: &mu
     ensures after { Delivered net.now outs.now (w + 1) [] inboxes.new }
 {
     match outs[(w - 1) as usize].sent() {
-        Sent::Everywhere(payload) => deliver_everywhere(net, w, payload, outs, inboxes),
+        Sent::Everywhere(payload) => deliver_everywhere(net, w, payload, inboxes),
         Sent::At(ports) => deliver_at(net, w, ports, outs, inboxes),
     }
 }
 
-/// Puts what one vertex sent at every port. The outboxes are there for the contract alone.
-fn deliver_everywhere<T: Copy>(
-    net: &Network,
-    w: u32,
-    payload: T,
-    _outs: &[Outbox<T>],
-    inboxes: &mut [Inbox<T>],
-)
+// Puts this payload, which a vertex sent at every port, into its neighbours' inboxes.
+fn deliver_everywhere<T: Copy>(net: &Network, w: u32, payload: T, inboxes: &mut [Inbox<T>])
     requires vertex { IsVertex net.now w }
-    requires sent { slice_index_or _outs.now (w - 1) [] ≡ replicate (degree_of net.now w) (Option.Some payload) }
-    requires before { Delivered net.now _outs.now w [] inboxes.old }
-    ensures after { Delivered net.now _outs.now (w + 1) [] inboxes.new }
+    requires before { (outs : List (List (Option T))) × Broadcasts net.now outs w payload inboxes.old }
+    ensures after { (outs : List (List (Option T))) → Broadcasts net.now outs w payload inboxes.old → Delivered net.now outs (w + 1) [] inboxes.new }
 {
     net.is_network();
     for port in 0..net.degree(w) {
@@ -58,7 +51,7 @@ fn deliver_everywhere<T: Copy>(
     }
 }
 
-/// Puts what one vertex sent at these ports.
+// Puts what a vertex sent at these ports into its neighbours' inboxes.
 fn deliver_at<T: Copy>(
     net: &Network,
     w: u32,
