@@ -1,5 +1,5 @@
 -- Boxes seen by their slots.
-use Rattle.std.proofs.Common.{◌≡◌, ◌≢◌, ℕ, ◌+◌, ◌<◌, ◌≤◌, List, [], length, get_or, refl, ap, sym, ◌∙◌, arith, inl, inr, get_or-set_same, get_or-set_other}
+use Rattle.std.proofs.Common.{◌≡◌, ◌≢◌, ℕ, ◌+◌, ◌<◌, ◌≤◌, List, [], length, get_or, refl, ap, sym, subst, ◌∙◌, arith, inl, inr, get_or-set_same, get_or-set_other}
 use Rattle.std.specs.Prelude.{Option, Some, None, IsSome, is_some, IsTrue, true, false, ◌↔◌, nat_lt, slice_index, slice_set}
 use Rattle.std.specs.List.{insert}
 use Rattle.std.proofs.lemmas.List.{ext_get_or, get_or-replicate, get_or_past, length-replicate, length-set}
@@ -7,7 +7,7 @@ use Rattle.std.proofs.lemmas.List.FromFn.{get_or-map-range_with_len, length-map-
 use Rattle.std.proofs.lemmas.Bool.Decides.{nat_tests}
 use native.Mathlib.Decide.{dec_lt}
 use Prim.{yes, no}
-use Rattle.node_api.specs.Boxes.{at_port, nothing, Reads, HasFrom}
+use Rattle.node_api.specs.Boxes.{at_port, nothing, Mail, Reads, HasFrom}
 use Rattle.node_api.specs.Pairs.{ports_of, payload_at, slots_of, IsRead}
 use Rattle.node_api.proofs.PairLists.{length-ports_of, port_of-entry, payload_at-put, payload_at-other, payload_at-found, payload_at-none, payload_at-entry}
 use Rattle.node_api.proofs.Places.{side}
@@ -72,6 +72,10 @@ module _ {M : Type 0} (degree read place : ℕ) (pairs : List (ℕ × M)) (h : I
             (at_port-slots_of degree pairs port (omega (arith, length-slots_of degree pairs))
             ∙ payload_at-none pairs port (λ i within. omega (arith, h.before i (omega arith)))))
       ]
+
+  -- so of an inbox that is seen with these slots and this place
+  pub more_seen : (mail : Mail M) → record { slots = slots_of degree pairs; place = place } ≡ mail → HasFrom mail.slots mail.place → read < length pairs
+  more_seen mail view more = more_pairs (subst (λ (m : Mail M). HasFrom m.slots m.place) (sym view) more)
 
   pub has_more : (read < length pairs) ↔ HasFrom (slots_of degree pairs) place
   has_more = (more_ahead, more_pairs)
