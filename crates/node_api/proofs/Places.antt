@@ -44,7 +44,8 @@ abbrev pub Moves : ℕ → ℕ → ℕ → ℕ → Type 0
 Moves port place read now = ((port < place) × (now ≡ read + 1)) ⊎ ((place ≤ port) × (now ≡ read))
 
 -- In each part the entry at k is an old one, before or after the rank, or the port that was put.
-module _ (degree read place : ℕ) (ports : List ℕ) (h : IsRead degree read place ports) (rank port now : ℕ) (fits : rank ≤ length ports) (small : port < degree) (at : IsRank ports rank port) (moves : Moves port place read now) where
+module _ (degree read place : ℕ) (ports : List ℕ) (h : IsRead degree read place ports) (rank port now : ℕ) (fits : rank ≤ length ports)
+    (small : port < degree) (at : IsRank ports rank port) (moves : Moves port place read now) where
   put_ascending : (i j : ℕ) → i < j → j < length ports + 1 → slice_index (insert ports rank port) i < slice_index (insert ports rank port) j
   put_ascending i j less below =
       elim (side j rank) [
@@ -52,9 +53,25 @@ module _ (degree read place : ℕ) (ports : List ℕ) (h : IsRead degree read pl
         | inr (inl here) ↦ omega (arith, entry_low ports rank port fits i (omega arith), entry_here ports rank port fits j here, at.low i (omega arith))
         | inr (inr high) ↦
             elim (side i rank) [
-              | inl low ↦ omega (arith, entry_low ports rank port fits i low, entry_high ports rank port fits j high, at.low i low, at.high (j - 1) (omega arith) (omega arith))
-              | inr (inl here) ↦ omega (arith, entry_here ports rank port fits i here, entry_high ports rank port fits j high, at.high (j - 1) (omega arith) (omega arith))
-              | inr (inr above) ↦ omega (arith, entry_high ports rank port fits i above, entry_high ports rank port fits j high, h.ascending (i - 1) (j - 1) (omega arith) (omega arith))
+              | inl low ↦ omega (
+                arith,
+                entry_low ports rank port fits i low,
+                entry_high ports rank port fits j high,
+                at.low i low,
+                at.high (j - 1) (omega arith) (omega arith),
+              )
+              | inr (inl here) ↦ omega (
+                arith,
+                entry_here ports rank port fits i here,
+                entry_high ports rank port fits j high,
+                at.high (j - 1) (omega arith) (omega arith),
+              )
+              | inr (inr above) ↦ omega (
+                arith,
+                entry_high ports rank port fits i above,
+                entry_high ports rank port fits j high,
+                h.ascending (i - 1) (j - 1) (omega arith) (omega arith),
+              )
             ]
       ]
 
@@ -68,10 +85,18 @@ module _ (degree read place : ℕ) (ports : List ℕ) (h : IsRead degree read pl
 
   -- the rank is on the same side of what was read as the port is of the place
   rank_early : port < place → rank ≤ read
-  rank_early early = elim (dec_lt read rank) [ yes late ↦ absurd (let a = at.low read late in let b = h.after read (omega arith) (omega arith) in omega arith) | no other ↦ omega arith ]
+  rank_early early = elim (dec_lt read rank) [
+    | yes late ↦ absurd (let a = at.low read late in let b = h.after read (omega arith) (omega arith) in
+        omega arith)
+    | no other ↦ omega arith
+  ]
 
   rank_late : place ≤ port → read ≤ rank
-  rank_late late = elim (dec_lt rank read) [ yes early ↦ absurd (let a = at.high rank (omega arith) (omega (arith, h.counted)) in let b = h.before rank early in omega arith) | no other ↦ omega arith ]
+  rank_late late = elim (dec_lt rank read) [
+    | yes early ↦ absurd (let a = at.high rank (omega arith) (omega (arith, h.counted)) in let b =
+        h.before rank early in omega arith)
+    | no other ↦ omega arith
+  ]
 
   put_before : (i : ℕ) → i < now → slice_index (insert ports rank port) i < place
   put_before i below =
@@ -116,12 +141,18 @@ module _ (degree read place : ℕ) (ports : List ℕ) (h : IsRead degree read pl
       }
 
 -- one pair more has been read
-pub is_read-next : (degree read place : ℕ) (ports : List ℕ) → IsRead degree read place ports → (port : ℕ) → read < length ports → slice_index ports read ≡ port → IsRead degree (read + 1) (port + 1) ports
+pub is_read-next : (degree read place : ℕ) (ports : List ℕ) → IsRead degree read place ports → (port : ℕ) → read < length ports →
+    slice_index ports read ≡ port → IsRead degree (read + 1) (port + 1) ports
 is_read-next degree read place ports h port more here = record {
   ascending = h.ascending;
   below = h.below;
   counted = omega arith;
-  before = λ i below. elim (side i read) [ inl low ↦ omega (arith, h.ascending i read low more) | inr (inl same) ↦ rw same (omega (arith, here)) | inr (inr high) ↦ absurd (omega arith) ];
+  before = λ i below. elim (side i read) [
+    | inl low ↦ omega (arith, h.ascending i read low more)
+    | inr (inl same) ↦ rw same (omega (arith, here))
+    | inr
+        (inr high) ↦ absurd (omega arith)
+  ];
   after = λ i from below. omega (arith, h.ascending read i (omega arith) below);
   within = omega (arith, h.below read more);
 }

@@ -7,13 +7,16 @@ use Prim.{yes, no}
 use Rattle.node_api.specs.Boxes.{Mail, Reads, HasFrom, at_port, fold_slots, fold_rest}
 
 module _ {M B : Type 0} (f : B → ℕ → M → B) where
-  slot_none : (slots : List (Option M)) (i : ℕ) (b : B) → i < length slots → at_port slots i ≡ None → fold_slots f b i (drop i slots) ≡ fold_slots f b (i + 1) (drop (i + 1) slots)
+  slot_none : (slots : List (Option M)) (i : ℕ) (b : B) → i < length slots → at_port slots i ≡ None →
+      fold_slots f b i (drop i slots) ≡ fold_slots f b (i + 1) (drop (i + 1) slots)
   slot_none slots i b h e = ap (fold_slots f b i) (drop_more slots i None h ∙ ap (λ (x : Option M). x ∷ drop (i + 1) slots) e)
 
-  slot_some : (slots : List (Option M)) (i : ℕ) (b : B) (x : M) → i < length slots → at_port slots i ≡ Some x → fold_slots f b i (drop i slots) ≡ fold_slots f (f b i x) (i + 1) (drop (i + 1) slots)
+  slot_some : (slots : List (Option M)) (i : ℕ) (b : B) (x : M) → i < length slots → at_port slots i ≡ Some x →
+      fold_slots f b i (drop i slots) ≡ fold_slots f (f b i x) (i + 1) (drop (i + 1) slots)
   slot_some slots i b x h e = ap (fold_slots f b i) (drop_more slots i None h ∙ ap (λ (y : Option M). y ∷ drop (i + 1) slots) e)
 
-  skips : (gap : ℕ) (slots : List (Option M)) (i : ℕ) (b : B) → i + gap ≤ length slots → ((port : ℕ) → i ≤ port → port < i + gap → at_port slots port ≡ None) → fold_slots f b i (drop i slots) ≡ fold_slots f b (i + gap) (drop (i + gap) slots)
+  skips : (gap : ℕ) (slots : List (Option M)) (i : ℕ) (b : B) → i + gap ≤ length slots → ((port : ℕ) → i ≤ port → port < i + gap → at_port slots port ≡ None)
+      → fold_slots f b i (drop i slots) ≡ fold_slots f b (i + gap) (drop (i + gap) slots)
   skips zero slots i b h none = ap (λ (k : ℕ). fold_slots f b k (drop k slots)) (let e : i ≡ i + 0 = omega arith in e)
   skips (suc gap) slots i b h none =
       slot_none slots i b (omega arith) (none i (omega arith) (omega arith))
@@ -43,7 +46,13 @@ module _ {M B : Type 0} (f : B → ℕ → M → B) where
       let place = mail.place in
       elim (dec_lt place (length slots)) [
         | yes below ↦
-            skips (length slots - place) slots place b (omega arith) (λ port low high. none_unless (at_port slots port) (λ some. h (port, low, omega arith, some)))
-            ∙ ap (λ (rest : List (Option M)). fold_slots f b (place + (length slots - place)) rest) (drop_all (place + (length slots - place)) slots (omega arith))
+            skips (length slots - place) slots place b (omega arith) (λ port low high. none_unless (at_port slots port) (λ some. h (
+              port,
+              low,
+              omega arith,
+              some,
+            )))
+            ∙ ap (λ (rest : List (Option M)). fold_slots f b (place + (length slots - place)) rest)
+            (drop_all (place + (length slots - place)) slots (omega arith))
         | no other ↦ ap (λ (rest : List (Option M)). fold_slots f b place rest) (drop_all place slots (omega arith))
       ]

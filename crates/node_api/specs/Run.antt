@@ -2,9 +2,9 @@
 -- Each definition goes on past the program's last pulse, where no law says anything of it: whoever speaks of
 -- a pulse p of the run says that p is at most `last_pulse_on`.
 use Rattle.std.specs.Prelude.{ℕ, zero, suc, List, Option, Result, Ok, Err, map}
-use Rattle.interference.specs.Net.{Net, degree_of, neighbours, port_to}
+use Rattle.interference.specs.Net.{Net, degree_of, neighbours, port_to, vertices}
 use Rattle.node_api.specs.Boxes.{nothing, at_port}
-use Rattle.node_api.specs.Program.{Program, own_of}
+use Rattle.node_api.specs.Program.{Program, own_of, last_pulse_on}
 
 -- a node after a pulse, with what it sent; a refusal leaves the state, and nothing is sent
 abbrev pub after : {S M E : Type 0} → S → ℕ → Result (S × List (Option M)) E → S × List (Option M)
@@ -38,3 +38,11 @@ sent_at program net p v w = at_port (outbox_at program net p v) (port_to net v w
 abbrev pub inbox_at : {S M E : Type 0} → Program S M E → Net → ℕ → ℕ → List (Option M)
 inbox_at program net zero v = nothing (degree_of net v)
 inbox_at program net (suc p) v = inbox_from net (node_at program net p) v
+
+-- the state of v at the last pulse
+abbrev pub last_state : {S M E : Type 0} → Program S M E → Net → ℕ → S
+last_state program net v = state_at program net (last_pulse_on program net) v
+
+-- the states of all vertices at the last pulse, vertex 1 first
+abbrev pub last_states : {S M E : Type 0} → Program S M E → Net → List S
+last_states program net = map (last_state program net) (vertices net)

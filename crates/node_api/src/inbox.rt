@@ -1,6 +1,7 @@
-// What a node reads at a pulse.
+//! What a node reads at a pulse.
 
-ghost use Rattle.std.specs.Prelude.{◌≡◌, ◌<◌, ◌≤◌, ◌+◌, ◌-◌, ◌↔◌, ℕ, Option, IfOk, IsTrue, length, slice_set, slice_index, vec_capacity};
+ghost use Rattle.std.specs.Prelude.{◌≡◌, ◌<◌, ◌≤◌, ◌+◌, ◌-◌, ◌↔◌, ℕ, Option, IfOk, IsTrue};
+ghost use Rattle.std.specs.Prelude.{length, slice_set, slice_index, vec_capacity};
 ghost use Rattle.std.specs.List.{insert};
 ghost use Rattle.interference.specs.declared.limits.TheConstants.{MAX_DEGREE};
 ghost use Rattle.node_api.specs.Boxes.{Mail, nothing, at_port, unread, HasFrom, Reads};
@@ -10,11 +11,11 @@ use interference::Memory;
 use std::alloc::Global;
 use std::marker::Model;
 
-/// What a node reads at a pulse: at most one payload a port, read by ascending port.
+/// What a node reads at a pulse: at most one payload a port, read by ascending port. Ports count from 0.
 /// Contracts see the payload or none at each port, and the port from which reading goes on.
 #[derive(Drop)]
 pub struct Inbox<T> {
-    // Ports and payloads, ascending by port, in places that `new` reserved.
+    // Ports and payloads, ascending by port, in room that `new` reserved.
     pairs: Vec<(u32, T)>,
     degree: u32,
     // How many pairs have been read: those before `place`.
@@ -50,7 +51,7 @@ fn rank<T: Copy>(pairs: &[(u32, T)], port: u32) -> usize
     rank
 }
 
-// Puts a pair in among others, where there is room for it. Most come last, which moves none.
+// Puts a pair in among others, if there is room for it. Most come last, which moves none.
 fn put_pair<T: Copy>(pairs: &mut Vec<(u32, T)>, rank: usize, pair: (u32, T))
     requires rank { rank ≤ length pairs.old.items }
     requires room { length pairs.old.items < vec_capacity pairs.old }
@@ -65,7 +66,11 @@ fn put_pair<T: Copy>(pairs: &mut Vec<(u32, T)>, rank: usize, pair: (u32, T))
 }
 
 impl<T: Copy> Inbox<T> {
-    /// An empty inbox of `degree` ports, at most 1,023. No later call takes memory.
+    /// An empty inbox of `degree` ports, at most 1,023, with room for a payload at each.
+    ///
+    /// # Errors
+    ///
+    /// `Memory` if memory is refused. No later call can return it.
     pub fn new(alloc: Global, degree: u32) -> Result<Inbox<T>, Memory>
         requires degree { degree ≤ MAX_DEGREE }
         ensures empty { IfOk result (λ inbox. inbox ≡ unread (nothing degree)) }
@@ -79,7 +84,7 @@ impl<T: Copy> Inbox<T> {
         })
     }
 
-    /// Whether nothing has come at a port.
+    /// Whether no payload is at a port.
     pub fn is_empty(&self, port: u32) -> bool
         requires port { port < length self.now.slots }
         ensures empty { IsTrue result ↔ (at_port self.now.slots port ≡ Option.None) }
@@ -121,7 +126,7 @@ impl<T: Copy> Inbox<T> {
     }
 
     fn empty(&mut self)
-        ensures { self.new ≡ unread (nothing (length self.old.slots)) }
+        ensures empty { self.new ≡ unread (nothing (length self.old.slots)) }
     {
         self.pairs.clear();
         self.read = 0;
@@ -146,7 +151,7 @@ impl<T: Copy> Inbox<T> {
         payload
     }
 
-    /// The port of what `next` read last; it was called since the last rewind.
+    /// The port of the payload that `next` read last. `next` was called since the last rewind.
     pub fn sender(&self) -> u32
         requires read { 0 < self.now.place }
         ensures port { result + 1 ≡ self.now.place }

@@ -1,24 +1,26 @@
-//! Programs of nodes that talk in synchronous rounds, and the boxes of their messages.
+//! Programs of nodes that exchange messages in synchronous rounds, and the boxes of their messages.
 //!
-//! `sync_rounds` runs a program on one thread, as the colouring of `colour_program`; the asynchronous
-//! nodes will run the same programs.
+//! `sync_rounds` runs a program on one thread; the colouring of `colour_program` is such a program.
 //!
-//! A program is a type with `NodeProgram`. Contracts see its value alone, so a field that its `Model`
-//! leaves out is working space. What it means are the trait's ghost members `last`, `made`, `greet`
-//! and `next`; the run that they make on a network is `node_at` of `specs/Run.antt`: states and
-//! outboxes by pulse, an inbox being what the neighbours' outboxes hold at the back ports.
+//! A program is a type that implements `NodeProgram`. Contracts see only its `Model` value; its other
+//! fields are working space. What the program means is the ghost member `program`, a record of five
+//! functions: the last pulse, the ports of a node, its first state, its first messages, and its next
+//! state and messages. The run that they make on a network is defined in `specs/Run.antt`: `state_at`,
+//! `outbox_at` and `inbox_at` are a vertex's state, what it sends and what it reads at a pulse.
 //!
-//! The laws of every program, and where each stands:
-//! - The first state goes by the vertex's own data alone, the last pulse by n, Δ and U, and the next
-//!   state and what is sent by state, pulse and inbox: the types of `made`, `last`, `greet` and
-//!   `next`, with the clauses `made`, `last`, `node` and `answer` of the calls.
-//! - `pre_step` and `post_step` leave the value: their clauses `same`.
-//! - A refusal leaves the value and the empty outbox: `refused` of `handle_messages`.
-//! - At the last pulse nothing is sent, and on the synchronous run nothing is refused: `silent` and
-//!   `accepts` of `laws`.
-//! - No call but `make` takes memory: none of them is given an allocator, nor can it answer `Memory`.
-//! - A payload's word is one or more ASCII letters, and reading its text gives it back: `letters` and
-//!   `reads_back` of `PayloadText`.
+//! A program keeps seven laws. Six are proved of every program, and the sixth is only tested:
+//! 1. The first state depends on the vertex's own data alone, the last pulse on n, Δ and U, and the next
+//!    state and messages on state, pulse and inbox: the types in `Program`, with the clauses `made`,
+//!    `last`, `node` and `answer` of the calls.
+//! 2. `pre_step` and `post_step` leave the value: their clauses `same`.
+//! 3. A refusal leaves the value and the empty outbox: `refused` of `handle_messages`.
+//! 4. At the last pulse nothing is sent: `silent` of `laws`.
+//! 5. On the synchronous run nothing is refused: `accepts` of `laws`.
+//! 6. No call but `make` takes memory. No contract says so: a `Vec` in working space can grow without an
+//!    allocator. A test counts allocations. What the types do say is that no call but `make` can return
+//!    `Memory`.
+//! 7. A payload's word is one or more ASCII letters, and reading its text gives it back: `letters` and
+//!    `reads_back` of `PayloadText`.
 //!
 //! ```text
 //! while inbox.has_next() {
@@ -30,7 +32,7 @@
 //! ```
 //!
 //! An outbox lists the ports at which it sends, or keeps one payload for all; an inbox keeps what came.
-//! So a node costs the messages, and not its ports.
+//! So a pulse costs a node its messages, and not its ports.
 //!
 //! Limits: degree 1,023.
 #![tactic(auto)]

@@ -12,7 +12,8 @@ use crate::payload::PayloadText;
 use interference::{Memory, Network};
 use std::alloc::Global;
 
-/// Why a node refuses an inbox: the number of the rule that is broken, and the port, if it is one's.
+/// Why a node refuses an inbox: the number of the rule that is broken, and the port (from 0) that breaks
+/// it, if it is a rule of one port.
 #[derive(Debug, Clone, Copy, PartialEq, Eq)]
 pub struct Refused {
     pub rule: u16,
@@ -22,19 +23,21 @@ pub struct Refused {
 /// A program that every node of a network runs, pulse by pulse.
 ///
 /// At pulse 0 `init` is called. At each later pulse, up to the last, `pre_step`, `handle_messages` and
-/// `post_step` are called in this order, also with an empty inbox. The names of the calls are Sinalgo's
-/// (ETH Zurich).
+/// `post_step` are called in this order with the pulse's number, also if the inbox is empty; no contract can say
+/// that an engine calls `pre_step` and `post_step`, and a test shows it of `run_rounds`. Vertices
+/// count from 1, ports and pulses from 0. The names of the calls are those of the simulator Sinalgo (ETH
+/// Zurich).
 pub trait NodeProgram: Sized + Drop + Send {
     ghost use Rattle.node_api.specs.declared.program.Refused.{Refused};
 
     /// What nodes send one another.
     type Payload: PayloadText;
 
-    /// What the program is to contracts: its last pulse, its first state and messages, and what it makes
-    /// of each inbox.
+    /// What the program means: its last pulse, a node's first state and messages, and its next ones.
     ghost program: { Program Self Self.Payload Refused };
 
-    /// On the synchronous run of every network nothing is refused, and nothing is sent at the last pulse.
+    /// A node keeps its ports; on the synchronous run of every network nothing is refused, and nothing is
+    /// sent at the last pulse.
     ghost laws: { IsProgram program };
 
     /// The pulse after which a node is done.
@@ -42,6 +45,10 @@ pub trait NodeProgram: Sized + Drop + Send {
         ensures last { result ≡ last_pulse_on program net.now };
 
     /// The node of a vertex, before `init`.
+    ///
+    /// # Errors
+    ///
+    /// `Memory` if memory is refused. No other call of a program can return it.
     fn make(alloc: Global, net: &Network, v: u32) -> Result<Self, Memory>
         requires vertex { IsVertex net.now v }
         ensures made { IfOk result (λ node. node ≡ program.made (own_of net.now v)) };
@@ -56,7 +63,11 @@ pub trait NodeProgram: Sized + Drop + Send {
         requires pulse { 1 ≤ pulse }
         ensures same { self.new ≡ self.old };
 
-    /// Reads what came, changes the state and sends; a refusal leaves the state and the empty outbox.
+    /// Reads what came, changes the state and sends. A refusal leaves the state and the empty outbox.
+    ///
+    /// # Errors
+    ///
+    /// `Refused` if the inbox breaks a rule of the program. On the synchronous run none does.
     fn handle_messages(
         &mut self,
         pulse: u32,

@@ -21,13 +21,22 @@ module _ {M : Type 0} (net : Net) (ok : IsNetwork net) (outs : List (List (Optio
   delivered_start inboxes h = record {
     count = h.count;
     start = λ v d is_vertex. ap (λ (mail : Mail M). mail.place) (at_vertex net (empty_inbox net) inboxes v d h is_vertex);
-    ports = λ v d is_vertex. ap (λ (mail : Mail M). length mail.slots) (at_vertex net (empty_inbox net) inboxes v d h is_vertex) ∙ length-replicate (degree_of net v) None;
-    done = λ v port d is_vertex below is_done. elim is_done [ inl less ↦ absurd (let w = ok.vertices v port is_vertex below in omega arith) | inr (same, (k, within, is)) ↦ absurd (omega arith) ];
-    left = λ v port d is_vertex below others. ap (λ (mail : Mail M). at_port mail.slots port) (at_vertex net (empty_inbox net) inboxes v d h is_vertex) ∙ at_port-nothing (degree_of net v) port;
+    ports = λ v d is_vertex. ap (λ (mail : Mail M). length mail.slots) (at_vertex net (empty_inbox net) inboxes v d h is_vertex) ∙
+        length-replicate (degree_of net v) None;
+    done = λ v port d is_vertex below is_done. elim is_done [
+      | inl less ↦ absurd (let w = ok.vertices v port is_vertex below in omega arith)
+      | inr (
+        same,
+        (k, within, is),
+      ) ↦ absurd (omega arith)
+    ];
+    left = λ v port d is_vertex below others. ap (λ (mail : Mail M). at_port mail.slots port) (at_vertex net (empty_inbox net) inboxes v d h is_vertex) ∙
+        at_port-nothing (degree_of net v) port;
   }
 
   -- a sender of whom every port that holds a payload is done
-  pub delivered_sender : (w : ℕ) (of_w : List ℕ) (inboxes : List (Mail M)) → FilledPorts (get_or outs (w - 1) []) of_w → Delivered net outs w of_w inboxes → Delivered net outs (w + 1) [] inboxes
+  pub delivered_sender : (w : ℕ) (of_w : List ℕ) (inboxes : List (Mail M)) → FilledPorts (get_or outs (w - 1) []) of_w → Delivered net outs w of_w inboxes →
+      Delivered net outs (w + 1) [] inboxes
   delivered_sender w of_w inboxes whole h = record {
     count = h.count;
     start = h.start;
@@ -42,17 +51,25 @@ module _ {M : Type 0} (net : Net) (ok : IsNetwork net) (outs : List (List (Optio
                 elim (some_or_free (sent_in outs w q)) [
                   | inl some ↦ h.done v port d is_vertex below (inr (same, (whole.filled q).1 some))
                   | inr free ↦
-                      h.left v port d is_vertex below (λ was. elim was [ inl low ↦ omega (arith, same) | inr (again, has) ↦ some_or_none (sent_in outs w q) ((whole.filled q).0 has) free ])
+                      h.left v port d is_vertex below (λ was. elim was [
+                        | inl low ↦ omega (arith, same)
+                        | inr (
+                          again,
+                          has,
+                        ) ↦ some_or_none (sent_in outs w q) ((whole.filled q).0 has) free
+                      ])
                       ∙ sym (ap (λ (u : ℕ). sent_in outs u q) same ∙ free)
                 ]
           ]
       | inr (same, (k, within, is)) ↦ absurd (omega arith)
     ];
-    left = λ v port d is_vertex below others. h.left v port d is_vertex below (λ was. others (elim was [ inl low ↦ inl (omega arith) | inr (same, has) ↦ inl (omega (arith, same)) ]));
+    left = λ v port d is_vertex below others. h.left v port d is_vertex below
+        (λ was. others (elim was [ inl low ↦ inl (omega arith) | inr (same, has) ↦ inl (omega (arith, same)) ]));
   }
 
   -- everything has been delivered
-  pub delivered_all : (inboxes : List (Mail M)) (w : ℕ) → w ≡ count_of net + 1 → Delivered net outs w [] inboxes → Lists (count_of net) (λ v. unread (received net outs v)) inboxes
+  pub delivered_all : (inboxes : List (Mail M)) (w : ℕ) → w ≡ count_of net + 1 → Delivered net outs w [] inboxes →
+      Lists (count_of net) (λ v. unread (received net outs v)) inboxes
   delivered_all inboxes w last h = record {
     count = h.count;
     entry = λ k d l.

@@ -1,5 +1,28 @@
 -- What comes to a vertex, port by port.
-use Rattle.std.proofs.Common.{◌≡◌, ◌≢◌, ℕ, ◌+◌, ◌-◌, ◌<◌, List, [], ◌∷◌, ◌++◌, length, get_or, set, ap, sym, ◌∙◌, arith, inl, inr, subst, get_or-set_same, get_or-set_other}
+use Rattle.std.proofs.Common.{
+  ◌≡◌,
+  ◌≢◌,
+  ℕ,
+  ◌+◌,
+  ◌-◌,
+  ◌<◌,
+  List,
+  [],
+  ◌∷◌,
+  ◌++◌,
+  length,
+  get_or,
+  set,
+  ap,
+  sym,
+  ◌∙◌,
+  arith,
+  inl,
+  inr,
+  subst,
+  get_or-set_same,
+  get_or-set_other,
+}
 use Rattle.std.specs.Prelude.{Option, None, map, ◌⊎◌}
 use Rattle.std.proofs.lemmas.List.{length-map, ext_get_or, get_or-map, same_lists, get_or_push, get_or_append_left, length_push}
 use Rattle.std.proofs.lemmas.List.FromFn.{length-map-range_with_len, get_or-map-range_with_len}
@@ -30,29 +53,37 @@ below_or_last k n h = elim (dec_lt k n) [ yes below ↦ inl below | no other ↦
 pub Lists-push : {X : Type 0} (n : ℕ) (f : ℕ → X) (xs : List X) (x : X) → Lists n f xs → x ≡ f (n + 1) → Lists (n + 1) f (xs ++ x ∷ [])
 Lists-push n f xs x h e = record {
   count = length_push xs x ∙ ap (λ (k : ℕ). k + 1) h.count;
-  entry = λ k d l. elim (below_or_last k n l) [ inl below ↦ get_or_append_left xs (x ∷ []) d k (omega (arith, h.count)) ∙ h.entry k d below | inr same ↦ rw same (get_or_push xs x d n h.count ∙ e) ];
+  entry = λ k d l. elim (below_or_last k n l) [
+    | inl below ↦ get_or_append_left xs (x ∷ []) d k (omega (arith, h.count)) ∙
+        h.entry k d below
+    | inr same ↦ rw same (get_or_push xs x d n h.count ∙ e)
+  ];
 }
 
 -- what holds of the new entry at i, and of the others as they were, holds after a write
-pub set_cases : {X : Type 0} (P : X → Type 0) (xs : List X) (i k : ℕ) (x d : X) → i < length xs → (k ≡ i → P x) → (k ≢ i → P (get_or xs k d)) → P (get_or (set xs i x) k d)
+pub set_cases : {X : Type 0} (P : X → Type 0) (xs : List X) (i k : ℕ) (x d : X) → i < length xs → (k ≡ i → P x) → (k ≢ i → P (get_or xs k d)) →
+    P (get_or (set xs i x) k d)
 set_cases P xs i k x d within here there =
     elim (dec_lt k i) [
       | yes low ↦ let other : k ≢ i = omega arith in subst P (sym (get_or-set_other xs i k x d other)) (there other)
       | no above ↦
           elim (dec_lt i k) [
             | yes high ↦ let other : k ≢ i = omega arith in subst P (sym (get_or-set_other xs i k x d other)) (there other)
-            | no equal ↦ let same : k ≡ i = omega arith in subst (λ (j : ℕ). P (get_or (set xs i x) j d)) (sym same) (subst P (sym (get_or-set_same xs i x d within)) (here same))
+            | no equal ↦ let same : k ≡ i = omega arith in subst (λ (j : ℕ). P (get_or (set xs i x) j d)) (sym same)
+                (subst P (sym (get_or-set_same xs i x d within)) (here same))
           ]
     ]
 
 pub length-received : {M : Type 0} (net : Net) (outs : List (List (Option M))) (v : ℕ) → length (received net outs v) ≡ degree_of net v
 length-received net outs v = length-map (neighbours net v) _
 
-pub at_port-received : {M : Type 0} (net : Net) (outs : List (List (Option M))) (v k : ℕ) → k < degree_of net v → at_port (received net outs v) k ≡ sent_in outs (neighbour_of net v k) (back_port_of net v k)
+pub at_port-received : {M : Type 0} (net : Net) (outs : List (List (Option M))) (v k : ℕ) → k < degree_of net v →
+    at_port (received net outs v) k ≡ sent_in outs (neighbour_of net v k) (back_port_of net v k)
 at_port-received net outs v k h = get_or-map (λ (w : ℕ). sent_in outs w (port_to net w v)) (neighbours net v) k 0 None h
 
 -- the same outboxes, seen as a list and as what each vertex sent
-pub received_is : {S M : Type 0} (net : Net) (nodes : ℕ → S × List (Option M)) (outs : List (List (Option M))) (v : ℕ) → IsNetwork net → IsVertex net v → Lists (count_of net) (λ w. (nodes w).1) outs → received net outs v ≡ inbox_from net nodes v
+pub received_is : {S M : Type 0} (net : Net) (nodes : ℕ → S × List (Option M)) (outs : List (List (Option M))) (v : ℕ) → IsNetwork net → IsVertex net v →
+    Lists (count_of net) (λ w. (nodes w).1) outs → received net outs v ≡ inbox_from net nodes v
 received_is {S} {M} net nodes outs v ok is_vertex h =
     ext_get_or None (received net outs v) (inbox_from net nodes v) (length-received net outs v ∙ sym (length-inbox net nodes v))
     (λ k l.

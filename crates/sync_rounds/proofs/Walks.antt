@@ -9,7 +9,8 @@ use Rattle.interference.specs.Net.{Net, IsVertex, count_of, degree_of}
 use Rattle.node_api.specs.Boxes.{at_port, FilledPorts}
 use Rattle.node_api.proofs.Filled.{some_below}
 
-pub out_of : {M : Type 0} (net : Net) (outs : List (List (Option M))) (w : ℕ) → IsVertex net w → length outs ≡ count_of net → (out : List (Option M)) → out ≡ get_or outs (w - 1) out → get_or outs (w - 1) [] ≡ out
+pub out_of : {M : Type 0} (net : Net) (outs : List (List (Option M))) (w : ℕ) → IsVertex net w → length outs ≡ count_of net → (out : List (Option M)) →
+    out ≡ get_or outs (w - 1) out → get_or outs (w - 1) [] ≡ out
 out_of net outs w is_w count out is_out = get_or_default outs (w - 1) [] out (omega (arith, count, is_w.0, is_w.1)) ∙ sym is_out
 
 -- an outbox with one payload everywhere has it at each port of its vertex
@@ -36,7 +37,8 @@ module _ {M : Type 0} (slots : List (Option M)) (ports : List ℕ) (h : FilledPo
 
 -- all ports from 0 on
 pub first-ports : (n : ℕ) → range_with_len 0 n ++ n ∷ [] ≡ range_with_len 0 (n + 1)
-first-ports n = ap (λ (ports : List ℕ). ports ++ n ∷ []) (sym (map-id (range_with_len 0 n))) ∙ (sym (map-range_with_len_more (λ (port : ℕ). port) 0 n n (omega arith)) ∙ map-id (range_with_len 0 (n + 1)))
+first-ports n = ap (λ (ports : List ℕ). ports ++ n ∷ []) (sym (map-id (range_with_len 0 n))) ∙
+    (sym (map-range_with_len_more (λ (port : ℕ). port) 0 n n (omega arith)) ∙ map-id (range_with_len 0 (n + 1)))
 
 pub first-fresh : (n : ℕ) → Contains (range_with_len 0 n) n → ⊥
 first-fresh n (k, within, is) = omega (arith, is, length-range_with_len 0 n, get_or-range_with_len 0 n k n (omega (arith, length-range_with_len 0 n)))
@@ -49,7 +51,12 @@ filled-everywhere n x = record {
       let at_j = get_or-range_with_len 0 n j d (omega arith) in
       omega (arith, same);
   filled = λ port. (
-    λ (k, within, is). let below : port < n = omega (arith, get_or-range_with_len 0 n k port (omega (arith, length-range_with_len 0 n)), length-range_with_len 0 n) in subst IsSome (sym (get_or-replicate n port (Some x) None below)) refl,
-    λ some. let below : port < n = omega (arith, some_below (replicate n (Some x)) port some, length-replicate n (Some x)) in (port, omega (arith, length-range_with_len 0 n), let at = get_or-range_with_len 0 n port port below in omega (arith, at)),
+    λ (k, within, is). let below : port < n = omega (
+      arith,
+      get_or-range_with_len 0 n k port (omega (arith, length-range_with_len 0 n)),
+      length-range_with_len 0 n,
+    ) in subst IsSome (sym (get_or-replicate n port (Some x) None below)) refl,
+    λ some. let below : port < n = omega (arith, some_below (replicate n (Some x)) port some, length-replicate n (Some x)) in
+        (port, omega (arith, length-range_with_len 0 n), let at = get_or-range_with_len 0 n port port below in omega (arith, at)),
   );
 }

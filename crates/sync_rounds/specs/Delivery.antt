@@ -17,7 +17,8 @@ pub record Delivered {M : Type 0} (net : Net) (outs : List (List (Option M))) (w
   pub start : (v : ℕ) (d : Mail M) → IsVertex net v → (slice_index_or inboxes (v - 1) d).place ≡ 0
   pub ports : (v : ℕ) (d : Mail M) → IsVertex net v → length (slice_index_or inboxes (v - 1) d).slots ≡ degree_of net v
   pub done : (v port : ℕ) (d : Mail M) → IsVertex net v → port < degree_of net v → IsDone net w of_w v port
-      → at_port (slice_index_or inboxes (v - 1) d).slots port ≡ sent_in outs (neighbour_of net v port) (back_port_of net v port)
+      → at_port (slice_index_or inboxes (v - 1) d).slots port ≡ sent_in outs (neighbour_of net v port)
+      (back_port_of net v port)
   pub left : (v port : ℕ) (d : Mail M) → IsVertex net v → port < degree_of net v → (IsDone net w of_w v port → ⊥)
       → at_port (slice_index_or inboxes (v - 1) d).slots port ≡ None
 

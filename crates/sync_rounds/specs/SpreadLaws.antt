@@ -1,5 +1,23 @@
 -- The program that spreads the greatest identifier keeps the laws of every program.
-use Rattle.std.proofs.Common.{◌≡◌, ℕ, zero, suc, List, length, refl, ap, sym, subst, ◌∙◌, arith, Bool, true, false, cond, replicate}
+use Rattle.std.proofs.Common.{
+  ◌≡◌,
+  ℕ,
+  zero,
+  suc,
+  List,
+  length,
+  refl,
+  ap,
+  sym,
+  subst,
+  ◌∙◌,
+  arith,
+  Bool,
+  true,
+  false,
+  cond,
+  replicate,
+}
 use Rattle.std.specs.Prelude.{Option, nat_lt}
 use Rattle.interference.specs.Net.{Net}
 use Rattle.node_api.specs.Run.{state_at, outbox_at}
@@ -31,9 +49,12 @@ spread_ports last = record {
 }
 
 -- the outbox of the run holds what the state there sends
-pub outbox_is : (last : ℕ) (net : Net) (p v : ℕ) → outbox_at (spread last) net p v ≡ sends last p (state_at (spread last) net p v)
-outbox_is last net zero v = subst (λ (node : Known × List (Option Best)). node.1 ≡ sends last 0 node.0) (sym (node_at-none (spread last) net v)) refl
-outbox_is last net (suc p) v = subst (λ (node : Known × List (Option Best)). node.1 ≡ sends last (suc p) node.0) (sym (node_at-more (spread last) net p v)) refl
+pub outbox_is : (last : ℕ) (net : Net) (p v : ℕ) →
+    outbox_at (spread last) net p v ≡ sends last p (state_at (spread last) net p v)
+outbox_is last net zero v = subst (λ (node : Known × List (Option Best)). node.1 ≡ sends last 0 node.0)
+    (sym (node_at-none (spread last) net v)) refl
+outbox_is last net (suc p) v = subst (λ (node : Known × List (Option Best)). node.1 ≡ sends last (suc p) node.0)
+    (sym (node_at-more (spread last) net p v)) refl
 
 -- nothing is refused, and nothing is sent at the last pulse
 pub spread_laws : (last : ℕ) → IsProgram (spread last)

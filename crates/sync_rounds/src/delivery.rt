@@ -41,7 +41,8 @@ fn deliver_from<T: Copy>(net: &Network, w: u32, outs: &[Outbox<T>], inboxes: &mu
 fn deliver_everywhere<T: Copy>(net: &Network, w: u32, payload: T, inboxes: &mut [Inbox<T>])
     requires vertex { IsVertex net.now w }
     requires before { (outs : List (List (Option T))) × Broadcasts net.now outs w payload inboxes.old }
-    ensures after { (outs : List (List (Option T))) → Broadcasts net.now outs w payload inboxes.old → Delivered net.now outs (w + 1) [] inboxes.new }
+    ensures after { (outs : List (List (Option T))) → Broadcasts net.now outs w payload inboxes.old
+        → Delivered net.now outs (w + 1) [] inboxes.new }
 {
     net.is_network();
     for port in 0..net.degree(w) {

@@ -1,10 +1,9 @@
 //! The rounds of a program, pulse by pulse.
 
-ghost use Rattle.std.specs.Prelude.{◌≡◌, ◌<◌, ◌≤◌, ◌+◌, ◌^◌, ℕ, List, Option, IfOk, length, suc, map};
-ghost use Rattle.interference.specs.Net.{Net, IsVertex, count_of, degree_of, vertices};
-ghost use Rattle.node_api.specs.Boxes.{nothing, at_port, Mail, unread};
-ghost use Rattle.node_api.specs.Program.{last_pulse_on};
-ghost use Rattle.node_api.specs.Run.{state_at, outbox_at, inbox_at, after};
+ghost use Rattle.std.specs.Prelude.{◌≡◌, ◌<◌, ◌≤◌, ◌+◌, ◌^◌, IfOk, length, suc};
+ghost use Rattle.interference.specs.Net.{count_of};
+ghost use Rattle.node_api.specs.Boxes.{nothing, unread};
+ghost use Rattle.node_api.specs.Run.{state_at, outbox_at, inbox_at, last_states, after};
 ghost use Rattle.sync_rounds.specs.Lists.{Lists, empty_inbox};
 
 use crate::delivery::deliver;
@@ -12,13 +11,13 @@ use interference::{Memory, Network};
 use node_api::{Inbox, NodeProgram, Outbox};
 use std::alloc::Global;
 
-/// All nodes after the last pulse of the synchronous run: entry `v - 1` is vertex `v`.
+/// Runs a program on a network and returns all nodes after its last pulse: entry `v - 1` is vertex `v`.
 ///
 /// # Errors
 ///
-/// `Memory` where memory is refused, which can be at the start alone.
+/// `Memory` if memory is refused, which only the making of nodes and boxes at the start can return.
 pub fn run_rounds<P: NodeProgram>(alloc: Global, net: &Network) -> Result<Vec<P>, Memory>
-    ensures states { IfOk result (λ programs. programs.items ≡ map (state_at P.program net.now (last_pulse_on P.program net.now)) (vertices net.now)) }
+    ensures states { IfOk result (λ programs. programs.items ≡ last_states P.program net.now) }
 {
     let (mut programs, mut inboxes, mut outs) = start::<P>(alloc, net)?;
     rounds(
@@ -31,7 +30,7 @@ pub fn run_rounds<P: NodeProgram>(alloc: Global, net: &Network) -> Result<Vec<P>
     Ok(programs)
 }
 
-/// All nodes after pulse 0, with what they sent and empty inboxes.
+// All nodes after pulse 0, with what they sent and empty inboxes.
 fn start<P: NodeProgram>(
     alloc: Global,
     net: &Network,
@@ -56,7 +55,7 @@ fn start<P: NodeProgram>(
     Ok((programs, inboxes, outs))
 }
 
-/// The pulses 1 to `last` of all nodes.
+// The pulses 1 to `last` of all nodes.
 fn rounds<P: NodeProgram>(
     net: &Network,
     last: u32,
@@ -76,7 +75,7 @@ fn rounds<P: NodeProgram>(
     }
 }
 
-/// The pulse after `done` of all nodes. It leaves the inboxes empty.
+// The pulse after `done` of all nodes. It leaves the inboxes empty.
 fn pulse_all<P: NodeProgram>(
     net: &Network,
     done: u32,
@@ -96,12 +95,12 @@ fn pulse_all<P: NodeProgram>(
         let program = &mut programs[i as usize];
         let inbox = &mut inboxes[i as usize];
         let out = &mut outs[i as usize];
-        step(program, done + 1, inbox, out);
+        pulse_one(program, done + 1, inbox, out);
     }
 }
 
-/// One pulse of one node. It leaves the inbox empty.
-fn step<P: NodeProgram>(
+// One pulse of one node. It leaves the inbox empty.
+fn pulse_one<P: NodeProgram>(
     program: &mut P,
     pulse: u32,
     inbox: &mut Inbox<P::Payload>,
@@ -111,7 +110,8 @@ fn step<P: NodeProgram>(
     requires unread { inbox.old ≡ unread inbox.old.slots }
     requires ports { length inbox.old.slots ≡ P.program.ports program.old }
     requires out { length out.old ≡ P.program.ports program.old }
-    ensures node { (program.new, out.new) ≡ after program.old (P.program.ports program.old) (P.program.next program.old pulse inbox.old.slots) }
+    ensures node { (program.new, out.new)
+        ≡ after program.old (P.program.ports program.old) (P.program.next program.old pulse inbox.old.slots) }
     ensures empty { inbox.new ≡ unread (nothing (length inbox.old.slots)) }
 {
     out.clear();

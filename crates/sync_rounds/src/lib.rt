@@ -1,15 +1,17 @@
 //! All rounds of a node program on one thread.
 //!
-//! `run_rounds` answers the states of the last pulse of the synchronous run, for every program. The
-//! command `plain` stands on it. `Greatest` is a small program, to try engines with.
+//! `run_rounds` returns every node after the last pulse of the synchronous run, for every program; the
+//! command `plain` calls it. `Greatest` is a small program, to try engines with and to read as an example.
 //!
 //! ```text
 //! let nodes = run_rounds::<Greatest<2>>(alloc, &net)?;
 //! let best = nodes[0].best();    // the greatest identifier within two links of vertex 1
 //! ```
 //!
-//! Memory is taken at the start alone: an inbox and an outbox a node. A pulse costs the nodes and the
-//! messages that are sent: a port at which nothing is sent isn't looked at.
+//! The engine takes memory at the start alone: an inbox and an outbox for each node. A pulse costs time by
+//! the nodes and the messages that are sent: a port at which nothing is sent isn't looked at.
+//!
+//! Limits: those of a `Network`, and a last pulse below 2³².
 #![tactic(auto)]
 
 mod delivery;

@@ -7,4 +7,11 @@ loop-i-init g c = delivered_start c.args.net.now c.is_network.ensures c.args.out
 
 pub returns : goal.returns
 returns g c =
-    record { received = delivered_all c.args.net.now c.is_network.ensures c.args.outs.now c.loop-i.inboxes (c.loop-i.i + 1) (omega (arith, c.loop-i-test.false, c.loop-i.auto.i-end, c.nodes-i-end.ensures)) c.loop-i.invariant }
+    record {
+      received = delivered_all c.args.net.now c.is_network.ensures c.args.outs.now c.loop-i.inboxes (c.loop-i.i + 1) (omega (
+        arith,
+        c.loop-i-test.false,
+        c.loop-i.auto.i-end,
+        c.nodes-i-end.ensures,
+      )) c.loop-i.invariant;
+    }

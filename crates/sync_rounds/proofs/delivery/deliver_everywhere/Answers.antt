@@ -17,8 +17,12 @@ pub put-requires-clause-port : goal.put-requires-clause-port
 put-requires-clause-port g c =
     let (outs, now) = c.requires.before in
     let here = c.loop-port.invariant outs now in
-    omega (arith, c.back_port.ensures.port, here.ports c.neighbour-v.result c.index-inboxes-v.result c.neighbour-v.ensures.vertex,
-      ap (degree_of c.args.net.now) c.neighbour-v.ensures.value)
+    omega (
+      arith,
+      c.back_port.ensures.port,
+      here.ports c.neighbour-v.result c.index-inboxes-v.result c.neighbour-v.ensures.vertex,
+      ap (degree_of c.args.net.now) c.neighbour-v.ensures.value,
+    )
 
 pub put-requires-clause-empty : goal.put-requires-clause-empty
 put-requires-clause-empty g c =
@@ -31,7 +35,7 @@ put-requires-clause-empty g c =
     ap (λ (v : ℕ). at_port (get_or inboxes (v - 1) c.index-inboxes-v.result).slots c.back_port.result) c.neighbour-v.ensures.value
     ∙ (ap (at_port (get_or inboxes (neighbour_of net w port - 1) c.index-inboxes-v.result).slots) c.back_port.ensures.value
     ∙ free_there net c.is_network.ensures outs w (range_with_len 0 port) port c.requires.vertex in_row (first-fresh port) inboxes
-        (c.loop-port.invariant outs now) c.index-inboxes-v.result)
+    (c.loop-port.invariant outs now) c.index-inboxes-v.result)
 
 pub loop-port-init : goal.loop-port-init
 loop-port-init g c = λ outs now. now.before
@@ -45,31 +49,33 @@ loop-port-preserved g c = λ outs now.
     let payload = c.args.payload in
     let in_row : port < degree_of net w = omega (arith, c.loop-port-test.true, c.degree-port-end.ensures.value) in
     let got : sent_in outs w port ≡ Some payload =
-        ap (λ (slots : List (Option g.row.T.Denot)). at_port slots port) now.sent
-        ∙ get_or-replicate (degree_of net w) port (Some payload) None in_row in
+    ap (λ (slots : List (Option g.row.T.Denot)). at_port slots port) now.sent
+    ∙ get_or-replicate (degree_of net w) port (Some payload) None in_row in
     let to : c.neighbour-v.result ≡ neighbour_of net w port = c.neighbour-v.ensures.value in
     let old = c.index-inboxes-v.result in
     let is_old : old ≡ get_or inboxes (neighbour_of net w port - 1) old =
-        c.index-inboxes-v.is ∙ ap (λ (v : ℕ). get_or inboxes (v - 1) old) to in
+    c.index-inboxes-v.is ∙ ap (λ (v : ℕ). get_or inboxes (v - 1) old) to in
     let slots : c.put.new.self.slots ≡ set old.slots (back_port_of net w port) (Some payload) =
-        c.put.ensures.slots
-        ∙ (ap (λ (mail : Mail g.row.T.Denot). set mail.slots c.back_port.result (Some payload)) (sym c.index-inboxes-v.is)
-        ∙ ap (λ (q : ℕ). set old.slots q (Some payload)) c.back_port.ensures.value) in
+    c.put.ensures.slots
+    ∙ (ap (λ (mail : Mail g.row.T.Denot). set mail.slots c.back_port.result (Some payload)) (sym c.index-inboxes-v.is)
+    ∙ ap (λ (q : ℕ). set old.slots q (Some payload)) c.back_port.ensures.value) in
     let place = c.put.ensures.place ∙ ap (λ (mail : Mail g.row.T.Denot). mail.place) (sym c.index-inboxes-v.is) in
     subst (λ (mails : List (Mail g.row.T.Denot)). Delivered net outs w (range_with_len 0 (port + 1)) mails)
     (sym (ap (λ (v : ℕ). set inboxes (v - 1) c.put.new.self) to))
     (subst (λ (of_w : List ℕ). Delivered net outs w of_w (set inboxes (neighbour_of net w port - 1) c.put.new.self)) (first-ports port)
     (delivered_put net c.is_network.ensures outs w (range_with_len 0 port) port c.requires.vertex in_row (first-fresh port) inboxes
-      (c.loop-port.invariant outs now) payload got old c.put.new.self is_old slots place))
+    (c.loop-port.invariant outs now) payload got old c.put.new.self is_old slots place))
 
 pub returns : goal.returns
-returns g c = record { after = λ outs now.
-    let net = c.args.net.now in
-    let w = c.args.w in
-    let n = degree_of net w in
-    let last : c.loop-port.port ≡ n = omega (arith, c.loop-port-test.false, c.loop-port.auto.port-end, c.degree-port-end.ensures.value) in
-    let whole : FilledPorts (get_or outs (w - 1) []) (range_with_len 0 n) =
-        subst (λ (slots : List (Option g.row.T.Denot)). FilledPorts slots (range_with_len 0 n)) (sym now.sent)
-        (filled-everywhere n c.args.payload) in
-    delivered_sender net c.is_network.ensures outs w (range_with_len 0 n) c.loop-port.inboxes whole
-    (subst (λ (k : ℕ). Delivered net outs w (range_with_len 0 k) c.loop-port.inboxes) last (c.loop-port.invariant outs now)) }
+returns g c = record {
+  after = λ outs now.
+      let net = c.args.net.now in
+      let w = c.args.w in
+      let n = degree_of net w in
+      let last : c.loop-port.port ≡ n = omega (arith, c.loop-port-test.false, c.loop-port.auto.port-end, c.degree-port-end.ensures.value) in
+      let whole : FilledPorts (get_or outs (w - 1) []) (range_with_len 0 n) =
+      subst (λ (slots : List (Option g.row.T.Denot)). FilledPorts slots (range_with_len 0 n)) (sym now.sent)
+      (filled-everywhere n c.args.payload) in
+      delivered_sender net c.is_network.ensures outs w (range_with_len 0 n) c.loop-port.inboxes whole
+      (subst (λ (k : ℕ). Delivered net outs w (range_with_len 0 k) c.loop-port.inboxes) last (c.loop-port.invariant outs now));
+}

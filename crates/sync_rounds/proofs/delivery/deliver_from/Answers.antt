@@ -8,7 +8,7 @@ pub deliver_everywhere-requires-clause-before : goal.deliver_everywhere-requires
 deliver_everywhere-requires-clause-before g c =
     let row = c.index-outs-w in
     let sent = out_everywhere c.args.net.now c.args.outs.now c.args.w c.requires.vertex c.requires.outs c.requires.ports row.result row.is
-        c.in-Everywhere.payload c.in-Everywhere.ensures.sent in
+    c.in-Everywhere.payload c.in-Everywhere.ensures.sent in
     (c.args.outs.now, record { before = c.requires.before; sent = sent })
 
 pub deliver_at-requires-clause-sent : goal.deliver_at-requires-clause-sent
@@ -20,5 +20,5 @@ pub returns-in-Everywhere : goal.returns-in-Everywhere
 returns-in-Everywhere g c =
     let row = c.index-outs-w in
     let sent = out_everywhere c.args.net.now c.args.outs.now c.args.w c.requires.vertex c.requires.outs c.requires.ports row.result row.is
-        c.in-Everywhere.payload c.in-Everywhere.ensures.sent in
+    c.in-Everywhere.payload c.in-Everywhere.ensures.sent in
     record { after = c.deliver_everywhere.ensures.after c.args.outs.now (record { before = c.requires.before; sent = sent }) }

@@ -7,16 +7,16 @@ use Rattle.sync_rounds.specs.Lists.{empty_inbox}
 use Rattle.sync_rounds.proofs.Steps.{inbox_fits, out_fits, stepped, done_more, left_more, left_empty}
 use Rattle.sync_rounds.proofs.engine.pulse_all.Goals as goal
 
-pub step-requires-clause-ports : goal.step-requires-clause-ports
-step-requires-clause-ports g c κs within =
+pub pulse_one-requires-clause-ports : goal.pulse_one-requires-clause-ports
+pulse_one-requires-clause-ports g c κs within =
     let m = g.P.NodeProgram in
     let here : c.loop-i.i < count_of c.args.net.now = omega arith in
     inbox_fits m.program m.laws.keeps_ports c.args.net.now c.args.done (c.loop-i.i + 1) _ _
     (c.loop-i.invariant.programs_left c.loop-i.i _ (omega arith) here)
     (ap (λ (mail : Mail _). mail.slots) (c.loop-i.invariant.inboxes_left c.loop-i.i _ (omega arith) here))
 
-pub step-requires-clause-out : goal.step-requires-clause-out
-step-requires-clause-out g c κs within =
+pub pulse_one-requires-clause-out : goal.pulse_one-requires-clause-out
+pulse_one-requires-clause-out g c κs within =
     let m = g.P.NodeProgram in
     let here : c.loop-i.i < count_of c.args.net.now = omega arith in
     out_fits m.program m.laws.keeps_ports c.args.net.now c.args.done (c.loop-i.i + 1) _ _
@@ -32,15 +32,24 @@ loop-i-preserved g c =
     let here : c.loop-i.i < count_of c.args.net.now = omega arith in
     let at_program = c.loop-i.invariant.programs_left i c.index-programs-i.result (omega arith) here in
     let at_slots = ap (λ (mail : Mail _). mail.slots) (c.loop-i.invariant.inboxes_left i c.index-inboxes-i.result (omega arith) here) in
-    let node = stepped m.program m.laws.keeps_ports net done (i + 1) (done + 1) _ _ (c.step.new.program, c.step.new.out) (omega arith) at_program at_slots c.step.ensures.node in
+    let node = stepped m.program m.laws.keeps_ports net done (i + 1) (done + 1) _ _ (
+      c.pulse_one.new.program,
+      c.pulse_one.new.out,
+    ) (omega arith) at_program at_slots c.pulse_one.ensures.node in
     record {
       programs = length-set _ _ _ ∙ c.loop-i.invariant.programs;
       inboxes = length-set _ _ _ ∙ c.loop-i.invariant.inboxes;
       outs = length-set _ _ _ ∙ c.loop-i.invariant.outs;
-      programs_done = done_more (λ k x. x ≡ (state_at m.program net (suc done) (k + 1))) (count_of net) i c.loop-i.programs c.step.new.program c.loop-i.invariant.programs here c.loop-i.invariant.programs_done (ap (λ x. x.0) node);
-      programs_left = left_more (λ k x. x ≡ (state_at m.program net done (k + 1))) (count_of net) i c.loop-i.programs c.step.new.program c.loop-i.invariant.programs_left;
-      inboxes_done = done_more (λ k x. x ≡ empty_inbox net (k + 1)) (count_of net) i c.loop-i.inboxes c.step.new.inbox c.loop-i.invariant.inboxes here c.loop-i.invariant.inboxes_done (left_empty m.program m.laws.keeps_ports net done (i + 1) _ c.step.new.inbox at_slots c.step.ensures.empty);
-      inboxes_left = left_more (λ k x. x ≡ unread (inbox_from net (node_at m.program net done) (k + 1))) (count_of net) i c.loop-i.inboxes c.step.new.inbox c.loop-i.invariant.inboxes_left;
-      outs_done = done_more (λ k x. x ≡ (outbox_at m.program net (suc done) (k + 1))) (count_of net) i c.loop-i.outs c.step.new.out c.loop-i.invariant.outs here c.loop-i.invariant.outs_done (ap (λ x. x.1) node);
-      outs_left = left_more (λ k x. x ≡ (outbox_at m.program net done (k + 1))) (count_of net) i c.loop-i.outs c.step.new.out c.loop-i.invariant.outs_left;
+      programs_done = done_more (λ k x. x ≡ state_at m.program net (suc done) (k + 1)) (count_of net) i c.loop-i.programs c.pulse_one.new.program
+          c.loop-i.invariant.programs here c.loop-i.invariant.programs_done (ap (λ x. x.0) node);
+      programs_left = left_more (λ k x. x ≡ state_at m.program net done (k + 1)) (count_of net) i c.loop-i.programs c.pulse_one.new.program
+          c.loop-i.invariant.programs_left;
+      inboxes_done = done_more (λ k x. x ≡ empty_inbox net (k + 1)) (count_of net) i c.loop-i.inboxes c.pulse_one.new.inbox c.loop-i.invariant.inboxes here
+          c.loop-i.invariant.inboxes_done (left_empty m.program m.laws.keeps_ports net done (i + 1) _ c.pulse_one.new.inbox at_slots
+          c.pulse_one.ensures.empty);
+      inboxes_left = left_more (λ k x. x ≡ unread (inbox_from net (node_at m.program net done) (k + 1))) (count_of net) i c.loop-i.inboxes
+          c.pulse_one.new.inbox c.loop-i.invariant.inboxes_left;
+      outs_done = done_more (λ k x. x ≡ outbox_at m.program net (suc done) (k + 1)) (count_of net) i c.loop-i.outs c.pulse_one.new.out c.loop-i.invariant.outs
+          here c.loop-i.invariant.outs_done (ap (λ x. x.1) node);
+      outs_left = left_more (λ k x. x ≡ outbox_at m.program net done (k + 1)) (count_of net) i c.loop-i.outs c.pulse_one.new.out c.loop-i.invariant.outs_left;
     }

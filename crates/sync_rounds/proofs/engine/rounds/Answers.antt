@@ -14,7 +14,8 @@ pub pulse_all-requires-clause-inboxes : goal.pulse_all-requires-clause-inboxes
 pulse_all-requires-clause-inboxes g c κs within =
     let m = g.P.NodeProgram in
     let net = c.args.net.now in
-    Lists-received net (node_at m.program net c.loop-done.done) c.loop-done.outs c.deliver.new.inboxes c.is_network.ensures c.loop-done.invariant.outs c.deliver.ensures.received
+    Lists-received net (node_at m.program net c.loop-done.done) c.loop-done.outs c.deliver.new.inboxes c.is_network.ensures c.loop-done.invariant.outs
+    c.deliver.ensures.received
 
 pub loop-done-preserved : goal.loop-done-preserved
 loop-done-preserved g c =

@@ -10,7 +10,8 @@ pub returns : goal.returns
 returns g c =
     let m = g.P.NodeProgram in
     let net = c.args.net.now in
-    let size : length c.rounds.new.programs ≡ c.in_ok-programs.programs.len = omega (arith, c.rounds.ensures.programs.count, c.in_ok-programs.ensures.programs.count, c.in_ok-programs.programs.ok.0) in
+    let size : length c.rounds.new.programs ≡ c.in_ok-programs.programs.len =
+    omega (arith, c.rounds.ensures.programs.count, c.in_ok-programs.ensures.programs.count, c.in_ok-programs.programs.ok.0) in
     record {
       states = take_at c.rounds.new.programs _ c.in_ok-programs.programs.len size
           ∙ (listed_from net (state_at m.program net c.last_pulse.result) c.rounds.new.programs c.rounds.ensures.programs

@@ -12,7 +12,8 @@ returns-else-self-ne0 g c =
     let a = c.self.inside in
     let no_pairs : vec_len a.pairs ≡ 0 = (let e = c.if-not-is_empty.ensures in grind (arith, nat_tests)) in
     let none : a.pairs.items ≡ [] = drop_all 0 a.pairs.items (omega (arith, no_pairs, a.pairs.ok.0)) in
-    let size : a.degree ≡ length c.args.self.now.slots = sym (length-slots_of a.degree a.pairs.items) ∙ ap (λ (mail : Mail g.row.T.Denot). length mail.slots) c.self.view_is in
+    let size : a.degree ≡ length c.args.self.now.slots = sym (length-slots_of a.degree a.pairs.items) ∙
+    ap (λ (mail : Mail g.row.T.Denot). length mail.slots) c.self.view_is in
     record {
       empty =
           sym c.self.view_is

@@ -7,14 +7,19 @@ pub put_pair-requires-clause-room : goal.put_pair-requires-clause-room
 put_pair-requires-clause-room g c =
     let a = c.self.inside in
     let r = c.rank-rank.ensures in
-    let room = put_fits a.degree a.read a.place a.pairs.items c.deref.result.now c.self.invariant.2 c.deref.ensures.value c.args.self.now c.self.view_is c.args.port c.rank-rank.result c.requires.port r.within r.before r.others c.requires.empty c.args.payload in
+    let room = put_fits a.degree a.read a.place a.pairs.items c.deref.result.now c.self.invariant.2 c.deref.ensures.value c.args.self.now c.self.view_is
+    c.args.port c.rank-rank.result c.requires.port r.within r.before r.others c.requires.empty c.args.payload in
     omega (arith, room, c.self.invariant.1)
 
 pub invariant_of-self : goal.invariant_of-self
 invariant_of-self g c =
     let a = c.self.inside in
     let r = c.rank-rank.ensures in
-    let read = put_reads a.degree a.read a.place a.pairs.items c.deref.result.now c.self.invariant.2 c.deref.ensures.value c.args.self.now c.self.view_is c.args.port c.rank-rank.result c.requires.port r.within r.before r.others c.requires.empty c.args.payload (a.read + 1) (inl (c.if-port-self.true, refl)) in (
+    let read = put_reads a.degree a.read a.place a.pairs.items c.deref.result.now c.self.invariant.2 c.deref.ensures.value c.args.self.now c.self.view_is
+    c.args.port c.rank-rank.result c.requires.port r.within r.before r.others c.requires.empty c.args.payload (a.read + 1) (inl (
+      c.if-port-self.true,
+      refl,
+    )) in (
       c.self.invariant.0,
       omega (arith, c.self.invariant.1, c.put_pair.ensures.capacity),
       subst (λ (pairs : List (ℕ × g.row.T.Denot)). IsRead a.degree (a.read + 1) a.place (ports_of pairs)) (sym c.put_pair.ensures.items) read,
@@ -24,7 +29,8 @@ pub invariant_of-self-else-port-self : goal.invariant_of-self-else-port-self
 invariant_of-self-else-port-self g c =
     let a = c.self.inside in
     let r = c.rank-rank.ensures in
-    let read = put_reads a.degree a.read a.place a.pairs.items c.deref.result.now c.self.invariant.2 c.deref.ensures.value c.args.self.now c.self.view_is c.args.port c.rank-rank.result c.requires.port r.within r.before r.others c.requires.empty c.args.payload a.read (inr (c.if-port-self.false, refl)) in (
+    let read = put_reads a.degree a.read a.place a.pairs.items c.deref.result.now c.self.invariant.2 c.deref.ensures.value c.args.self.now c.self.view_is
+    c.args.port c.rank-rank.result c.requires.port r.within r.before r.others c.requires.empty c.args.payload a.read (inr (c.if-port-self.false, refl)) in (
       c.self.invariant.0,
       omega (arith, c.self.invariant.1, c.put_pair.ensures.capacity),
       subst (λ (pairs : List (ℕ × g.row.T.Denot)). IsRead a.degree a.read a.place (ports_of pairs)) (sym c.put_pair.ensures.items) read,
@@ -34,10 +40,14 @@ pub returns-then-port-self-clause-slots : goal.returns-then-port-self-clause-slo
 returns-then-port-self-clause-slots g c =
     let a = c.self.inside in
     let r = c.rank-rank.ensures in
-    ap (slots_of a.degree) c.put_pair.ensures.items ∙ put_slots a.degree a.read a.place a.pairs.items c.deref.result.now c.self.invariant.2 c.deref.ensures.value c.args.self.now c.self.view_is c.args.port c.rank-rank.result c.requires.port r.within r.before r.others c.requires.empty c.args.payload
+    ap (slots_of a.degree) c.put_pair.ensures.items ∙ put_slots a.degree a.read a.place a.pairs.items c.deref.result.now c.self.invariant.2
+    c.deref.ensures.value c.args.self.now c.self.view_is c.args.port c.rank-rank.result c.requires.port r.within r.before r.others c.requires.empty
+    c.args.payload
 
 pub returns-else-port-self-clause-slots : goal.returns-else-port-self-clause-slots
 returns-else-port-self-clause-slots g c =
     let a = c.self.inside in
     let r = c.rank-rank.ensures in
-    ap (slots_of a.degree) c.put_pair.ensures.items ∙ put_slots a.degree a.read a.place a.pairs.items c.deref.result.now c.self.invariant.2 c.deref.ensures.value c.args.self.now c.self.view_is c.args.port c.rank-rank.result c.requires.port r.within r.before r.others c.requires.empty c.args.payload
+    ap (slots_of a.degree) c.put_pair.ensures.items ∙ put_slots a.degree a.read a.place a.pairs.items c.deref.result.now c.self.invariant.2
+    c.deref.ensures.value c.args.self.now c.self.view_is c.args.port c.rank-rank.result c.requires.port r.within r.before r.others c.requires.empty
+    c.args.payload
