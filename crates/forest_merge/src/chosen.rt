@@ -31,9 +31,10 @@ impl Model for ChosenSet {
 }
 
 impl ChosenSet {
-    /// The empty set.
+    /// The empty set, with room for the colours 0 to 1,023.
     pub fn new() -> Self
-        ensures { result ≡ set.empty }
+        ensures empty { result ≡ set.empty }
+        ensures room { COLOURS ≡ 1024 }
     {
         Self { words: [0; WORDS] }
     }
