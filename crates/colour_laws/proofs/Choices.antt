@@ -22,7 +22,7 @@ use Rattle.colour_rules.specs.Node.{steps, number_of}
 use Rattle.colour_laws.specs.Colours.{merging, colours_after}
 use Rattle.colour_laws.proofs.Expected.{place_in, is_heard, heard, among, IsForest}
 use Rattle.forests.specs.Forests.{role_of}
-use Rattle.forests.proofs.Parents.{lt_test, not_lt_test, is_lt}
+use Rattle.std.proofs.lemmas.Bool.{lt-ltb, le-ltb, ltb-true}
 use Rattle.forests.specs.Forests.{number}
 use Rattle.forests.specs.declared.numbering.Role.TheVariants.{Up, Down}
 use Rattle.forests.specs.Forests.{parent}
@@ -39,12 +39,12 @@ before_test k j k' j' w h h' =
       | inl same ↦
           let products : k * w ≡ k' * w = ap (λ x. x * w) same in
           let test : (k == k') ≡ true = grind (arith, nat_tests) in
-          rw test (same_bool (nat_lt j j') (nat_lt (k * w + j) (k' * w + j')) (λ e. lt_test (k * w + j) (k' * w + j') (let l : j < j' = is_lt j j' e in omega arith)) (λ e. lt_test j j' (let l : k * w + j < k' * w + j' = is_lt (k * w + j) (k' * w + j') e in omega arith)))
+          rw test (same_bool (nat_lt j j') (nat_lt (k * w + j) (k' * w + j')) (λ e. lt-ltb (k * w + j) (k' * w + j') (let l : j < j' = ltb-true j j' e in omega arith)) (λ e. lt-ltb j j' (let l : k * w + j < k' * w + j' = ltb-true (k * w + j) (k' * w + j') e in omega arith)))
       | inr side ↦
           let apart : (k == k') ≡ false = elim side [ inl lt ↦ grind (arith, nat_tests) | inr gt ↦ grind (arith, nat_tests) ] in
           rw apart (elim side [
-            | inl lt ↦ let products : (k + 1) * w ≤ k' * w = mul-le-mul_right w (omega arith) in lt_test k k' lt ∙ sym (lt_test (k * w + j) (k' * w + j') (omega arith))
-            | inr gt ↦ let products : (k' + 1) * w ≤ k * w = mul-le-mul_right w (omega arith) in not_lt_test k k' (omega arith) ∙ sym (not_lt_test (k * w + j) (k' * w + j') (omega arith))
+            | inl lt ↦ let products : (k + 1) * w ≤ k' * w = mul-le-mul_right w (omega arith) in lt-ltb k k' lt ∙ sym (lt-ltb (k * w + j) (k' * w + j') (omega arith))
+            | inr gt ↦ let products : (k' + 1) * w ≤ k * w = mul-le-mul_right w (omega arith) in le-ltb k k' (omega arith) ∙ sym (le-ltb (k * w + j) (k' * w + j') (omega arith))
           ])
     ]
 

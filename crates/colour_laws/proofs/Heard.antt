@@ -16,7 +16,7 @@ use Rattle.colour_laws.specs.Colours.{colours_after}
 use Rattle.colour_laws.proofs.Expected.{place_in, heard, among}
 use Rattle.forests.specs.Forests.{role_of}
 use Rattle.colour_rules.proofs.Pairs.{same_bool}
-use Rattle.forests.proofs.Parents.{lt_test, not_lt_test}
+use Rattle.std.proofs.lemmas.Bool.{lt-ltb, le-ltb}
 
 -- Whether one of two, as a function that does not unfold by itself.
 unfoldable pub or : Bool → Bool → Bool
@@ -82,10 +82,10 @@ pub lt_more : (a s : ℕ) → nat_lt a (suc s) ≡ or (a == s) (nat_lt a s)
 unfolding or
 lt_more a s =
     elim (cases_order a s) [
-      | inl e ↦ let t : (a == s) ≡ true = grind (arith, nat_tests) in lt_test a (suc s) (omega arith) ∙ rw t refl
+      | inl e ↦ let t : (a == s) ≡ true = grind (arith, nat_tests) in lt-ltb a (suc s) (omega arith) ∙ rw t refl
       | inr side ↦ elim side [
-        | inl below ↦ let t : (a == s) ≡ false = grind (arith, nat_tests) in lt_test a (suc s) (omega arith) ∙ rw t (sym (lt_test a s below))
-        | inr above ↦ let t : (a == s) ≡ false = grind (arith, nat_tests) in not_lt_test a (suc s) (omega arith) ∙ rw t (sym (not_lt_test a s (omega arith)))
+        | inl below ↦ let t : (a == s) ≡ false = grind (arith, nat_tests) in lt-ltb a (suc s) (omega arith) ∙ rw t (sym (lt-ltb a s below))
+        | inr above ↦ let t : (a == s) ≡ false = grind (arith, nat_tests) in le-ltb a (suc s) (omega arith) ∙ rw t (sym (le-ltb a s (omega arith)))
       ]
     ]
 
@@ -96,7 +96,7 @@ heard_more near place new s c [] = refl
 heard_more near place new s c (w ∷ ws) = rw (lt_more (place w) s) (one_more (near w) (place w == s) (nat_lt (place w) s) new w c (map (λ w. slot_by (place w == s) (near w) (new w)) ws) (filter (λ w. if near w then nat_lt (place w) s else false) ws) (filter (λ w. if near w then nat_lt (place w) (suc s) else false) ws) (λ e l. grind (arith, nat_tests)) (heard_more near place new s c ws))
 
 never : (b : Bool) (x : ℕ) → (if b then nat_lt x 0 else false) ≡ false
-never true x = not_lt_test x 0 (omega arith)
+never true x = le-ltb x 0 (omega arith)
 never false x = refl
 
 nothing_heard : (near : ℕ → Bool) (place new : ℕ → ℕ) (ws : List ℕ) → map new (filter (λ w. if near w then nat_lt (place w) 0 else false) ws) ≡ []

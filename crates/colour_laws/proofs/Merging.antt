@@ -28,7 +28,7 @@ use Rattle.forests.specs.Forests.{parent}
 use Rattle.colour_laws.proofs.Lists.{map-map}
 use Rattle.colour_laws.proofs.Sound.{stages_are_three}
 use Rattle.colour_laws.proofs.Ports.{in_forest, accepted}
-use Rattle.forests.proofs.Parents.{lt_test, not_lt_test}
+use Rattle.std.proofs.lemmas.Bool.{lt-ltb, le-ltb}
 use Rattle.colour_rules.proofs.Pairs.{pair_test, phase_merge}
 use Rattle.colour_laws.proofs.Choices.{colours_within, choice_is}
 use Rattle.colour_laws.proofs.Heard.{or, lt_more, slot_by}
@@ -36,9 +36,9 @@ use Rattle.colour_laws.proofs.Heard.{or, lt_more, slot_by}
 port_chosen : (node : Node) (p f s c : ℕ) (earlier : List ℕ) (role : Role) → (role ≡ Unknown → ⊥) → 0 < s → number_of role ≤ f → c ≤ node.sizes.greatest_degree → port_rule node p earlier (Merge f s) role (Some (Chosen c)) ≡ None
 port_chosen node p f s c earlier Unknown known later low small = absurd (known refl)
 port_chosen node p f s c earlier (Up g) known later low small =
-    let e0 : (s == 0) ≡ false = grind (arith, nat_tests) in rw (e0, not_lt_test f g low, not_lt_test node.sizes.greatest_degree c small) refl
+    let e0 : (s == 0) ≡ false = grind (arith, nat_tests) in rw (e0, le-ltb f g low, le-ltb node.sizes.greatest_degree c small) refl
 port_chosen node p f s c earlier (Down g) known later low small =
-    let e0 : (s == 0) ≡ false = grind (arith, nat_tests) in rw (e0, not_lt_test f g low, not_lt_test node.sizes.greatest_degree c small) refl
+    let e0 : (s == 0) ≡ false = grind (arith, nat_tests) in rw (e0, le-ltb f g low, le-ltb node.sizes.greatest_degree c small) refl
 
 pub slot_fine : (e i : Bool) (node : Node) (p f s c : ℕ) (earlier : List ℕ) (role : Role) → (i ≡ true → number_of role ≤ f) → (role ≡ Unknown → ⊥) → 0 < s → c ≤ node.sizes.greatest_degree → port_rule node p earlier (Merge f s) role (slot_by e i c) ≡ None
 slot_fine true true node p f s c earlier role near known later small = port_chosen node p f s c earlier role known later (near refl) small
@@ -57,12 +57,12 @@ abbrev rule_if : Bool → Option ℕ
 rule_if b = if b then Some 4 else None
 
 own_when : (b : Bool) (d x : ℕ) → x ≤ d → (if b then rule_if (nat_lt d x) else None) ≡ None
-own_when true d x h = rw (not_lt_test d x h) refl
+own_when true d x h = rw (le-ltb d x h) refl
 own_when false d x h = refl
 
 merged_if : (b : Bool) (a s new old free : ℕ) → b ≡ (a == s) → (b ≡ true → free ≡ new) → (if b then free else (if nat_lt a s then new else old)) ≡ (if nat_lt a (suc s) then new else old)
 unfolding or
-merged_if true a s new old free e is = let t : nat_lt a (suc s) ≡ true = lt_test a (suc s) (let h : a ≡ s = grind (arith, nat_tests) in omega arith) in rw t (is refl)
+merged_if true a s new old free e is = let t : nat_lt a (suc s) ≡ true = lt-ltb a (suc s) (let h : a ≡ s = grind (arith, nat_tests) in omega arith) in rw t (is refl)
 merged_if false a s new old free e is = let t : nat_lt a (suc s) ≡ nat_lt a s = lt_more a s ∙ ap (λ b. or b (nat_lt a s)) (sym e) ∙ refl in rw t refl
 
 free_in : (limit : ℕ) (colours : List ℕ) → least_free_colour limit (contains (from_list {R = nat_cmp} colours)) ≡ least_free_colour limit (λ c. among c colours)

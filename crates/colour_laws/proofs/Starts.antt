@@ -19,7 +19,7 @@ use Rattle.colour_laws.specs.Colours.{colours}
 use Rattle.colour_laws.proofs.Expected.{stages, by_forest, worked, tells, IsForest, IsOriented, Fresh}
 use Rattle.forests.specs.Forests.{role_of}
 use Rattle.colour_laws.proofs.Lists.{map-map, map-members}
-use Rattle.forests.proofs.Parents.{lt_test, not_lt_test}
+use Rattle.std.proofs.lemmas.Bool.{lt-ltb, le-ltb}
 use Rattle.forests.specs.Forests.{role_by, number, up}
 use Rattle.colour_laws.proofs.Forests.{role_by-is}
 use Rattle.colour_laws.proofs.Ports.{accepted, ports_none}
@@ -74,7 +74,7 @@ module _ (net : Net) (ok : IsNetwork net) (forest : IsForest net) (start : IsOri
       (λ k h. role_by-is net ok v k is_vertex h)
 
   own_orient : (v : ℕ) → IsVertex net v → own_rule (greeted net v) 1 Orient (map (λ w. hello net w v) (neighbours net v)) ≡ None
-  own_orient v is_vertex = rw (ids_of-map (id_of net) (neighbours net v), not_lt_test (forest_count_of net) (count_by (nat_lt (id_of net v)) (map (id_of net) (neighbours net v))) (start.few_higher v is_vertex)) refl
+  own_orient v is_vertex = rw (ids_of-map (id_of net) (neighbours net v), le-ltb (forest_count_of net) (count_by (nat_lt (id_of net v)) (map (id_of net) (neighbours net v))) (start.few_higher v is_vertex)) refl
 
   orient_next : (v : ℕ) → IsVertex net v → next (greeted net v) 1 (map (λ w. hello net w v) (neighbours net v)) ≡ Ok (oriented_node net v, map (λ w. tells_label (orient net v w)) (neighbours net v))
   orient_next v is_vertex =
@@ -103,9 +103,9 @@ module _ (net : Net) (ok : IsNetwork net) (forest : IsForest net) (start : IsOri
       elim (cases_order (id_of net v) (id_of net w)) [
         | inl same ↦ absurd (start.not_own v k is_vertex h (sym same))
         | inr side ↦ elim side [
-          | inl lower ↦ let a : nat_lt (id_of net v) (id_of net w) ≡ true = lt_test (id_of net v) (id_of net w) lower in let b : nat_lt (id_of net w) (id_of net v) ≡ false = not_lt_test (id_of net w) (id_of net v) (omega arith) in rw (a, b) ((λ earlier. refl), refl)
-          | inr higher ↦ let a : nat_lt (id_of net v) (id_of net w) ≡ false = not_lt_test (id_of net v) (id_of net w) (omega arith) in let b : nat_lt (id_of net w) (id_of net v) ≡ true = lt_test (id_of net w) (id_of net v) higher in
-              let c : nat_lt (place_of v (up net w)) (forest_count_of net) ≡ true = lt_test (place_of v (up net w)) (forest_count_of net) (forest.down v k (place_of v (up net w)) is_vertex h (rw a refl)).1 in
+          | inl lower ↦ let a : nat_lt (id_of net v) (id_of net w) ≡ true = lt-ltb (id_of net v) (id_of net w) lower in let b : nat_lt (id_of net w) (id_of net v) ≡ false = le-ltb (id_of net w) (id_of net v) (omega arith) in rw (a, b) ((λ earlier. refl), refl)
+          | inr higher ↦ let a : nat_lt (id_of net v) (id_of net w) ≡ false = le-ltb (id_of net v) (id_of net w) (omega arith) in let b : nat_lt (id_of net w) (id_of net v) ≡ true = lt-ltb (id_of net w) (id_of net v) higher in
+              let c : nat_lt (place_of v (up net w)) (forest_count_of net) ≡ true = lt-ltb (place_of v (up net w)) (forest_count_of net) (forest.down v k (place_of v (up net w)) is_vertex h (rw a refl)).1 in
               rw (a, b) ((λ earlier. rw c refl), refl)
         ]
       ]

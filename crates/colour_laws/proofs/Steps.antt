@@ -19,7 +19,7 @@ use Rattle.colour_laws.proofs.Expected.{place_in, merged_by, ready, after_step, 
 use Rattle.forests.specs.Forests.{number, role_of}
 use Rattle.colour_laws.proofs.Lists.{map-members}
 use Rattle.colour_laws.proofs.Ports.{ports_none}
-use Rattle.forests.proofs.Parents.{lt_test, not_lt_test}
+use Rattle.std.proofs.lemmas.Bool.{lt-ltb, le-ltb}
 use Rattle.colour_laws.proofs.Choices.{place_within, colours_within}
 use Rattle.colour_laws.proofs.Heard.{slot_by, heard_set, more_set}
 use Rattle.colour_laws.proofs.Merging.{number-same, slot_fine, le_of, merge_next}
@@ -41,10 +41,10 @@ tells_by net f c w v = tells_known (nat_lt (id_of net w) (id_of net v)) f c (num
 
 -- What a node has merged at the first step of a forest, and at the last.
 pub nothing_merged : (net : Net) (f v : ℕ) → merged_by net f 0 v ≡ colours_after net f v
-nothing_merged net f v = rw (not_lt_test (place_in net f v) 0 (omega arith)) refl
+nothing_merged net f v = rw (le-ltb (place_in net f v) 0 (omega arith)) refl
 
 pub all_merged : (net : Net) (forest : IsForest net) (f s v : ℕ) → suc s ≡ steps (sizes_of net) → merged_by net f (suc s) v ≡ colours_after net (suc f) v
-all_merged net forest f s v e = rw (lt_test (place_in net f v) (suc s) (let h = place_within net forest f v in omega arith)) refl
+all_merged net forest f s v e = rw (lt-ltb (place_in net f v) (suc s) (let h = place_within net forest f v in omega arith)) refl
 
 module _ (net : Net) (ok : IsNetwork net) (forest : IsForest net) (f : ℕ) (in_range : f < forest_count_of net) where
   -- the first step of a forest, where nothing comes

@@ -1,6 +1,7 @@
 -- The recursion of the merge meets its equation, and alone does so.
 use Rattle.std.proofs.Common.{◌≡◌, ℕ, zero, suc, ◌<◌, ◌≤◌, Bool, true, false, refl, ap, sym, ◌∙◌, arith}
 use Rattle.std.specs.Prelude.{not, if◌then◌else◌, nat_lt}
+use Rattle.std.proofs.lemmas.Bool.{ltb-true}
 use Rattle.std.proofs.lemmas.Bool.Decides.{nat_tests}
 use Rattle.forest_merge.specs.Free.{is_among, least_free_colour}
 use Rattle.forest_merge.specs.Merge.{IsMerge, Merging, is_looked_at, is_taken, merge, merge_below, merge_in_class}
@@ -21,9 +22,6 @@ if-is : (b : Bool) (z x y : ℕ) → (b ≡ true → z ≡ x) → (b ≡ false �
 if-is true z x y left right = left refl
 if-is false z x y left right = right refl
 
-is_lt : (a b : ℕ) → nat_lt a b ≡ true → a < b
-is_lt a b h = grind (arith, nat_tests)
-
 in_one_class : (m : Merging) (v w : ℕ) → is_looked_at m v w ≡ true → nat_lt (m.three w) (m.three v) ≡ false → (m.three w ≡ m.three v) × (m.old w < m.old v)
 in_one_class m v w h same = (grind (arith, nat_tests), grind (arith, nat_tests))
 
@@ -36,7 +34,7 @@ class-same m lower lower' k same (suc n) (suc n') v at h h' =
     (λ w. if nat_lt (m.three w) (m.three v) then lower w else merge_in_class m lower n w)
     (λ w. if nat_lt (m.three w) (m.three v) then lower' w else merge_in_class m lower' n' w)
     (λ w looked. if-same (nat_lt (m.three w) (m.three v)) (lower w) (merge_in_class m lower n w) (lower' w) (merge_in_class m lower' n' w)
-    (λ t. let less : m.three w < m.three v = is_lt (m.three w) (m.three v) t in same w (omega arith))
+    (λ t. let less : m.three w < m.three v = ltb-true (m.three w) (m.three v) t in same w (omega arith))
     (λ f. let pair : (m.three w ≡ m.three v) × (m.old w < m.old v) = in_one_class m v w looked f in
     class-same m lower lower' k same n n' w (omega arith) (omega arith) (omega arith)))
 
@@ -53,7 +51,7 @@ merge-is m v =
     (λ w. if nat_lt (m.three w) (m.three v) then merge_below m (m.three v) w else merge_in_class m (merge_below m (m.three v)) (m.old v) w)
     (merge m)
     (λ w looked. sym (if-is (nat_lt (m.three w) (m.three v)) (merge m w) (merge_below m (m.three v) w) (merge_in_class m (merge_below m (m.three v)) (m.old v) w)
-    (λ t. let less : m.three w < m.three v = is_lt (m.three w) (m.three v) t in below-same m (suc (m.three w)) (m.three v) w (omega arith) less)
+    (λ t. let less : m.three w < m.three v = ltb-true (m.three w) (m.three v) t in below-same m (suc (m.three w)) (m.three v) w (omega arith) less)
     (λ f. let pair : (m.three w ≡ m.three v) × (m.old w < m.old v) = in_one_class m v w looked f in
     class-same m (merge_below m (m.three w)) (merge_below m (m.three v)) (m.three w) (λ u less. below-same m (m.three w) (m.three v) u less (omega arith)) (suc (m.old w)) (m.old v) w (omega arith) (omega arith) (omega arith))))
 

@@ -11,6 +11,7 @@ use Rattle.std.proofs.lemmas.List.{append-nil, get_or-set_same, get_or-set_other
 use Rattle.std.proofs.lemmas.List.Elements.{filter_map-append}
 use Rattle.std.proofs.lemmas.List.FromFn.{length-range_with_len, get_or-range_with_len}
 use Rattle.interference.specs.Net.{Net}
+use Rattle.interference.proofs.Members.{range-more}
 use Rattle.forests.specs.Forests.{up, parent, edge_up}
 use Rattle.forests.specs.Dealing.{with_id, edge_to, edge_at}
 
@@ -54,10 +55,6 @@ edge-is net f v (Some w) = refl
 -- what is dealt to forest f is the edge up from v, where v has a parent there
 pub edge_at-is : (net : Net) (f v : ℕ) → edge_at f v (map (with_id net) (up net v)) ≡ cons_option (edge_up net f v) []
 edge_at-is net f v = ap (λ o. edge_to f v o) (slice_get-map (with_id net) (up net v) f) ∙ edge-is net f v (parent net f v)
-
-range-more : (a n : ℕ) → range_with_len a (suc n) ≡ range_with_len a n ++ (a + n) ∷ []
-range-more a zero = let e : a ≡ a + 0 = omega arith in ap (λ (k : ℕ). k ∷ []) e
-range-more a (suc n) = ap (λ ks. a ∷ ks) (range-more (a + 1) n ∙ (let e : a + 1 + n ≡ a + suc n = omega arith in ap (λ (k : ℕ). range_with_len (a + 1) n ++ k ∷ []) e))
 
 pub forest-more : (net : Net) (f n : ℕ) → filter_map (edge_up net f) (range_with_len 1 (n + 1)) ≡ filter_map (edge_up net f) (range_with_len 1 n) ++ cons_option (edge_up net f (n + 1)) []
 forest-more net f n =

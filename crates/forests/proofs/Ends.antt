@@ -2,13 +2,12 @@
 use Rattle.std.proofs.Common.{◌≡◌, ◌≢◌, ◌↔◌, ℕ, ◌<◌, ◌≤◌, Bool, true, false, refl, ap, sym, ◌∙◌, arith, subst, Some, inl, inr}
 use Rattle.std.specs.Prelude.{if◌then◌else◌, nat_lt}
 use Rattle.std.specs.List.{Contains}
-use Rattle.std.proofs.lemmas.Bool.{cases_order}
-use Rattle.std.proofs.lemmas.Bool.Decides.{nat_tests}
+use Rattle.std.proofs.lemmas.Bool.{cases_order, ltb-true, ltb-false, lt-ltb, le-ltb}
 use Rattle.interference.specs.Net.{Net, IsNetwork, IsVertex, id_of, neighbours, forest_count_of}
 use Rattle.interference.proofs.Neighbours.{both-ways, neighbour-is_vertex, neighbour-id, port-of}
 use Rattle.forests.specs.Forests.{parent, number, role_of}
 use Rattle.forests.specs.declared.numbering.Role.TheVariants.{Unknown, Up, Down}
-use Rattle.forests.proofs.Parents.{lt_test, not_lt_test, is_lt, parent-higher, number-parent, parent-number, parent-below, number-swap}
+use Rattle.forests.proofs.Parents.{parent-higher, number-parent, parent-number, parent-below, number-swap}
 
 role_if_up : (b : Bool) (x f : ℕ) → (if b then Up x else Down x) ≡ Up f → (b ≡ true) × (x ≡ f)
 role_if_up true x f e = (refl, cc)
@@ -18,28 +17,25 @@ role_if_down : (b : Bool) (x f : ℕ) → (if b then Up x else Down x) ≡ Down 
 role_if_down true x f e = absurd (cc)
 role_if_down false x f e = (refl, cc)
 
-not_lt : (a b : ℕ) → nat_lt a b ≡ false → b ≤ a
-not_lt a b h = grind (arith, nat_tests)
-
 pub up-role : (net : Net) (v w f : ℕ) → role_of net v w ≡ Up f → (id_of net v < id_of net w) × (number net v w ≡ f)
 unfolding role_of
 up-role net v w f e =
     let both : (nat_lt (id_of net v) (id_of net w) ≡ true) × (number net v w ≡ f) = role_if_up (nat_lt (id_of net v) (id_of net w)) (number net v w) f e in
-    (is_lt (id_of net v) (id_of net w) both.0, both.1)
+    (ltb-true (id_of net v) (id_of net w) both.0, both.1)
 
 pub down-role : (net : Net) (v w f : ℕ) → role_of net v w ≡ Down f → (id_of net w ≤ id_of net v) × (number net v w ≡ f)
 unfolding role_of
 down-role net v w f e =
     let both : (nat_lt (id_of net v) (id_of net w) ≡ false) × (number net v w ≡ f) = role_if_down (nat_lt (id_of net v) (id_of net w)) (number net v w) f e in
-    (not_lt (id_of net v) (id_of net w) both.0, both.1)
+    (ltb-false (id_of net v) (id_of net w) both.0, both.1)
 
 pub to-up : (net : Net) (v w : ℕ) → id_of net v < id_of net w → role_of net v w ≡ Up (number net v w)
 unfolding role_of
-to-up net v w h = let e : nat_lt (id_of net v) (id_of net w) ≡ true = lt_test (id_of net v) (id_of net w) h in ap (λ (b : Bool). if b then Up (number net v w) else Down (number net v w)) e
+to-up net v w h = let e : nat_lt (id_of net v) (id_of net w) ≡ true = lt-ltb (id_of net v) (id_of net w) h in ap (λ (b : Bool). if b then Up (number net v w) else Down (number net v w)) e
 
 pub to-down : (net : Net) (v w : ℕ) → id_of net w ≤ id_of net v → role_of net v w ≡ Down (number net v w)
 unfolding role_of
-to-down net v w h = let e : nat_lt (id_of net v) (id_of net w) ≡ false = not_lt_test (id_of net v) (id_of net w) h in ap (λ (b : Bool). if b then Up (number net v w) else Down (number net v w)) e
+to-down net v w h = let e : nat_lt (id_of net v) (id_of net w) ≡ false = le-ltb (id_of net v) (id_of net w) h in ap (λ (b : Bool). if b then Up (number net v w) else Down (number net v w)) e
 
 role_if_known : (b : Bool) (x : ℕ) → (if b then Up x else Down x) ≡ Unknown → ⊥
 role_if_known true x e = absurd (cc)

@@ -2,25 +2,18 @@
 use Rattle.std.proofs.Common.{◌≡◌, ◌≢◌, ℕ, ◌<◌, Bool, true, false, List, [], ◌∷◌, length, get_or, map, refl, ap, sym, ◌∙◌}
 use Rattle.std.specs.Prelude.{if◌then◌else◌, cond, filter, nat_lt}
 use Rattle.std.specs.List.{AllPairs, Contains}
+use Rattle.std.proofs.lemmas.Bool.{ltb-true}
 use Rattle.std.proofs.lemmas.List.{get_or-map, length-map, same_lists}
 use Rattle.std.proofs.lemmas.List.Elements.{Contains-get_or}
 use Rattle.interference.specs.Net.{Net, IsNetwork, IsVertex, id_of, neighbours, place_of}
-use Rattle.interference.proofs.Members.{place_of-is, place_of-below}
+use Rattle.interference.proofs.Members.{filter-map, place_of-is, place_of-below}
 use Rattle.forests.specs.Order.{in_order}
 use Rattle.forests.specs.Forests.{higher, up, number, role_by, role_of}
 use Rattle.forests.specs.declared.numbering.Role.TheVariants.{Unknown, Up, Down}
 use Rattle.forests.proofs.Orders.{ascending-apart}
 use Rattle.forests.proofs.Sorts.{order-map, keys-apart}
 use Rattle.forests.proofs.Places.{place-at}
-use Rattle.forests.proofs.Parents.{in-up, is_lt, up-ascends}
-
-kept-map : (b : Bool) (f : ℕ → ℕ) (x : ℕ) (xs ys : List ℕ) → ys ≡ map f xs → cond b (f x ∷ ys) ys ≡ map f (cond b (x ∷ xs) xs)
-kept-map true f x xs ys e = ap (λ zs. f x ∷ zs) e
-kept-map false f x xs ys e = e
-
-filter-map : (test : ℕ → Bool) (f : ℕ → ℕ) (xs : List ℕ) → filter test (map f xs) ≡ map f (filter (λ x. test (f x)) xs)
-filter-map test f [] = refl
-filter-map test f (x ∷ xs) = kept-map (test (f x)) f x (filter (λ y. test (f y)) xs) (filter test (map f xs)) (filter-map test f xs)
+use Rattle.forests.proofs.Parents.{in-up, up-ascends}
 
 -- the identifiers above that of v, in order, are those of its higher neighbours, in order
 ids-above : (net : Net) (v : ℕ) → in_order (λ i. i) (filter (nat_lt (id_of net v)) (map (id_of net) (neighbours net v))) ≡ map (id_of net) (up net v)
@@ -42,7 +35,7 @@ module _ (net : Net) (ok : IsNetwork net) (v w : ℕ) (vertex : IsVertex net v) 
       ap (λ (i : ℕ). place_of i (map (id_of net) (up net v))) (sym at) ∙ place-at (map (id_of net) (up net v)) (place_of w (up net v)) apart long
 
   same-number : nat_lt (id_of net v) (id_of net w) ≡ true → place_of (id_of net w) (in_order (λ i. i) (filter (nat_lt (id_of net v)) (map (id_of net) (neighbours net v)))) ≡ number net v w
-  same-number test = rw test (ap (λ ids. place_of (id_of net w) ids) (ids-above net v) ∙ same-place (is_lt (id_of net v) (id_of net w) test))
+  same-number test = rw test (ap (λ ids. place_of (id_of net w) ids) (ids-above net v) ∙ same-place (ltb-true (id_of net v) (id_of net w) test))
 
   pub role_by-is : role_by (id_of net v) (map (id_of net) (neighbours net v)) (id_of net w) ≡ (if nat_lt (id_of net v) (id_of net w) then role_of net v w else Unknown)
   unfolding role_by role_of

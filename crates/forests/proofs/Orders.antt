@@ -11,6 +11,7 @@ use Rattle.std.proofs.lemmas.Bool.{cases_order}
 use Rattle.std.proofs.lemmas.List.Elements.{All-cons, All-weaker}
 use Rattle.std.proofs.lemmas.List.Kept.{AllPairs-cons}
 use Rattle.std.proofs.lemmas.List.Sorted.{IsPermutation-refl, IsPermutation-cons, IsPermutation-trans, IsPermutation-sym, IsPermutation-swap, Contains-permutation, All-permutation}
+use Rattle.interference.proofs.Members.{Contains-tail}
 use Rattle.forests.specs.Order.{put_in_order, in_order, IsAscendingBy, HasDistinctKeys}
 
 first-two : {X : Type 0} (x y : X) (ys : List X) → IsPermutation (x ∷ y ∷ ys) (y ∷ x ∷ ys)
@@ -65,9 +66,6 @@ HasAll {X} xs ys = (x : X) → Contains xs x → Contains ys x
 at_head : {X : Type 0} (x : X) (xs : List X) → Contains (x ∷ xs) x
 at_head x xs = (0, omega arith, refl)
 
-in_tail : {X : Type 0} (x y : X) (ys : List X) → Contains ys x → Contains (y ∷ ys) x
-in_tail x y ys h = (suc h.0, omega (arith, h.1), h.2)
-
 -- an entry of an ascending list is the first one or above it
 head_or_above : {X : Type 0} (key : X → ℕ) (x y : X) (ys : List X) → IsAscendingBy key (y ∷ ys) → Contains (y ∷ ys) x → (y ≡ x) ⊎ (Contains ys x × (key y < key x))
 head_or_above key x y ys up (zero, below, is) = inl is
@@ -89,7 +87,7 @@ same_head key x y xs ys up vp there back =
 -- with one head, the tails have the same entries
 tail-has : {X : Type 0} (key : X → ℕ) (x : X) (xs ys : List X) → IsAscendingBy key (x ∷ xs) → IsAscendingBy key (x ∷ ys) → HasAll (x ∷ xs) (x ∷ ys) → HasAll xs ys
 tail-has key x xs ys up vp there z h =
-    elim (head_or_above key z x ys vp (there z (in_tail z x xs h))) [
+    elim (head_or_above key z x ys vp (there z (Contains-tail z x xs h))) [
       | inl same ↦ let above : key x < key z = subst (λ u. key x < key u) h.2 (up 0 (suc h.0) z (omega arith) (omega (arith, h.1))) in absurd (let e : key x ≡ key z = ap key same in omega arith)
       | inr more ↦ more.0
     ]

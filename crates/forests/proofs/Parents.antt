@@ -2,8 +2,7 @@
 use Rattle.std.proofs.Common.{◌≡◌, ◌≢◌, ◌↔◌, ℕ, zero, suc, ◌<◌, ◌≤◌, Bool, true, false, length, get_or, refl, ap, sym, ◌∙◌, arith, subst, Some, inl, inr}
 use Rattle.std.specs.Prelude.{nat_lt, count_by}
 use Rattle.std.specs.List.{Contains}
-use Rattle.std.proofs.lemmas.Bool.Decides.{nat_tests}
-use Rattle.std.proofs.lemmas.Bool.{cases_order}
+use Rattle.std.proofs.lemmas.Bool.{cases_order, ltb-true, lt-ltb, le-ltb}
 use Rattle.std.proofs.lemmas.List.Sorted.{Contains-permutation, IsPermutation-sym}
 use Rattle.std.proofs.lemmas.Option.{slice_get_within, get_or_from_slice_get, slice_get-get_or}
 use Rattle.interference.specs.Net.{Net, IsNetwork, IsVertex, id_of, neighbours, place_of, higher_count, forest_count_of, count_of, greatest_from}
@@ -16,15 +15,6 @@ use Rattle.forests.proofs.Places.{place-at}
 use Rattle.forests.proofs.Highers.{higher-apart, length-up}
 use Rattle.forests.proofs.Ranks.{rank-at, count-moved, count-filtered}
 
-pub lt_test : (a b : ℕ) → a < b → nat_lt a b ≡ true
-lt_test a b h = grind (arith, nat_tests)
-
-pub not_lt_test : (a b : ℕ) → b ≤ a → nat_lt a b ≡ false
-not_lt_test a b h = grind (arith, nat_tests)
-
-pub is_lt : (a b : ℕ) → nat_lt a b ≡ true → a < b
-is_lt a b h = grind (arith, nat_tests)
-
 some-same : {X : Type 0} (x y : X) → Some x ≡ Some y → x ≡ y
 some-same x y e = cc
 
@@ -33,7 +23,7 @@ module _ (net : Net) (v w : ℕ) where
   pub in-up : Contains (neighbours net v) w → id_of net v < id_of net w → Contains (up net v) w
   unfolding up
   in-up has above = Contains-permutation (higher net v) (in_order (id_of net) (higher net v)) w (order-moves (id_of net) (higher net v))
-      (Contains-filter (λ u. nat_lt (id_of net v) (id_of net u)) (neighbours net v) w has (lt_test (id_of net v) (id_of net w) above))
+      (Contains-filter (λ u. nat_lt (id_of net v) (id_of net u)) (neighbours net v) w has (lt-ltb (id_of net v) (id_of net w) above))
 
   from-up : Contains (up net v) w → Contains (higher net v) w
   unfolding up
@@ -43,7 +33,7 @@ module _ (net : Net) (v w : ℕ) where
   up-neighbour has = Contains-from_filter (λ u. nat_lt (id_of net v) (id_of net u)) (neighbours net v) w (from-up has)
 
   pub up-higher : Contains (up net v) w → id_of net v < id_of net w
-  up-higher has = is_lt (id_of net v) (id_of net w) (passes-from_filter (λ u. nat_lt (id_of net v) (id_of net u)) (neighbours net v) w (from-up has))
+  up-higher has = ltb-true (id_of net v) (id_of net w) (passes-from_filter (λ u. nat_lt (id_of net v) (id_of net u)) (neighbours net v) w (from-up has))
 
 pub parent-in_up : (net : Net) (f v w : ℕ) → parent net f v ≡ Some w → Contains (up net v) w
 parent-in_up net f v w e = (f, slice_get_within (up net v) f w e, get_or_from_slice_get (up net v) f w w e)
@@ -88,10 +78,10 @@ module _ (net : Net) (ok : IsNetwork net) (v : ℕ) (vertex : IsVertex net v) wh
 
   -- ---- the number of an edge
   pub number-parent : (w : ℕ) → Contains (neighbours net v) w → id_of net v < id_of net w → parent net (number net v w) v ≡ Some w
-  number-parent w has above = rw (lt_test (id_of net v) (id_of net w) above) (place-parent net v w (in-up net v w has above))
+  number-parent w has above = rw (lt-ltb (id_of net v) (id_of net w) above) (place-parent net v w (in-up net v w has above))
 
   pub parent-number : (f w : ℕ) → parent net f v ≡ Some w → f ≡ number net v w
-  parent-number f w e = rw (lt_test (id_of net v) (id_of net w) (parent-higher net f v w e)) (sym (parent-place f w e))
+  parent-number f w e = rw (lt-ltb (id_of net v) (id_of net w) (parent-higher net f v w e)) (sym (parent-place f w e))
 
   pub parent-below : (f w : ℕ) → parent net f v ≡ Some w → f < forest_count_of net
   parent-below f w e =
@@ -103,8 +93,8 @@ number-swap net v w ne =
     elim (cases_order (id_of net v) (id_of net w)) [
       | inl same ↦ absurd (ne same)
       | inr side ↦ elim side [
-        | inl below ↦ rw (lt_test (id_of net v) (id_of net w) below, not_lt_test (id_of net w) (id_of net v) (omega arith)) refl
-        | inr above ↦ rw (not_lt_test (id_of net v) (id_of net w) (omega arith), lt_test (id_of net w) (id_of net v) above) refl
+        | inl below ↦ rw (lt-ltb (id_of net v) (id_of net w) below, le-ltb (id_of net w) (id_of net v) (omega arith)) refl
+        | inr above ↦ rw (le-ltb (id_of net v) (id_of net w) (omega arith), lt-ltb (id_of net w) (id_of net v) above) refl
       ]
     ]
 

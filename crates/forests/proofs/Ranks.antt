@@ -3,7 +3,7 @@ use Rattle.std.proofs.Common.{◌≡◌, ℕ, zero, suc, ◌<◌, ◌≤◌, Boo
 use Rattle.std.specs.Prelude.{cond, filter, nat_lt, count_by, ◌&&◌}
 use Rattle.std.specs.List.{All}
 use Rattle.std.specs.List.Sorted.{IsPermutation}
-use Rattle.std.proofs.lemmas.Bool.Decides.{nat_tests}
+use Rattle.std.proofs.lemmas.Bool.{lt-ltb, le-ltb}
 use Rattle.std.proofs.lemmas.List.Elements.{All-weaker, All-head, All-tail}
 use Rattle.std.proofs.lemmas.List.Sums.{length-filter}
 use Rattle.std.proofs.lemmas.List.Sorted.{sum_by-IsPermutation}
@@ -14,20 +14,14 @@ filter-none : {X : Type 0} (test : X → Bool) (xs : List X) → All (λ x. test
 filter-none test [] none = refl
 filter-none test (x ∷ xs) none = rw (All-head (λ y. test y ≡ false) x xs none) (filter-none test xs (All-tail (λ y. test y ≡ false) x xs none))
 
-not_below : (a b : ℕ) → a ≤ b → nat_lt b a ≡ false
-not_below a b h = grind (arith, nat_tests)
-
-is_below : (a b : ℕ) → a < b → nat_lt a b ≡ true
-is_below a b h = grind (arith, nat_tests)
-
 lower-count : {X : Type 0} (key : X → ℕ) (xs : List X) (k : ℕ) (d : X) → IsAscendingBy key xs → k < length xs → length (filter (λ x. nat_lt (key x) (key (get_or xs k d))) xs) ≡ k
 lower-count key [] k d up h = absurd (omega arith)
 lower-count key (x ∷ xs) zero d up h =
-    let here : nat_lt (key x) (key x) ≡ false = not_below (key x) (key x) (omega arith) in
-    let later : All (λ y. nat_lt (key y) (key x) ≡ false) xs = All-weaker (λ y. key x < key y) (λ y. nat_lt (key y) (key x) ≡ false) (λ y l. not_below (key x) (key y) (omega arith)) xs (pairs-head (λ a b. key a < key b) x xs up) in
+    let here : nat_lt (key x) (key x) ≡ false = le-ltb (key x) (key x) (omega arith) in
+    let later : All (λ y. nat_lt (key y) (key x) ≡ false) xs = All-weaker (λ y. key x < key y) (λ y. nat_lt (key y) (key x) ≡ false) (λ y l. le-ltb (key y) (key x) (omega arith)) xs (pairs-head (λ a b. key a < key b) x xs up) in
     rw here (ap length (filter-none (λ y. nat_lt (key y) (key x)) xs later))
 lower-count key (x ∷ xs) (suc k) d up h =
-    let here : nat_lt (key x) (key (get_or xs k d)) ≡ true = is_below (key x) (key (get_or xs k d)) (up 0 (suc k) d (omega arith) h) in
+    let here : nat_lt (key x) (key (get_or xs k d)) ≡ true = lt-ltb (key x) (key (get_or xs k d)) (up 0 (suc k) d (omega arith) h) in
     rw here (ap suc (lower-count key xs k d (pairs-tail (λ a b. key a < key b) x xs up) (omega arith)))
 
 -- in an ascending list

@@ -5,7 +5,7 @@ use Rattle.std.specs.Option.{option_map}
 use Rattle.std.proofs.lemmas.List.Elements.{All-cons, All-append, All-weaker, All-contains, Contains-append_left, Contains-append_right, Contains-append_cases}
 use Rattle.std.proofs.lemmas.List.Kept.{AllPairs-cons}
 use Rattle.interference.specs.Net.{Net, IsNetwork, IsVertex, count_of, vertices, forest_count_of}
-use Rattle.interference.proofs.Members.{Contains-range, range-bounds}
+use Rattle.interference.proofs.Members.{Contains-tail, Contains-range, range-bounds}
 use Rattle.forests.specs.Forests.{parent, edge_up, forest_edges, triples, IsBefore}
 use Rattle.forests.proofs.Orders.{pairs-head, pairs-tail}
 use Rattle.forests.proofs.Parents.{parent-below}
@@ -18,12 +18,9 @@ first-or_rest : {X : Type 0} (x y : X) (ys : List X) → Contains (y ∷ ys) x �
 first-or_rest x y ys (zero, low, is) = inl is
 first-or_rest x y ys (suc k, low, is) = inr (k, omega arith, is)
 
-in-rest : {X : Type 0} (x y : X) (ys : List X) → Contains ys x → Contains (y ∷ ys) x
-in-rest x y ys h = (suc h.0, omega (arith, h.1), h.2)
-
 kept-rest : {Y : Type 0} (y : Y) (o : Option Y) (rest : List Y) → Contains rest y → Contains (cons_option o rest) y
 kept-rest y None rest h = h
-kept-rest y (Some z) rest h = in-rest y z rest h
+kept-rest y (Some z) rest h = Contains-tail y z rest h
 
 kept-from : {Y : Type 0} (y : Y) (o : Option Y) (rest : List Y) → Contains (cons_option o rest) y → (o ≡ Some y) ⊎ Contains rest y
 kept-from y None rest h = inr h
@@ -46,7 +43,7 @@ from-filter_map h [] y has = absurd (none-there y has)
 from-filter_map h (z ∷ zs) y has =
     elim (kept-from y (h z) (filter_map h zs) has) [
       | inl is ↦ (z, (0, omega arith, refl), is)
-      | inr more ↦ let (x, there, is) = from-filter_map h zs y more in (x, in-rest x z zs there, is)
+      | inr more ↦ let (x, there, is) = from-filter_map h zs y more in (x, Contains-tail x z zs there, is)
     ]
 
 in-flat_map : {X Y : Type 0} (f : X → List Y) (xs : List X) (x : X) (y : Y) → Contains xs x → Contains (f x) y → Contains (flat_map f xs) y
@@ -62,7 +59,7 @@ from-flat_map f [] y has = absurd (none-there y has)
 from-flat_map f (z ∷ zs) y has =
     elim (Contains-append_cases (f z) (flat_map f zs) y has) [
       | inl here ↦ (z, (0, omega arith, refl), here)
-      | inr more ↦ let (x, there, is) = from-flat_map f zs y more in (x, in-rest x z zs there, is)
+      | inr more ↦ let (x, there, is) = from-flat_map f zs y more in (x, Contains-tail x z zs there, is)
     ]
 
 edge-parts : (g u f v w : ℕ) (o : Option ℕ) → option_map {U = ℕ × ℕ × ℕ} (λ x. (g, u, x)) o ≡ Some (f, v, w) → (g ≡ f) × (u ≡ v) × (o ≡ Some w)

@@ -5,16 +5,12 @@ use Rattle.interference.specs.Net.{IsVertex, degree_of}
 use Rattle.interference.specs.declared.limits.TheConstants.{MAX_DEGREE}
 use Rattle.interference.specs.Making.{EdgesFit, network_of, IsCrowded, IsClash}
 use Rattle.interference.specs.Filling.{AreDegrees, IsFirstCrowded, HasNoTwins, IsFirstTwins}
-use Rattle.interference.proofs.Made.{neighbours-network_of}
+use Rattle.interference.proofs.Made.{neighbours-network_of, is_vertex}
 use Rattle.interference.proofs.RowIn.{length-row_in}
 use Rattle.interference.proofs.SameRow.{same_row}
 use Rattle.interference.proofs.Starting.{degree_in-zero}
 
 module _ (ids : List ℕ) (edges : List (ℕ × ℕ)) where
-  vertex_is : (v : ℕ) → IsVertex (network_of ids edges) v → (1 ≤ v) × (v ≤ length ids)
-  unfolding network_of
-  vertex_is v h = h
-
   vertex_from : (v : ℕ) → 1 ≤ v → v ≤ length ids → IsVertex (network_of ids edges) v
   unfolding network_of
   vertex_from v low high = (low, high)
@@ -32,13 +28,13 @@ module _ (ids : List ℕ) (edges : List (ℕ × ℕ)) where
         let high : v ≤ length ids = omega (arith, first.0, are.size) in (
           (vertex_from v low high, omega (arith, degree_is v low high, first.1)),
           (λ u crowded.
-              let vertex = vertex_is u crowded.0 in
+              let vertex = is_vertex ids edges u crowded.0 in
               ⊎_elim (λ less. absurd (omega (arith, first.2 u less, crowded.1, degree_is u vertex.0 vertex.1))) (λ more. more) (cases_lt u v)),
         )
 
     pub none_crowded : All (λ degree. degree ≤ MAX_DEGREE) degrees → (v : ℕ) → IsCrowded (network_of ids edges) v → ⊥
     none_crowded few v crowded =
-        let vertex = vertex_is v crowded.0 in
+        let vertex = is_vertex ids edges v crowded.0 in
         omega (arith, few v 0 (omega (arith, are.size)), crowded.1, degree_is v vertex.0 vertex.1)
 
   pub none_clash : HasNoTwins ids (length ids) → (v w : ℕ) → IsClash (network_of ids edges) v w → ⊥

@@ -3,34 +3,19 @@ use Rattle.std.proofs.Common.{◌≡◌, ◌≢◌, ℕ, ◌+◌, ◌<◌, ◌�
 use Rattle.std.specs.Bool.{Decides}
 use Rattle.std.specs.List.{Contains, range_with_len}
 use Rattle.std.specs.List.Sorted.{IsStrictlySortedBy}
-use Rattle.std.specs.Ordering.{nat_cmp, is_eq}
-use Rattle.std.specs.Cmp.{IsTotalOrder, IsEquivalence}
-use Rattle.std.specs.declared.cmp.Ordering.{Ordering}
-use Rattle.std.specs.declared.cmp.Ordering.TheVariants.{Less, Equal, Greater}
+use Rattle.std.specs.Ordering.{nat_cmp}
 use Rattle.std.proofs.Math.Nat.{min_comm, max_comm}
-use Rattle.std.proofs.lemmas.Cmp.{then_total, on_total, nat_cmp_total, eq_by_cmp_equiv}
 use Rattle.std.proofs.lemmas.List.Elements.{All-contains}
 use Rattle.std.proofs.lemmas.List.Kept.{IsStrictlySortedBy-filter}
-use Rattle.std.proofs.lemmas.Map.Lookups.{exact_pairs, exact_unsigned}
 use Rattle.std.proofs.lemmas.Map.Made.{is_member-Decides}
-use Rattle.dimacs_col.specs.Pairs.{pair_cmp, same_pair, IsWithinLimits}
+use Rattle.dimacs_col.specs.Pairs.{same_pair, IsWithinLimits}
+use Rattle.dimacs_col.proofs.Members.{same_pair-laws, same_pair-exact}
 use Rattle.interference.specs.Making.{joins, joined_to}
 use Rattle.interference.proofs.Members.{Contains-filter, Contains-from_filter, passes-from_filter, Contains-range, range-bounds, range-ascends}
 
-equal-from : (o : Ordering) → is_eq o ≡ true → o ≡ Equal
-equal-from Less e = absurd cc
-equal-from Equal e = refl
-equal-from Greater e = absurd cc
-
-pub pair_total : IsTotalOrder pair_cmp
-pair_total = then_total (on_total (λ p. p.0) nat_cmp_total) (on_total (λ p. p.1) nat_cmp_total)
-
-same_pair-laws : IsEquivalence same_pair
-same_pair-laws = eq_by_cmp_equiv pair_total
-
 pub same_pair-decides : (p q : ℕ × ℕ) → Decides (same_pair p q) (p ≡ q)
 same_pair-decides p q = (
-  (λ e. exact_pairs nat_cmp nat_cmp exact_unsigned exact_unsigned p q (equal-from (pair_cmp p q) e)),
+  (λ e. same_pair-exact p q e),
   (λ e. ap (same_pair p) (sym e) ∙ same_pair-laws.refl p),
 )
 

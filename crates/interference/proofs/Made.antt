@@ -25,7 +25,7 @@ module _ (ids : List ℕ) (edges : List (ℕ × ℕ)) where
   unfolding network_of
   neighbours-network_of v low high = get_or-map-range_with_len (joined_to (length ids) edges) 1 (length ids) (v - 1) v [] (omega arith) (omega arith)
 
-  is_vertex : (v : ℕ) → IsVertex (network_of ids edges) v → (1 ≤ v) × (v ≤ length ids)
+  pub is_vertex : (v : ℕ) → IsVertex (network_of ids edges) v → (1 ≤ v) × (v ≤ length ids)
   unfolding network_of
   is_vertex v h = h
 

@@ -4,7 +4,7 @@ use Rattle.std.proofs.lemmas.Map.Keys.{Less-from_sorted, sorted_from_all_adjacen
 use Rattle.std.specs.declared.cmp.Ordering.TheVariants.{Less}
 use Rattle.dimacs_col.specs.Pairs.{pair_cmp}
 use Rattle.interference.specs.Filling.{edge_at}
-use Rattle.interference.proofs.Joined.{pair_total}
+use Rattle.dimacs_col.proofs.Members.{pair_total}
 use Rattle.interference.proofs.edges.ascend.Goals as goal
 
 pub returns-then-not-comes_before : goal.returns-then-not-comes_before
