@@ -1,0 +1,5 @@
+pub mod Fits
+pub mod Simulates
+pub mod Position
+pub mod Kept
+pub mod Laws

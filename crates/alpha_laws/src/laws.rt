@@ -1,0 +1,14 @@
+//! What holds of nodes under synchroniser alpha. Each law is a function that does nothing: its contract
+//! is the law.
+
+ghost use Rattle.interference.specs.Net.{Net};
+ghost use Rattle.node_api.specs.Program.{Program};
+ghost use Rattle.alpha_laws.specs.Laws.{OnEveryNetwork, PulsesKeep, PutsKeep, StartsKeep, TakesKeep};
+
+/// Each event of a node by itself leaves what it keeps of its links.
+pub fn each_event_keeps_the_links<S, M, E>()
+    ensures starts { (program : Program S M E) → OnEveryNetwork program (StartsKeep program) }
+    ensures puts { (program : Program S M E) (net : Net) → PutsKeep program net }
+    ensures takes { (program : Program S M E) (net : Net) → TakesKeep program net }
+    ensures pulses { (program : Program S M E) → OnEveryNetwork program (PulsesKeep program) }
+{}

@@ -1,0 +1,16 @@
+//! The simulation, as laws: whatever the order of puts, takes and pulses, a node under synchroniser alpha
+//! (Awerbuch 1985) that has made pulse p is in the state of the synchronous run at p, and each pulse had
+//! exactly that round's inbox.
+//!
+//! `Simulates` of `specs/Simulates.antt` is the claim, one field for each of its words; `NodeFits` of
+//! `specs/Fits.antt` says when one node fits the lists of its links. `Kept` of `specs/Kept.antt` is what
+//! each node keeps by itself. `net_core` cites the laws for lists of events.
+//!
+//! ```text
+//! alpha_laws::laws::kept_links_simulate::<S, M, E>(); // brings the law into a proof
+//! ```
+//!
+//! Limits: it is laws alone. No code that runs a node stands here.
+#![tactic(auto)]
+
+pub mod laws;
