@@ -6,6 +6,8 @@ pub mod Slots
 pub mod Takes
 pub mod TakesPayload
 pub mod Emits
+pub mod Edge
+pub mod NextWire
 pub mod Shown
 pub mod Lawful
 pub mod Local
@@ -16,3 +18,9 @@ pub mod TakesDue
 pub mod NodeTakes
 pub mod NodePulses
 pub mod NodeLaws
+pub mod Across
+pub mod Listed
+pub mod PortClaims
+pub mod Heard
+pub mod Next
+pub mod Claims

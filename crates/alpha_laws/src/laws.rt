@@ -3,7 +3,7 @@
 
 ghost use Rattle.interference.specs.Net.{Net};
 ghost use Rattle.node_api.specs.Program.{Program};
-ghost use Rattle.alpha_laws.specs.Laws.{OnEveryNetwork, PulsesKeep, PutsKeep, StartsKeep, TakesKeep};
+ghost use Rattle.alpha_laws.specs.Laws.{KeptSimulate, OnEveryNetwork, PulsesKeep, PutsKeep, StartsKeep, TakesKeep};
 
 /// Each event of a node by itself leaves what it keeps of its links.
 pub fn each_event_keeps_the_links<S, M, E>()
@@ -11,4 +11,10 @@ pub fn each_event_keeps_the_links<S, M, E>()
     ensures puts { (program : Program S M E) (net : Net) → PutsKeep program net }
     ensures takes { (program : Program S M E) (net : Net) → TakesKeep program net }
     ensures pulses { (program : Program S M E) → OnEveryNetwork program (PulsesKeep program) }
+{}
+
+/// Nodes that keep their links simulate the synchronous run: see `Simulates`, whose fields are the words
+/// of this claim.
+pub fn kept_links_simulate<S, M, E>()
+    ensures law { (program : Program S M E) → OnEveryNetwork program (KeptSimulate program) }
 {}
