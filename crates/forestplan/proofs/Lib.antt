@@ -1,3 +1,0 @@
-mod Ends
-mod Giving
-pub mod Numbering
