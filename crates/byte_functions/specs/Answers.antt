@@ -1,16 +1,14 @@
--- What a command may answer to the bytes of its input.
-use Rattle.std.specs.Prelude.{◌≡◌, ℕ, List, Result, Ok, Err}
+-- The answers to the bytes of a text.
+use Rattle.std.specs.Prelude.{◌≡◌, ℕ, List}
 use Rattle.std.specs.List.{range_with_len}
 use Rattle.dimacs_col.specs.Lines.{lines_of}
 use Rattle.dimacs_col.specs.Reading.{IsFault, IsGraph}
 use Rattle.interference.specs.Net.{Net, IsNetwork}
 use Rattle.interference.specs.Making.{IsFaultOf, network_of}
-use Rattle.command_line.specs.declared.request.Request.{Request}
-use Rattle.command_line.specs.declared.request.Request.TheVariants.{Forests, Plain}
-use Rattle.forestplan.specs.Plans.{IsChannelPlan}
-use Rattle.forestplan.specs.Texts.{colours_text, forests_text}
-use Rattle.forestplan.specs.declared.fault.PlanFault.{PlanFault}
-use Rattle.forestplan.specs.declared.fault.PlanFault.TheVariants as plan
+use Rattle.byte_functions.specs.Plans.{IsChannelPlan}
+use Rattle.byte_functions.specs.Texts.{colours_text, forests_text}
+use Rattle.byte_functions.specs.declared.fault.PlanFault.{PlanFault}
+use Rattle.byte_functions.specs.declared.fault.PlanFault.TheVariants as plan
 
 -- the network of a graph, in which vertex v has the identifier v
 abbrev pub network_with : ℕ → List (ℕ × ℕ) → Net
@@ -33,14 +31,5 @@ IsForestsAnswer input answer = ReadsAs input (λ net. IsNetwork net × (answer �
 
 -- the answer is the plan of the colours of the network that the input describes, and a channel plan of it
 abbrev pub IsPlainAnswer : List ℕ → List ℕ → Type 0
-IsPlainAnswer input answer = ReadsAs input (λ net. IsNetwork net × (answer ≡ colours_text net) × IsChannelPlan net answer)
-
--- what each command answers where its input is good, a line for each
-abbrev pub IsGoodAnswer : Request → List ℕ → List ℕ → Type 0
-IsGoodAnswer Forests input answer = IsForestsAnswer input answer
-IsGoodAnswer Plain input answer = IsPlainAnswer input answer
-
--- the bytes that a command may answer, or its fault
-abbrev pub MayAnswer : Request → List ℕ → Result (List ℕ) PlanFault → Type 0
-MayAnswer request input (Ok answer) = IsGoodAnswer request input answer
-MayAnswer request input (Err fault) = IsFaultOfText input fault
+IsPlainAnswer input answer =
+    ReadsAs input (λ net. IsNetwork net × (answer ≡ colours_text net) × IsChannelPlan net answer)

@@ -1,40 +1,37 @@
--- The line and the status of each fault.
+-- The line and the status that report each fault.
 use Rattle.std.specs.Prelude.{ℕ, List, [], ◌∷◌, ◌++◌, codes}
 use Rattle.std.specs.Fmt.{decimal}
 use Rattle.dimacs_col.specs.declared.fault.ColFault.TheVariants as col
 use Rattle.interference.specs.declared.fault.NetFault.TheVariants as net
-use Rattle.forestplan.specs.declared.fault.PlanFault.{PlanFault}
-use Rattle.forestplan.specs.declared.fault.PlanFault.TheVariants.{Col, Net, Memory}
+use Rattle.byte_functions.specs.declared.fault.PlanFault.{PlanFault}
+use Rattle.byte_functions.specs.declared.fault.PlanFault.TheVariants.{Col, Net, Memory}
 
--- what is told of a fault: its words, and the status
-abbrev pub told : PlanFault → List ℕ × ℕ
-told (Col col.NoProblem) = (codes "F1", 1)
-told (Col (col.SecondProblem n)) = (codes "F2 line " ++ decimal n, 1)
-told (Col (col.EdgeBeforeProblem n)) = (codes "F3 line " ++ decimal n, 1)
-told (Col (col.BadField n)) = (codes "F4 line " ++ decimal n, 1)
-told (Col (col.VertexRange n)) = (codes "F5 line " ++ decimal n, 1)
-told (Col (col.SelfLoop n)) = (codes "F6 line " ++ decimal n, 1)
-told (Col (col.TooLarge n)) = (codes "F7 line " ++ decimal n, 1)
-told (Col (col.UnknownLine n)) = (codes "F8 line " ++ decimal n, 1)
-told (Col col.Memory) = (codes "memory", 4)
-told (Net (net.Degree v)) = (codes "N1 vertex " ++ decimal v, 1)
-told (Net (net.SameId v w)) = (codes "N2 vertices " ++ decimal v ++ codes " " ++ decimal w, 1)
-told (Net net.Memory) = (codes "memory", 4)
-told Memory = (codes "memory", 4)
+-- a code, and the line of the input that has the fault
+abbrev pub at_line : List ℕ → ℕ → List ℕ
+at_line code number = code ++ (codes " line " ++ decimal number)
 
--- a line of the program's: its name, the words, and LF
+-- the text of a fault, and the status of the program
+abbrev pub fault_text : PlanFault → List ℕ × ℕ
+fault_text (Col col.NoProblem) = (codes "F1", 1)
+fault_text (Col (col.SecondProblem n)) = (at_line (codes "F2") n, 1)
+fault_text (Col (col.EdgeBeforeProblem n)) = (at_line (codes "F3") n, 1)
+fault_text (Col (col.BadField n)) = (at_line (codes "F4") n, 1)
+fault_text (Col (col.VertexRange n)) = (at_line (codes "F5") n, 1)
+fault_text (Col (col.SelfLoop n)) = (at_line (codes "F6") n, 1)
+fault_text (Col (col.TooLarge n)) = (at_line (codes "F7") n, 1)
+fault_text (Col (col.UnknownLine n)) = (at_line (codes "F8") n, 1)
+fault_text (Col col.Memory) = (codes "memory", 4)
+fault_text (Net (net.Degree v)) = (codes "N1 vertex " ++ decimal v, 1)
+fault_text (Net (net.SameId v w)) = (codes "N2 vertices " ++ decimal v ++ codes " " ++ decimal w, 1)
+fault_text (Net net.Memory) = (codes "memory", 4)
+fault_text Memory = (codes "memory", 4)
+
+-- a line of the program's: its name, the text, and LF
 abbrev pub line_with : List ℕ → List ℕ
-line_with words = codes "forestplan: " ++ words ++ 10 ∷ []
+line_with text = codes "forestplan: " ++ text ++ 10 ∷ []
 
 abbrev pub fault_line : PlanFault → List ℕ
-fault_line fault = line_with (told fault).0
+fault_line fault = line_with (fault_text fault).0
 
 abbrev pub fault_status : PlanFault → ℕ
-fault_status fault = (told fault).1
-
--- of a stream that failed
-abbrev pub stream_line : List ℕ
-stream_line = line_with (codes "stream")
-
-abbrev pub memory_line : List ℕ
-memory_line = line_with (codes "memory")
+fault_status fault = (fault_text fault).1

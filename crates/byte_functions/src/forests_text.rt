@@ -1,11 +1,11 @@
 //! The text of `forests`.
 
 ghost use Rattle.std.specs.Prelude.{◌≡◌, ◌++◌, IfOk, flat_map};
-ghost use Rattle.forestplan.specs.Texts.{forests_text, triple_row};
+ghost use Rattle.byte_functions.specs.Texts.{forests_text, triple_row};
 
 use forests::decompose;
 use interference::{Memory, Network};
-use plain_text::push_row;
+use number_rows::push_row;
 use std::alloc::{AllocError, Global};
 
 // Appends a row for each triple.
@@ -25,7 +25,7 @@ fn push_triples(text: &mut Vec<u8>, triples: &[(u16, u32, u32)]) -> Result<(), A
 /// `forests N U`, and a row for each edge of each forest.
 ///
 /// # Errors
-/// Where memory ran out.
+/// If memory ran out.
 pub fn text_of_forests(alloc: Global, network: &Network) -> Result<Vec<u8>, Memory>
     ensures { IfOk result (λ text. text.items ≡ forests_text network.now) }
 {

@@ -1,7 +1,7 @@
-//! The channel plan of `plain`, by rounds on one thread.
+//! The text of a channel plan, by rounds on one thread.
 
 ghost use Rattle.std.specs.Prelude.{◌≡◌, IfOk, map};
-ghost use Rattle.forestplan.specs.Texts.{colours_text};
+ghost use Rattle.byte_functions.specs.Texts.{colours_text};
 
 use channel_plan::plan_text;
 use colour_laws::laws::rounds_end_with_the_colours;
@@ -24,7 +24,7 @@ fn colours_of(alloc: Global, nodes: &[Colouring]) -> Result<Vec<u16>, AllocError
 /// `plan`, and a row for each vertex with its channel, as the rounds of the colouring leave it.
 ///
 /// # Errors
-/// Where memory ran out.
+/// If memory ran out.
 pub fn text_of_plan(alloc: Global, network: &Network) -> Result<Vec<u8>, Memory>
     ensures { IfOk result (λ text. text.items ≡ colours_text network.now) }
 {

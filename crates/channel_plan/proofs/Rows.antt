@@ -2,7 +2,7 @@
 use Rattle.std.proofs.Common.{◌≡◌, ℕ, suc, ◌+◌, List, [], ◌∷◌, ◌++◌, ◌<◌, length, take, get_or, ap, sym, ◌∙◌, arith}
 use Rattle.std.proofs.Math.Seq.{take-suc}
 use Rattle.std.proofs.lemmas.List.{append_assoc, append-nil, length-take-le}
-use Rattle.plain_text.specs.Row.{row}
+use Rattle.number_rows.specs.Row.{row}
 use Rattle.channel_plan.specs.PlanText.{rows_from}
 
 pub rows-push : (v : ℕ) (colours : List ℕ) (colour : ℕ) → rows_from v (colours ++ colour ∷ []) ≡ rows_from v colours ++ row ((v + length colours) ∷ (colour + 1) ∷ [])

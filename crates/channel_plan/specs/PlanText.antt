@@ -1,6 +1,6 @@
 -- The text of a channel plan.
 use Rattle.std.specs.Prelude.{ℕ, ◌+◌, List, [], ◌∷◌, ◌++◌, codes}
-use Rattle.plain_text.specs.Row.{row}
+use Rattle.number_rows.specs.Row.{row}
 
 -- a row for each vertex, from this one on: the vertex, and its channel, which is its colour plus one
 abbrev pub rows_from : ℕ → List ℕ → List ℕ

@@ -3,7 +3,7 @@ ghost use Rattle.std.specs.Prelude.{◌≡◌, ◌++◌, ◌+◌, ◌-◌, IfOk}
 ghost use Rattle.channel_plan.specs.PlanText.{plan_of, rows_from};
 
 use interference::Memory;
-use plain_text::push_row;
+use number_rows::push_row;
 use std::alloc::{AllocError, Global};
 
 // Appends a row for each vertex, from vertex 1 on.

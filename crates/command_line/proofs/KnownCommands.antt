@@ -1,14 +1,17 @@
 -- The command line computes, and each of its commands has a request.
-use Rattle.std.proofs.Common.{◌≡◌, Bool, true, false, List, [], ◌∷◌, Option, Some, None, refl, ap, ◌∙◌, is_some, find, option_map, cond}
+use Rattle.std.proofs.Common.{◌≡◌, ◌≢◌, ◌⊎◌, inl, inr, subst, sym, Bool, true, false, List, [], ◌∷◌, Option, Some, None, refl, ap, ◌∙◌, is_some, find, option_map, cond}
 use Rattle.std.specs.List.{AllByRecursion}
 use Rattle.clap.specs.Walk.{Row, Text, answers_to, stop_after}
 use Rattle.clap.specs.Simple.{Shape, argument_words, built, entered, label_of, names_of, is_simple, rows_at, subcommand_of}
 use Rattle.clap.specs.Faults.{fault_of, is_simple_and_free}
 use Rattle.clap.specs.Kinds.{IsAmong, Kinds}
 use Rattle.clap.specs.declared.error.kind.ErrorKind.{ErrorKind}
+use Rattle.clap.specs.declared.error.kind.ErrorKind.TheVariants.{DisplayHelp, OutOfMemory}
 use Rattle.clap.proofs.OnLiterals.{clap_on_literals}
 use Rattle.command_line.specs.Line.{line}
-use Rattle.command_line.specs.Asked.{choice_of, named, request_of, unless_at_fault}
+use Rattle.command_line.specs.Asked.{IsDeclinedBy, MayDecline, choice_of, named, request_of, unless_at_fault}
+use Rattle.command_line.specs.declared.request.Declined.{Declined}
+use Rattle.command_line.specs.declared.request.Declined.TheVariants as given
 use Rattle.command_line.specs.declared.request.Request.{Request}
 
 pub line_is_free : is_simple_and_free line ≡ true
@@ -42,6 +45,9 @@ entered_known None h = h
 entered_known (Some p) h = found (λ x. answers_to p.0 (label_of x)) p.1 (built line).subs
     ((λ rows. refl), ((λ rows. refl), tt)) h
 
+out_of_memory_is_no_help : OutOfMemory ≢ DisplayHelp
+out_of_memory_is_no_help same = cc
+
 pub known : (words : List Text) → is_some (subcommand_of line words) ≡ true
     → is_some (choice_of (subcommand_of line words)) ≡ true
 known words h = entered_known (stop_after (built line).top.rules (names_of (built line)) (argument_words line words)) h
@@ -56,3 +62,13 @@ refused words k h = go (fault_of line words) h
     go : (ks : Kinds) → IsAmong k ks → unless_at_fault ks (choice_of (subcommand_of line words)) ≡ None
     go [] h = absurd h
     go (x ∷ xs) h = refl
+
+-- clap's kind is that of a fault, or that of memory; what it becomes is then what the words may be declined with
+pub declined : (words : List Text) (kind : ErrorKind) (with : Declined)
+    → (kind ≡ OutOfMemory) ⊎ IsAmong kind (fault_of line words) → IsDeclinedBy kind with → MayDecline words with
+declined words kind (given.Help text) (inl memory) is = absurd (out_of_memory_is_no_help (sym memory ∙ is))
+declined words kind (given.Help text) (inr among) is =
+    (refused words kind among, subst (λ k. IsAmong k (fault_of line words)) is among)
+declined words kind (given.Refused text) (inl memory) is = absurd (is.1 memory)
+declined words kind (given.Refused text) (inr among) is = (refused words kind among, (kind, is.0, among))
+declined words kind given.Memory has is = tt

@@ -1,9 +1,13 @@
--- What words ask for.
-use Rattle.std.specs.Prelude.{List, [], ◌∷◌, Option, Some, None, if◌then◌else◌, codes, option_and_then}
+-- What the words of a command line ask for.
+use Rattle.std.specs.Prelude.{◌≡◌, ◌≢◌, List, [], ◌∷◌, Option, Some, None, if◌then◌else◌, codes, option_and_then}
 use Rattle.std.specs.Str.{bytes_eq}
 use Rattle.clap.specs.Words.{Row, Text, fault_of, subcommand_of}
-use Rattle.clap.specs.Kinds.{Kinds}
+use Rattle.clap.specs.Kinds.{IsAmong, Kinds}
+use Rattle.clap.specs.declared.error.kind.ErrorKind.{ErrorKind}
+use Rattle.clap.specs.declared.error.kind.ErrorKind.TheVariants.{DisplayHelp, OutOfMemory}
 use Rattle.command_line.specs.Line.{line}
+use Rattle.command_line.specs.declared.request.Declined.{Declined}
+use Rattle.command_line.specs.declared.request.Declined.TheVariants as declined
 use Rattle.command_line.specs.declared.request.Request.{Request}
 use Rattle.command_line.specs.declared.request.Request.TheVariants.{Forests, Plain}
 
@@ -18,11 +22,31 @@ named name rows =
 abbrev pub choice_of : Option (Text × List Row) → Option Request
 choice_of found = option_and_then (λ command. named command.0 command.1) found
 
--- an answer, where nothing is at fault
+-- an answer, if nothing is at fault
 abbrev pub unless_at_fault : Kinds → Option Request → Option Request
 unless_at_fault [] answer = answer
 unless_at_fault (kind ∷ kinds) answer = None
 
--- what the words ask for: their command's request, where clap finds no fault in them
+-- what the words ask for: their command's request, if clap finds no fault in them
 abbrev pub request_of : List Text → Option Request
 request_of words = unless_at_fault (fault_of line words) (choice_of (subcommand_of line words))
+
+-- clap's first fault in the words is that they ask for help
+abbrev pub AskForHelp : List Text → Type 0
+AskForHelp words = IsAmong DisplayHelp (fault_of line words)
+
+-- clap's first fault in the words is any other
+abbrev pub AreRefused : List Text → Type 0
+AreRefused words = (kind : ErrorKind) × (kind ≢ DisplayHelp) × IsAmong kind (fault_of line words)
+
+-- what the words, which ask for no command, are declined with
+abbrev pub MayDecline : List Text → Declined → Type 0
+MayDecline words (declined.Help text) = (request_of words ≡ None) × AskForHelp words
+MayDecline words (declined.Refused text) = (request_of words ≡ None) × AreRefused words
+MayDecline words declined.Memory = Unit {0}
+
+-- what an error of this kind becomes
+abbrev pub IsDeclinedBy : ErrorKind → Declined → Type 0
+IsDeclinedBy kind (declined.Help text) = kind ≡ DisplayHelp
+IsDeclinedBy kind (declined.Refused text) = (kind ≢ DisplayHelp) × (kind ≢ OutOfMemory)
+IsDeclinedBy kind declined.Memory = Unit {0}

@@ -1,4 +1,4 @@
--- The command line in clap's own words: the program's commands, and each one's options.
+-- The command line in clap's own words: the program, and its commands.
 use Rattle.std.specs.Prelude.{true, codes}
 use Rattle.clap.specs.Words.{App, new_app, with_subcommand}
 
@@ -11,19 +11,11 @@ without_commands = record (new_app (codes "forestplan")) {
   };
 }
 
--- `forests`, with no options
-abbrev pub forests_command : App
-forests_command = new_app (codes "forests")
-
--- `plain`, with no options
-abbrev pub plain_command : App
-plain_command = new_app (codes "plain")
-
--- the commands, each a line
+-- the commands, each a line; none has options
 abbrev pub with_commands : App → App
 with_commands program =
-    let with_forests : App = with_subcommand program forests_command.top in
-    with_subcommand with_forests plain_command.top
+    let with_forests : App = with_subcommand program (new_app (codes "forests")).top in
+    with_subcommand with_forests (new_app (codes "plain")).top
 
 -- the whole command line
 abbrev pub line : App

@@ -1,22 +1,32 @@
 //! The texts of help.
 
-/// What the program does, in a line.
-pub const ABOUT: &str = "Plans channels for transmitters: no two that interfere share one";
+/// The help of the program, or of a command.
+#[derive(Clone, Copy)]
+pub struct Help {
+    /// What it does, in a line.
+    pub about: &'static str,
+    /// The same, at length.
+    pub long_about: &'static str,
+    /// What it reads and writes, and an example.
+    pub format: &'static str,
+}
 
-/// The same, at length.
-pub const LONG_ABOUT: &str = "Plans channels for transmitters: no two that interfere share one.
+pub const PROGRAM: Help = Help {
+    about: "Plans channels for transmitters: no two that interfere share one",
+    long_about: "Plans channels for transmitters: no two that interfere share one.
 
 The program reads a graph from standard input, in which transmitters are the
 vertices and edges join those that interfere, and writes its answer to standard
-output. A fault is one line on standard error, and nothing is then on output.";
-
-/// What the input looks like, its faults, and the statuses.
-pub const FORMAT: &str = "Input: a graph in the DIMACS format, a line each
+output. A fault of the input is one line on standard error, and nothing is then
+on standard output. A refused command line takes several lines there. If a write
+fails, standard output holds a beginning of the answer.",
+    format: "Input: a graph in the DIMACS format, a line each
   p edge NODES EDGES   first: the number of vertices (EDGES is not looked at)
   e V W                an edge between two different vertices from 1 to NODES
-Lines that begin with c, n, d, v or x, and empty lines, are skipped.
+Skipped are empty lines and those whose first field begins with c, or is one of
+n, d, v and x.
 
-Faults of the input, each told as `forestplan: F6 line 2`:
+Faults of the input, each reported as `forestplan: F6 line 2`:
   F1  no p line                    F5  a vertex is 0 or above NODES
   F2  a second p line              F6  an edge from a vertex to itself
   F3  an e line before the p line  F7  above 20000 vertices or 400000 edges
@@ -27,20 +37,16 @@ Status: 0 done, 1 input refused, 2 command line refused, 4 memory ran out, or
 the input could not be read or the output not written.
 
 Example: three transmitters, each in reach of the other two
-  printf 'p edge 3 3\\ne 1 2\\ne 1 3\\ne 2 3\\n' | forestplan plain";
+  printf 'p edge 3 3\\ne 1 2\\ne 1 3\\ne 2 3\\n' | forestplan plain",
+};
 
-/// What `forests` does, in a line.
-pub const FORESTS_ABOUT: &str = "Prints the forests into which the edges are parted";
-
-/// The same, at length.
-pub const FORESTS_LONG_ABOUT: &str = "Prints the forests into which the edges are parted.
+pub const FORESTS: Help = Help {
+    about: "Prints the forests into which the edges are parted",
+    long_about: "Prints the forests into which the edges are parted.
 
 Every vertex numbers its neighbours above it, ascending, from 0. The edges with
-number F are forest F, in which the higher end of an edge is the lower's parent.";
-
-/// What `forests` reads and writes, and an example.
-pub const FORESTS_FORMAT: &str =
-    "Input: a graph in the DIMACS format, as `p edge NODES EDGES` and then `e V W`.
+number F are forest F, in which the higher end of an edge is the lower's parent.",
+    format: "Input: a graph in the DIMACS format, as `p edge NODES EDGES` and then `e V W`.
 
 Output, a line each:
   forests N U          the number of vertices, and of forests
@@ -53,23 +59,18 @@ prints
   forests 3 2
   0 1 2
   0 2 3
-  1 1 3";
+  1 1 3",
+};
 
-/// What `plain` does, in a line.
-pub const PLAIN_ABOUT: &str = "Prints a channel plan, in which neighbours have different channels";
-
-/// The same, at length.
-pub const PLAIN_LONG_ABOUT: &str =
-    "Prints a channel plan, in which neighbours have different channels.
+pub const PLAIN: Help = Help {
+    about: "Prints a channel plan, in which neighbours have different channels",
+    long_about: "Prints a channel plan, in which neighbours have different channels.
 
 Channels count from 1, and none is above the greatest number of neighbours, plus
 one. The vertices find them by messages to their neighbours, round by round on
 one thread: each forest gets three colours, and the forests are merged one by
-one. The plan depends on the graph alone.";
-
-/// What `plain` reads and writes, and an example.
-pub const PLAIN_FORMAT: &str =
-    "Input: a graph in the DIMACS format, as `p edge NODES EDGES` and then `e V W`.
+one. The plan depends on the graph alone.",
+    format: "Input: a graph in the DIMACS format, as `p edge NODES EDGES` and then `e V W`.
 
 Output, a line each:
   plan                 the first line
@@ -81,4 +82,5 @@ prints
   plan
   1 2
   2 3
-  3 1";
+  3 1",
+};

@@ -1,23 +1,24 @@
 //! The command line of `forestplan`: which words ask for what, and what `clap` says of the others.
 //!
-//! `forestplan` calls `parse` with the words that it was started with, its own name first.
+//! `serving` calls `parse` with the words that the program was started with, its own name first. No type
+//! of `clap` crosses this boundary.
 //!
 //! ```
 //! match parse(alloc, &["forestplan", "plain"]) {
 //!     Ok(Request::Plain) => ..,
 //!     Ok(Request::Forests) => ..,
-//!     Err(error) => ..,                  // help too: `error.kind()` tells them apart
+//!     Err(Declined::Help(text)) => ..,
+//!     Err(Declined::Refused(text)) => ..,
+//!     Err(Declined::Memory) => ..,
 //! }
 //! ```
 //!
-//! The commands stand in `specs/Line.antt` as clap's own words, and `parse` is exact against them. What
+//! The commands are listed in `specs/Line.antt` in clap's own words, and `parse` is exact against them. What
 //! clap's texts say, help among them, is only tested. There is no `--version` and no command `help`.
 #![tactic(auto)]
 
 mod help;
 mod line;
 mod request;
-#[cfg(test)]
-mod tests;
 
-pub use request::{Request, parse};
+pub use request::{Declined, Request, parse};

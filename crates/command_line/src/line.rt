@@ -1,11 +1,12 @@
-//! The commands as `clap` is told them.
+//! The commands in `clap`'s builders.
 
 ghost use Rattle.std.specs.Prelude.{◌≡◌, IfOk, false};
-ghost use Rattle.clap.specs.Words.{app_of, with_subcommand};
+ghost use Rattle.clap.specs.Words.{app_of, new_app, with_subcommand};
 ghost use Rattle.clap.specs.declared.builder.command.Command.TheViews.{out-Command};
-ghost use Rattle.command_line.specs.Line.{forests_command, line, plain_command, with_commands, without_commands};
+ghost use Rattle.command_line.specs.Line.{line, with_commands, without_commands};
 
 use crate::help;
+use crate::help::Help;
 use clap::Command;
 use std::alloc::{AllocError, Global};
 
@@ -15,32 +16,23 @@ fn program<'a>(alloc: Global) -> Result<Command<'a>, AllocError>
     ensures local { IfOk result (λ c. (out-Command c).has_globals ≡ false) }
 {
     Command::new(alloc, "forestplan")
-        .about(help::ABOUT)
-        .long_about(help::LONG_ABOUT)
-        .after_help(help::FORMAT)
+        .about(help::PROGRAM.about)
+        .long_about(help::PROGRAM.long_about)
+        .after_help(help::PROGRAM.format)
         .subcommand_required(true)
         .disable_help_subcommand(true)
         .bin_name("forestplan")
 }
 
-fn forests<'a>(alloc: Global) -> Command<'a>
-    ensures shape { app_of result ≡ forests_command }
+// A command with no options.
+fn command<'a>(alloc: Global, name: &'a str, help: Help) -> Command<'a>
+    ensures shape { app_of result ≡ new_app name.entry.now }
     ensures local { (out-Command result).has_globals ≡ false }
 {
-    Command::new(alloc, "forests")
-        .about(help::FORESTS_ABOUT)
-        .long_about(help::FORESTS_LONG_ABOUT)
-        .after_help(help::FORESTS_FORMAT)
-}
-
-fn plain<'a>(alloc: Global) -> Command<'a>
-    ensures shape { app_of result ≡ plain_command }
-    ensures local { (out-Command result).has_globals ≡ false }
-{
-    Command::new(alloc, "plain")
-        .about(help::PLAIN_ABOUT)
-        .long_about(help::PLAIN_LONG_ABOUT)
-        .after_help(help::PLAIN_FORMAT)
+    Command::new(alloc, name)
+        .about(help.about)
+        .long_about(help.long_about)
+        .after_help(help.format)
 }
 
 fn with_command<'a>(command: Command<'a>, sub: Command<'a>) -> Result<Command<'a>, AllocError>
@@ -53,16 +45,19 @@ fn with_command<'a>(command: Command<'a>, sub: Command<'a>) -> Result<Command<'a
 }
 
 // The commands, at most three a helper: the proof search follows no longer chain.
-fn with_all_commands<'a>(alloc: Global, command: Command<'a>) -> Result<Command<'a>, AllocError>
-    requires { (out-Command command).has_globals ≡ false }
-    ensures shape { IfOk result (λ c. app_of c ≡ with_commands (app_of command.entry)) }
+fn with_all_commands<'a>(alloc: Global, program: Command<'a>) -> Result<Command<'a>, AllocError>
+    requires { (out-Command program).has_globals ≡ false }
+    ensures shape { IfOk result (λ c. app_of c ≡ with_commands (app_of program.entry)) }
     ensures local { IfOk result (λ c. (out-Command c).has_globals ≡ false) }
 {
-    let command = with_command(command, forests(alloc))?;
-    with_command(command, plain(alloc))
+    let program = with_command(program, command(alloc, "forests", help::FORESTS))?;
+    with_command(program, command(alloc, "plain", help::PLAIN))
 }
 
 /// The whole command line.
+///
+/// # Errors
+/// If memory ran out.
 pub fn whole_line<'a>(alloc: Global) -> Result<Command<'a>, AllocError>
     ensures shape { IfOk result (λ c. app_of c ≡ line) }
     ensures local { IfOk result (λ c. (out-Command c).has_globals ≡ false) }

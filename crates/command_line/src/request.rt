@@ -1,11 +1,8 @@
-//! What words ask for.
+//! What the words of a command line ask for.
 
-ghost use Rattle.std.specs.Prelude.{◌≡◌, ◌⊎◌, None, Some, IfOk, IfErr};
-ghost use Rattle.clap.specs.Words.{fault_of, found_of, kind_of, rows_of, subcommand_rows_of};
-ghost use Rattle.clap.specs.Walk.{texts};
-ghost use Rattle.clap.specs.Kinds.{IsAmong};
-ghost use Rattle.command_line.specs.Line.{line};
-ghost use Rattle.command_line.specs.Asked.{choice_of, named, request_of};
+ghost use Rattle.std.specs.Prelude.{◌≡◌, ◌≢◌, None, Some, IfOk, IfErr, map};
+ghost use Rattle.clap.specs.Words.{found_of, kind_of, rows_of, subcommand_rows_of};
+ghost use Rattle.command_line.specs.Asked.{IsDeclinedBy, MayDecline, choice_of, named, request_of};
 
 use crate::line::whole_line;
 use clap::error::ErrorKind;
@@ -19,6 +16,17 @@ pub enum Request {
     Forests,
     /// A channel plan of a network, by rounds on one thread.
     Plain,
+}
+
+/// Why words ask for no command, and what is said of them.
+#[derive(Debug, Drop)]
+pub enum Declined {
+    /// They ask for help, and this is the text.
+    Help(String),
+    /// They are refused, and this text of several lines says why.
+    Refused(String),
+    /// Memory ran out.
+    Memory,
 }
 
 fn request_named(name: &str, _matches: &ArgMatches<'_>) -> Option<Request>
@@ -38,25 +46,38 @@ fn choice(matches: &ArgMatches<'_>) -> Option<Request>
     request_named(name, inner)
 }
 
+// What clap says of words that ask for no command.
+fn declined_by(alloc: Global, error: &Error) -> Declined
+    ensures { IsDeclinedBy (kind_of error.now) result }
+{
+    let kind = error.kind();
+    let Ok(text) = format!(in alloc; "{error}") else {
+        return Declined::Memory;
+    };
+    match kind {
+        ErrorKind::OutOfMemory => Declined::Memory,
+        ErrorKind::DisplayHelp => Declined::Help(text),
+        _ => Declined::Refused(text),
+    }
+}
+
 /// What the words ask for; the first is the program's name, and is not looked at.
 ///
 /// # Errors
-/// clap's error where the words ask for nothing that is known, or for help; its kind is the first
-/// fault that clap meets. `OutOfMemory`, of which clap says nothing else, may stand for any answer.
-pub fn parse<'a>(alloc: Global, words: &'a [&'a str]) -> Result<Request, Error>
-    ensures ok { IfOk result (λ r. request_of (texts words.entry.now) ≡ Some r) }
-    ensures err { IfErr result (λ e. (kind_of e ≡ ErrorKind.OutOfMemory) ⊎
-        ((request_of (texts words.entry.now) ≡ None) × IsAmong (kind_of e) (fault_of line (texts words.entry.now)))) }
+/// `Help` or `Refused` by the first fault that clap meets in the words. Any call may instead fail with
+/// `Memory`.
+pub fn parse<'a>(alloc: Global, words: &'a [&'a str]) -> Result<Request, Declined>
+    ensures ok { IfOk result (λ request. request_of (map (λ word. word.now) words.entry.now) ≡ Some request) }
+    ensures err { IfErr result (MayDecline (map (λ word. word.now) words.entry.now)) }
 {
-    let command = match whole_line(alloc) {
-        Ok(command) => command,
-        Err(error) => return Err(Error::from(error)),
+    let Ok(line) = whole_line(alloc) else {
+        return Err(Declined::Memory);
     };
-    match command.try_get_matches_from(words) {
+    match line.try_get_matches_from(words) {
         Ok(matches) => match choice(&matches) {
             Some(request) => Ok(request),
             None => unreachable!(),
         },
-        Err(error) => Err(error),
+        Err(error) => Err(declined_by(alloc, &error)),
     }
 }

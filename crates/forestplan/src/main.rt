@@ -1,26 +1,19 @@
-//! The program `forestplan`: a channel plan for an interference graph, or its forests, from bytes to
-//! bytes.
+//! The program `forestplan`: a channel plan for an interference graph, or its forests, from standard
+//! input to standard output.
 //!
 //! ```sh
 //! printf 'p edge 3 3\ne 1 2\ne 1 3\ne 2 3\n' | forestplan plain
 //! ```
 //!
-//! `serve` is all that it runs, and its contract says what stands on the output, on the errors and in
-//! the status, for all words and every input; `main` gathers the words that the system gives. Of the
-//! texts of clap, help among them, only the place and the status are proved.
+//! It hands the words and the streams that the system gives to `serving::serve_all`, whose contract says
+//! what is written and which status comes, for all words and every input. That `main` hands on the words
+//! as they are is only tested.
 #![tactic(auto)]
 
-mod answer;
-mod fault;
-mod forests_text;
-mod plain;
-mod serving;
-#[cfg(test)]
-mod tests;
-mod words;
+mod arguments;
 
-use crate::serving::{refuse_memory, serve};
-use crate::words::{arguments, serve_all};
+use crate::arguments::arguments;
+use serving::{refuse_memory, serve, serve_all};
 use std::io::ErrorKind;
 use std::process::ExitCode;
 
@@ -28,7 +21,6 @@ fn main(rt: HostRuntime) -> ExitCode {
     ExitCode::from(run(&rt))
 }
 
-// Serves the words that the system gives. Words that are no text ask for nothing: clap says so.
 fn run(rt: &HostRuntime) -> u8 {
     let alloc = rt.alloc();
     let mut input = rt.stdin();
@@ -43,6 +35,8 @@ fn run(rt: &HostRuntime) -> u8 {
             &mut errors,
         ),
         Err(error) if error.kind() == ErrorKind::OutOfMemory => refuse_memory(&mut errors),
+        // A word is no text. clap takes texts alone and has no call for bytes, so that it is given the word
+        // U+FFFD, which names no command: it then writes its usual refusal, with the usual status.
         Err(_) => serve(
             alloc,
             &["forestplan", "\u{FFFD}"],

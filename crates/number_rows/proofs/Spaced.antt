@@ -3,7 +3,7 @@ use Rattle.std.proofs.Common.{◌≡◌, ◌∙◌, ℕ, List, [], ◌∷◌, �
 use Rattle.std.specs.Prelude.{map}
 use Rattle.std.specs.List.{join_with_byte}
 use Rattle.std.specs.Fmt.{decimal}
-use Rattle.plain_text.specs.Row.{spaced}
+use Rattle.number_rows.specs.Row.{spaced}
 
 -- a number and a space before some numbers with spaces
 regrouped : (x : ℕ) (numbers : List ℕ) (end : List ℕ)

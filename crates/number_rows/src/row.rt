@@ -3,7 +3,7 @@
 ghost use Rattle.std.specs.Prelude.{◌≡◌, ◌++◌, IfOk, length, map, take};
 ghost use Rattle.std.specs.List.{join_with_byte};
 ghost use Rattle.std.specs.Fmt.{decimal};
-ghost use Rattle.plain_text.specs.Row.{row, spaced};
+ghost use Rattle.number_rows.specs.Row.{row, spaced};
 
 use crate::decimal::push_decimal;
 use std::alloc::AllocError;

@@ -1,12 +1,13 @@
--- What was put, or told, is what is given of an answer.
-use Rattle.std.proofs.Common.{◌≡◌, ◌⊎◌, ℕ, List, Ok, Err, inl, inr, subst}
+-- What was written, and reported, is what is given of an answer, or what declines the words.
+use Rattle.std.proofs.Common.{◌≡◌, ◌⊎◌, ℕ, List, None, Ok, Err, inl, inr, subst, sym}
 use Rattle.command_line.specs.declared.request.Request.{Request}
-use Rattle.forestplan.specs.Answers.{MayAnswer}
-use Rattle.forestplan.specs.Faults.{fault_line, fault_status, memory_line}
-use Rattle.forestplan.specs.Serve.{Answers, IsTold, Puts}
-use Rattle.forestplan.specs.Streams.{Written}
-use Rattle.forestplan.specs.declared.fault.PlanFault.{PlanFault}
-use Rattle.forestplan.specs.declared.fault.PlanFault.TheVariants.{Memory}
+use Rattle.serving.specs.Answers.{MayAnswer}
+use Rattle.byte_functions.specs.Faults.{fault_line, fault_status}
+use Rattle.command_line.specs.Asked.{request_of}
+use Rattle.serving.specs.Serve.{Answers, Declines, IsReported, Puts, ServesChoice, ServesWords, memory_line}
+use Rattle.serving.specs.Streams.{Taken, Written}
+use Rattle.byte_functions.specs.declared.fault.PlanFault.{PlanFault}
+use Rattle.byte_functions.specs.declared.fault.PlanFault.TheVariants.{Memory}
 
 pub of-bytes : (output errors : Written) (request : Request) (input bytes text : List ℕ) (status : ℕ)
     → text ≡ bytes → MayAnswer request input (Ok bytes) → Puts output errors text status
@@ -17,7 +18,12 @@ of-bytes output errors request input bytes text status same may puts =
 -- where there is no memory for a fault's line, the answer is the fault of memory
 pub of-fault : (output errors : Written) (request : Request) (input : List ℕ) (fault : PlanFault) (status : ℕ)
     → MayAnswer request input (Err fault) → output.IsUntouched
-    → (IsTold errors (fault_line fault) × (status ≡ fault_status fault)) ⊎ (IsTold errors memory_line × (status ≡ 4))
+    → (IsReported errors (fault_line fault) × (status ≡ fault_status fault)) ⊎ (IsReported errors memory_line × (status ≡ 4))
     → Answers request input output errors status
 of-fault output errors request input fault status may untouched (inl is) = (Err fault, may, (untouched, is.0, is.1))
 of-fault output errors request input fault status may untouched (inr is) = (Err Memory, tt, (untouched, is.0, is.1))
+
+pub declined : (words : List (List ℕ)) (input : Taken) (output errors : Written) (status : ℕ)
+    → request_of words ≡ None → Declines words input output errors status → ServesWords words input output errors status
+declined words input output errors status none declines =
+    inl (subst (λ asked. ServesChoice asked words input output errors status) (sym none) declines)

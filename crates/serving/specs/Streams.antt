@@ -1,7 +1,7 @@
 -- What a contract knows of a stream before and after a call.
 use Rattle.std.specs.Prelude.{◌≡◌, ◌⊎◌, ℕ, List, Option}
 use Rattle.std.specs.Io.KnownBytes.{Appends}
-use Rattle.whole_streams.specs.Counts.{HasGrown}
+use Rattle.whole_streams.specs.Counts.{CountsOn, HasGrown}
 use Rattle.whole_streams.specs.Streams.{AppendsBeginning, IsUnended}
 
 -- a writer: what was written to it, and its faults
@@ -47,9 +47,14 @@ abbrev pub HasFailed : Taken → Type 0
 HasFailed input = HasGrown input.faults_before input.faults_after
     ⊎ IsUnended input.before input.after input.reads_before input.reads_after
 
--- the whole text was written
+-- no read failed
+abbrev pub HasNotFailed : Taken → Type 0
+HasNotFailed input = CountsOn input.faults_before 0 input.faults_after
+
+-- the whole text was written, and no write failed
 abbrev pub IsWritten : Written → List ℕ → Type 0
 IsWritten output text = Appends output.before output.after text
+    × CountsOn output.faults_before 0 output.faults_after
 
 -- a beginning of the text was written, and then a write failed
 abbrev pub IsCutOff : Written → List ℕ → Type 0

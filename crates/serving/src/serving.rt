@@ -1,49 +1,48 @@
 //! Serving one command, from its words and input to its output and status.
 
-ghost use Rattle.std.specs.Prelude.{◌≡◌, ◌≢◌, ◌⊎◌, List, ℕ};
-ghost use Rattle.clap.specs.Walk.{texts};
-ghost use Rattle.clap.specs.Words.{kind_of};
-ghost use Rattle.forestplan.specs.Faults.{fault_line, fault_status, memory_line, stream_line};
-ghost use Rattle.forestplan.specs.Serve.{Answers, IsTold, Puts, Refuses, Serves, ServesWords, Tells};
-ghost use Rattle.forestplan.specs.Streams.{reading, writing};
+ghost use Rattle.std.specs.Prelude.{◌≡◌, ◌⊎◌, map};
+ghost use Rattle.byte_functions.specs.Faults.{fault_line, fault_status};
+ghost use Rattle.serving.specs.Serve.{Answers, IsReported, Puts, Serves, ServesWords, memory_line, stream_line};
+ghost use Rattle.serving.specs.Streams.{reading, writing};
 
 use crate::answer::answer_bytes;
-use crate::fault::{PlanFault, told_of};
-use clap::Error;
-use clap::error::ErrorKind;
-use command_line::{Request, parse};
+use byte_functions::{PlanFault, fault_report};
+use command_line::{Declined, Request, parse};
 use std::alloc::Global;
 use whole_streams::{ReadFault, Sink, Source, read_whole, write_whole};
 
-// The status where memory ran out or a stream failed.
+// The status if the command line is refused.
+const REFUSED_WORDS: u8 = 2;
+
+// The status if memory ran out or a stream failed.
 const NOT_DONE: u8 = 4;
 
-// Puts a text on errors. That a write fails changes nothing.
+// Writes a text to `errors`. A failed write there changes nothing.
 fn refuse<E: Sink>(errors: &mut E, text: &[u8], status: u8) -> u8
-    ensures told { IsTold (writing E.contents E.faults errors.old errors.new) text.now }
+    ensures reported { IsReported (writing E.contents E.faults errors.old errors.new) text.now }
     ensures status { result ≡ status }
 {
     let _ = write_whole(errors, text);
     status
 }
 
-// Says that a stream failed.
+// Reports that a stream failed.
 fn refuse_stream<E: Sink>(errors: &mut E) -> u8
-    ensures told { IsTold (writing E.contents E.faults errors.old errors.new) stream_line }
+    ensures reported { IsReported (writing E.contents E.faults errors.old errors.new) stream_line }
     ensures status { result ≡ 4 }
 {
     refuse(errors, b"forestplan: stream\n", NOT_DONE)
 }
 
-/// Says on `errors` that memory ran out, and answers 4.
+/// Reports on `errors` that memory ran out, and returns the status 4.
 pub fn refuse_memory<E: Sink>(errors: &mut E) -> u8
-    ensures told { IsTold (writing E.contents E.faults errors.old errors.new) memory_line }
+    ensures reported { IsReported (writing E.contents E.faults errors.old errors.new) memory_line }
     ensures status { result ≡ 4 }
 {
     refuse(errors, b"forestplan: memory\n", NOT_DONE)
 }
 
-// Puts a text on output. Where a write fails the line says so.
+// Writes a text to `output`, and reports if a write fails.
 fn put<W: Sink, E: Sink>(output: &mut W, errors: &mut E, text: &[u8]) -> u8
     ensures { Puts (writing W.contents W.faults output.old output.new)
         (writing E.contents E.faults errors.old errors.new) text.now result }
@@ -54,13 +53,14 @@ fn put<W: Sink, E: Sink>(output: &mut W, errors: &mut E, text: &[u8]) -> u8
     }
 }
 
-// Tells a fault, or that there is no memory for its line.
+// Reports a fault, or that there is no memory for its line.
 fn refuse_fault<E: Sink>(alloc: Global, errors: &mut E, fault: PlanFault) -> u8
-    ensures { (IsTold (writing E.contents E.faults errors.old errors.new) (fault_line fault) × (result ≡ fault_status fault))
-        ⊎ (IsTold (writing E.contents E.faults errors.old errors.new) memory_line × (result ≡ 4)) }
+    ensures { (IsReported (writing E.contents E.faults errors.old errors.new) (fault_line fault)
+        × (result ≡ fault_status fault))
+        ⊎ (IsReported (writing E.contents E.faults errors.old errors.new) memory_line × (result ≡ 4)) }
 {
-    match told_of(alloc, fault) {
-        Ok(told) => refuse(errors, told.line.as_bytes(), told.status),
+    match fault_report(alloc, fault) {
+        Ok(report) => refuse(errors, report.line.as_bytes(), report.status),
         Err(_) => refuse_memory(errors),
     }
 }
@@ -100,35 +100,14 @@ fn serve_request<R: Source, W: Sink, E: Sink>(
     }
 }
 
-// Tells what clap says of words that ask for nothing: help on output, any other text on errors.
-fn decline<W: Sink, E: Sink>(alloc: Global, error: &Error, output: &mut W, errors: &mut E) -> u8
-    ensures { Refuses (writing W.contents W.faults output.old output.new)
-        (writing E.contents E.faults errors.old errors.new) memory_line 4 result
-        ⊎ ((kind_of error.now ≢ ErrorKind.OutOfMemory) × ((text : List ℕ)
-        × Tells (kind_of error.now) (writing W.contents W.faults output.old output.new)
-        (writing E.contents E.faults errors.old errors.new) text result)) }
-{
-    if error.kind() == ErrorKind::OutOfMemory {
-        return refuse_memory(errors);
-    }
-    let Ok(text) = format!(in alloc; "{error}") else {
-        return refuse_memory(errors);
-    };
-    if error.kind() == ErrorKind::DisplayHelp {
-        put(output, errors, text.as_bytes())
-    } else {
-        refuse(errors, text.as_bytes(), 2)
-    }
-}
-
-/// Serves the command that the words name, the program's name being the first word, and answers the
+/// Serves the command that the words name, the program's name being the first word, and returns the
 /// status of the program.
 ///
-/// Where the words ask for a command, `input` is read to its end, the answer goes to `output`, and
-/// the status is 0; a fault goes to `errors` as one line, with its status. Where they do not, nothing
-/// is read: help goes to `output` with 0, any other text of clap to `errors` with 2. A fault of
-/// `input` or `output`, or want of memory, is a line on `errors` with 4; a fault of `errors` changes
-/// nothing.
+/// If the words ask for a command, `input` is read to its end, the answer goes to `output`, and the
+/// status is 0; a fault of the input goes to `errors` as one line, with status 1. If they don't, nothing
+/// is read: help goes to `output` with status 0, any other text of clap to `errors` with 2. If a read or
+/// a write fails, or memory runs out, a line on `errors` says so, with status 4; after a failed write
+/// `output` holds a beginning of the answer. A failed write to `errors` changes nothing.
 pub fn serve<'a, R: Source, W: Sink, E: Sink>(
     alloc: Global,
     words: &'a [&'a str],
@@ -136,13 +115,15 @@ pub fn serve<'a, R: Source, W: Sink, E: Sink>(
     output: &mut W,
     errors: &mut E,
 ) -> u8
-    ensures { ServesWords (texts words.entry.now)
+    ensures { ServesWords (map (λ word. word.now) words.entry.now)
         (reading R.remaining R.faults R.reads_left input.old input.new)
         (writing W.contents W.faults output.old output.new)
         (writing E.contents E.faults errors.old errors.new) result }
 {
     match parse(alloc, words) {
         Ok(request) => serve_request(alloc, request, input, output, errors),
-        Err(error) => decline(alloc, &error, output, errors),
+        Err(Declined::Help(text)) => put(output, errors, text.as_bytes()),
+        Err(Declined::Refused(text)) => refuse(errors, text.as_bytes(), REFUSED_WORDS),
+        Err(Declined::Memory) => refuse_memory(errors),
     }
 }

@@ -1,7 +1,7 @@
 -- What reading to the end and writing byte by byte leave in a reader and a writer.
-use Rattle.std.specs.Prelude.{◌≡◌, ◌≤◌, ◌⊎◌, ℕ, List, ◌++◌, Option, ⊤, length}
+use Rattle.std.specs.Prelude.{◌≡◌, ◌≤◌, ◌⊎◌, ℕ, List, ◌++◌, Option, length}
 use Rattle.std.specs.Io.KnownBytes.{Appends, Consumes, IsAtEnd}
-use Rattle.whole_streams.specs.Counts.{CountsDown, HasGrown}
+use Rattle.whole_streams.specs.Counts.{CountsDown, CountsOn, HasGrown}
 use Rattle.whole_streams.specs.declared.source.ReadFault.{ReadFault}
 use Rattle.whole_streams.specs.declared.source.ReadFault.TheVariants.{Stream, Memory}
 
@@ -26,4 +26,4 @@ IsUnended old new left left' =
 -- the fault of a stream comes only where a read failed, or where the reader did not end
 abbrev pub WantsStreamFault : Option ℕ → Option ℕ → Type 0 → ReadFault → Type 0
 WantsStreamFault faults faults' unended Stream = HasGrown faults faults' ⊎ unended
-WantsStreamFault faults faults' unended Memory = ⊤
+WantsStreamFault faults faults' unended Memory = CountsOn faults 0 faults'

@@ -3,7 +3,7 @@
 ghost use Rattle.std.specs.Prelude.{ℕ, Option, None, IfOk, IfErr};
 ghost use Rattle.std.specs.Io.{WritesAtMost};
 ghost use Rattle.std.specs.Io.KnownBytes.{Appends, WriteAppends};
-ghost use Rattle.whole_streams.specs.Counts.{CountsWrite, HasGrown};
+ghost use Rattle.whole_streams.specs.Counts.{CountsOn, CountsWrite, HasGrown};
 ghost use Rattle.whole_streams.specs.Streams.{AppendsBeginning};
 
 use std::io;
@@ -41,6 +41,7 @@ pub struct WriteFault;
 /// `WriteFault` where a write failed, or took nothing; a beginning of `bytes` was then written.
 pub fn write_whole<W: Sink>(output: &mut W, bytes: &[u8]) -> Result<(), WriteFault>
     ensures ok { IfOk result (λ _. Appends (W.contents output.old) (W.contents output.new) bytes.now) }
+    ensures quiet { IfOk result (λ _. CountsOn (W.faults output.old) 0 (W.faults output.new)) }
     ensures begin { AppendsBeginning (W.contents output.old) (W.contents output.new) bytes.now }
     ensures fault { IfErr result (λ _. HasGrown (W.faults output.old) (W.faults output.new)) }
 {

@@ -3,7 +3,7 @@
 ghost use Rattle.std.specs.Prelude.{ℕ, Option, Some, None, IfOk, IfErr};
 ghost use Rattle.std.specs.Io.{ReadsAtMost};
 ghost use Rattle.std.specs.Io.KnownBytes.{ReadConsumes};
-ghost use Rattle.whole_streams.specs.Counts.{CountsDown, CountsRead};
+ghost use Rattle.whole_streams.specs.Counts.{CountsDown, CountsOn, CountsRead};
 ghost use Rattle.whole_streams.specs.Streams.{EndsAfter, WantsStreamFault, IsUnended};
 
 use std::alloc::Global;
@@ -59,6 +59,7 @@ pub enum ReadFault {
 /// `Memory` where a growth was refused. What was read until then is dropped.
 pub fn read_whole<R: Source>(alloc: Global, input: &mut R) -> Result<Vec<u8>, ReadFault>
     ensures ok { IfOk result (λ v. EndsAfter (R.remaining input.old) (R.remaining input.new) v.items) }
+    ensures quiet { IfOk result (λ _. CountsOn (R.faults input.old) 0 (R.faults input.new)) }
     ensures fault { IfErr result (WantsStreamFault (R.faults input.old) (R.faults input.new)
         (IsUnended (R.remaining input.old) (R.remaining input.new) (R.reads_left input.old) (R.reads_left input.new))) }
 {

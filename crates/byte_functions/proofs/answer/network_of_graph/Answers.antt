@@ -1,6 +1,6 @@
 use Rattle.std.proofs.Common.{◌∙◌, ap, length}
 use Rattle.std.proofs.lemmas.List.FromFn.{length-range_with_len}
-use Rattle.forestplan.proofs.answer.network_of_graph.Goals as goal
+use Rattle.byte_functions.proofs.answer.network_of_graph.Goals as goal
 
 pub new-requires-clause-ids : goal.new-requires-clause-ids
 new-requires-clause-ids c =

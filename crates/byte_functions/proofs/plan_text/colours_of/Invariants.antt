@@ -1,5 +1,5 @@
 use Rattle.std.proofs.Common.{◌≡◌, map, take}
-use Rattle.forestplan.proofs.plain.colours_of.Given as goal
+use Rattle.byte_functions.proofs.plan_text.colours_of.Given as goal
 
 abbrev pub invariant-loop-node : goal.invariant-loop-node
 invariant-loop-node l = l.all.items ≡ map (λ node. node.merged) (take l.node-index l.nodes)

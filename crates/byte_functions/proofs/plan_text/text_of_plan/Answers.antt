@@ -6,8 +6,8 @@ use Rattle.channel_plan.specs.PlanText.{plan_of}
 use Rattle.colour_rules.specs.Node.{Node}
 use Rattle.colour_rules.specs.Program.{colouring}
 use Rattle.colour_laws.specs.Colours.{colours}
-use Rattle.forestplan.proofs.Ends.{at-vertices}
-use Rattle.forestplan.proofs.plain.text_of_plan.Goals as goal
+use Rattle.byte_functions.proofs.Ends.{at-vertices}
+use Rattle.byte_functions.proofs.plan_text.text_of_plan.Goals as goal
 
 pub returns : goal.returns
 returns c =

@@ -1,10 +1,10 @@
-use Rattle.std.proofs.Common.{◌≡◌, ◌∙◌, true, false, Some, None, Option, is_some, refl, sym, ap, subst, inl, inr, option_map}
-use Rattle.clap.specs.Words.{App, fault_of, is_simple, subcommand_of}
+use Rattle.std.proofs.Common.{◌≡◌, ◌∙◌, true, false, Some, None, Option, is_some, refl, sym, ap, subst, option_map}
+use Rattle.clap.specs.Words.{App, fault_of, is_simple, kind_of, subcommand_of}
 use Rattle.clap.specs.Walk.{texts}
 use Rattle.clap.specs.Faults.{is_simple_and_free}
 use Rattle.clap.specs.Kinds.{HasKind}
 use Rattle.command_line.specs.Asked.{choice_of}
-use Rattle.command_line.proofs.KnownCommands.{known, line_is_free, line_is_simple, refused, taken}
+use Rattle.command_line.proofs.KnownCommands.{declined, known, line_is_free, line_is_simple, taken}
 use Rattle.command_line.proofs.request.parse.Goals as goal
 
 mapped : {X Y : Type 0} (f : X → Y) (o : Option X) → is_some o ≡ true → is_some (option_map f o) ≡ true
@@ -31,13 +31,10 @@ returns-in-Some-clause-ok c =
     let none = ap (λ (a : App). fault_of a (texts c.args.words.now)) (sym shape) ∙ e.kinds (ap is_simple_and_free shape ∙ line_is_free) in
     taken (texts c.args.words.now) c.in-Some.request none (ap choice_of (sym rows_are) ∙ sym c.in-Some.ensures)
 
-pub returns-in-Err-try_get_matches_from-clause-err : goal.returns-in-Err-try_get_matches_from-clause-err
-returns-in-Err-try_get_matches_from-clause-err c =
-    let e = c.in-Err-try_get_matches_from.ensures in
+pub returns-in-Err-clause-err : goal.returns-in-Err-clause-err
+returns-in-Err-clause-err c =
+    let words = texts c.args.words.now in
     let shape = c.in-Ok.ensures.shape in
-    let has = subst (λ (a : App). HasKind (fault_of a (texts c.args.words.now)) c.in-Err-try_get_matches_from.error) shape
-    (e.kinds (ap is_simple_and_free shape ∙ line_is_free)) in
-    elim has [
-      | inl memory ↦ inl memory
-      | inr among ↦ inr (refused (texts c.args.words.now) _ among, among)
-    ]
+    let has = subst (λ (a : App). HasKind (fault_of a words) c.in-Err.error) shape
+    (c.in-Err.ensures.kinds (ap is_simple_and_free shape ∙ line_is_free)) in
+    declined words (kind_of c.in-Err.error) c.declined_by.result has c.declined_by.ensures

@@ -1,9 +1,9 @@
 use Rattle.std.proofs.Common.{◌≡◌, ◌∙◌, ◌++◌, ap, sym, append_assoc, map}
 use Rattle.std.specs.List.{join_with_byte}
 use Rattle.std.specs.Fmt.{decimal}
-use Rattle.plain_text.specs.Row.{spaced}
-use Rattle.plain_text.proofs.Spaced.{joined_last}
-use Rattle.plain_text.proofs.row.push_joined.Goals as goal
+use Rattle.number_rows.specs.Row.{spaced}
+use Rattle.number_rows.proofs.Spaced.{joined_last}
+use Rattle.number_rows.proofs.row.push_joined.Goals as goal
 
 pub returns-clause-joined : goal.returns-clause-joined
 returns-clause-joined c =

@@ -1,6 +1,6 @@
 use Rattle.std.proofs.Common.{◌≡◌, ◌++◌, take}
-use Rattle.plain_text.specs.Row.{spaced}
-use Rattle.plain_text.proofs.row.push_spaced.Given as goal
+use Rattle.number_rows.specs.Row.{spaced}
+use Rattle.number_rows.proofs.row.push_spaced.Given as goal
 
 abbrev pub invariant-loop-number : goal.invariant-loop-number
 invariant-loop-number l = l.text.items ≡ l.fn.text.items ++ spaced (take l.number-index l.numbers)

@@ -1,7 +1,7 @@
 use Rattle.std.proofs.Common.{refl}
-use Rattle.forestplan.specs.Streams.{writing}
-use Rattle.forestplan.proofs.Giving.{of-bytes, of-fault}
-use Rattle.forestplan.proofs.serving.give.Goals as goal
+use Rattle.serving.specs.Streams.{writing}
+use Rattle.serving.proofs.Giving.{of-bytes, of-fault}
+use Rattle.serving.proofs.serving.give.Goals as goal
 
 pub returns-in-Ok : goal.returns-in-Ok
 returns-in-Ok g c = of-bytes

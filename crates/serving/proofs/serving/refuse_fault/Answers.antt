@@ -1,11 +1,11 @@
 use Rattle.std.proofs.Common.{◌∙◌, inl, subst}
-use Rattle.forestplan.specs.Serve.{IsTold}
-use Rattle.forestplan.specs.Streams.{writing}
-use Rattle.forestplan.proofs.serving.refuse_fault.Goals as goal
+use Rattle.serving.specs.Serve.{IsReported}
+use Rattle.serving.specs.Streams.{writing}
+use Rattle.serving.proofs.serving.refuse_fault.Goals as goal
 
 pub returns-in-Ok : goal.returns-in-Ok
 returns-in-Ok g c = inl (
-  subst (λ text. IsTold (writing g.E.Write.contents g.E.Sink.faults c.args.errors.now c.refuse.new.errors) text)
-      (c.as_bytes.ensures.value ∙ c.in-Ok.ensures.line) c.refuse.ensures.told,
+  subst (λ text. IsReported (writing g.E.Write.contents g.E.Sink.faults c.args.errors.now c.refuse.new.errors) text)
+      (c.as_bytes.ensures.value ∙ c.in-Ok.ensures.line) c.refuse.ensures.reported,
   c.refuse.ensures.status ∙ c.in-Ok.ensures.status,
 )

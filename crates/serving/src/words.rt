@@ -1,26 +1,16 @@
-//! The words that the system gives.
+//! Serving words that are owned, as the system gives them.
 
 ghost use Rattle.std.specs.Prelude.{◌≡◌, IfOk, map, string_bytes};
-ghost use Rattle.clap.specs.Walk.{texts};
-ghost use Rattle.forestplan.specs.Serve.{ServesWords};
-ghost use Rattle.forestplan.specs.Streams.{reading, writing};
+ghost use Rattle.serving.specs.Serve.{ServesWords};
+ghost use Rattle.serving.specs.Streams.{reading, writing};
 
 use crate::serving::{refuse_memory, serve};
 use std::alloc::{AllocError, Global};
-use std::io;
 use whole_streams::{Sink, Source};
 
-/// The words that the program was started with, its name first.
-///
-/// # Errors
-/// `OutOfMemory`, or `InvalidData` where a word is no text.
-pub fn arguments(rt: &HostRuntime) -> io::Result<Vec<String>> {
-    Ok(std::env::args(rt)?.collect(rt.alloc())?)
-}
-
-// The words, each lent.
-fn lent<'a>(alloc: Global, words: &'a [String]) -> Result<Vec<&'a str>, AllocError>
-    ensures { IfOk result (λ v. texts v.items ≡ map string_bytes words.entry.now) }
+// The words, each borrowed.
+fn borrowed<'a>(alloc: Global, words: &'a [String]) -> Result<Vec<&'a str>, AllocError>
+    ensures { IfOk result (λ all. map (λ word. word.now) all.items ≡ map string_bytes words.entry.now) }
 {
     let mut all = Vec::new(alloc);
     for word in words {
@@ -42,7 +32,7 @@ pub fn serve_all<R: Source, W: Sink, E: Sink>(
         (writing W.contents W.faults output.old output.new)
         (writing E.contents E.faults errors.old errors.new) result }
 {
-    match lent(alloc, words) {
+    match borrowed(alloc, words) {
         Ok(words) => serve(alloc, words.as_slice(), input, output, errors),
         Err(_) => refuse_memory(errors),
     }

@@ -1,0 +1,4 @@
+pub mod Texts
+pub mod Plans
+pub mod Faults
+pub mod Answers

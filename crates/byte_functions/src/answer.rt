@@ -1,0 +1,77 @@
+//! The answer of each command to the bytes of a text.
+
+ghost use Rattle.std.specs.Prelude.{◌≡◌, IfOk, IfErr};
+ghost use Rattle.std.specs.List.{range_with_len};
+ghost use Rattle.interference.specs.Making.{EdgesFit, IsFaultOf};
+ghost use Rattle.interference.specs.Net.{IsNetwork};
+ghost use Rattle.byte_functions.specs.Answers.{IsFaultOfText, IsForestsAnswer, IsPlainAnswer, ReadsAs, network_with};
+
+use crate::fault::PlanFault;
+use crate::forests_text::text_of_forests;
+use crate::plan_text::text_of_plan;
+use colour_laws::laws::colours_are_proper;
+use dimacs_col::{ColFile, read};
+use interference::{NetFault, Network};
+use std::alloc::{AllocError, Global};
+
+// The identifiers 1 to n.
+#[tactic(auto, using(crate::proofs::Numbering::one_more))]
+fn identifiers(alloc: Global, nodes: u32) -> Result<Vec<u64>, AllocError>
+    ensures { IfOk result (λ ids. ids.items ≡ range_with_len 1 nodes) }
+{
+    let mut ids = Vec::new(alloc);
+    for v in 0..nodes {
+        ids.push(u64::from(v) + 1)?;
+    }
+    Ok(ids)
+}
+
+// The network of a graph, in which each vertex is its own identifier.
+fn network_of_graph(alloc: Global, graph: &ColFile) -> Result<Network, NetFault>
+    requires { EdgesFit graph.now.nodes graph.now.edges.items }
+    ensures ok { IfOk result (λ net. (net ≡ network_with graph.now.nodes graph.now.edges.items) × IsNetwork net) }
+    ensures fault { IfErr result (IsFaultOf (network_with graph.now.nodes graph.now.edges.items)) }
+{
+    let Ok(ids) = identifiers(alloc, graph.nodes) else {
+        return Err(NetFault::Memory);
+    };
+    let network = Network::new(alloc, graph.nodes, ids.as_slice(), graph.edges.as_slice())?;
+    network.is_network();
+    Ok(network)
+}
+
+// The network that a text describes.
+fn network_of_text(alloc: Global, input: &[u8]) -> Result<Network, PlanFault>
+    ensures ok { IfOk result (λ net. ReadsAs input.now (λ read. IsNetwork read × (net ≡ read))) }
+    ensures fault { IfErr result (IsFaultOfText input.now) }
+{
+    let graph = read(alloc, input)?;
+    Ok(network_of_graph(alloc, &graph)?)
+}
+
+/// The forests text of the network that a DIMACS text describes.
+///
+/// # Errors
+/// `Col` with the fault of the reading; if there is none, `Net` with the fault of the network. Any call
+/// may instead fail for lack of memory: `ColFault::Memory`, `NetFault::Memory` or `Memory`.
+pub fn forest_bytes(alloc: Global, input: &[u8]) -> Result<Vec<u8>, PlanFault>
+    ensures ok { IfOk result (λ text. IsForestsAnswer input.now text.items) }
+    ensures fault { IfErr result (IsFaultOfText input.now) }
+{
+    let network = network_of_text(alloc, input)?;
+    Ok(text_of_forests(alloc, &network)?)
+}
+
+/// The channel plan of the network that a DIMACS text describes: the plan text of its colours. The nodes
+/// find them by messages in rounds, on one thread.
+///
+/// # Errors
+/// As of `forest_bytes`.
+pub fn plain_bytes(alloc: Global, input: &[u8]) -> Result<Vec<u8>, PlanFault>
+    ensures ok { IfOk result (λ text. IsPlainAnswer input.now text.items) }
+    ensures fault { IfErr result (IsFaultOfText input.now) }
+{
+    colours_are_proper();
+    let network = network_of_text(alloc, input)?;
+    Ok(text_of_plan(alloc, &network)?)
+}

@@ -1,0 +1,42 @@
+//! Why a text has no answer.
+
+ghost use Rattle.std.specs.Prelude.{◌≡◌};
+ghost use Rattle.byte_functions.specs.declared.fault.PlanFault.TheVariants as faults;
+
+use dimacs_col::ColFault;
+use interference::{Memory, NetFault};
+
+/// Why a text has no answer.
+#[derive(Clone, Copy, Debug, PartialEq, Eq)]
+pub enum PlanFault {
+    /// The text is no graph.
+    Col(ColFault),
+    /// Its graph is no network.
+    Net(NetFault),
+    /// Memory ran out.
+    Memory,
+}
+
+impl From<ColFault> for PlanFault {
+    ghost from_gives = { λ fault result. result ≡ faults.Col fault };
+
+    fn from(fault: ColFault) -> PlanFault {
+        PlanFault::Col(fault)
+    }
+}
+
+impl From<NetFault> for PlanFault {
+    ghost from_gives = { λ fault result. result ≡ faults.Net fault };
+
+    fn from(fault: NetFault) -> PlanFault {
+        PlanFault::Net(fault)
+    }
+}
+
+impl From<Memory> for PlanFault {
+    ghost from_gives = { λ _ result. result ≡ faults.Memory };
+
+    fn from(_memory: Memory) -> PlanFault {
+        PlanFault::Memory
+    }
+}

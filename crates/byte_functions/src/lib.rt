@@ -1,0 +1,24 @@
+//! What the commands of `forestplan` compute, from the bytes of a DIMACS text to the bytes of an answer,
+//! and the report of each fault. It names no stream, no command line and no system, so that a test or
+//! another program calls the same functions.
+//!
+//! `serving` calls `forest_bytes` and `plain_bytes` for a command, and `fault_report` if they fail.
+//!
+//! ```
+//! let text = b"p edge 3 3\ne 1 2\ne 1 3\ne 2 3\n";
+//! let plan = plain_bytes(alloc, text)?;       // "plan", "1 2", "2 3", "3 1", a line each
+//! ```
+//!
+//! A text has at most 20,000 vertices and 400,000 edges, and a vertex at most 1,023 neighbours; more is
+//! a fault. Vertex v has the identifier v.
+#![tactic(auto)]
+
+mod answer;
+mod fault;
+mod forests_text;
+mod plan_text;
+mod report;
+
+pub use answer::{forest_bytes, plain_bytes};
+pub use fault::PlanFault;
+pub use report::{FaultReport, fault_report};

@@ -1,0 +1,23 @@
+//! Serving one command of `forestplan`: from the words of the command line and the input to what is
+//! written and the status, over a source and two sinks of the caller's.
+//!
+//! The program `forestplan` calls `serve_all` with the words and the streams that the system gives.
+//!
+//! ```
+//! let mut input: &[u8] = b"p edge 2 1\ne 1 2\n";
+//! let (mut output, mut errors) = (Vec::new(alloc), Vec::new(alloc));
+//! let status = serve(alloc, &["forestplan", "plain"], &mut input, &mut output, &mut errors);
+//! // status 0, output "plan", "1 1", "2 2", a line each
+//! ```
+//!
+//! The contract of `serve` says what goes to the output, to the errors and into the status, for all words,
+//! every input and every stream. Of the texts of `clap`, help among them, it says only where they go.
+#![tactic(auto)]
+
+mod answer;
+mod serving;
+mod words;
+
+pub use answer::answer_bytes;
+pub use serving::{refuse_memory, serve};
+pub use words::serve_all;
