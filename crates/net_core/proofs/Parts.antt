@@ -1,0 +1,31 @@
+-- Lists of which one entry changes, or from which one entry more is taken.
+use Rattle.std.proofs.Common.{◌≡◌, ℕ, suc, zero, ◌+◌, ◌<◌, List, [], ◌∷◌, ◌++◌, take, drop, length, get_or, set, refl, ap, ◌∙◌, arith}
+
+-- an entry that is written where it stands leaves the list
+pub set-same : {X : Type 0} (xs : List X) (i : ℕ) (x : X) → i < length xs → x ≡ get_or xs i x → set xs i x ≡ xs
+set-same [] i x lt is = absurd (omega arith)
+set-same (y ∷ xs) zero x lt is = ap (λ z. z ∷ xs) is
+set-same (y ∷ xs) (suc i) x lt is = ap (λ l. y ∷ l) (set-same xs i x (omega arith) is)
+
+-- what holds of every entry and of the new one holds of every entry afterwards
+pub each-set : {X : Type 0} (P : X → Type 0) (xs : List X) (i : ℕ) (y : X) → P y
+    → ((k : ℕ) (d : X) → k < length xs → P (get_or xs k d)) → (k : ℕ) (d : X) → k < length (set xs i y) → P (get_or (set xs i y) k d)
+each-set P [] i y here each k d lt = absurd (omega arith)
+each-set P (x ∷ xs) zero y here each zero d lt = here
+each-set P (x ∷ xs) zero y here each (suc k) d lt = each (suc k) d (omega arith)
+each-set P (x ∷ xs) (suc i) y here each zero d lt = each 0 d (omega arith)
+each-set P (x ∷ xs) (suc i) y here each (suc k) d lt = each-set P xs i y here (λ j e l. each (suc j) e (omega arith)) k d (omega arith)
+
+take-suc : {X : Type 0} (xs : List X) (n : ℕ) → 0 < length (drop n xs)
+    → (take (suc n) xs ≡ take n xs ++ take 1 (drop n xs)) × (drop (suc n) xs ≡ drop 1 (drop n xs))
+take-suc [] zero lt = absurd (omega arith)
+take-suc [] (suc n) lt = absurd (omega arith)
+take-suc (x ∷ xs) zero lt = (refl, refl)
+take-suc (x ∷ xs) (suc n) lt = let rest = take-suc xs n lt in (ap (λ l. x ∷ l) rest.0, rest.1)
+
+-- one entry more is taken
+pub take-next : {X : Type 0} (xs : List X) (n : ℕ) → 0 < length (drop n xs)
+    → (take (n + 1) xs ≡ take n xs ++ take 1 (drop n xs)) × (drop (n + 1) xs ≡ drop 1 (drop n xs))
+take-next xs n lt =
+    let e : n + 1 ≡ suc n = omega arith in
+    (ap (λ k. take k xs) e ∙ (take-suc xs n lt).0, ap (λ k. drop k xs) e ∙ (take-suc xs n lt).1)

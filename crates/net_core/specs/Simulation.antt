@@ -1,0 +1,18 @@
+-- What holds of every state that a list of events reaches.
+use Rattle.std.specs.Prelude.{◌≡◌, List, Ok}
+use Rattle.interference.specs.Net.{Net}
+use Rattle.node_api.specs.Program.{Program}
+use Rattle.alpha_laws.specs.Simulates.{Simulates}
+use Rattle.net_core.specs.declared.event.Event.{Event}
+use Rattle.net_core.specs.State.{State, node_of, link_at, link_to, sent_of}
+use Rattle.net_core.specs.Step.{run}
+
+-- the nodes of a state, with the lists put on their links and taken from them, simulate the synchronous run
+abbrev pub IsSimulation : {S M E : Type 0} → Program S M E → Net → State S M → Type 0
+IsSimulation program net state =
+    Simulates program net (node_of program net state)
+    (λ v i. sent_of (link_at state.links v i)) (λ v i. (link_to net state.links v i).taken)
+
+-- a state that some list of events reaches
+abbrev pub IsReached : {S M E : Type 0} → Program S M E → Net → State S M → Type 0
+IsReached program net state = (events : List Event) × (run program net events ≡ Ok state)

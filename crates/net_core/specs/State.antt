@@ -1,0 +1,61 @@
+-- The state of a network of nodes: each node, and of each direction of a link what was put on it and what was taken.
+use Rattle.std.specs.Prelude.{ℕ, ◌-◌, List, [], ◌++◌, map, take, drop, replicate, slice_index_or, slice_set}
+use Rattle.interference.specs.Net.{Net, vertices, degree_of, neighbour_of, back_port_of}
+use Rattle.node_api.specs.Program.{Program}
+use Rattle.alpha_core.specs.declared.wire.Wire.{Wire}
+use Rattle.alpha_core.specs.View.{Node}
+use Rattle.alpha_core.specs.Program.{start_node}
+
+-- One direction of a link: the wires that were taken, and those that were put and not taken, oldest first.
+pub record Link (M : Type 0) : Type 0 where
+  pub taken : List (Wire M)
+  pub held : List (Wire M)
+
+-- all that was put on it, in order
+abbrev pub sent_of : {M : Type 0} → Link M → List (Wire M)
+sent_of link = link.taken ++ link.held
+
+-- the oldest wire that it holds was taken
+abbrev pub take_one : {M : Type 0} → Link M → Link M
+take_one link = record { taken = link.taken ++ take 1 link.held; held = drop 1 link.held }
+
+-- nothing was put on it
+abbrev pub no_link : {M : Type 0} → Link M
+no_link = record { taken = []; held = [] }
+
+-- Entry v - 1 of each list is of vertex v: its node, and the links out of it, by port.
+pub record State (S M : Type 0) : Type 0 where
+  pub nodes : List (Node S M)
+  pub links : List (List (Link M))
+
+abbrev pub node_of : {S M E : Type 0} → Program S M E → Net → State S M → ℕ → Node S M
+node_of program net state v = slice_index_or state.nodes (v - 1) (start_node program net v)
+
+-- the link out of v by port i
+abbrev pub link_at : {M : Type 0} → List (List (Link M)) → ℕ → ℕ → Link M
+link_at links v i = slice_index_or (slice_index_or links (v - 1) []) i no_link
+
+-- the link that comes to v by port i
+abbrev pub link_to : {M : Type 0} → Net → List (List (Link M)) → ℕ → ℕ → Link M
+link_to net links v i = link_at links (neighbour_of net v i) (back_port_of net v i)
+
+abbrev pub set_node : {S M : Type 0} → List (Node S M) → ℕ → Node S M → List (Node S M)
+set_node nodes v node = slice_set nodes (v - 1) node
+
+abbrev pub set_link : {M : Type 0} → List (List (Link M)) → ℕ → ℕ → Link M → List (List (Link M))
+set_link links v i link = slice_set links (v - 1) (slice_set (slice_index_or links (v - 1) []) i link)
+
+abbrev pub set_link_to : {M : Type 0} → Net → List (List (Link M)) → ℕ → ℕ → Link M → List (List (Link M))
+set_link_to net links v i link = set_link links (neighbour_of net v i) (back_port_of net v i) link
+
+-- The start: each node is at pulse 0 with its first wires in its out-lists, and nothing was put on any link.
+abbrev pub start : {S M E : Type 0} → Program S M E → Net → State S M
+start program net = record {
+  nodes = map (λ v. start_node program net v) (vertices net);
+  links = map (λ v. replicate (degree_of net v) no_link) (vertices net);
+}
+
+-- What contracts see of a `NetState`: its network, and the state.
+pub record NetView (S M : Type 0) : Type 0 where
+  pub net : Net
+  pub state : State S M
