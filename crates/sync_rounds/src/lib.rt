@@ -18,8 +18,6 @@ mod delivery;
 mod engine;
 mod greatest;
 pub mod laws;
-#[cfg(test)]
-mod tests;
 
 pub use engine::run_rounds;
 pub use greatest::{Best, Greatest};

@@ -1,8 +1,7 @@
-// Each call once, with ample memory, at a type of payload of this crate's own.
-
+//! Each call of an inbox and an outbox once, with ample memory, at payloads of one byte.
 ghost use Rattle.std.specs.Prelude.{◌≡◌};
 
-use crate::{Inbox, Outbox, Sent};
+use node_api::{Inbox, Outbox, Sent};
 
 // Whether this payload of this port is the next to be read.
 fn next_is(inbox: &mut Inbox<u8>, port: u32, payload: u8) -> bool
@@ -32,20 +31,7 @@ fn an_inbox_is_read_by_ascending_port(rt: HostRuntime) {
     assert!(rt; !inbox.has_next() && inbox.is_empty(3));
 }
 
-#[test]
-fn an_outbox_knows_whether_it_holds_anything(rt: HostRuntime) {
-    let mut out: Outbox<u8> = Outbox::new(rt.alloc(), 3).expect(&rt, "memory");
-    assert!(rt; out.is_quiet());
-    out.broadcast(5);
-    assert!(rt; !out.is_quiet() && out.get(2) == Some(5));
-    out.clear();
-    assert!(rt; out.is_quiet() && out.is_free(1));
-    out.send(1, 8);
-    assert!(rt; !out.is_quiet() && !out.is_free(1) && out.is_free(0));
-    assert_eq!(rt; (out.get(0), out.get(1)), (None, Some(8)));
-}
-
-// The ports that are listed, or none where a payload goes everywhere.
+// The ports that are listed, or none if a payload goes everywhere.
 fn listed(out: &Outbox<u8>) -> Option<&[u32]> {
     match out.sent() {
         Sent::Everywhere(_) => None,
@@ -54,23 +40,18 @@ fn listed(out: &Outbox<u8>) -> Option<&[u32]> {
 }
 
 #[test]
-fn an_outbox_tells_what_it_sends(rt: HostRuntime) {
+fn an_outbox_lists_what_it_sends(rt: HostRuntime) {
     let mut out: Outbox<u8> = Outbox::new(rt.alloc(), 4).expect(&rt, "memory");
-    assert!(rt; listed(&out) == Some([].as_slice()));
+    assert!(rt; out.is_quiet() && listed(&out) == Some([].as_slice()));
     out.send(2, 7);
-    out.send(0, 5);
-    assert!(rt; listed(&out) == Some([2, 0].as_slice()));
-    assert!(rt; out.get(2) == Some(7) && out.is_free(1) && out.get(0) == Some(5));
+    assert!(rt; !out.is_quiet() && listed(&out) == Some([2].as_slice()));
+    assert!(rt; out.get(2) == Some(7) && !out.is_free(2) && out.is_free(1));
     out.clear();
-    assert!(rt; out.is_quiet() && out.is_free(2) && out.is_free(0));
+    assert!(rt; out.is_quiet() && out.is_free(2));
     out.broadcast(9);
-    assert!(rt; listed(&out).is_none() && out.get(3) == Some(9));
+    assert!(rt; !out.is_quiet() && listed(&out).is_none() && out.get(3) == Some(9));
     out.clear();
     assert!(rt; listed(&out) == Some([].as_slice()) && out.is_free(3));
-    out.send(3, 1);
-    out.send(1, 6);
-    assert!(rt; listed(&out) == Some([3, 1].as_slice()));
-    assert_eq!(rt; (out.get(1), out.get(3)), (Some(6), Some(1)));
     let mut alone: Outbox<u8> = Outbox::new(rt.alloc(), 0).expect(&rt, "memory");
     alone.broadcast(9);
     assert!(rt; alone.is_quiet() && listed(&alone) == Some([].as_slice()));
