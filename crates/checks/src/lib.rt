@@ -1,7 +1,5 @@
-//! The tests of all crates, in one crate that no other uses: a crate with tests of its own is proved twice.
-//!
-//! Each module `CRATE_checks` has the tests of one crate. A test is here for what no contract says: worked examples, that a call succeeds with ample memory, that a generic function runs at
-//! a type, printed text, the order of an engine's calls.
+//! The tests of all crates below: what no contract says. A module tests one crate, and is named after it;
+//! its name ends in `_checks`, since a module may not have the name of a library.
 #![tactic(auto)]
 
 #[cfg(test)]
