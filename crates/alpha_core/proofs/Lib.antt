@@ -1,3 +1,8 @@
 pub mod Wires
 pub mod Due
 pub mod Cells
+pub mod PortLists
+mod Changed
+mod PortRows
+mod OutLists
+mod Moved

@@ -4,3 +4,4 @@ pub mod View
 pub mod Table
 pub mod Alpha
 pub mod Program
+pub mod Rows

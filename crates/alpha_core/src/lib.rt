@@ -11,10 +11,18 @@
 //! Limits: degree 1,023, four wires in an out-list.
 #![tactic(auto)]
 
+mod emitting;
+mod flags;
 pub mod laws;
+mod moving;
+mod node;
+mod out_lists;
+mod ports;
 mod refused;
 mod table;
+mod taking;
 mod wire;
 
+pub use node::AlphaNode;
 pub use refused::AlphaRefused;
 pub use wire::Wire;

@@ -1,0 +1,17 @@
+use Rattle.std.proofs.Common.{false, refl, arith}
+use Rattle.std.proofs.lemmas.List.{length-set}
+use Rattle.alpha_core.specs.Rows.{rows_of}
+use Rattle.alpha_core.proofs.PortRows.{below, row-put}
+use Rattle.alpha_core.proofs.ports.Ports.set_waits.Goals as goal
+
+pub index_mut-requires : goal.index_mut-requires
+index_mut-requires g c = omega (arith, below c.self.invariant c.self.view_is c.requires.port, c.self.inside.waits.ok.0)
+
+pub returns : goal.returns
+returns g c =
+    let a = c.self.inside in
+    record {
+      set = row-put (λ b p. record p { waits = b }) (rows_of a.waits.items a.safe.items a.early_safe.items a.closed.items a.present.slots a.early.slots
+          a.outs) _ a.waits.items c.args.waits false c.self.invariant c.self.view_is c.requires.port
+          refl (length-set a.waits.items c.args.port c.args.waits) (λ j. refl) (λ j. refl);
+    }
