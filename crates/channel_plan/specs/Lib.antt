@@ -1,1 +1,4 @@
 pub mod PlanText
+pub mod Reading
+pub mod Reader
+pub mod Checked

@@ -9,8 +9,16 @@
 //! A channel is a colour plus one. Colours are below 2^16, as nodes have at most 1,023 neighbours.
 #![tactic(auto)]
 
+mod checking;
+mod fields;
+pub mod laws;
+mod plan;
+mod reading;
 #[cfg(test)]
 mod tests;
 mod writing;
 
+pub use checking::check;
+pub use plan::{CheckFault, Plan};
+pub use reading::read_plan;
 pub use writing::plan_text;

@@ -37,10 +37,10 @@ kept_number-some field some e = rw (lt-ltb 0 (length field) some, e) refl
 pub digits-front : (field : List ℕ) (i : ℕ) (b : Bool) → i < length field → is_ascii_digit (get_or field i 0) ≡ b → all_ascii_digits (drop i field) ≡ (b && all_ascii_digits (drop (i + 1) field))
 digits-front field i b h e = rw (add-one, drop-cons field i 0 h, e) refl
 
-digit_value-is : (x : ℕ) → 48 ≤ x → x ≤ 57 → digit_value x ≡ x - 48
+pub digit_value-is : (x : ℕ) → 48 ≤ x → x ≤ 57 → digit_value x ≡ x - 48
 digit_value-is x low high = let h : x < 58 = omega arith in rw (le-ltb x 48 low, lt-ltb x 58 h) refl
 
-digit-range : (x : ℕ) → is_ascii_digit x ≡ true → (48 ≤ x) × (x ≤ 57)
+pub digit-range : (x : ℕ) → is_ascii_digit x ≡ true → (48 ≤ x) × (x ≤ 57)
 digit-range x e = let p = and_parts (leb 48 x) (leb x 57) e in (leb-true 48 x p.0, leb-true x 57 p.1)
 
 pub kept-front : (field : List ℕ) (i value digit next : ℕ) → i < length field → is_ascii_digit (get_or field i 0) ≡ true → digit ≡ get_or field i 0 - 48 → next ≡ kept (kept (value * 10) + digit) → kept (digits_value_after 10 value (drop i field)) ≡ kept (digits_value_after 10 next (drop (i + 1) field))

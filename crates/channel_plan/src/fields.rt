@@ -1,0 +1,44 @@
+//! The fields of a line of a plan text.
+
+ghost use Rattle.std.specs.Prelude.{◌≡◌, ◌∷◌, List, ℕ};
+ghost use Rattle.channel_plan.specs.Reading.{is_header as is_a_header, row_of, small_number};
+
+use dimacs_col::Fields;
+
+// The number of a field, where it is below 2^32.
+fn number(field: &[u8]) -> Option<u32>
+    ensures { result ≡ small_number field.now }
+{
+    if field.is_empty() {
+        return None;
+    }
+    let mut value: u32 = 0;
+    for digit in field {
+        if !digit.is_ascii_digit() {
+            return None;
+        }
+        value = value
+            .checked_mul(10)?
+            .checked_add(u32::from(*digit - b'0'))?;
+    }
+    Some(value)
+}
+
+/// Whether a line, whose first field was taken, is `plan` alone.
+pub(crate) fn is_header(first: &[u8], mut others: Fields) -> bool
+    ensures { result ≡ is_a_header (first.now ∷ others.entry) }
+{
+    first == b"plan".as_slice() && others.next().is_none()
+}
+
+/// The row that a line is, of which the first field was taken.
+pub(crate) fn row(first: &[u8], mut others: Fields) -> Option<(u32, u32)>
+    ensures { result ≡ row_of (first.now ∷ others.entry) }
+{
+    let vertex = number(first)?;
+    let channel = number(others.next()?)?;
+    if channel == 0 || others.next().is_some() {
+        return None;
+    }
+    Some((vertex, channel))
+}
