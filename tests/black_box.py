@@ -13,6 +13,7 @@ import subprocess
 import sys
 import tempfile
 
+from allocations import allocation_rows
 from plain_definition import forests_text
 from plain_networks import plain_network_rows
 from refused_memory import refused_memory_rows
@@ -230,6 +231,7 @@ def main():
                      definition_rows, command_line_rows, stream_rows):
             rows()
         given = plain_network_rows(PROGRAM) + refused_memory_rows(PROGRAM, text(TRIANGLE), text(TRIANGLE_FORESTS))
+        given += allocation_rows(PROGRAM)
         for name, good, what in given:
             note(name, good, what)
     print(f"{TALLY['passed']} passed, {TALLY['failed']} failed")

@@ -1,7 +1,9 @@
-/* An allocator's front that refuses the call of number REFUSE (from 1), and gives all others on. For LD_PRELOAD. */
+/* An allocator's front that refuses the call of number REFUSE (from 1), gives all others on, and at the end writes
+   how many calls there were to the file COUNT. Both are words of the environment. For LD_PRELOAD. */
 #define _GNU_SOURCE
 #include <dlfcn.h>
 #include <stddef.h>
+#include <stdio.h>
 #include <stdlib.h>
 
 static long calls, refused = -1;
@@ -12,6 +14,16 @@ static int is_refused(void) {
         refused = word ? atol(word) : 0;
     }
     return ++calls == refused;
+}
+
+__attribute__((destructor)) static void write_count(void) {
+    const char *name = getenv("COUNT");
+    long made = calls;
+    FILE *file = name ? fopen(name, "w") : NULL;
+    if (file) {
+        fprintf(file, "%ld\n", made);
+        fclose(file);
+    }
 }
 
 void *malloc(size_t size) {

@@ -1,4 +1,4 @@
-"""Runs the built program with each of its growths refused in turn: the answer is the right bytes, or want of memory."""
+"""Runs the built program with each of its growths refused in turn: the answer is the right bytes, or out of memory."""
 import os
 import subprocess
 import tempfile
@@ -9,14 +9,20 @@ HERE = os.path.dirname(os.path.abspath(__file__))
 MOST = 5000
 
 
+def build_front(folder):
+    """The library that refuses or counts allocations, and what its compiler said if it failed, else None."""
+    front = os.path.join(folder, "refuse_growth.so")
+    built = subprocess.run(["cc", "-O1", "-shared", "-fPIC", "-o", front, os.path.join(HERE, "refuse_growth.c"), "-ldl"],
+                           capture_output=True)
+    return front, None if built.returncode == 0 else built.stderr
+
+
 def refused_memory_rows(program, network, answer):
     """Rows (name, good, what). Words and network are tried up to the first run that asks for no further growth."""
     with tempfile.TemporaryDirectory() as folder:
-        front = os.path.join(folder, "refuse_growth.so")
-        built = subprocess.run(["cc", "-O1", "-shared", "-fPIC", "-o", front, os.path.join(HERE, "refuse_growth.c"), "-ldl"],
-                               capture_output=True)
-        if built.returncode != 0:
-            return [("the refusing allocator builds", False, built.stderr)]
+        front, failure = build_front(folder)
+        if failure is not None:
+            return [("the refusing allocator builds", False, failure)]
         rows = [("the refusing allocator builds", True, "")]
         rows.append(sweep(program, front, ["forests"], network, (0, answer, b"")))
         rows.append(sweep(program, front, ["plain"], network, (0, plan_text(network), b"")))
@@ -27,7 +33,7 @@ def refused_memory_rows(program, network, answer):
 
 
 def sweep(program, front, words, data, wanted):
-    """Refuses growth 1, 2, .. until a run is as one without refusal. `wanted` is None where clap's text is the answer."""
+    """Refuses growth 1, 2, .. until a run is as one without refusal. `wanted` is None if clap's text is the answer."""
     name = f"each growth refused in turn: {' '.join(words)}"
     memory = (4, b"", b"forestplan: memory\n")
     if wanted is None:
