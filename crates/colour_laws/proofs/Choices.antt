@@ -5,7 +5,7 @@ use Rattle.std.proofs.lemmas.Bool.Decides.{nat_tests}
 use Rattle.std.proofs.Math.Nat.{mul-le-mul_right}
 use Rattle.std.proofs.lemmas.Bool.{cases_order}
 use Rattle.std.proofs.Common.{inl, inr}
-use Rattle.interference.specs.Net.{Net, id_of, neighbours, greatest_degree_of}
+use Rattle.interference.specs.Net.{Net, IsVertex, degree_of, id_of, neighbour_of, neighbours, greatest_degree_of}
 use Rattle.node_api.specs.Program.{sizes_of}
 use Rattle.colour_base.specs.Forest.{IsProper, IsWithin}
 use Rattle.cole_vishkin.specs.Digits.{HasDigits}
@@ -18,13 +18,15 @@ use Rattle.shift_down.proofs.StepLemmas.{three-within}
 use Rattle.cole_vishkin.proofs.StepLemmas.{four-small}
 use Rattle.forest_merge.proofs.Merges.{merge-is}
 use Rattle.forest_merge.proofs.Proper.{merge-within_few}
-use Rattle.colour_rules.specs.Node.{steps, number_of}
+use Rattle.colour_rules.specs.Node.{steps}
+use Rattle.colour_rules.specs.Table.{is_merged}
 use Rattle.colour_laws.specs.Colours.{merging, colours_after}
-use Rattle.colour_laws.proofs.Expected.{place_in, is_heard, heard, among, IsForest}
+use Rattle.colour_laws.proofs.Expected.{step_in, is_heard, heard, among, IsForest}
 use Rattle.forests.specs.Forests.{role_of}
 use Rattle.std.proofs.lemmas.Bool.{lt-ltb, le-ltb, ltb-true}
 use Rattle.forests.specs.Forests.{number}
-use Rattle.forests.specs.declared.numbering.Role.TheVariants.{Up, Down}
+use Rattle.forests.specs.declared.numbering.Role.{Role}
+use Rattle.forests.specs.declared.numbering.Role.TheVariants.{Unknown, Up, Down}
 use Rattle.forests.specs.Forests.{parent}
 use Rattle.colour_rules.proofs.Pairs.{same_bool}
 
@@ -48,8 +50,8 @@ before_test k j k' j' w h h' =
           ])
     ]
 
-place_low : (k j d : ℕ) → k ≤ 2 → j ≤ d → k * (d + 1) + j < 3 * (d + 1)
-place_low k j d h l = let products : k * (d + 1) ≤ 2 * (d + 1) = mul-le-mul_right (d + 1) h in omega arith
+step_low : (k j d : ℕ) → k ≤ 2 → j ≤ d → k * (d + 1) + j < 3 * (d + 1)
+step_low k j d h l = let products : k * (d + 1) ≤ 2 * (d + 1) = mul-le-mul_right (d + 1) h in omega arith
 
 both-if : (a x : Bool) → (a && x) ≡ (if a then x else false)
 both-if true x = refl
@@ -59,20 +61,45 @@ both-if false x = refl
 looked-is : (m : Merging) (v w n : ℕ) (x : Bool) → m.number v w ≡ n → is_before m w v ≡ x → is_looked_at m v w ≡ (if nat_le n m.forest then x else false)
 looked-is m v w n x e f = rw (e, f) (both-if (nat_le n m.forest) x)
 
-number_if : (b : Bool) (x : ℕ) → number_of (if b then Up x else Down x) ≡ x
-number_if true x = refl
-number_if false x = refl
+up_if : (b : Bool) (x g : ℕ) → (if b then Up x else Down x) ≡ Up g → x ≡ g
+up_if true x g e = cc
+up_if false x g e = absurd (cc)
 
--- the number of a role is that of its edge
-pub number_is : (net : Net) (v w : ℕ) → number_of (role_of net v w) ≡ number net v w
+down_if : (b : Bool) (x g : ℕ) → (if b then Up x else Down x) ≡ Down g → x ≡ g
+down_if true x g e = absurd (cc)
+down_if false x g e = cc
+
+merged_if : (b : Bool) (f x : ℕ) → is_merged f (if b then Up x else Down x) ≡ nat_le x f
+merged_if true f x = refl
+merged_if false f x = refl
+
+-- the forest of a role is the number of its edge
+pub number_up : (net : Net) (v w g : ℕ) → role_of net v w ≡ Up g → number net v w ≡ g
 unfolding role_of
-number_is net v w = number_if (nat_lt (id_of net v) (id_of net w)) (number net v w)
+number_up net v w g e = up_if (nat_lt (id_of net v) (id_of net w)) (number net v w) g e
+
+pub number_down : (net : Net) (v w g : ℕ) → role_of net v w ≡ Down g → number net v w ≡ g
+unfolding role_of
+number_down net v w g e = down_if (nat_lt (id_of net v) (id_of net w)) (number net v w) g e
+
+pub merged_is : (net : Net) (f v w : ℕ) → is_merged f (role_of net v w) ≡ nat_le (number net v w) f
+unfolding role_of
+merged_is net f v w = merged_if (nat_lt (id_of net v) (id_of net w)) f (number net v w)
 
 -- the six colours of a forest are 0 to 5
 pub six_within : (parents : ℕ → Option ℕ) (ids : ℕ → ℕ) → IsProper parents ids → HasDigits IDENTIFIER_DIGITS ids → IsWithin 5 (six parents ids)
 six_within parents ids proper small v = omega (arith, four-small IDENTIFIER_DIGITS 8 (omega arith) (omega arith) (omega arith) (omega arith) parents ids proper small v)
 
 module _ (net : Net) (forest : IsForest net) where
+  -- an edge has one number at both ends
+  same_number : (v k : ℕ) → IsVertex net v → k < degree_of net v → (role : Role) → role_of net v (neighbour_of net v k) ≡ role → number net v (neighbour_of net v k) ≡ number net (neighbour_of net v k) v
+  same_number v k is_vertex h Unknown e = absurd (forest.known v k is_vertex h e)
+  same_number v k is_vertex h (Up g) e = number_up net v (neighbour_of net v k) g e ∙ sym (number_down net (neighbour_of net v k) v g (forest.up v k g is_vertex h e).1)
+  same_number v k is_vertex h (Down g) e = number_down net v (neighbour_of net v k) g e ∙ sym (number_up net (neighbour_of net v k) v g (forest.down v k g is_vertex h e).0)
+
+  pub number-same : (v k : ℕ) → IsVertex net v → k < degree_of net v → number net v (neighbour_of net v k) ≡ number net (neighbour_of net v k) v
+  number-same v k is_vertex h = same_number v k is_vertex h (role_of net v (neighbour_of net v k)) refl
+
   pub three_within : (f : ℕ) → IsWithin 2 (three (parent net f) (id_of net))
   three_within f = three-within (parent net f) (six (parent net f) (id_of net)) (six_within (parent net f) (id_of net) (forest.apart f) forest.small)
 
@@ -81,13 +108,13 @@ module _ (net : Net) (forest : IsForest net) where
   colours_within zero v = omega arith
   colours_within (suc f) v = merge-within_few (merging net f (colours_after net f)) v (forest.few v)
 
-  pub place_within : (f v : ℕ) → place_in net f v < steps (sizes_of net)
-  place_within f v = place_low (three (parent net f) (id_of net) v) (colours_after net f v) (greatest_degree_of net) (three_within f v) (colours_within f v)
+  pub step_within : (f v : ℕ) → step_in net f v < steps (sizes_of net)
+  step_within f v = step_low (three (parent net f) (id_of net) v) (colours_after net f v) (greatest_degree_of net) (three_within f v) (colours_within f v)
 
-  pub looked_as_heard : (f v : ℕ) → looked_at (merging net f (colours_after net f)) v ≡ filter (is_heard net f (place_in net f v) v) (neighbours net v)
-  looked_as_heard f v = filter-same (is_looked_at (merging net f (colours_after net f)) v) (is_heard net f (place_in net f v) v) (neighbours net v)
-      (λ w. looked-is (merging net f (colours_after net f)) v w (number_of (role_of net v w)) (nat_lt (place_in net f w) (place_in net f v)) (sym (number_is net v w)) (before_test (three (parent net f) (id_of net) w) (colours_after net f w) (three (parent net f) (id_of net) v) (colours_after net f v) (greatest_degree_of net + 1) (let a = colours_within f w in omega arith) (let a = colours_within f v in omega arith)))
+  pub looked_as_heard : (f v : ℕ) → looked_at (merging net f (colours_after net f)) v ≡ filter (is_heard net f (step_in net f v) v) (neighbours net v)
+  looked_as_heard f v = filter-same (is_looked_at (merging net f (colours_after net f)) v) (is_heard net f (step_in net f v) v) (neighbours net v)
+      (λ w. looked-is (merging net f (colours_after net f)) v w (number net v w) (nat_lt (step_in net f w) (step_in net f v)) refl (before_test (three (parent net f) (id_of net) w) (colours_after net f w) (three (parent net f) (id_of net) v) (colours_after net f v) (greatest_degree_of net + 1) (let a = colours_within f w in omega arith) (let a = colours_within f v in omega arith)))
 
-  pub choice_is : (f v : ℕ) → colours_after net (suc f) v ≡ least_free_colour (greatest_degree_of net) (λ c. among c (heard net f (place_in net f v) v))
+  pub choice_is : (f v : ℕ) → colours_after net (suc f) v ≡ least_free_colour (greatest_degree_of net) (λ c. among c (heard net f (step_in net f v) v))
   unfolding colours_after
   choice_is f v = merge-is (merging net f (colours_after net f)) v ∙ ap (λ (ws : List ℕ). least_free_colour (greatest_degree_of net) (λ c. among c (map (colours_after net (suc f)) ws))) (looked_as_heard f v)

@@ -4,7 +4,7 @@ use Rattle.std.specs.List.{range_with_len}
 use Rattle.std.specs.FinSet.{empty, from_list}
 use Rattle.interference.specs.Net.{Net, IsVertex, id_of, degree_of, neighbours, neighbour_of, forest_count_of, greatest_degree_of}
 use Rattle.node_api.specs.Program.{sizes_of}
-use Rattle.forests.specs.Forests.{parent, role_of}
+use Rattle.forests.specs.Forests.{number, parent, role_of}
 use Rattle.colour_laws.specs.Colours.{three, colours_after}
 use Rattle.colour_base.specs.Forest.{at_parent}
 use Rattle.cole_vishkin.specs.Digits.{HasDigits}
@@ -12,7 +12,7 @@ use Rattle.cole_vishkin.specs.declared.step.TheConstants.{IDENTIFIER_DIGITS}
 use Rattle.forest_merge.specs.Free.{is_among}
 use Rattle.colour_rules.specs.declared.payload.Payload.{Payload}
 use Rattle.forests.specs.declared.numbering.Role.TheVariants.{Unknown, Up, Down}
-use Rattle.colour_rules.specs.Node.{Node, kind_of, number_of, steps}
+use Rattle.colour_rules.specs.Node.{Node, reduction_of, steps}
 use Rattle.colour_rules.specs.Program.{turned, kept, tells_colour, tells_chosen}
 
 -- whether a colour is among these
@@ -23,23 +23,23 @@ among c colours = is_among colours c
 unfoldable pub stages : Net → ℕ → ℕ → (ℕ → ℕ) × (ℕ → ℕ)
 stages net f zero = (id_of net, λ v. 0)
 stages net f (suc q) = (
-  (λ v. turned (kind_of (q + 3)) ((stages net f q).0 v) ((stages net f q).1 v) (at_parent (parent net f) (stages net f q).0 v)),
-  λ v. kept (kind_of (q + 3)) ((stages net f q).0 v) ((stages net f q).1 v),
+  (λ v. turned (reduction_of (q + 3)) ((stages net f q).0 v) ((stages net f q).1 v) (at_parent (parent net f) (stages net f q).0 v)),
+  λ v. kept (reduction_of (q + 3)) ((stages net f q).0 v) ((stages net f q).1 v),
 )
 
 abbrev pub by_forest : Net → (ℕ → ℕ) → List ℕ
 by_forest net c = map c (range_with_len 0 (forest_count_of net))
 
 -- a node q pulses after Seed, and what it tells w
-abbrev pub worked : Net → ℕ → ℕ → Node
-worked net q v =
+abbrev pub state_while_reducing : Net → ℕ → ℕ → Node
+state_while_reducing net q v =
     record {
       id = id_of net v;
       sizes = sizes_of net;
       roles = map (role_of net v) (neighbours net v);
       colours = by_forest net (λ f. (stages net f q).0 v);
       before = by_forest net (λ f. (stages net f q).1 v);
-      former = 0;
+      colour_before = 0;
       merged = 0;
       chosen = empty;
     }
@@ -49,48 +49,38 @@ tells net q v w = if q == 10 then None else tells_colour (by_forest net (λ f. (
 
 -- Merging.
 -- the step at which v chooses in forest f
-abbrev pub place_in : Net → ℕ → ℕ → ℕ
-place_in net f v = three (parent net f) (id_of net) v * (greatest_degree_of net + 1) + colours_after net f v
+abbrev pub step_in : Net → ℕ → ℕ → ℕ
+step_in net f v = three (parent net f) (id_of net) v * (greatest_degree_of net + 1) + colours_after net f v
 
 -- the neighbours whose choice v has heard of before step s of forest f chooses
 abbrev pub is_heard : Net → ℕ → ℕ → ℕ → ℕ → Bool
-is_heard net f s v w = if nat_le (number_of (role_of net v w)) f then nat_lt (place_in net f w) s else false
+is_heard net f s v w = if nat_le (number net v w) f then nat_lt (step_in net f w) s else false
 
 abbrev pub heard : Net → ℕ → ℕ → ℕ → List ℕ
 heard net f s v = map (colours_after net (suc f)) (filter (is_heard net f s v) (neighbours net v))
 
 abbrev pub merged_by : Net → ℕ → ℕ → ℕ → ℕ
-merged_by net f s v = if nat_lt (place_in net f v) s then colours_after net (suc f) v else colours_after net f v
+merged_by net f s v = if nat_lt (step_in net f v) s then colours_after net (suc f) v else colours_after net f v
 
 -- a node at step s of forest f when it has heard, and when it is done; and what it tells w
-abbrev pub ready : Net → ℕ → ℕ → ℕ → Node
-ready net f s v =
+abbrev pub state_before_choice : Net → ℕ → ℕ → ℕ → Node
+state_before_choice net f s v =
     record {
       id = id_of net v;
       sizes = sizes_of net;
       roles = map (role_of net v) (neighbours net v);
       colours = by_forest net (λ g. (stages net g 10).0 v);
       before = by_forest net (λ g. (stages net g 10).1 v);
-      former = colours_after net f v;
+      colour_before = colours_after net f v;
       merged = merged_by net f s v;
       chosen = from_list (heard net f s v);
     }
 
-abbrev pub after_step : Net → ℕ → ℕ → ℕ → Node
-after_step net f s v =
-    record {
-      id = id_of net v;
-      sizes = sizes_of net;
-      roles = map (role_of net v) (neighbours net v);
-      colours = by_forest net (λ g. (stages net g 10).0 v);
-      before = by_forest net (λ g. (stages net g 10).1 v);
-      former = colours_after net f v;
-      merged = merged_by net f (suc s) v;
-      chosen = from_list (heard net f s v);
-    }
+abbrev pub state_after_choice : Net → ℕ → ℕ → ℕ → Node
+state_after_choice net f s v = record (state_before_choice net f s v) { merged = merged_by net f (suc s) v }
 
 abbrev pub chose : Net → ℕ → ℕ → ℕ → ℕ → Option Payload
-chose net f s v w = if place_in net f v == s then (if suc s == steps (sizes_of net) then None else tells_chosen f (colours_after net (suc f) v) (role_of net v w)) else None
+chose net f s v w = if step_in net f v == s then (if suc s == steps (sizes_of net) then None else tells_chosen f (colours_after net (suc f) v) (role_of net v w)) else None
 
 -- What the forests of a network keep.
 pub record IsForest (net : Net) : Type 0 where

@@ -10,11 +10,10 @@ use Rattle.forest_merge.proofs.Sets.{contains-insert_colour, same_colours}
 use Rattle.interference.specs.Net.{Net, neighbours}
 use Rattle.colour_rules.specs.declared.payload.Payload.{Payload}
 use Rattle.colour_rules.specs.declared.payload.Payload.TheVariants.{Hello, Label, Colour, Chosen}
-use Rattle.colour_rules.specs.Node.{number_of}
 use Rattle.colour_rules.specs.Choice.{with_chosen}
 use Rattle.colour_laws.specs.Colours.{colours_after}
-use Rattle.colour_laws.proofs.Expected.{place_in, heard, among}
-use Rattle.forests.specs.Forests.{role_of}
+use Rattle.colour_laws.proofs.Expected.{step_in, heard, among}
+use Rattle.forests.specs.Forests.{number}
 use Rattle.colour_rules.proofs.Pairs.{same_bool}
 use Rattle.std.proofs.lemmas.Bool.{lt-ltb, le-ltb}
 
@@ -111,13 +110,13 @@ list_of : (colours : List ℕ) → [] ≡ colours → empty {R = nat_cmp} ≡ fr
 list_of colours e = same_colours empty (from_list colours) (λ c. contains-empty nat_cmp c ∙ (ap (among c) e ∙ sym (contains-from_list_nat colours c)))
 
 pub empty_set : (net : Net) (f v : ℕ) → empty ≡ heard_set net f 0 v
-empty_set net f v = list_of (heard net f 0 v) (sym (nothing_heard (λ w. nat_le (number_of (role_of net v w)) f) (place_in net f) (colours_after net (suc f)) (neighbours net v)))
+empty_set net f v = list_of (heard net f 0 v) (sym (nothing_heard (λ w. nat_le (number net v w) f) (step_in net f) (colours_after net (suc f)) (neighbours net v)))
 
 -- the set at the next step of the forest
-pub more_set : (net : Net) (f s v : ℕ) → with_chosen (heard_set net f s v) (map (λ w. slot_by (place_in net f w == s) (nat_le (number_of (role_of net v w)) f) (colours_after net (suc f) w)) (neighbours net v)) ≡ heard_set net f (suc s) v
+pub more_set : (net : Net) (f s v : ℕ) → with_chosen (heard_set net f s v) (map (λ w. slot_by (step_in net f w == s) (nat_le (number net v w) f) (colours_after net (suc f) w)) (neighbours net v)) ≡ heard_set net f (suc s) v
 more_set net f s v =
-    let slots : List (Option Payload) = map (λ w. slot_by (place_in net f w == s) (nat_le (number_of (role_of net v w)) f) (colours_after net (suc f) w)) (neighbours net v) in
+    let slots : List (Option Payload) = map (λ w. slot_by (step_in net f w == s) (nat_le (number net v w) f) (colours_after net (suc f) w)) (neighbours net v) in
     same_colours (with_chosen (heard_set net f s v) slots) (heard_set net f (suc s) v) (λ c.
     with_has (heard_set net f s v) slots c
     ∙ ap (λ (b : Bool). or (has slots c) b) (contains-from_list_nat (heard net f s v) c)
-    ∙ sym (contains-from_list_nat (heard net f (suc s) v) c ∙ heard_more (λ w. nat_le (number_of (role_of net v w)) f) (place_in net f) (colours_after net (suc f)) s c (neighbours net v)))
+    ∙ sym (contains-from_list_nat (heard net f (suc s) v) c ∙ heard_more (λ w. nat_le (number net v w) f) (step_in net f) (colours_after net (suc f)) s c (neighbours net v)))

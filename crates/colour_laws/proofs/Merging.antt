@@ -12,49 +12,46 @@ use Rattle.node_api.specs.Program.{sizes_of, Sizes}
 use Rattle.colour_laws.specs.Colours.{three}
 use Rattle.forest_merge.specs.Free.{least_free_colour}
 use Rattle.forest_merge.proofs.Taken.{least_free_colour-within, length-map-filter}
+use Rattle.colour_rules.specs.declared.phase.TheConstants.{FIRST_MERGE}
 use Rattle.colour_rules.specs.declared.payload.Payload.{Payload}
 use Rattle.colour_rules.specs.declared.payload.Payload.TheVariants.{Chosen}
 use Rattle.forests.specs.declared.numbering.Role.{Role}
 use Rattle.forests.specs.declared.numbering.Role.TheVariants.{Unknown, Up, Down}
-use Rattle.colour_rules.specs.Node.{Node, phase_of, steps, number_of}
+use Rattle.colour_rules.specs.Node.{Node, phase_of, steps}
+use Rattle.colour_rules.specs.Table.{is_merged}
 use Rattle.colour_rules.specs.Choice.{gathered, chooses, free_for}
-use Rattle.colour_rules.specs.Refusals.{port_rule, ports_refusal, own_rule}
+use Rattle.colour_rules.specs.Refusals.{first_refusal, port_rule, own_rule}
 use Rattle.colour_rules.specs.Program.{next, tells_chosen, silent}
 use Rattle.colour_rules.specs.declared.phase.Phase.TheVariants.{Merge}
 use Rattle.colour_laws.specs.Colours.{colours_after}
-use Rattle.colour_laws.proofs.Expected.{stages, place_in, is_heard, heard, merged_by, ready, after_step, chose, among, IsForest}
+use Rattle.colour_laws.proofs.Expected.{stages, step_in, is_heard, heard, merged_by, state_before_choice, state_after_choice, chose, among, IsForest}
 use Rattle.forests.specs.Forests.{role_of}
 use Rattle.forests.specs.Forests.{parent}
 use Rattle.colour_laws.proofs.Lists.{map-map}
 use Rattle.colour_laws.proofs.Sound.{stages_are_three}
 use Rattle.colour_laws.proofs.Ports.{in_forest, accepted}
 use Rattle.std.proofs.lemmas.Bool.{lt-ltb, le-ltb}
+use Rattle.colour_rules.proofs.Choosing.{rule_if}
 use Rattle.colour_rules.proofs.Pairs.{pair_test, phase_merge}
 use Rattle.colour_laws.proofs.Choices.{colours_within, choice_is}
 use Rattle.colour_laws.proofs.Heard.{or, lt_more, slot_by}
 
-port_chosen : (node : Node) (p f s c : ℕ) (earlier : List ℕ) (role : Role) → (role ≡ Unknown → ⊥) → 0 < s → number_of role ≤ f → c ≤ node.sizes.greatest_degree → port_rule node p earlier (Merge f s) role (Some (Chosen c)) ≡ None
-port_chosen node p f s c earlier Unknown known later low small = absurd (known refl)
-port_chosen node p f s c earlier (Up g) known later low small =
-    let e0 : (s == 0) ≡ false = grind (arith, nat_tests) in rw (e0, le-ltb f g low, le-ltb node.sizes.greatest_degree c small) refl
-port_chosen node p f s c earlier (Down g) known later low small =
-    let e0 : (s == 0) ≡ false = grind (arith, nat_tests) in rw (e0, le-ltb f g low, le-ltb node.sizes.greatest_degree c small) refl
+port_chosen : (node : Node) (f s c : ℕ) (earlier : List ℕ) (role : Role) → is_merged f role ≡ true → 0 < s → c ≤ node.sizes.greatest_degree → port_rule node earlier (Merge f s) role (Some (Chosen c)) ≡ None
+port_chosen node f s c earlier Unknown near later small = absurd (cc)
+port_chosen node f s c earlier (Up g) near later small =
+    let e0 : (s == 0) ≡ false = grind (arith, nat_tests) in rw (e0, near, le-ltb node.sizes.greatest_degree c small) refl
+port_chosen node f s c earlier (Down g) near later small =
+    let e0 : (s == 0) ≡ false = grind (arith, nat_tests) in rw (e0, near, le-ltb node.sizes.greatest_degree c small) refl
 
-pub slot_fine : (e i : Bool) (node : Node) (p f s c : ℕ) (earlier : List ℕ) (role : Role) → (i ≡ true → number_of role ≤ f) → (role ≡ Unknown → ⊥) → 0 < s → c ≤ node.sizes.greatest_degree → port_rule node p earlier (Merge f s) role (slot_by e i c) ≡ None
-slot_fine true true node p f s c earlier role near known later small = port_chosen node p f s c earlier role known later (near refl) small
-slot_fine true false node p f s c earlier role near known later small = refl
-slot_fine false i node p f s c earlier role near known later small = refl
-
-pub le_of : (a b : ℕ) → nat_le a b ≡ true → a ≤ b
-le_of a b h = grind (arith, nat_tests)
+pub slot_fine : (e i : Bool) (node : Node) (f s c : ℕ) (earlier : List ℕ) (role : Role) → (i ≡ true → is_merged f role ≡ true) → 0 < s → c ≤ node.sizes.greatest_degree → port_rule node earlier (Merge f s) role (slot_by e i c) ≡ None
+slot_fine true true node f s c earlier role near later small = port_chosen node f s c earlier role (near refl) later small
+slot_fine true false node f s c earlier role near later small = refl
+slot_fine false i node f s c earlier role near later small = refl
 
 told_if : (b d : Bool) (f free c : ℕ) (role : ℕ → Role) (ws : List ℕ) → (b ≡ true → free ≡ c) → (if b then (if d then silent (map role ws) else map (tells_chosen f free) (map role ws)) else silent (map role ws)) ≡ map (λ w. if b then (if d then None else tells_chosen f c (role w)) else None) ws
 told_if true true f free c role ws e = map-map (λ x. None) role ws
 told_if true false f free c role ws e = ap (λ x. map (tells_chosen f x) (map role ws)) (e refl) ∙ map-map (tells_chosen f c) role ws
 told_if false d f free c role ws e = map-map (λ x. None) role ws
-
-abbrev rule_if : Bool → Option ℕ
-rule_if b = if b then Some 4 else None
 
 own_when : (b : Bool) (d x : ℕ) → x ≤ d → (if b then rule_if (nat_lt d x) else None) ≡ None
 own_when true d x h = rw (le-ltb d x h) refl
@@ -75,48 +72,43 @@ step_from f s here merged sizes roles = (
 )
 
 module _ (net : Net) (ok : IsNetwork net) (forest : IsForest net) (f : ℕ) (in_range : f < forest_count_of net) (s : ℕ) (below : s < steps (sizes_of net)) (v : ℕ) (is_vertex : IsVertex net v) where
-  pub number-same : (k : ℕ) → k < degree_of net v → (role : Role) → role_of net v (neighbour_of net v k) ≡ role → number_of (role_of net v (neighbour_of net v k)) ≡ number_of (role_of net (neighbour_of net v k) v)
-  number-same k h Unknown e = absurd (forest.known v k is_vertex h e)
-  number-same k h (Up g) e = ap number_of e ∙ sym (ap number_of (forest.up v k g is_vertex h e).1)
-  number-same k h (Down g) e = ap number_of e ∙ sym (ap number_of (forest.down v k g is_vertex h e).0)
-
-  -- what a ready node chooses, and when
-  chooses_is : chooses (ready net f s v) f s ≡ (place_in net f v == s)
+  -- what a node chooses before its choice, and when
+  chooses_is : chooses (state_before_choice net f s v) f s ≡ (step_in net f v == s)
   chooses_is =
       rw (in_forest net (λ g. (stages net g 10).0 v) f in_range, stages_are_three net f v)
       (pair_test (three (parent net f) (id_of net) v) (colours_after net f v) (greatest_degree_of net + 1) s (let a = colours_within net forest f v in omega arith))
 
-  free_is : (place_in net f v == s) ≡ true → free_for (ready net f s v) ≡ colours_after net (suc f) v
-  free_is h = let e : place_in net f v ≡ s = grind (arith, nat_tests) in sym (choice_is net forest f v ∙ ap (λ k. least_free_colour (greatest_degree_of net) (λ c. among c (heard net f k v))) e ∙ sym (free_in (greatest_degree_of net) (heard net f s v)))
+  free_is : (step_in net f v == s) ≡ true → free_for (state_before_choice net f s v) ≡ colours_after net (suc f) v
+  free_is h = let e : step_in net f v ≡ s = grind (arith, nat_tests) in sym (choice_is net forest f v ∙ ap (λ k. least_free_colour (greatest_degree_of net) (λ c. among c (heard net f k v))) e ∙ sym (free_in (greatest_degree_of net) (heard net f s v)))
 
-  free_within : free_for (ready net f s v) ≤ greatest_degree_of net
+  free_within : free_for (state_before_choice net f s v) ≤ greatest_degree_of net
   free_within = rw (free_in (greatest_degree_of net) (heard net f s v)) (least_free_colour-within (greatest_degree_of net) (heard net f s v) (omega (arith, length-map-filter (is_heard net f s v) (colours_after net (suc f)) (neighbours net v), forest.few v)))
 
-  own_fine : (node : Node) (inbox : List (Option Payload)) → node.sizes ≡ sizes_of net → gathered node s inbox ≡ ready net f s v → (p : ℕ) → own_rule node p (Merge f s) inbox ≡ None
-  own_fine node inbox sizes g p =
+  own_fine : (node : Node) (inbox : List (Option Payload)) → node.sizes ≡ sizes_of net → gathered node s inbox ≡ state_before_choice net f s v → own_rule node (Merge f s) inbox ≡ None
+  own_fine node inbox sizes g =
       ap (λ (h : Node). if chooses h f s then rule_if (nat_lt node.sizes.greatest_degree (free_for h)) else None) g
-      ∙ (ap (λ (z : Sizes). if chooses (ready net f s v) f s then rule_if (nat_lt z.greatest_degree (free_for (ready net f s v))) else None) sizes
-      ∙ own_when (chooses (ready net f s v) f s) (greatest_degree_of net) (free_for (ready net f s v)) free_within)
+      ∙ (ap (λ (z : Sizes). if chooses (state_before_choice net f s v) f s then rule_if (nat_lt z.greatest_degree (free_for (state_before_choice net f s v))) else None) sizes
+      ∙ own_when (chooses (state_before_choice net f s v) f s) (greatest_degree_of net) (free_for (state_before_choice net f s v)) free_within)
 
-  turn_free : chooses (ready net f s v) f s ≡ true → free_for (ready net f s v) ≡ colours_after net (suc f) v
+  turn_free : chooses (state_before_choice net f s v) f s ≡ true → free_for (state_before_choice net f s v) ≡ colours_after net (suc f) v
   turn_free h = free_is (sym chooses_is ∙ h)
 
-  step_is : step_from f s (ready net f s v) (merged_by net f s v) (sizes_of net) (map (role_of net v) (neighbours net v)) ≡ (after_step net f s v, map (chose net f s v) (neighbours net v))
+  step_is : step_from f s (state_before_choice net f s v) (merged_by net f s v) (sizes_of net) (map (role_of net v) (neighbours net v)) ≡ (state_after_choice net f s v, map (chose net f s v) (neighbours net v))
   step_is =
-      ap (λ (m : ℕ). (record (ready net f s v) { merged = m }, if chooses (ready net f s v) f s then (if suc s == steps (sizes_of net) then silent (map (role_of net v) (neighbours net v)) else map (tells_chosen f (free_for (ready net f s v))) (map (role_of net v) (neighbours net v))) else silent (map (role_of net v) (neighbours net v))))
-      (merged_if (chooses (ready net f s v) f s) (place_in net f v) s (colours_after net (suc f) v) (colours_after net f v) (free_for (ready net f s v)) chooses_is turn_free)
-      ∙ (ap (λ (out : List (Option Payload)). (after_step net f s v, out))
-      (told_if (chooses (ready net f s v) f s) (suc s == steps (sizes_of net)) f (free_for (ready net f s v)) (colours_after net (suc f) v) (role_of net v) (neighbours net v) turn_free
+      ap (λ (m : ℕ). (record (state_before_choice net f s v) { merged = m }, if chooses (state_before_choice net f s v) f s then (if suc s == steps (sizes_of net) then silent (map (role_of net v) (neighbours net v)) else map (tells_chosen f (free_for (state_before_choice net f s v))) (map (role_of net v) (neighbours net v))) else silent (map (role_of net v) (neighbours net v))))
+      (merged_if (chooses (state_before_choice net f s v) f s) (step_in net f v) s (colours_after net (suc f) v) (colours_after net f v) (free_for (state_before_choice net f s v)) chooses_is turn_free)
+      ∙ (ap (λ (out : List (Option Payload)). (state_after_choice net f s v, out))
+      (told_if (chooses (state_before_choice net f s v) f s) (suc s == steps (sizes_of net)) f (free_for (state_before_choice net f s v)) (colours_after net (suc f) v) (role_of net v) (neighbours net v) turn_free
       ∙ ap (λ (b : Bool). map (λ w. if b then (if suc s == steps (sizes_of net) then None else tells_chosen f (colours_after net (suc f) v) (role_of net v w)) else None) (neighbours net v)) chooses_is))
 
   -- a node that has heard what it is to hear makes its step
-  pub merge_next : (node : Node) (inbox : List (Option Payload)) → node.sizes ≡ sizes_of net → node.roles ≡ map (role_of net v) (neighbours net v) → gathered node s inbox ≡ ready net f s v → ports_refusal node (13 + (f * steps (sizes_of net) + s)) (Merge f s) 0 [] node.roles inbox ≡ None → next node (13 + (f * steps (sizes_of net) + s)) inbox ≡ Ok (after_step net f s v, map (chose net f s v) (neighbours net v))
+  pub merge_next : (node : Node) (inbox : List (Option Payload)) → node.sizes ≡ sizes_of net → node.roles ≡ map (role_of net v) (neighbours net v) → gathered node s inbox ≡ state_before_choice net f s v → first_refusal node (Merge f s) inbox ≡ None → next node (FIRST_MERGE + (f * steps (sizes_of net) + s)) inbox ≡ Ok (state_after_choice net f s v, map (chose net f s v) (neighbours net v))
   merge_next node inbox sizes roles g ports =
-      let p : ℕ = 13 + (f * steps (sizes_of net) + s) in
+      let p : ℕ = FIRST_MERGE + (f * steps (sizes_of net) + s) in
       let phase : phase_of node.sizes p ≡ Merge f s = ap (λ (z : Sizes). phase_of z p) sizes ∙ phase_merge (sizes_of net) f s in_range below in
-      accepted node p (Merge f s) inbox phase ports (own_fine node inbox sizes g p)
+      accepted node p (Merge f s) inbox phase ports (own_fine node inbox sizes g)
       ∙ ap (λ (x : Node × List (Option Payload)). Ok x)
       (ap (λ (h : Node). step_from f s h node.merged node.sizes node.roles) g
-      ∙ (ap (λ (m : ℕ). step_from f s (ready net f s v) m node.sizes node.roles) (ap (λ (h : Node). h.merged) g)
-      ∙ (ap (λ (z : Sizes). step_from f s (ready net f s v) (merged_by net f s v) z node.roles) sizes
-      ∙ (ap (λ (rs : List Role). step_from f s (ready net f s v) (merged_by net f s v) (sizes_of net) rs) roles ∙ step_is))))
+      ∙ (ap (λ (m : ℕ). step_from f s (state_before_choice net f s v) m node.sizes node.roles) (ap (λ (h : Node). h.merged) g)
+      ∙ (ap (λ (z : Sizes). step_from f s (state_before_choice net f s v) (merged_by net f s v) z node.roles) sizes
+      ∙ (ap (λ (rs : List Role). step_from f s (state_before_choice net f s v) (merged_by net f s v) (sizes_of net) rs) roles ∙ step_is))))

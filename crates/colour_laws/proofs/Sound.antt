@@ -3,7 +3,7 @@
 -- stated once for any colours (shift_kept, drop_kept); the bounds are then those that the table names.
 use Rattle.std.proofs.Common.{◌≡◌, ℕ, zero, suc, ◌+◌, ◌<◌, ◌≤◌, false, refl, ◌∙◌, arith}
 use Rattle.std.specs.Prelude.{nat_lt}
-use Rattle.std.proofs.lemmas.Bool.Decides.{nat_tests}
+use Rattle.std.proofs.lemmas.Bool.{le-ltb}
 use Rattle.interference.specs.Net.{Net, id_of}
 use Rattle.cole_vishkin.specs.BitStep.{bit_steps}
 use Rattle.shift_down.specs.Steps.{shift, reduce}
@@ -12,6 +12,7 @@ use Rattle.colour_laws.specs.Colours.{three}
 use Rattle.cole_vishkin.specs.declared.step.TheConstants.{IDENTIFIER_DIGITS}
 use Rattle.cole_vishkin.proofs.StepLemmas.{bit_steps-proper, one-small, two-small, three-small, four-small}
 use Rattle.shift_down.proofs.StepLemmas.{shift-proper, shift-within, reduce-proper, reduce-below}
+use Rattle.colour_rules.specs.Node.{reduction_of}
 use Rattle.colour_rules.specs.Table.{is_above}
 use Rattle.colour_laws.proofs.Expected.{stages, IsForest}
 use Rattle.forests.specs.Forests.{parent}
@@ -23,10 +24,7 @@ stages_are_three net f v = refl
 -- what a node's own colour and its parent's keep at the pulse after q
 pub record Sound (net : Net) (f q : ℕ) : Type 0 where
   pub proper : IsProper (parent net f) (stages net f q).0
-  pub below : (v : ℕ) → is_above (q + 3) ((stages net f q).0 v) ≡ false
-
-not_above : (most c : ℕ) → c ≤ most → nat_lt most c ≡ false
-not_above most c h = grind (arith, nat_tests)
+  pub below : (v : ℕ) → is_above (reduction_of (q + 3)) ((stages net f q).0 v) ≡ false
 
 module _ (net : Net) (forest : IsForest net) (f : ℕ) where
   -- proper colours that are 0 to a bound
@@ -87,10 +85,10 @@ module _ (net : Net) (forest : IsForest net) (f : ℕ) where
   kept9 = shift_kept 3 (stages net f 8).0 (omega arith) kept8
 
   -- by the bound that the table names at the pulse after q
-  sound_within : (q most : ℕ) → ((c : ℕ) → is_above (q + 3) c ≡ nat_lt most c) → IsKept most (stages net f q).0 → Sound net f q
+  sound_within : (q most : ℕ) → ((c : ℕ) → is_above (reduction_of (q + 3)) c ≡ nat_lt most c) → IsKept most (stages net f q).0 → Sound net f q
   sound_within q most bound keeps = record {
     proper = keeps.proper;
-    below = λ v. bound ((stages net f q).0 v) ∙ not_above most ((stages net f q).0 v) (keeps.within v);
+    below = λ v. bound ((stages net f q).0 v) ∙ le-ltb most ((stages net f q).0 v) (keeps.within v);
   }
 
   sound0 : Sound net f 0

@@ -1,7 +1,7 @@
 -- One pulse of work on the colours of the forests, pulses 3 to 12. The plan: a parent tells its colour
 -- and nobody else does (told_down, told_up); that is fine at its port (port_fine); in each forest the
 -- parent's colour is what came (parent_is); so the colours are the definition's (colours_are).
-use Rattle.std.proofs.Common.{◌≡◌, ℕ, suc, ◌+◌, ◌<◌, ◌==◌, false, List, [], refl, ap, sym, ◌∙◌, arith}
+use Rattle.std.proofs.Common.{◌≡◌, ℕ, zero, suc, ◌+◌, ◌<◌, ◌==◌, false, List, [], refl, ap, sym, ◌∙◌, arith}
 use Rattle.std.specs.Prelude.{map, Option, Some, None, Ok, slice_index}
 use Rattle.std.specs.List.{range_with_len}
 use Rattle.std.proofs.lemmas.Bool.Decides.{nat_tests}
@@ -13,18 +13,32 @@ use Rattle.colour_rules.specs.declared.payload.Payload.{Payload}
 use Rattle.colour_rules.specs.declared.payload.Payload.TheVariants.{Colour}
 use Rattle.forests.specs.declared.numbering.Role.{Role}
 use Rattle.forests.specs.declared.numbering.Role.TheVariants.{Unknown, Up, Down}
-use Rattle.colour_rules.specs.Node.{Node, kind_of}
+use Rattle.colour_rules.specs.Node.{Node, reduction_of}
 use Rattle.colour_rules.specs.Table.{is_above}
 use Rattle.colour_rules.specs.Refusals.{port_rule, ports_refusal, own_rule}
-use Rattle.colour_rules.specs.Program.{done, next, is_up, colour_in, from_parent, tells_colour, with_colours, turned, kept}
+use Rattle.colour_rules.specs.Program.{done, next, is_last, is_up, colour_in, from_parent, next_colours, next_kept, tells_colour, with_colours}
 use Rattle.colour_rules.specs.declared.phase.Phase.TheVariants.{Work}
-use Rattle.colour_laws.proofs.Expected.{stages, by_forest, worked, tells, IsForest}
+use Rattle.colour_laws.proofs.Expected.{stages, by_forest, state_while_reducing, tells, IsForest}
 use Rattle.forests.specs.Forests.{role_of}
 use Rattle.forests.specs.Forests.{parent}
 use Rattle.colour_laws.proofs.Lists.{map-members, inbox_is, range-members, any-none}
 use Rattle.colour_laws.proofs.Sound.{Sound, sound}
-use Rattle.colour_laws.proofs.Ports.{ports_none, from_nobody, from_somebody, port_up, same_forest, in_forest, phase_work, up_is, sent_if, no_own_rule, accepted}
-use Rattle.colour_rules.proofs.Pairs.{same_bool}
+use Rattle.colour_laws.proofs.Ports.{ports_none, from_nobody, from_somebody, port_up, same_forest, in_forest, phase_work, sent_if, no_own_rule, accepted}
+use Rattle.colour_rules.proofs.Working.{up-is}
+
+-- the tenth of these pulses is the last
+last-is : (q : ℕ) → q < 10 → is_last (reduction_of (q + 3)) ≡ (suc q == 10)
+last-is zero h = refl
+last-is (suc zero) h = refl
+last-is (suc (suc zero)) h = refl
+last-is (suc (suc (suc zero))) h = refl
+last-is (suc (suc (suc (suc zero)))) h = refl
+last-is (suc (suc (suc (suc (suc zero))))) h = refl
+last-is (suc (suc (suc (suc (suc (suc zero)))))) h = refl
+last-is (suc (suc (suc (suc (suc (suc (suc zero))))))) h = refl
+last-is (suc (suc (suc (suc (suc (suc (suc (suc zero)))))))) h = refl
+last-is (suc (suc (suc (suc (suc (suc (suc (suc (suc zero))))))))) h = refl
+last-is (suc (suc (suc (suc (suc (suc (suc (suc (suc (suc q)))))))))) h = absurd (omega arith)
 
 module _ (net : Net) (ok : IsNetwork net) (forest : IsForest net) (q : ℕ) (early : q < 10) where
   abbrev own : ℕ → ℕ → ℕ
@@ -46,13 +60,13 @@ module _ (net : Net) (ok : IsNetwork net) (forest : IsForest net) (q : ℕ) (ear
     unfolding told
     told_up w f e = ap (tells_colour (by_forest net (λ f. own f w))) e
 
-    port_fine : (k : ℕ) → k < degree_of net v → (earlier : List ℕ) (role : Role) → role_of net v (neighbour_of net v k) ≡ role → port_rule (worked net q v) (q + 3) earlier (Work (kind_of (q + 3))) role (told (neighbour_of net v k) v) ≡ None
+    port_fine : (k : ℕ) → k < degree_of net v → (earlier : List ℕ) (role : Role) → role_of net v (neighbour_of net v k) ≡ role → port_rule (state_while_reducing net q v) earlier (Work (reduction_of (q + 3))) role (told (neighbour_of net v k) v) ≡ None
     port_fine k h earlier Unknown e = absurd (forest.known v k is_vertex h e)
     port_fine k h earlier (Up f) e =
         let w : ℕ = neighbour_of net v k in
         let facts : (parent net f v ≡ Some w) × (role_of net w v ≡ Down f) × (f < forest_count_of net) = forest.up v k f is_vertex h e in
         let good : Sound net f q = sound net forest f q early in
-        rw (told_down w f facts.1 facts.2) (port_up (worked net q v) (q + 3) earlier (kind_of (q + 3)) f (own f w) (good.below w)
+        rw (told_down w f facts.1 facts.2) (port_up (state_while_reducing net q v) earlier (reduction_of (q + 3)) f (own f w) (good.below w)
         (λ same. good.proper v w facts.0 (sym (same ∙ in_forest net (λ g. own g v) f facts.2))))
     port_fine k h earlier (Down f) e =
         let none : told (neighbour_of net v k) v ≡ None = told_up (neighbour_of net v k) f (forest.down v k f is_vertex h e).0 in
@@ -61,12 +75,12 @@ module _ (net : Net) (ok : IsNetwork net) (forest : IsForest net) (q : ℕ) (ear
     -- what came from the parent in forest f, by whether there is one
     came_from : (f : ℕ) → f < forest_count_of net → (above : Option ℕ) → parent net f v ≡ above → from_parent f (map (role_of net v) (neighbours net v)) (map (λ w. told w v) (neighbours net v)) ≡ colour_of (own f) above
     came_from f h None e = from_nobody f (role_of net v) (λ w. told w v) (neighbours net v)
-        (λ k below up. let there : Some (neighbour_of net v k) ≡ None = sym (forest.up v k f is_vertex below (up_is f (role_of net v (neighbour_of net v k)) up)).0 ∙ e in cc)
+        (λ k below up. let there : Some (neighbour_of net v k) ≡ None = sym (forest.up v k f is_vertex below (up-is f (role_of net v (neighbour_of net v k)) up)).0 ∙ e in cc)
     came_from f h (Some w) e =
         let port = forest.above f v w is_vertex e in
         from_somebody f (role_of net v) (λ w. told w v) (Some (own f w)) (neighbours net v) port.0 port.1 (ap (is_up f) port.2 ∙ same_forest f)
         (λ k below up.
-        let facts : (parent net f v ≡ Some (neighbour_of net v k)) × (role_of net (neighbour_of net v k) v ≡ Down f) × (f < forest_count_of net) = forest.up v k f is_vertex below (up_is f (role_of net v (neighbour_of net v k)) up) in
+        let facts : (parent net f v ≡ Some (neighbour_of net v k)) × (role_of net (neighbour_of net v k) v ≡ Down f) × (f < forest_count_of net) = forest.up v k f is_vertex below (up-is f (role_of net v (neighbour_of net v k)) up) in
         let same : neighbour_of net v k ≡ w = (let a : Some (neighbour_of net v k) ≡ Some w = sym facts.0 ∙ e in cc) in
         ap colour_in (told_down (neighbour_of net v k) f facts.1 h) ∙ ap (λ (u : ℕ). Some (own f u)) same)
 
@@ -76,34 +90,33 @@ module _ (net : Net) (ok : IsNetwork net) (forest : IsForest net) (q : ℕ) (ear
     inbox : List (Option Payload)
     inbox = map (λ w. told w v) (neighbours net v)
 
-    colours_are : map (λ f. turned (kind_of (q + 3)) (slice_index (worked net q v).colours f) (slice_index (worked net q v).before f) (from_parent f (worked net q v).roles inbox)) (range_with_len 0 (forest_count_of net)) ≡ by_forest net (λ f. (stages net f (suc q)).0 v)
+    colours_are : next_colours (state_while_reducing net q v) (reduction_of (q + 3)) inbox ≡ by_forest net (λ f. (stages net f (suc q)).0 v)
     unfolding inbox stages
     colours_are = range-members _ (λ f. (stages net f (suc q)).0 v) 0 (forest_count_of net)
         (λ f low high. let h : f < forest_count_of net = omega arith in rw (in_forest net (λ f. (stages net f q).0 v) f h, in_forest net (λ f. (stages net f q).1 v) f h, parent_is f h) refl)
 
-    before_is : map (λ f. kept (kind_of (q + 3)) (slice_index (worked net q v).colours f) (slice_index (worked net q v).before f)) (range_with_len 0 (forest_count_of net)) ≡ by_forest net (λ f. (stages net f (suc q)).1 v)
+    before_is : next_kept (state_while_reducing net q v) (reduction_of (q + 3)) ≡ by_forest net (λ f. (stages net f (suc q)).1 v)
     unfolding stages
     before_is = range-members _ (λ f. (stages net f (suc q)).1 v) 0 (forest_count_of net)
         (λ f low high. let h : f < forest_count_of net = omega arith in rw (in_forest net (λ f. (stages net f q).0 v) f h, in_forest net (λ f. (stages net f q).1 v) f h) refl)
 
-    pub worked_next : next (worked net q v) (q + 3) (map (λ w. tells net q w v) (neighbours net v)) ≡ Ok (worked net (suc q) v, map (tells net (suc q) v) (neighbours net v))
+    pub worked_next : next (state_while_reducing net q v) (q + 3) (map (λ w. tells net q w v) (neighbours net v)) ≡ Ok (state_while_reducing net (suc q) v, map (tells net (suc q) v) (neighbours net v))
     unfolding inbox
     worked_next =
         let came : map (λ w. tells net q w v) (neighbours net v) ≡ inbox = map-members (λ w. tells net q w v) (λ w. told w v) (neighbours net v) (λ k h. tells-told (neighbour_of net v k) v) in
-        let ports : ports_refusal (worked net q v) (q + 3) (Work (kind_of (q + 3))) 0 [] (map (role_of net v) (neighbours net v)) inbox ≡ None =
-        ports_none (worked net q v) (q + 3) (Work (kind_of (q + 3))) (role_of net v) (λ w. told w v) (neighbours net v) (λ k h earlier. port_fine k h earlier (role_of net v (neighbour_of net v k)) refl) 0 [] in
-        let none : own_rule (worked net q v) (q + 3) (Work (kind_of (q + 3))) inbox ≡ None =
-        no_own_rule (worked net q v) (q + 3) (kind_of (q + 3)) inbox (any-none (is_above (q + 3)) (λ f. own f v) (range_with_len 0 (forest_count_of net)) (λ f. (sound net forest f q early).below v)) in
-        let done_is : next (worked net q v) (q + 3) inbox ≡ Ok (done (worked net q v) (q + 3) (Work (kind_of (q + 3))) inbox) = accepted (worked net q v) (q + 3) (Work (kind_of (q + 3))) inbox (phase_work (sizes_of net) (q + 3) (omega arith) (omega arith)) ports none in
-        let last_one : (q + 3 == 12) ≡ (suc q == 10) = same_bool (q + 3 == 12) (suc q == 10) (λ h. grind (arith, nat_tests)) (λ h. grind (arith, nat_tests)) in
+        let ports : ports_refusal (state_while_reducing net q v) (Work (reduction_of (q + 3))) 0 [] (map (role_of net v) (neighbours net v)) inbox ≡ None =
+        ports_none (state_while_reducing net q v) (Work (reduction_of (q + 3))) (role_of net v) (λ w. told w v) (neighbours net v) (λ k h earlier. port_fine k h earlier (role_of net v (neighbour_of net v k)) refl) 0 [] in
+        let none : own_rule (state_while_reducing net q v) (Work (reduction_of (q + 3))) inbox ≡ None =
+        no_own_rule (state_while_reducing net q v) (reduction_of (q + 3)) inbox (any-none (is_above (reduction_of (q + 3))) (λ f. own f v) (range_with_len 0 (forest_count_of net)) (λ f. (sound net forest f q early).below v)) in
+        let done_is : next (state_while_reducing net q v) (q + 3) inbox ≡ Ok (done (state_while_reducing net q v) (Work (reduction_of (q + 3))) inbox) = accepted (state_while_reducing net q v) (q + 3) (Work (reduction_of (q + 3))) inbox (phase_work (sizes_of net) (q + 3) (omega arith) (omega arith)) ports none in
         rw came (done_is
-        ∙ (ap (λ cs. Ok (with_colours (worked net q v) (q + 3) cs (map (λ f. kept (kind_of (q + 3)) (slice_index (worked net q v).colours f) (slice_index (worked net q v).before f)) (range_with_len 0 (forest_count_of net))))) colours_are
-        ∙ (ap (λ bs. Ok (with_colours (worked net q v) (q + 3) (by_forest net (λ f. (stages net f (suc q)).0 v)) bs)) before_is
-        ∙ ap (λ out. Ok (worked net (suc q) v, out)) (sent_if (q + 3 == 12) (suc q == 10) (tells_colour (by_forest net (λ f. (stages net f (suc q)).0 v))) (role_of net v) (neighbours net v) last_one))))
+        ∙ (ap (λ cs. Ok (with_colours (state_while_reducing net q v) (reduction_of (q + 3)) cs (next_kept (state_while_reducing net q v) (reduction_of (q + 3))))) colours_are
+        ∙ (ap (λ bs. Ok (with_colours (state_while_reducing net q v) (reduction_of (q + 3)) (by_forest net (λ f. (stages net f (suc q)).0 v)) bs)) before_is
+        ∙ ap (λ out. Ok (state_while_reducing net (suc q) v, out)) (sent_if (is_last (reduction_of (q + 3))) (suc q == 10) (tells_colour (by_forest net (λ f. (stages net f (suc q)).0 v))) (role_of net v) (neighbours net v) (last-is q early)))))
 
   -- All nodes that stand after one pulse stand after the next.
-  pub work_step : (nodes : ℕ → Node × List (Option Payload)) → ((w : ℕ) → IsVertex net w → nodes w ≡ (worked net q w, map (tells net q w) (neighbours net w))) → (v : ℕ) → IsVertex net v → next (nodes v).0 (q + 3) (inbox_from net nodes v) ≡ Ok (worked net (suc q) v, map (tells net (suc q) v) (neighbours net v))
+  pub work_step : (nodes : ℕ → Node × List (Option Payload)) → ((w : ℕ) → IsVertex net w → nodes w ≡ (state_while_reducing net q w, map (tells net q w) (neighbours net w))) → (v : ℕ) → IsVertex net v → next (nodes v).0 (q + 3) (inbox_from net nodes v) ≡ Ok (state_while_reducing net (suc q) v, map (tells net (suc q) v) (neighbours net v))
   work_step nodes stand v is_vertex =
       let came : inbox_from net nodes v ≡ map (λ w. tells net q w v) (neighbours net v) = inbox_is net ok nodes (tells net q) (λ w h. ap (λ node. node.1) (stand w h)) v is_vertex in
-      let state : (nodes v).0 ≡ worked net q v = ap (λ node. node.0) (stand v is_vertex) in
-      ap (λ node. next node (q + 3) (inbox_from net nodes v)) state ∙ (ap (λ inbox. next (worked net q v) (q + 3) inbox) came ∙ worked_next v is_vertex)
+      let state : (nodes v).0 ≡ state_while_reducing net q v = ap (λ node. node.0) (stand v is_vertex) in
+      ap (λ node. next node (q + 3) (inbox_from net nodes v)) state ∙ (ap (λ inbox. next (state_while_reducing net q v) (q + 3) inbox) came ∙ worked_next v is_vertex)

@@ -1,41 +1,41 @@
-// The colouring as a program of nodes.
+//! The colouring as a program of nodes.
 ghost use Rattle.std.specs.Prelude.{◌≡◌};
 
-use colour_rules::{ColourNode, Payload, Rest, Space};
+use colour_rules::{ColourNode, FIRST_MERGE, IdlePulses, Payload, Scratch};
 use interference::{Memory, Network};
 use node_api::{Inbox, NodeProgram, Outbox, Refused};
 use std::alloc::Global;
 use std::marker::Model;
 
-/// A node with its working space, which has a place for each port and for each forest.
+// A node and what it writes on while it reads a pulse.
 #[derive(Drop)]
-struct Desk {
+struct NodeAndScratch {
     node: ColourNode,
-    space: Space,
+    scratch: Scratch,
 }
 
 /// A node of the colouring, as a program of nodes. Contracts see the `Node` of `colour_rules`.
 #[derive(Drop)]
 pub struct Colouring {
     // The pulses of which the node knows already that it does nothing if nothing comes.
-    rest: Rest,
-    // Apart, since what runs the nodes passes by all of them at each pulse, and most are at rest.
-    desk: Box<Desk>,
+    idle: IdlePulses,
+    // Apart, since what runs the nodes passes by all of them at each pulse, and most are idle.
+    inner: Box<NodeAndScratch>,
 }
 
 impl Model for Colouring {
     ghost use Rattle.colour_rules.specs.Node.{Node};
     ghost use Rattle.colour_rules.specs.Stored.{node_code};
-    ghost use Rattle.colour_rules.specs.Rest.{IsRest};
+    ghost use Rattle.colour_rules.specs.Idle.{IsIdle};
     ghost use Rattle.colour_rules.specs.Room.{HasRoom};
 
     ghost Value = { Node };
 
     ghost coded = { node_code };
 
-    ghost view = { λ a. a.desk.value.node };
+    ghost view = { λ a. a.inner.value.node };
 
-    ghost invariant = { λ a. HasRoom a.desk.value.node a.desk.value.space × IsRest a.desk.value.node a.rest };
+    ghost invariant = { λ a. HasRoom a.inner.value.node a.inner.value.scratch × IsIdle a.inner.value.node a.idle };
 }
 
 impl Colouring {
@@ -43,7 +43,7 @@ impl Colouring {
     pub fn colour(&self) -> u16
         ensures { result ≡ self.now.merged }
     {
-        self.desk.node.colour()
+        self.inner.node.colour()
     }
 }
 
@@ -59,21 +59,21 @@ impl NodeProgram for Colouring {
 
     fn last_pulse(net: &Network) -> u32 {
         net.is_network();
-        12 + net.forest_count() * (3 * (net.greatest_degree() + 1))
+        FIRST_MERGE - 1 + net.forest_count() * (3 * (net.greatest_degree() + 1))
     }
 
     fn make(alloc: Global, net: &Network, v: u32) -> Result<Self, Memory> {
         let node = ColourNode::make(alloc, net, v)?;
-        let space = Space::make(alloc, net, v)?;
-        let desk = Box::new(alloc, Desk { node, space })?;
+        let scratch = Scratch::make(alloc, net, v)?;
+        let inner = Box::new(alloc, NodeAndScratch { node, scratch })?;
         Ok(Colouring {
-            rest: Rest::none(),
-            desk,
+            idle: IdlePulses::none(),
+            inner,
         })
     }
 
     fn init(&mut self, out: &mut Outbox<Payload>) {
-        self.desk.node.greet(out);
+        self.inner.node.greet(out);
     }
 
     fn pre_step(&mut self, _pulse: u32) {}
@@ -84,14 +84,12 @@ impl NodeProgram for Colouring {
         inbox: &mut Inbox<Payload>,
         out: &mut Outbox<Payload>,
     ) -> Result<(), Refused> {
-        if self.rest.covers(pulse) && !inbox.has_next() {
+        if self.idle.contains(pulse) && !inbox.has_next() {
             return Ok(());
         }
-        let Desk { node, space } = &mut *self.desk;
-        let phase = node.phase(pulse);
-        let answer = node.pulse(space, phase, pulse, inbox, out);
-        self.rest = node.rest_after(pulse);
-        answer
+        let NodeAndScratch { node, scratch } = &mut *self.inner;
+        self.idle = node.pulse(scratch, pulse, inbox, out)?;
+        Ok(())
     }
 
     fn post_step(&mut self, _pulse: u32) {}

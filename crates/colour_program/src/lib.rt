@@ -1,8 +1,9 @@
-//! The colouring of a network as a program of nodes: the rounds of `colour_rules`, with a place to
-//! write on, behind the trait of `node_api`. `forestplan` prints its last colours as channels.
+//! The colouring of a network as a program of nodes: the rounds of `colour_rules`, with
+//! scratch lists, behind the trait of `node_api`. `forestplan` prints its last colours as channels.
 //!
-//! What runs node programs runs it, as `run_rounds` of `sync_rounds` does. That its nodes end with the
-//! colours of the network, which differ on every edge and are 0 to Δ, are the laws of `colour_laws`.
+//! Any engine of node programs runs it, as `run_rounds` of `sync_rounds` does. That its nodes end with
+//! the colours of the network, which differ on every edge and are 0 to Δ, is proved in `laws`. The rule
+//! of a refusal is one of `rules`.
 //!
 //! ```text
 //! for node in &run_rounds::<Colouring>(alloc, &net)? {
@@ -15,7 +16,8 @@
 
 mod colouring;
 
-pub use colour_rules::Payload;
+pub use colour_laws::laws;
+pub use colour_rules::{Payload, rules};
 pub use colouring::Colouring;
 
 #[cfg(test)]

@@ -5,6 +5,7 @@ use Rattle.std.proofs.lemmas.Bool.Decides.{nat_tests}
 use native.Mathlib.Decide.{dec_lt}
 use Prim.{yes, no}
 use Rattle.colour_base.proofs.LeastLemmas.{least-at_most, least-holds}
+use Rattle.colour_rules.specs.declared.rules.TheConstants.{COLOUR_RANGE}
 use Rattle.forest_merge.specs.Free.{HasFree, least_free_colour}
 
 not_true : (b : Bool) → not b ≡ true → b ≡ false
@@ -28,9 +29,9 @@ least_free_colour-high limit is_taken false h =
           absurd (cc)
     ]
 
--- rule 4 where something is so
-abbrev rule_if : Bool → Option ℕ
-rule_if b = if b then Some 4 else None
+-- the rule of colours, where something is so
+abbrev pub rule_if : Bool → Option ℕ
+rule_if b = if b then Some COLOUR_RANGE else None
 
 -- a node at its turn breaks a rule where no colour is left for it, and else it breaks none
 pub turn-rule : (turn high none_free : Bool) → true ≡ turn → high ≡ none_free → (if turn then rule_if high else None) ≡ rule_if none_free

@@ -9,7 +9,7 @@ use Rattle.forests.specs.declared.numbering.Role.{Role}
 use Rattle.colour_rules.specs.Node.{Node, phase_of, ports, steps}
 use Rattle.colour_rules.specs.Choice.{free_for, gathered, chooses}
 use Rattle.colour_rules.specs.Refusals.{refusal, ids_in}
-use Rattle.colour_rules.specs.Program.{colouring, done, answered, all_labelled, silent, tells_colour, tells_chosen, oriented_slot}
+use Rattle.colour_rules.specs.Program.{colouring, done, answered, all_labelled, silent, tells_colour, tells_chosen, oriented_slot, is_last}
 use Rattle.colour_rules.specs.declared.phase.Phase.{Phase}
 use Rattle.colour_rules.specs.declared.phase.Phase.TheVariants.{Greet, Orient, Seed, Work, Merge, Halted}
 
@@ -26,13 +26,13 @@ length-if : {X : Type 0} (b : Bool) (xs ys : List X) (n : ℕ) → length xs ≡
 length-if true xs ys n e f = e
 length-if false xs ys n e f = f
 
-pub done-keeps : (node : Node) (p : ℕ) (phase : Phase) (inbox : List (Option Payload)) → length inbox ≡ ports node → Keeps (ports node) (done node p phase inbox)
-done-keeps node p Greet inbox e = (refl, length-map node.roles _)
-done-keeps node p Orient inbox e = (length-map inbox _ ∙ e, length-map (map (oriented_slot node.id (ids_in inbox)) inbox) _ ∙ length-map inbox _ ∙ e)
-done-keeps node p Seed inbox e = (length-labelled node.roles inbox e, length-map (all_labelled node.roles inbox) _ ∙ length-labelled node.roles inbox e)
-done-keeps node p (Work kind) inbox e = (refl, length-if (p == 12) (silent node.roles) (map (tells_colour _) node.roles) (ports node) (length-map node.roles _) (length-map node.roles _))
-done-keeps node p (Merge f s) inbox e = (refl, length-if (chooses (gathered node s inbox) f s) _ _ (ports node) (length-if (suc s == steps node.sizes) (silent node.roles) (map (tells_chosen f (free_for (gathered node s inbox))) node.roles) (ports node) (length-map node.roles _) (length-map node.roles _)) (length-map node.roles _))
-done-keeps node p Halted inbox e = (refl, length-map node.roles _)
+pub done-keeps : (node : Node) (phase : Phase) (inbox : List (Option Payload)) → length inbox ≡ ports node → Keeps (ports node) (done node phase inbox)
+done-keeps node Greet inbox e = (refl, length-map node.roles _)
+done-keeps node Orient inbox e = (length-map inbox _ ∙ e, length-map (map (oriented_slot node.id (ids_in inbox)) inbox) _ ∙ length-map inbox _ ∙ e)
+done-keeps node Seed inbox e = (length-labelled node.roles inbox e, length-map (all_labelled node.roles inbox) _ ∙ length-labelled node.roles inbox e)
+done-keeps node (Work reduction) inbox e = (refl, length-if (is_last reduction) (silent node.roles) (map (tells_colour _) node.roles) (ports node) (length-map node.roles _) (length-map node.roles _))
+done-keeps node (Merge f s) inbox e = (refl, length-if (chooses (gathered node s inbox) f s) _ _ (ports node) (length-if (suc s == steps node.sizes) (silent node.roles) (map (tells_chosen f (free_for (gathered node s inbox))) node.roles) (ports node) (length-map node.roles _) (length-map node.roles _)) (length-map node.roles _))
+done-keeps node Halted inbox e = (refl, length-map node.roles _)
 
 answered-keeps : (n : ℕ) (r : Option Refused) (node : Node × List (Option Payload)) → Keeps n node → IfOk (answered r node) (Keeps n)
 answered-keeps n None node h = h
@@ -42,5 +42,5 @@ pub keeps : KeepsPorts colouring
 keeps = record {
   made_ports = λ own. length-replicate own.degree _;
   greet_shape = λ node. (refl, length-map node.roles _);
-  next_shape = λ node p inbox e. answered-keeps (ports node) (refusal node p (phase_of node.sizes p) inbox) (done node p (phase_of node.sizes p) inbox) (done-keeps node p (phase_of node.sizes p) inbox e);
+  next_shape = λ node p inbox e. answered-keeps (ports node) (refusal node (phase_of node.sizes p) inbox) (done node (phase_of node.sizes p) inbox) (done-keeps node (phase_of node.sizes p) inbox e);
 }

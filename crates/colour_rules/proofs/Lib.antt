@@ -1,15 +1,15 @@
 mod Accepted
 mod Bounds
-mod Choosing
+pub mod Choosing
 mod Greets
 mod Hearing
 mod Hellos
 pub mod KeptPorts
 mod Labelling
-mod Lateness
+mod Phases
 mod Orienting
 pub mod Pairs
-mod Resting
+mod Idling
 mod Places
 mod Reading
 mod Rooms
@@ -17,6 +17,6 @@ mod Steps
 mod Telling
 mod Turning
 mod Valid
-mod Walking
+pub mod Walking
 mod Worked
-mod Working
+pub mod Working

@@ -1,7 +1,9 @@
 -- The pulses and steps of the merging, and the pairs that they stand for.
 use Rattle.std.proofs.Common.{◌≡◌, ℕ, ◌+◌, ◌-◌, ◌*◌, ◌/◌, ◌%◌, ◌<◌, ◌≤◌, ◌==◌, Bool, true, false, refl, ap, sym, ◌∙◌, arith}
-use Rattle.std.specs.Prelude.{if◌then◌else◌, nat_le}
+use Rattle.std.specs.Prelude.{if◌then◌else◌, nat_le, nat_lt}
+use Rattle.colour_rules.specs.declared.phase.TheConstants.{FIRST_MERGE}
 use Rattle.std.proofs.lemmas.Bool.Decides.{nat_tests}
+use Rattle.std.proofs.lemmas.Bool.{le-ltb, le-leb}
 use Rattle.std.proofs.Math.Nat.{mul-le-mul_right}
 use Rattle.std.proofs.lemmas.Nat.{div-mul-add, mod-mul-add, div-add-mod'}
 use Rattle.node_api.specs.Program.{Sizes}
@@ -31,22 +33,16 @@ pair_test k j w s h =
     rw (a, b) (grind (arith, nat_tests)))
 
 -- the pulse of a step of a forest
-pub phase_merge : (sizes : Sizes) (f s : ℕ) → f < sizes.forests → s < steps sizes → phase_of sizes (13 + (f * steps sizes + s)) ≡ Merge f s
+pub phase_merge : (sizes : Sizes) (f s : ℕ) → f < sizes.forests → s < steps sizes → phase_of sizes (FIRST_MERGE + (f * steps sizes + s)) ≡ Merge f s
 phase_merge sizes f s in_range below =
-    let p : ℕ = 13 + (f * steps sizes + s) in
+    let p : ℕ = FIRST_MERGE + (f * steps sizes + s) in
     let products : (f + 1) * steps sizes ≤ sizes.forests * steps sizes = mul-le-mul_right (steps sizes) (omega arith) in
     let e0 : (p == 0) ≡ false = grind (arith, nat_tests) in
     let e1 : (p == 1) ≡ false = grind (arith, nat_tests) in
     let e2 : (p == 2) ≡ false = grind (arith, nat_tests) in
-    let e3 : nat_le p 12 ≡ false = not_le_test p 12 (omega arith) in
-    let e4 : nat_le p (last sizes) ≡ true = le_test p (last sizes) (omega arith) in
-    let less : p - 13 ≡ f * steps sizes + s = omega arith in
-    let forest : (p - 13) / steps sizes ≡ f = ap (λ x. x / steps sizes) less ∙ div-mul-add f (steps sizes) s below in
-    let step : (p - 13) % steps sizes ≡ s = ap (λ x. x % steps sizes) less ∙ mod-mul-add f (steps sizes) s below in
+    let e3 : nat_lt p FIRST_MERGE ≡ false = le-ltb p FIRST_MERGE (omega arith) in
+    let e4 : nat_le p (last sizes) ≡ true = le-leb p (last sizes) (omega arith) in
+    let less : p - FIRST_MERGE ≡ f * steps sizes + s = omega arith in
+    let forest : (p - FIRST_MERGE) / steps sizes ≡ f = ap (λ x. x / steps sizes) less ∙ div-mul-add f (steps sizes) s below in
+    let step : (p - FIRST_MERGE) % steps sizes ≡ s = ap (λ x. x % steps sizes) less ∙ mod-mul-add f (steps sizes) s below in
     rw (e0, e1, e2, e3, e4, forest, step) refl
-  where
-    le_test : (a b : ℕ) → a ≤ b → nat_le a b ≡ true
-    le_test a b h = grind (arith, nat_tests)
-
-    not_le_test : (a b : ℕ) → b < a → nat_le a b ≡ false
-    not_le_test a b h = grind (arith, nat_tests)

@@ -21,14 +21,14 @@ pub told-if : (b : Bool) (out x y : Sent) → b ≡ true → out ≡ x → out �
 told-if true out x y e h = h
 told-if false out x y e h = absurd (cc)
 
-module _ (node : Node) (p f s : ℕ) (inbox out : Sent) (here : Node) (is : here ≡ gathered node s inbox) where
+module _ (node : Node) (f s : ℕ) (inbox out : Sent) (here : Node) (is : here ≡ gathered node s inbox) where
   -- a node whose turn it isn't has gathered, and is silent
-  pub waits-is : false ≡ chooses (gathered node s inbox) f s → out ≡ nothing (ports node) → (here, out) ≡ done node p (Merge f s) inbox
+  pub waits-is : false ≡ chooses (gathered node s inbox) f s → out ≡ nothing (ports node) → (here, out) ≡ done node (Merge f s) inbox
   waits-is wait quiet =
       rw (sym wait) (ap (λ (n : Node). (n, out)) is ∙ ap (λ (o : Sent). (gathered node s inbox, o)) (quiet ∙ silent-is node))
 
   -- a node at its turn takes a colour and tells it, but for the last step
-  pub turns-is : true ≡ chooses (gathered node s inbox) f s → (c : ℕ) → c ≡ free_for here → out ≡ (if suc s == steps node.sizes then silent node.roles else map (tells_chosen f c) node.roles) → (record here { merged = c }, out) ≡ done node p (Merge f s) inbox
+  pub turns-is : true ≡ chooses (gathered node s inbox) f s → (c : ℕ) → c ≡ free_for here → out ≡ (if suc s == steps node.sizes then silent node.roles else map (tells_chosen f c) node.roles) → (record here { merged = c }, out) ≡ done node (Merge f s) inbox
   turns-is turn c free told =
       let same : c ≡ free_for (gathered node s inbox) = free ∙ ap free_for is in
       rw (sym turn)

@@ -2,6 +2,7 @@
 use Rattle.std.proofs.Common.{◌≡◌, ℕ, zero, suc, ◌≤◌, List, length, replicate, subst, sym, arith}
 use Rattle.forests.specs.declared.numbering.Role.{Role}
 use Rattle.forests.specs.declared.numbering.Role.TheVariants.{Unknown}
+use Rattle.interference.specs.declared.limits.TheConstants.{MAX_DEGREE}
 use Rattle.colour_rules.specs.Node.{Node, HasForests, AreBelow, ports}
 use Rattle.colour_rules.specs.contracts.node.ColourNode.{the_view, the_invariant}
 use Rattle.colour_rules.specs.declared.node.ColourNode.TheInside.{Inside}
@@ -9,10 +10,10 @@ use Rattle.colour_rules.specs.declared.node.ColourNode.TheInside.{Inside}
 -- the invariant of a node's fields, said of the node
 abbrev pub IsValid : Node → Type 0
 IsValid node =
-    (node.sizes.greatest_degree ≤ 1023) × (node.sizes.forests ≤ 1023) × (length node.roles ≤ 1023)
+    (node.sizes.greatest_degree ≤ MAX_DEGREE) × (node.sizes.forests ≤ MAX_DEGREE) × (length node.roles ≤ MAX_DEGREE)
     × (length node.colours ≡ node.sizes.forests) × (length node.before ≡ node.sizes.forests)
     × HasForests node.sizes.forests node.roles × AreBelow 6 node.before
-    × (node.former ≤ node.sizes.greatest_degree) × (node.merged ≤ node.sizes.greatest_degree)
+    × (node.colour_before ≤ node.sizes.greatest_degree) × (node.merged ≤ node.sizes.greatest_degree)
 
 -- and so of each node that is seen
 pub valid-seen : (inside : Inside) (node : Node) → the_view inside ≡ node → the_invariant inside → IsValid node
@@ -20,7 +21,7 @@ valid-seen inside node e h = subst IsValid e h
 
 -- a node with other roles for its ports
 pub valid-roles : (node : Node) (roles : List Role) → IsValid node → length roles ≡ ports node → HasForests node.sizes.forests roles → IsValid (record node { roles = roles })
-valid-roles node roles v size known = (v.0, v.1, subst (λ (n : ℕ). n ≤ 1023) (sym size) v.2, v.3, v.4, known, v.6, v.7, v.8)
+valid-roles node roles v size known = (v.0, v.1, subst (λ (n : ℕ). n ≤ MAX_DEGREE) (sym size) v.2, v.3, v.4, known, v.6, v.7, v.8)
 
 -- a node with other colours in its forests
 pub valid-colours : (node : Node) (colours before : List ℕ) → IsValid node → length colours ≡ node.sizes.forests → length before ≡ node.sizes.forests → AreBelow 6 before → IsValid (record node { colours = colours; before = before })

@@ -7,17 +7,18 @@ use Rattle.std.proofs.lemmas.List.FromFn.{get_or-map-range_with_len, length-map-
 use Rattle.node_api.specs.Boxes.{at_port}
 use Rattle.forests.specs.declared.numbering.Role.{Role}
 use Rattle.forests.specs.declared.numbering.Role.TheVariants.{Unknown, Up, Down}
-use Rattle.colour_rules.specs.declared.phase.Kind.{Kind}
-use Rattle.colour_rules.specs.declared.phase.Kind.TheVariants.{Step, Shift, Drop}
+use Rattle.colour_rules.specs.declared.phase.Reduction.{Reduction}
+use Rattle.colour_rules.specs.declared.phase.Reduction.TheVariants.{Step, Shift, Drop}
 use Rattle.colour_rules.specs.declared.phase.Phase.TheVariants.{Work}
 use Rattle.colour_rules.specs.declared.payload.Payload.{Payload}
 use Rattle.colour_rules.specs.declared.payload.Payload.TheVariants.{Hello, Label, Colour, Chosen}
-use Rattle.colour_rules.specs.Node.{Node, AreBelow, kind_of, phase_of, ports}
+use Rattle.colour_rules.specs.Node.{Node, AreBelow, IsReduction, ports}
+use Rattle.colour_rules.specs.declared.rules.TheConstants.{COLOUR_RANGE}
 use Rattle.colour_rules.specs.Table.{is_above}
-use Rattle.colour_rules.specs.Refusals.{own_rule, port_rule, ports_refusal}
-use Rattle.colour_rules.specs.Program.{IsReady, colour_in, from_parent, is_up, kept}
+use Rattle.colour_rules.specs.Refusals.{first_refusal, own_rule, port_rule}
+use Rattle.colour_rules.specs.Program.{IsReady, colour_in, from_parent, is_up, kept, next_kept}
 use Rattle.colour_rules.proofs.Accepted.{fine_at}
-use Rattle.colour_rules.proofs.Lateness.{kind-is, after-steps, dropped-is, low-colour}
+use Rattle.colour_rules.proofs.Phases.{low-colour}
 
 rules-if : (a b : Bool) (x y : ℕ) → (if a then Some x else if b then Some y else None) ≡ None → (a ≡ false) × (b ≡ false)
 rules-if true b x y e = absurd (cc)
@@ -25,20 +26,20 @@ rules-if false true x y e = absurd (cc)
 rules-if false false x y e = (refl, refl)
 
 -- What a port to a parent brought in a pulse of work, where it breaks no rule.
-abbrev pub BringsColour : Node → ℕ → ℕ → Option Payload → Type 0
-BringsColour node p f slot = (c : ℕ) × (slot ≡ Some (Colour c)) × (is_above p c ≡ false) × (c ≢ slice_index node.colours f)
+abbrev pub BringsColour : Node → Reduction → ℕ → Option Payload → Type 0
+BringsColour node reduction f slot = (c : ℕ) × (slot ≡ Some (Colour c)) × (is_above reduction c ≡ false) × (c ≢ slice_index node.colours f)
 
-brings : (node : Node) (p : ℕ) (heard : List ℕ) (kind : Kind) (f : ℕ) (slot : Option Payload) → port_rule node p heard (Work kind) (Up f) slot ≡ None → BringsColour node p f slot
-brings node p heard kind f None e = absurd (cc)
-brings node p heard kind f (Some (Hello n)) e = absurd (cc)
-brings node p heard kind f (Some (Label g)) e = absurd (cc)
-brings node p heard kind f (Some (Colour c)) e =
-    let w = rules-if (is_above p c) (c == slice_index node.colours f) 4 4 e in
+brings : (node : Node) (heard : List ℕ) (reduction : Reduction) (f : ℕ) (slot : Option Payload) → port_rule node heard (Work reduction) (Up f) slot ≡ None → BringsColour node reduction f slot
+brings node heard reduction f None e = absurd (cc)
+brings node heard reduction f (Some (Hello n)) e = absurd (cc)
+brings node heard reduction f (Some (Label g)) e = absurd (cc)
+brings node heard reduction f (Some (Colour c)) e =
+    let w = rules-if (is_above reduction c) (c == slice_index node.colours f) COLOUR_RANGE COLOUR_RANGE e in
     let apart : (c == slice_index node.colours f) ≡ false = w.1 in
     (c, refl, w.0, grind (arith, nat_tests))
-brings node p heard kind f (Some (Chosen c)) e = absurd (cc)
+brings node heard reduction f (Some (Chosen c)) e = absurd (cc)
 
-up-is : (f : ℕ) (role : Role) → is_up f role ≡ true → role ≡ Up f
+pub up-is : (f : ℕ) (role : Role) → is_up f role ≡ true → role ≡ Up f
 up-is f Unknown e = absurd (cc)
 up-is f (Up g) e = let same : g ≡ f = grind (arith, nat_tests) in ap (λ (x : ℕ). Up x) same
 up-is f (Down g) e = absurd (cc)
@@ -68,53 +69,53 @@ none-of test [] none i h = absurd (omega arith)
 none-of test (c ∷ cs) none zero h = (neither-or (test c) (list_any test cs) none).0
 none-of test (c ∷ cs) none (suc i) h = none-of test cs (neither-or (test c) (list_any test cs) none).1 i (omega arith)
 
-module _ (node : Node) (p : ℕ) (kind : Kind) (slots : List (Option Payload)) (phase : phase_of node.sizes p ≡ Work kind) (own : own_rule node p (Work kind) slots ≡ None) where
-  -- the node's own colours are 0 to 5 where they are shifted or dropped
-  own-low : (kind ≡ Step → ⊥) → (f : ℕ) → f < length node.colours → slice_index node.colours f < 6
-  own-low other f h = low-colour p (slice_index node.colours f) (after-steps p kind (kind-is node.sizes p kind phase) other) (none-of (is_above p) node.colours (none kind own other) f h)
+module _ (node : Node) (reduction : Reduction) (slots : List (Option Payload)) (real : IsReduction reduction) (own : own_rule node (Work reduction) slots ≡ None) where
+  -- the node's own colours are 0 to 5 if they are shifted or dropped
+  own-low : ((k : ℕ) → reduction ≡ Step k → ⊥) → (f : ℕ) → f < length node.colours → slice_index node.colours f < 6
+  own-low other f h = low-colour reduction (slice_index node.colours f) real other (none-of (is_above reduction) node.colours (none reduction own other) f h)
     where
-      none : (k : Kind) → own_rule node p (Work k) slots ≡ None → (k ≡ Step → ⊥) → list_any (is_above p) node.colours ≡ false
-      none Step e other = absurd (other refl)
-      none Shift e other = own-if (list_any (is_above p) node.colours) 4 e
-      none (Drop x) e other = own-if (list_any (is_above p) node.colours) 4 e
+      none : (r : Reduction) → own_rule node (Work r) slots ≡ None → ((k : ℕ) → r ≡ Step k → ⊥) → list_any (is_above r) node.colours ≡ false
+      none (Step k) e other = absurd (other k refl)
+      none (Shift x) e other = own-if (list_any (is_above (Shift x)) node.colours) COLOUR_RANGE e
+      none (Drop x) e other = own-if (list_any (is_above (Drop x)) node.colours) COLOUR_RANGE e
 
-  module _ (size : length slots ≡ ports node) (accepted : ports_refusal node p (Work kind) 0 [] node.roles slots ≡ None) where
+  module _ (size : length slots ≡ ports node) (accepted : first_refusal node (Work reduction) slots ≡ None) where
     -- each port to a parent brought a colour
-    pub brought : (port f : ℕ) → port < ports node → get_or node.roles port Unknown ≡ Up f → BringsColour node p f (at_port slots port)
+    pub brought : (port f : ℕ) → port < ports node → get_or node.roles port Unknown ≡ Up f → BringsColour node reduction f (at_port slots port)
     brought port f h up =
-        let fine = fine_at node p (Work kind) 0 [] node.roles slots size accepted port h in
-        brings node p fine.0 kind f (at_port slots port) (subst (λ (role : Role). port_rule node p fine.0 (Work kind) role (at_port slots port) ≡ None) up fine.1)
+        let fine = fine_at node (Work reduction) 0 [] node.roles slots size accepted port h in
+        brings node fine.0 reduction f (at_port slots port) (subst (λ (role : Role). port_rule node fine.0 (Work reduction) role (at_port slots port) ≡ None) up fine.1)
 
     parent-apart : (f : ℕ) → from_parent f node.roles slots ≢ Some (slice_index node.colours f)
     parent-apart f =
         parent-has (λ x. x ≢ Some (slice_index node.colours f)) f node.roles slots (λ e. absurd (cc))
         (λ k h up e. let b = brought k f h up in b.3 (let same : Some b.0 ≡ Some (slice_index node.colours f) = sym (ap colour_in b.1) ∙ e in cc))
 
-    parent-low : (kind ≡ Step → ⊥) → (f : ℕ) → IfSome (from_parent f node.roles slots) (λ c. c < 6)
+    parent-low : ((k : ℕ) → reduction ≡ Step k → ⊥) → (f : ℕ) → IfSome (from_parent f node.roles slots) (λ c. c < 6)
     parent-low other f =
         parent-has (λ x. IfSome x (λ c. c < 6)) f node.roles slots tt
         (λ k h up.
         let b = brought k f h up in
-        subst (λ (s : Option Payload). IfSome (colour_in s) (λ c. c < 6)) (sym b.1) (low-colour p b.0 (after-steps p kind (kind-is node.sizes p kind phase) other) b.2))
+        subst (λ (s : Option Payload). IfSome (colour_in s) (λ c. c < 6)) (sym b.1) (low-colour reduction b.0 real other b.2))
 
     -- what a turn asks for
-    pub ready : AreBelow 6 node.before → length node.before ≡ length node.colours → (f : ℕ) → f < length node.colours → IsReady kind (slice_index node.colours f) (slice_index node.before f) (from_parent f node.roles slots)
-    ready low as_many f h = of_kind kind (kind-is node.sizes p kind phase) (parent-apart f) (λ other. own-low other f h) (low f (omega arith)) (λ other. parent-low other f)
+    pub ready : AreBelow 6 node.before → length node.before ≡ length node.colours → (f : ℕ) → f < length node.colours → IsReady reduction (slice_index node.colours f) (slice_index node.before f) (from_parent f node.roles slots)
+    ready low as_many f h = of_reduction reduction real (parent-apart f) (λ other. own-low other f h) (low f (omega arith)) (λ other. parent-low other f)
       where
-        of_kind : (k : Kind) → kind_of p ≡ k → from_parent f node.roles slots ≢ Some (slice_index node.colours f) → ((k ≡ Step → ⊥) → slice_index node.colours f < 6) → slice_index node.before f < 6 → ((k ≡ Step → ⊥) → IfSome (from_parent f node.roles slots) (λ c. c < 6)) → IsReady k (slice_index node.colours f) (slice_index node.before f) (from_parent f node.roles slots)
-        of_kind Step is apart own before parent = apart
-        of_kind Shift is apart own before parent = (apart, own (λ e. absurd (cc)), before, parent (λ e. absurd (cc)))
-        of_kind (Drop x) is apart own before parent = (apart, own (λ e. absurd (cc)), before, parent (λ e. absurd (cc)), (dropped-is p x is).0, (dropped-is p x is).1)
+        of_reduction : (r : Reduction) → IsReduction r → from_parent f node.roles slots ≢ Some (slice_index node.colours f) → (((k : ℕ) → r ≡ Step k → ⊥) → slice_index node.colours f < 6) → slice_index node.before f < 6 → (((k : ℕ) → r ≡ Step k → ⊥) → IfSome (from_parent f node.roles slots) (λ c. c < 6)) → IsReady r (slice_index node.colours f) (slice_index node.before f) (from_parent f node.roles slots)
+        of_reduction (Step k) is apart own before parent = apart
+        of_reduction (Shift x) is apart own before parent = (apart, own (λ k e. absurd (cc)), before, parent (λ k e. absurd (cc)))
+        of_reduction (Drop x) is apart own before parent = (apart, own (λ k e. absurd (cc)), before, parent (λ k e. absurd (cc)), is.0, is.1)
 
-  kept-low : (k : Kind) (own before : ℕ) → ((k ≡ Step → ⊥) → own < 6) → before < 6 → kept k own before < 6
-  kept-low Step own before low small = small
-  kept-low Shift own before low small = low (λ e. absurd (cc))
+  kept-low : (r : Reduction) (own before : ℕ) → (((k : ℕ) → r ≡ Step k → ⊥) → own < 6) → before < 6 → kept r own before < 6
+  kept-low (Step k) own before low small = small
+  kept-low (Shift x) own before low small = low (λ k e. absurd (cc))
   kept-low (Drop x) own before low small = small
 
   -- the colours that are kept are 0 to 5 again
-  pub kept-below : AreBelow 6 node.before → length node.before ≡ length node.colours → length node.colours ≡ node.sizes.forests → AreBelow 6 (map (λ f. kept kind (slice_index node.colours f) (slice_index node.before f)) (range_with_len 0 node.sizes.forests))
+  pub kept-below : AreBelow 6 node.before → length node.before ≡ length node.colours → length node.colours ≡ node.sizes.forests → AreBelow 6 (next_kept node reduction)
   kept-below low as_many size f h =
-      let F = λ (g : ℕ). kept kind (slice_index node.colours g) (slice_index node.before g) in
+      let F = λ (g : ℕ). kept reduction (slice_index node.colours g) (slice_index node.before g) in
       let within : f < node.sizes.forests = omega (arith, length-map-range_with_len F 0 node.sizes.forests) in
       subst (λ (c : ℕ). c < 6) (sym (get_or-map-range_with_len F 0 node.sizes.forests f f 0 within (omega arith)))
-      (kept-low kind (slice_index node.colours f) (slice_index node.before f) (λ other. own-low other f (omega arith)) (low f (omega arith)))
+      (kept-low reduction (slice_index node.colours f) (slice_index node.before f) (λ other. own-low other f (omega arith)) (low f (omega arith)))

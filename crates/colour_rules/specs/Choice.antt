@@ -17,11 +17,16 @@ with_chosen set (slot ∷ slots) = with_chosen set slots
 -- and nothing heard
 abbrev pub gathered : Node → ℕ → List (Option Payload) → Node
 gathered node s inbox =
-    record node { former = if s == 0 then node.merged else node.former; chosen = if s == 0 then empty else with_chosen node.chosen inbox }
+    record node {
+      colour_before = if s == 0 then node.merged else node.colour_before;
+      chosen = if s == 0 then empty else with_chosen node.chosen inbox;
+    }
 
 -- whether a node chooses at step s of forest f: its three-colour and its old colour are the pair of the step
 abbrev pub chooses : Node → ℕ → ℕ → Bool
-chooses node f s = if slice_index node.colours f == s / (node.sizes.greatest_degree + 1) then node.former == s % (node.sizes.greatest_degree + 1) else false
+chooses node f s =
+    let colours : ℕ = node.sizes.greatest_degree + 1 in
+    if slice_index node.colours f == s / colours then node.colour_before == s % colours else false
 
 -- the colour that a node chooses: the least that no neighbour before it chose
 abbrev pub free_for : Node → ℕ

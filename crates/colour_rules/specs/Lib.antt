@@ -6,4 +6,4 @@ pub mod Program
 pub mod Stored
 pub mod Words
 pub mod Room
-pub mod Rest
+pub mod Idle

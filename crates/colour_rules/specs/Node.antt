@@ -1,13 +1,16 @@
 -- What a node of the colouring keeps, and which phase of the rounds a pulse is in.
-use Rattle.std.specs.Prelude.{ℕ, ◌+◌, ◌-◌, ◌*◌, ◌/◌, ◌%◌, ◌<◌, ◌==◌, List, length, map, replicate, Option, Some, if◌then◌else◌, nat_le, slice_index, slice_index_or, ⊤}
+use Rattle.std.specs.Prelude.{ℕ, ◌+◌, ◌-◌, ◌*◌, ◌/◌, ◌%◌, ◌<◌, ◌≤◌, ◌==◌, ⊤, if◌then◌else◌, nat_le, nat_lt}
+use Rattle.std.specs.Prelude.{List, length, map, replicate, Option, Some, IfSome, slice_index, slice_index_or}
 use Rattle.std.specs.Ordering.{nat_cmp}
 use Rattle.std.specs.FinSet.{FinSet, empty}
 use Rattle.node_api.specs.Program.{Own, Sizes}
+use Rattle.forests.specs.Forests.{forest}
 use Rattle.forests.specs.declared.numbering.Role.{Role}
-use Rattle.forests.specs.declared.numbering.Role.TheVariants.{Unknown, Up, Down}
-use Rattle.colour_rules.specs.declared.phase.Kind.{Kind}
-use Rattle.colour_rules.specs.declared.phase.Kind.TheVariants.{Step, Shift, Drop}
+use Rattle.forests.specs.declared.numbering.Role.TheVariants.{Unknown}
+use Rattle.colour_rules.specs.declared.phase.Reduction.{Reduction}
+use Rattle.colour_rules.specs.declared.phase.Reduction.TheVariants.{Step, Shift, Drop}
 use Rattle.colour_rules.specs.declared.phase.Phase.{Phase}
+use Rattle.colour_rules.specs.declared.phase.TheConstants.{FIRST_MERGE}
 use Rattle.colour_rules.specs.declared.phase.Phase.TheVariants.{Greet, Orient, Seed, Work, Merge, Halted}
 use Rattle.colour_rules.specs.declared.payload.Payload.{Payload}
 use Rattle.colour_rules.specs.declared.payload.Payload.TheVariants.{Hello}
@@ -22,7 +25,7 @@ pub record Node : Type 0 where
   pub colours : List ℕ
   pub before : List ℕ
   -- its merged colour before the forest that is being merged, and its merged colour now
-  pub former : ℕ
+  pub colour_before : ℕ
   pub merged : ℕ
   -- the colours that neighbours chose in that forest
   pub chosen : FinSet nat_cmp
@@ -36,7 +39,7 @@ made own =
       roles = replicate own.degree Unknown;
       colours = replicate own.sizes.forests 0;
       before = replicate own.sizes.forests 0;
-      former = 0;
+      colour_before = 0;
       merged = 0;
       chosen = empty;
     }
@@ -49,17 +52,9 @@ greet node = (node, map (λ role. Some (Hello node.id)) node.roles)
 abbrev pub ports : Node → ℕ
 ports node = length node.roles
 
--- the forest of a port
-abbrev pub number_of : Role → ℕ
-number_of Unknown = 0
-number_of (Up f) = f
-number_of (Down f) = f
-
--- whether a role, where it is known, names one of n forests
+-- whether a role names one of n forests, if it is known
 abbrev pub IsIn : ℕ → Role → Type 0
-IsIn n Unknown = ⊤
-IsIn n (Up f) = f < n
-IsIn n (Down f) = f < n
+IsIn n role = IfSome (forest role) (λ f. f < n)
 
 -- every role that is known names one of n forests
 abbrev pub HasForests : ℕ → List Role → Type 0
@@ -75,14 +70,33 @@ steps sizes = 3 * (sizes.greatest_degree + 1)
 
 -- the last pulse: after the colouring of the forests, the steps of each
 abbrev pub last : Sizes → ℕ
-last sizes = 12 + sizes.forests * steps sizes
+last sizes = FIRST_MERGE - 1 + sizes.forests * steps sizes
 
 -- what is made of the colours at pulses 3 to 12: four bit steps, and a shift before each of the drops of 5, 4 and 3
-abbrev pub kind_of : ℕ → Kind
-kind_of p = if nat_le p 6 then Step else if p == 8 then Drop 5 else if p == 10 then Drop 4 else if p == 12 then Drop 3 else Shift
+abbrev pub reduction_of : ℕ → Reduction
+reduction_of p =
+    if nat_le p 6 then Step (p - 3) else if p == 7 then Shift 5 else if p == 8 then Drop 5
+    else if p == 9 then Shift 4 else if p == 10 then Drop 4 else if p == 11 then Shift 3 else Drop 3
 
--- the phase of a pulse
+-- the phase of a pulse, which is looked at nowhere else
 abbrev pub phase_of : Sizes → ℕ → Phase
 phase_of sizes p =
-    if p == 0 then Greet else if p == 1 then Orient else if p == 2 then Seed else if nat_le p 12 then Work (kind_of p)
-    else if nat_le p (last sizes) then Merge ((p - 13) / steps sizes) ((p - 13) % steps sizes) else Halted
+    if p == 0 then Greet else if p == 1 then Orient else if p == 2 then Seed
+    else if nat_lt p FIRST_MERGE then Work (reduction_of p)
+    else if nat_le p (last sizes) then Merge ((p - FIRST_MERGE) / steps sizes) ((p - FIRST_MERGE) % steps sizes)
+    else Halted
+
+-- what the pulses of work make of colours: bit steps, and shifts and drops for the classes 5, 4 and 3
+abbrev pub IsReduction : Reduction → Type 0
+IsReduction (Step k) = k ≤ 3
+IsReduction (Shift x) = (3 ≤ x) × (x ≤ 5)
+IsReduction (Drop x) = (3 ≤ x) × (x ≤ 5)
+
+-- a phase that there is: what is merged is a forest, at one of its steps
+abbrev pub IsPhase : Sizes → Phase → Type 0
+IsPhase sizes Greet = ⊤
+IsPhase sizes Orient = ⊤
+IsPhase sizes Seed = ⊤
+IsPhase sizes (Work reduction) = IsReduction reduction
+IsPhase sizes (Merge f s) = (f < sizes.forests) × (s < steps sizes)
+IsPhase sizes Halted = ⊤

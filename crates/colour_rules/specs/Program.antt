@@ -1,5 +1,6 @@
 -- What a node makes of a pulse, where nothing is refused, and the node program of the rounds.
-use Rattle.std.specs.Prelude.{◌≢◌, ℕ, suc, ◌<◌, ◌≤◌, ◌==◌, Bool, IfSome, false, List, [], ◌∷◌, map, replicate, Option, Some, None, Result, Ok, Err, if◌then◌else◌, nat_le, slice_index}
+use Rattle.std.specs.Prelude.{◌≢◌, ℕ, suc, ◌<◌, ◌≤◌, ◌==◌, Bool, false, if◌then◌else◌}
+use Rattle.std.specs.Prelude.{List, [], ◌∷◌, map, replicate, slice_index, Option, Some, None, IfSome, Result, Ok, Err}
 use Rattle.std.specs.List.{range_with_len}
 use Rattle.node_api.specs.Program.{Program}
 use Rattle.node_api.specs.declared.program.Refused.{Refused}
@@ -8,14 +9,15 @@ use Rattle.shift_down.specs.Steps.{shift_by, drop_by}
 use Rattle.forests.specs.Forests.{role_by}
 use Rattle.forests.specs.declared.numbering.Role.{Role}
 use Rattle.forests.specs.declared.numbering.Role.TheVariants.{Unknown, Up, Down}
-use Rattle.colour_rules.specs.declared.phase.Kind.{Kind}
-use Rattle.colour_rules.specs.declared.phase.Kind.TheVariants.{Step, Shift, Drop}
+use Rattle.colour_rules.specs.declared.phase.Reduction.{Reduction}
+use Rattle.colour_rules.specs.declared.phase.Reduction.TheVariants.{Step, Shift, Drop}
 use Rattle.colour_rules.specs.declared.phase.Phase.{Phase}
 use Rattle.colour_rules.specs.declared.phase.Phase.TheVariants.{Greet, Orient, Seed, Work, Merge, Halted}
 use Rattle.colour_rules.specs.declared.payload.Payload.{Payload}
 use Rattle.colour_rules.specs.declared.payload.Payload.TheVariants.{Hello, Label, Colour, Chosen}
 use Rattle.colour_rules.specs.Node.{Node, steps, phase_of, last, ports, made, greet}
 use Rattle.colour_rules.specs.Choice.{gathered, chooses, free_for}
+use Rattle.colour_rules.specs.Table.{is_merged}
 use Rattle.colour_rules.specs.Refusals.{ids_in, refusal}
 
 -- what a port is after Orient, by the identifier that it brought
@@ -47,9 +49,7 @@ tells_colour colours (Up f) = None
 
 -- and each neighbour of the forests merged so far the colour that it chose
 abbrev pub tells_chosen : ℕ → ℕ → Role → Option Payload
-tells_chosen f c Unknown = None
-tells_chosen f c (Up g) = if nat_le g f then Some (Chosen c) else None
-tells_chosen f c (Down g) = if nat_le g f then Some (Chosen c) else None
+tells_chosen f c role = if is_merged f role then Some (Chosen c) else None
 
 -- nothing to anyone
 abbrev pub silent : {A : Type 0} → List A → List (Option Payload)
@@ -72,23 +72,31 @@ from_parent f (role ∷ roles) (slot ∷ slots) = if is_up f role then colour_in
 from_parent f roles slots = None
 
 -- the next colour in a forest
-abbrev pub turned : Kind → ℕ → ℕ → Option ℕ → ℕ
-turned Step own before parent = bit_by own parent
-turned Shift own before parent = shift_by own parent
+abbrev pub turned : Reduction → ℕ → ℕ → Option ℕ → ℕ
+turned (Step k) own before parent = bit_by own parent
+turned (Shift x) own before parent = shift_by own parent
 turned (Drop x) own before parent = drop_by x own before parent
 
 -- the colour that is kept beside it: the one before a shift
-abbrev pub kept : Kind → ℕ → ℕ → ℕ
-kept Step own before = before
-kept Shift own before = own
+abbrev pub kept : Reduction → ℕ → ℕ → ℕ
+kept (Step k) own before = before
+kept (Shift x) own before = own
 kept (Drop x) own before = before
 
 -- What a turn asks for: the parent has another colour, and but for a bit step all colours are 0 to 5
 -- and what is dropped is 3 to 5.
-abbrev pub IsReady : Kind → ℕ → ℕ → Option ℕ → Type 0
-IsReady Step own before parent = parent ≢ Some own
-IsReady Shift own before parent = (parent ≢ Some own) × (own < 6) × (before < 6) × IfSome parent (λ c. c < 6)
-IsReady (Drop x) own before parent = (parent ≢ Some own) × (own < 6) × (before < 6) × IfSome parent (λ c. c < 6) × (3 ≤ x) × (x ≤ 5)
+abbrev pub IsReady : Reduction → ℕ → ℕ → Option ℕ → Type 0
+IsReady (Step k) own before parent = parent ≢ Some own
+IsReady (Shift x) own before parent =
+    (parent ≢ Some own) × (own < 6) × (before < 6) × IfSome parent (λ c. c < 6)
+IsReady (Drop x) own before parent =
+    (parent ≢ Some own) × (own < 6) × (before < 6) × IfSome parent (λ c. c < 6) × (3 ≤ x) × (x ≤ 5)
+
+-- whether no work on the colours is left: the last drop is that of 3
+abbrev pub is_last : Reduction → Bool
+is_last (Step k) = false
+is_last (Shift x) = false
+is_last (Drop x) = x == 3
 
 -- a node that knows its ports
 abbrev pub with_roles : Node → List Role → Node
@@ -98,28 +106,42 @@ with_roles node roles = record node { roles = roles }
 abbrev pub with_orient : Node → List (Option Payload) → List Role → Node × List (Option Payload)
 with_orient node inbox roles = (with_roles node roles, map tells_label roles)
 
--- the work on the colours; at its end, pulse 12, nothing is told
-abbrev pub with_colours : Node → ℕ → List ℕ → List ℕ → Node × List (Option Payload)
-with_colours node p colours before = (record node { colours = colours; before = before }, if p == 12 then silent node.roles else map (tells_colour colours) node.roles)
+-- the work on the colours, and each child told; after the last of it nothing is told
+abbrev pub with_colours : Node → Reduction → List ℕ → List ℕ → Node × List (Option Payload)
+with_colours node reduction colours before = (
+  record node { colours = colours; before = before },
+  if is_last reduction then silent node.roles else map (tells_colour colours) node.roles,
+)
+
+-- the next colours, by forest, and those kept beside them
+abbrev pub next_colours : Node → Reduction → List (Option Payload) → List ℕ
+next_colours node reduction inbox =
+    map (λ f. turned reduction (slice_index node.colours f) (slice_index node.before f) (from_parent f node.roles inbox))
+    (range_with_len 0 node.sizes.forests)
+
+abbrev pub next_kept : Node → Reduction → List ℕ
+next_kept node reduction =
+    map (λ f. kept reduction (slice_index node.colours f) (slice_index node.before f))
+    (range_with_len 0 node.sizes.forests)
 
 -- The work of each phase: the node after it, and what is sent.
-abbrev pub done : Node → ℕ → Phase → List (Option Payload) → Node × List (Option Payload)
-done node p Greet inbox = (node, silent node.roles)
-done node p Orient inbox = with_orient node inbox (map (oriented_slot node.id (ids_in inbox)) inbox)
-done node p Seed inbox =
+abbrev pub done : Node → Phase → List (Option Payload) → Node × List (Option Payload)
+done node Greet inbox = (node, silent node.roles)
+done node Orient inbox = with_orient node inbox (map (oriented_slot node.id (ids_in inbox)) inbox)
+done node Seed inbox =
+    let roles : List Role = all_labelled node.roles inbox in
     let colours : List ℕ = replicate node.sizes.forests node.id in
-    (record node { roles = all_labelled node.roles inbox; colours = colours }, map (tells_colour colours) (all_labelled node.roles inbox))
-done node p (Work kind) inbox =
-    with_colours node p
-    (map (λ f. turned kind (slice_index node.colours f) (slice_index node.before f) (from_parent f node.roles inbox)) (range_with_len 0 node.sizes.forests))
-    (map (λ f. kept kind (slice_index node.colours f) (slice_index node.before f)) (range_with_len 0 node.sizes.forests))
-done node p (Merge f s) inbox =
+    (record node { roles = roles; colours = colours }, map (tells_colour colours) roles)
+done node (Work reduction) inbox =
+    with_colours node reduction (next_colours node reduction inbox) (next_kept node reduction)
+done node (Merge f s) inbox =
     let here : Node = gathered node s inbox in
-    let turn : Bool = chooses here f s in (
+    let turn : Bool = chooses here f s in
+    let told : List (Option Payload) = map (tells_chosen f (free_for here)) node.roles in (
       record here { merged = if turn then free_for here else node.merged },
-      if turn then (if suc s == steps node.sizes then silent node.roles else map (tells_chosen f (free_for here)) node.roles) else silent node.roles,
+      if turn then (if suc s == steps node.sizes then silent node.roles else told) else silent node.roles,
     )
-done node p Halted inbox = (node, silent node.roles)
+done node Halted inbox = (node, silent node.roles)
 
 -- a refusal, or the node
 abbrev pub answered : Option Refused → Node × List (Option Payload) → Result (Node × List (Option Payload)) Refused
@@ -128,7 +150,8 @@ answered None node = Ok node
 
 -- A pulse: the first refusal, or the work of the phase.
 abbrev pub next : Node → ℕ → List (Option Payload) → Result (Node × List (Option Payload)) Refused
-next node p inbox = answered (refusal node p (phase_of node.sizes p) inbox) (done node p (phase_of node.sizes p) inbox)
+next node p inbox =
+    let phase : Phase = phase_of node.sizes p in answered (refusal node phase inbox) (done node phase inbox)
 
 -- the rounds of the colouring as a node program
 abbrev pub colouring : Program Node Payload Refused

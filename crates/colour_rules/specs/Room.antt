@@ -1,9 +1,9 @@
--- The working space of a node.
+-- The scratch lists of a node.
 use Rattle.std.specs.Prelude.{◌≡◌, length}
-use Rattle.colour_rules.specs.declared.space.Space.{Space}
+use Rattle.colour_rules.specs.declared.scratch.Scratch.{Scratch}
 use Rattle.colour_rules.specs.Node.{Node, ports}
 
--- A place for the identifier of each port, and one for the colour of the parent in each forest.
-pub record HasRoom (node : Node) (space : Space) : Type 0 where
-  pub heard : length space.heard.items ≡ ports node
-  pub above : length space.above.items ≡ node.sizes.forests
+-- Room for the identifier of each port, and for the colour of the parent in each forest.
+pub record HasRoom (node : Node) (scratch : Scratch) : Type 0 where
+  pub identifiers : length scratch.identifiers.items ≡ ports node
+  pub parent_colours : length scratch.parent_colours.items ≡ node.sizes.forests

@@ -12,17 +12,17 @@ Fields = ℕ × ((ℕ × (ℕ × ℕ)) × (List Role × (List ℕ × (List ℕ �
 
 abbrev fields_of : Node → Fields
 fields_of node =
-    (node.id, ((node.sizes.nodes, (node.sizes.greatest_degree, node.sizes.forests)), (node.roles, (node.colours, (node.before, (node.former, (node.merged, node.chosen)))))))
+    (node.id, ((node.sizes.nodes, (node.sizes.greatest_degree, node.sizes.forests)), (node.roles, (node.colours, (node.before, (node.colour_before, (node.merged, node.chosen)))))))
 
 abbrev node_of : Fields → Node
-node_of (id, (sizes, (roles, (colours, (before, (former, (merged, chosen))))))) =
+node_of (id, (sizes, (roles, (colours, (before, (colour_before, (merged, chosen))))))) =
     record {
       id = id;
       sizes = record { nodes = sizes.0; greatest_degree = sizes.1.0; forests = sizes.1.1 };
       roles = roles;
       colours = colours;
       before = before;
-      former = former;
+      colour_before = colour_before;
       merged = merged;
       chosen = chosen;
     }

@@ -1,21 +1,20 @@
 //! The rounds of the colouring at one node: what may come to it at each pulse, what it refuses, and
 //! what it makes of the rest.
 //!
-//! The rounds stand in `specs`: `Table` says which payload is due in which phase from which port,
-//! `Refusals` which broken rule is told, `Choice` and `Program` what a node does, and `next` of
+//! The rounds are defined in `specs`: `Table` says which payload is due in which phase from which port,
+//! `Refusals` which broken rule is reported, `Choice` and `Program` what a node does, and `next` of
 //! `Program` is a whole pulse. `colour_laws` proves what they make of a network. The code here is one
 //! node, which `colour_program` runs as a program of nodes:
 //!
 //! ```text
 //! let mut node = ColourNode::make(alloc, &net, v)?;
-//! let mut space = Space::make(alloc, &net, v)?;
+//! let mut scratch = Scratch::make(alloc, &net, v)?;
 //! node.greet(&mut out);                                              // pulse 0
-//! let phase = node.phase(pulse);
-//! let answer = node.pulse(&mut space, phase, pulse, &mut inbox, &mut out);
+//! let idle = node.pulse(&mut scratch, pulse, &mut inbox, &mut out)?; // each later pulse
 //! ```
 //!
-//! `rest_after` tells pulses in which the node does nothing if nothing comes, so that a caller may
-//! leave them out.
+//! A pulse that is not refused returns the pulses after it in which the node does nothing if nothing
+//! comes, so that a caller may leave them out.
 //!
 //! The forests are those of A. Panconesi and R. Rizzi, Some simple distributed algorithms for sparse
 //! networks, 2001. Merging them is this project's own.
@@ -23,6 +22,7 @@
 //! Limits: degree 1,023, and so 1,023 forests and colours 0 to 1,023. Only the two `make` take memory.
 #![tactic(auto)]
 
+mod idle;
 pub mod laws;
 mod merge;
 mod node;
@@ -30,18 +30,17 @@ mod payload;
 mod phase;
 mod ports;
 mod pulse;
-mod rest;
-mod rules;
-mod space;
+pub mod rules;
+mod scratch;
 mod table;
 mod tell;
 mod work;
 
+pub use idle::IdlePulses;
 pub use node::ColourNode;
 pub use payload::Payload;
-pub use phase::{Kind, Phase};
-pub use rest::Rest;
-pub use space::Space;
+pub use phase::{FIRST_MERGE, Phase, Reduction};
+pub use scratch::Scratch;
 
 #[cfg(test)]
 mod tests;

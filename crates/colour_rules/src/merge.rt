@@ -1,22 +1,23 @@
-// A step of the merging of a forest with those before it.
+//! A step of the merging of a forest with those before it.
 ghost use Rattle.std.specs.Prelude.{◌≡◌, ◌<◌, ◌≤◌, ℕ, Some, None, [], true, if◌then◌else◌, length};
 ghost use Rattle.node_api.specs.Boxes.{at_port, nothing, unread};
 ghost use Rattle.colour_rules.specs.declared.payload.Payload.TheVariants as payload;
 ghost use Rattle.colour_rules.specs.declared.phase.Phase.TheVariants as phase;
-ghost use Rattle.colour_rules.specs.Node.{ports, steps as steps_of};
-ghost use Rattle.colour_rules.specs.Choice.{chooses as is_turn, free_for, gathered, with_chosen};
+ghost use Rattle.colour_rules.specs.Node.{ports, steps};
+ghost use Rattle.colour_rules.specs.Choice.{chooses, free_for, gathered, with_chosen};
 ghost use Rattle.colour_rules.specs.Refusals.{own_rule};
 ghost use Rattle.colour_rules.specs.Program.{done};
 
 use crate::node::ColourNode;
 use crate::payload::Payload;
-use forest_merge::{ChosenSet, has_free, least_free};
+use crate::rules::COLOUR_RANGE;
+use forest_merge::{COLOURS, ChosenSet, has_free, least_free};
 use node_api::{Inbox, Outbox};
 
-/// Puts the colours that came as chosen into a set.
+// Puts the colours that came as chosen into a set.
 fn add_chosen(chosen: &mut ChosenSet, inbox: &mut Inbox<Payload>)
     requires unread { inbox.old ≡ unread inbox.old.slots }
-    requires colours { (port c : ℕ) → at_port inbox.old.slots port ≡ Some (payload.Chosen c) → c ≤ 1023 }
+    requires colours { (port c : ℕ) → at_port inbox.old.slots port ≡ Some (payload.Chosen c) → c < COLOURS }
     ensures chosen { chosen.new ≡ with_chosen chosen.old inbox.old.slots }
     ensures slots { inbox.new.slots ≡ inbox.old.slots }
 {
@@ -28,26 +29,30 @@ fn add_chosen(chosen: &mut ChosenSet, inbox: &mut Inbox<Payload>)
 }
 
 impl ColourNode {
-    /// Whether the node chooses its colour at a step of a forest: the step is that of the pair of its
-    /// three-colour and its old colour.
-    fn chooses(&self, forest: u32, step: u32) -> bool
+    // Whether the node chooses its colour at a step of a forest: the step is that of the pair of its
+    // three-colour and its old colour.
+    fn chooses(&self, forest: u16, step: u32) -> bool
         requires forest { forest < self.now.sizes.forests }
-        requires step { step < steps_of self.now.sizes }
-        ensures { result ≡ is_turn (gathered self.now step []) forest step }
+        requires step { step < steps self.now.sizes }
+        ensures { result ≡ chooses (gathered self.now step []) forest step }
     {
-        let old = if step == 0 { self.merged } else { self.former };
+        let old = if step == 0 {
+            self.merged
+        } else {
+            self.colour_before
+        };
         let three = self.colours[forest as usize];
         let width = u32::from(self.greatest_degree) + 1;
         three <= 2 && three as u32 * width + u32::from(old) == step
     }
 
-    /// Whether the node has to choose at this step and every colour is taken.
-    pub(crate) fn has_no_choice(&self, forest: u32, step: u32, inbox: &mut Inbox<Payload>) -> bool
+    // Whether the node has to choose at this step and every colour is taken.
+    pub(crate) fn has_no_choice(&self, forest: u16, step: u32, inbox: &mut Inbox<Payload>) -> bool
         requires forest { forest < self.now.sizes.forests }
-        requires step { step < steps_of self.now.sizes }
+        requires step { step < steps self.now.sizes }
         requires unread { inbox.old ≡ unread inbox.old.slots }
         requires colours { (port c : ℕ) → at_port inbox.old.slots port ≡ Some (payload.Chosen c) → c ≤ self.now.sizes.greatest_degree }
-        ensures refused { own_rule self.now 13 (phase.Merge forest step) inbox.old.slots ≡ (if result then Some 4 else None) }
+        ensures refused { own_rule self.now (phase.Merge forest step) inbox.old.slots ≡ (if result then Some COLOUR_RANGE else None) }
         ensures slots { inbox.new.slots ≡ inbox.old.slots }
     {
         if !self.chooses(forest, step) {
@@ -57,7 +62,7 @@ impl ColourNode {
         !has_free(&chosen, self.greatest_degree)
     }
 
-    /// What neighbours have chosen in the forest, with what came at this step of it.
+    // What neighbours have chosen in the forest, with what came at this step of it.
     fn chosen_with(&self, step: u32, inbox: &mut Inbox<Payload>) -> ChosenSet
         requires unread { inbox.old ≡ unread inbox.old.slots }
         requires colours { (port c : ℕ) → at_port inbox.old.slots port ≡ Some (payload.Chosen c) → c ≤ self.now.sizes.greatest_degree }
@@ -72,23 +77,23 @@ impl ColourNode {
         chosen
     }
 
-    /// A step of the merging: a forest's first begins with the colour so far, the others hear what was
-    /// chosen; and where it is the node's turn it takes the least free colour and tells it.
+    // A step of the merging: a forest's first begins with the colour so far, the others hear what was
+    // chosen; and where it is the node's turn it takes the least free colour and tells it.
     pub(crate) fn merge(
         &mut self,
-        forest: u32,
+        forest: u16,
         step: u32,
         inbox: &mut Inbox<Payload>,
         out: &mut Outbox<Payload>,
     )
         requires forest { forest < self.old.sizes.forests }
-        requires step { step < steps_of self.old.sizes }
+        requires step { step < steps self.old.sizes }
         requires unread { inbox.old ≡ unread inbox.old.slots }
         requires ports { length inbox.old.slots ≡ ports self.old }
         requires out { out.old ≡ nothing (ports self.old) }
         requires colours { (port c : ℕ) → at_port inbox.old.slots port ≡ Some (payload.Chosen c) → c ≤ self.old.sizes.greatest_degree }
-        requires free { is_turn (gathered self.old step inbox.old.slots) forest step ≡ true → free_for (gathered self.old step inbox.old.slots) ≤ self.old.sizes.greatest_degree }
-        ensures node { (self.new, out.new) ≡ done self.old 13 (phase.Merge forest step) inbox.old.slots }
+        requires free { chooses (gathered self.old step inbox.old.slots) forest step ≡ true → free_for (gathered self.old step inbox.old.slots) ≤ self.old.sizes.greatest_degree }
+        ensures node { (self.new, out.new) ≡ done self.old (phase.Merge forest step) inbox.old.slots }
         ensures slots { inbox.new.slots ≡ inbox.old.slots }
     {
         let is_turn = self.chooses(forest, step);
@@ -101,7 +106,7 @@ impl ColourNode {
         }
     }
 
-    /// Hears what was chosen; at the first step of a forest, begins with the colour so far.
+    // Hears what was chosen; at the first step of a forest, begins with the colour so far.
     fn gather(&mut self, step: u32, inbox: &mut Inbox<Payload>)
         requires unread { inbox.old ≡ unread inbox.old.slots }
         requires colours { (port c : ℕ) → at_port inbox.old.slots port ≡ Some (payload.Chosen c) → c ≤ self.old.sizes.greatest_degree }
@@ -109,7 +114,7 @@ impl ColourNode {
         ensures slots { inbox.new.slots ≡ inbox.old.slots }
     {
         if step == 0 {
-            self.former = self.merged;
+            self.colour_before = self.merged;
             self.chosen.clear();
         } else {
             add_chosen(&mut self.chosen, inbox);

@@ -1,4 +1,4 @@
-// A node of the colouring: making it and its greeting.
+//! A node of the colouring: making it and its greeting.
 ghost use Rattle.std.specs.Prelude.{◌≡◌, IfOk};
 ghost use Rattle.interference.specs.Net.{IsVertex};
 ghost use Rattle.node_api.specs.Boxes.{nothing};
@@ -26,13 +26,14 @@ pub struct ColourNode {
     pub(crate) colours: Vec<u64>,
     pub(crate) before: Vec<u8>,
     // The merged colour before the forest that is being merged, and now: 0 to the greatest degree.
-    pub(crate) former: u16,
+    pub(crate) colour_before: u16,
     pub(crate) merged: u16,
     pub(crate) chosen: ChosenSet,
 }
 
 impl Model for ColourNode {
     ghost use Rattle.std.specs.Prelude.{◌≡◌, ◌≤◌, length};
+    ghost use Rattle.interference.specs.declared.limits.TheConstants.{MAX_DEGREE};
     ghost use Rattle.colour_rules.specs.Node.{AreBelow, HasForests, Node};
     ghost use Rattle.colour_rules.specs.Stored.{node_code};
 
@@ -46,20 +47,24 @@ impl Model for ColourNode {
       roles = a.roles.items;
       colours = a.colours.items;
       before = a.before.items;
-      former = a.former;
+      colour_before = a.colour_before;
       merged = a.merged;
       chosen = a.chosen;
     } };
 
-    ghost invariant = { λ a. (a.greatest_degree ≤ 1023) × (a.forests ≤ 1023) × (length a.roles.items ≤ 1023)
+    ghost invariant = { λ a. (a.greatest_degree ≤ MAX_DEGREE) × (a.forests ≤ MAX_DEGREE) × (length a.roles.items ≤ MAX_DEGREE)
         × (length a.colours.items ≡ a.forests) × (length a.before.items ≡ a.forests)
         × HasForests a.forests a.roles.items × AreBelow 6 a.before.items
-        × (a.former ≤ a.greatest_degree) × (a.merged ≤ a.greatest_degree) };
+        × (a.colour_before ≤ a.greatest_degree) × (a.merged ≤ a.greatest_degree) };
 }
 
 impl ColourNode {
     /// The node of vertex `v`, before it greets: every role is unknown, every colour is 0, and nothing
-    /// is chosen. `Memory` where its lists get none.
+    /// is chosen.
+    ///
+    /// # Errors
+    ///
+    /// `Memory` if there is none for its lists.
     pub fn make(alloc: Global, net: &Network, v: u32) -> Result<ColourNode, Memory>
         requires { IsVertex net.now v }
         ensures { IfOk result (λ node. node ≡ made (own_of net.now v)) }
@@ -79,13 +84,13 @@ impl ColourNode {
             roles,
             colours,
             before,
-            former: 0,
+            colour_before: 0,
             merged: 0,
             chosen: ChosenSet::new(),
         })
     }
 
-    /// Pulse 0: tells every neighbour the node's identifier.
+    /// Pulse 0: sends every neighbour the node's identifier.
     pub fn greet(&mut self, out: &mut Outbox<Payload>)
         requires { out.old ≡ nothing (ports self.old) }
         ensures { (self.new, out.new) ≡ greet self.old }

@@ -1,8 +1,8 @@
-// What the nodes of the colouring tell one another, and its text.
+//! What the nodes of the colouring tell one another, and its text.
 
 use node_api::PayloadText;
 
-/// What the nodes of the colouring tell one another. Its words are `hello`, `label`, `colour` and
+///! What the nodes of the colouring tell one another. Its words are `hello`, `label`, `colour` and
 /// `chosen`.
 #[derive(Debug, Clone, Copy, PartialEq, Eq)]
 pub enum Payload {

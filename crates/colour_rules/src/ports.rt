@@ -1,23 +1,23 @@
-// The first rule that a port breaks.
+//! The first rule that a port breaks.
 ghost use Rattle.std.specs.Prelude.{◌≡◌, ◌≤◌, ◌<◌, ℕ, [], IfOk, MatchResult, None, Some, false, length, slice_index_or, take};
-ghost use Rattle.node_api.specs.Boxes.{unread};
-ghost use Rattle.forests.specs.declared.numbering.Role.TheVariants as role;
-ghost use Rattle.colour_rules.specs.Node.{IsIn, number_of as forest_of, ports};
-ghost use Rattle.colour_rules.specs.Table.{is_above as is_too_high, is_due as has_to_come, value_rule as value_rule_of};
-ghost use Rattle.colour_rules.specs.Refusals.{IsFirstMissing, ids_in, port_rule, ports_refusal};
+ghost use Rattle.node_api.specs.Boxes.{HasFrom, unread};
 ghost use Rattle.forests.specs.declared.numbering.Role.{Role};
+ghost use Rattle.forests.specs.declared.numbering.Role.TheVariants as role;
+ghost use Rattle.colour_rules.specs.Node.{IsIn, ports};
+ghost use Rattle.colour_rules.specs.Table.{is_above, is_due, is_merged, value_rule};
+ghost use Rattle.colour_rules.specs.Refusals.{IsFirstMissing, Looked, and_id, first_refusal, ids_in, port_rule};
 
 use crate::node::ColourNode;
 use crate::payload::Payload;
-use crate::phase::Phase;
+use crate::phase::{Phase, Reduction};
 use crate::rules::{COLOUR_RANGE, FOREST_RANGE, MISSING};
 use crate::table::cell;
 use forests::Role;
 use node_api::{Inbox, Refused};
 
-/// Whether a port of a role has to bring a payload in a phase.
+// Whether a port of a role has to bring a payload in a phase.
 fn is_due(phase: Phase, role: Role) -> bool
-    ensures { result ≡ has_to_come phase role }
+    ensures { result ≡ is_due phase role }
 {
     match (phase, role) {
         (Phase::Orient, _) => true,
@@ -27,66 +27,54 @@ fn is_due(phase: Phase, role: Role) -> bool
     }
 }
 
-/// Whether a colour is too high at a pulse.
-pub(crate) fn is_above(pulse: u32, colour: u64) -> bool
-    ensures { result ≡ is_too_high pulse colour }
+// Whether a colour is too high: each bit step has a bound, and a class is dropped as the greatest colour.
+pub(crate) fn is_above(reduction: Reduction, colour: u64) -> bool
+    ensures { result ≡ is_above reduction colour }
 {
-    match pulse {
-        0..=3 => false,
-        4 => 127 < colour,
-        5 => 13 < colour,
-        6 => 7 < colour,
-        7..=8 => 5 < colour,
-        9..=10 => 4 < colour,
-        _ => 3 < colour,
+    match reduction {
+        Reduction::Step(0) => false,
+        Reduction::Step(1) => 127 < colour,
+        Reduction::Step(2) => 13 < colour,
+        Reduction::Step(_) => 7 < colour,
+        Reduction::Shift(class) | Reduction::Drop(class) => u64::from(class) < colour,
     }
 }
 
-/// The forest of a port, 0 where it is not known.
-pub(crate) fn number_of(role: Role) -> u16
-    ensures { result ≡ forest_of role }
+// Whether a port is of one of the forests up to this one.
+pub(crate) fn is_merged(forest: u16, role: Role) -> bool
+    ensures { result ≡ is_merged forest role }
 {
-    match role {
-        Role::Unknown => 0,
-        Role::Up(forest) | Role::Down(forest) => forest,
-    }
+    matches!(role.forest(), Some(number) if number <= forest)
 }
 
-/// Whether something is due from a port of some role in a phase.
+// Whether something is due from a port of some role in a phase.
 fn waits(phase: Phase) -> bool
-    ensures { result ≡ false → (role : Role) → has_to_come phase role ≡ false }
+    ensures { result ≡ false → (role : Role) → is_due phase role ≡ false }
 {
     matches!(phase, Phase::Orient | Phase::Seed | Phase::Work(_))
 }
 
 impl ColourNode {
-    /// The rule that a due payload breaks by its value; `heard` are the identifiers that the ports
-    /// before brought.
-    fn value_rule(
-        &self,
-        phase: Phase,
-        pulse: u32,
-        heard: &[u64],
-        role: Role,
-        payload: Payload,
-    ) -> Option<u16>
+    // The rule that a due payload breaks by its value; `earlier` are the identifiers that the ports
+    // before brought.
+    fn value_rule(&self, phase: Phase, earlier: &[u64], role: Role, payload: Payload) -> Option<u16>
         requires { IsIn self.now.sizes.forests role }
-        ensures { result ≡ value_rule_of self.now pulse heard.now phase role payload }
+        ensures { result ≡ value_rule self.now earlier.now phase role payload }
     {
         match (phase, role, payload) {
             (Phase::Orient, _, Payload::Hello(id)) => {
-                (id == self.id || heard.contains(&id)).then_some(COLOUR_RANGE)
+                (id == self.id || earlier.contains(&id)).then_some(COLOUR_RANGE)
             }
             (Phase::Seed, _, Payload::Label(forest)) => {
                 (self.forests <= forest).then_some(FOREST_RANGE)
             }
-            (Phase::Work(_), Role::Up(forest), Payload::Colour(colour)) => {
-                (is_above(pulse, colour) || colour == self.colours[forest as usize]).then_some(
+            (Phase::Work(reduction), Role::Up(forest), Payload::Colour(colour)) => {
+                (is_above(reduction, colour) || colour == self.colours[forest as usize]).then_some(
                     COLOUR_RANGE,
                 )
             }
             (Phase::Merge(forest, step), _, Payload::Chosen(colour)) => {
-                if step == 0 || forest < u32::from(number_of(role)) {
+                if step == 0 || !is_merged(forest, role) {
                     Some(FOREST_RANGE)
                 } else {
                     (self.greatest_degree < colour).then_some(COLOUR_RANGE)
@@ -96,20 +84,23 @@ impl ColourNode {
         }
     }
 
-    /// The refusal of the payload of a port, by its kind and then by its value.
+    // The refusal of the payload of a port, by its kind and then by its value.
     fn look_at(
         &self,
         phase: Phase,
-        pulse: u32,
-        heard: &[u64],
+        earlier: &[u64],
         port: u32,
         payload: Payload,
     ) -> Result<(), Refused>
         requires { port < ports self.now }
-        ensures { MatchResult result (λ _. port_rule self.now pulse heard.now phase (slice_index_or self.now.roles port role.Unknown) (Some payload) ≡ None) (λ refused. (port_rule self.now pulse heard.now phase (slice_index_or self.now.roles port role.Unknown) (Some payload) ≡ Some refused.rule) × (refused.port ≡ Some port)) }
+        ensures { let role = slice_index_or self.now.roles port role.Unknown in
+            let rule = port_rule self.now earlier.now phase role (Some payload) in
+            MatchResult result
+            (λ _. rule ≡ None)
+            (λ refused. (rule ≡ Some refused.rule) × (refused.port ≡ Some port)) }
     {
         let role = self.roles[port as usize];
-        match cell(phase, payload, role).or(self.value_rule(phase, pulse, heard, role, payload)) {
+        match cell(phase, payload, role).or(self.value_rule(phase, earlier, role, payload)) {
             Some(rule) => Err(Refused {
                 rule,
                 port: Some(port),
@@ -118,11 +109,13 @@ impl ColourNode {
         }
     }
 
-    /// The refusal of the first of the ports `from` to `to - 1`, which brought nothing, from which
-    /// something is due.
+    // The refusal of the first of the ports `from` to `to - 1`, which brought nothing, from which
+    // something is due.
     fn none_due(&self, phase: Phase, from: u32, to: u32) -> Result<(), Refused>
         requires { to ≤ ports self.now }
-        ensures { MatchResult result (λ _. (port : ℕ) → from ≤ port → port < to → has_to_come phase (slice_index_or self.now.roles port role.Unknown) ≡ false) (λ refused. IsFirstMissing phase self.now.roles from to refused) }
+        ensures { MatchResult result
+            (λ _. (port : ℕ) → from ≤ port → port < to → is_due phase (slice_index_or self.now.roles port role.Unknown) ≡ false)
+            (λ refused. IsFirstMissing phase self.now.roles from to refused) }
     {
         if waits(phase) {
             for port in from..to {
@@ -137,35 +130,61 @@ impl ColourNode {
         Ok(())
     }
 
-    /// The first refusal of a port, by ascending port. Where there is none, how many identifiers came,
-    /// which stand at the front of `heard`.
+    // Reads the next payload, which comes from port `from` or a later one, and refuses the first port
+    // up to it that breaks a rule; `earlier` are the identifiers that came before.
+    fn look_at_next(
+        &self,
+        phase: Phase,
+        from: u32,
+        earlier: &[u64],
+        inbox: &mut Inbox<Payload>,
+    ) -> Result<Payload, Refused>
+        requires more { HasFrom inbox.old.slots inbox.old.place }
+        requires from { from ≡ inbox.old.place }
+        requires ports { length inbox.old.slots ≡ ports self.now }
+        requires looked { Looked self.now phase inbox.old.slots from earlier.now }
+        ensures slots { inbox.new.slots ≡ inbox.old.slots }
+        ensures later { (inbox.old.place < inbox.new.place) × (inbox.new.place ≤ ports self.now) }
+        ensures answer {
+            MatchResult result
+                (λ payload. Looked self.now phase inbox.old.slots inbox.new.place (and_id earlier.now (Some payload)))
+                (λ refused. first_refusal self.now phase inbox.old.slots ≡ Some refused)
+        }
+    {
+        let payload = inbox.next();
+        let port = inbox.sender();
+        self.none_due(phase, from, port)?;
+        self.look_at(phase, earlier, port, payload)?;
+        Ok(payload)
+    }
+
+    // The first refusal of a port, by ascending port. If there is none, how many identifiers came,
+    // which are at the front of `identifiers`.
     pub(crate) fn look_at_ports(
         &self,
         phase: Phase,
-        pulse: u32,
-        heard: &mut [u64],
+        identifiers: &mut [u64],
         inbox: &mut Inbox<Payload>,
     ) -> Result<usize, Refused>
         requires unread { inbox.old ≡ unread inbox.old.slots }
         requires ports { length inbox.old.slots ≡ ports self.now }
-        requires room { length heard.old ≡ ports self.now }
+        requires room { length identifiers.old ≡ ports self.now }
         ensures slots { inbox.new.slots ≡ inbox.old.slots }
-        ensures answer { MatchResult result (λ _. ports_refusal self.now pulse phase 0 [] self.now.roles inbox.old.slots ≡ None) (λ refused. ports_refusal self.now pulse phase 0 [] self.now.roles inbox.old.slots ≡ Some refused) }
-        ensures heard { IfOk result (λ count. (count ≤ length heard.new) × (take count heard.new ≡ ids_in inbox.old.slots)) }
+        ensures answer { MatchResult result
+            (λ _. first_refusal self.now phase inbox.old.slots ≡ None)
+            (λ refused. first_refusal self.now phase inbox.old.slots ≡ Some refused) }
+        ensures came { IfOk result (λ count. (count ≤ length identifiers.new) × (take count identifiers.new ≡ ids_in inbox.old.slots)) }
     {
         let ports = self.roles.len() as u32;
         let mut count = 0;
         let mut from = 0;
         while inbox.has_next() {
-            let payload = inbox.next();
-            let port = inbox.sender();
-            self.none_due(phase, from, port)?;
-            self.look_at(phase, pulse, &heard[..count], port, payload)?;
+            let payload = self.look_at_next(phase, from, &identifiers[..count], inbox)?;
             if let Payload::Hello(id) = payload {
-                heard[count] = id;
+                identifiers[count] = id;
                 count += 1;
             }
-            from = port + 1;
+            from = inbox.sender() + 1;
         }
         self.none_due(phase, from, ports)?;
         Ok(count)

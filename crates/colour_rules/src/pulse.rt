@@ -1,102 +1,111 @@
-// A whole pulse of a node: what it refuses, and the work of the phase.
-ghost use Rattle.std.specs.Prelude.{◌≡◌, ◌≤◌, None, OnErr, MatchResult, Result, Some, [], count_by, length, nat_lt, take};
+//! A whole pulse of a node: what it refuses, and the work of the phase.
+ghost use Rattle.std.specs.Prelude.{◌≡◌, ◌≤◌, None, OnErr, IfOk, MatchResult, Result, Some, [], count_by, length, nat_lt, take};
 ghost use Rattle.std.specs.List.{list_any};
 ghost use Rattle.node_api.specs.Boxes.{nothing, unread};
-ghost use Rattle.colour_rules.specs.Node.{phase_of, ports};
-ghost use Rattle.colour_rules.specs.Refusals.{ids_in, own_rule, ports_refusal, without_port};
+ghost use Rattle.colour_rules.specs.Idle.{IsIdle};
+ghost use Rattle.colour_rules.specs.Node.{IsPhase, ports};
+ghost use Rattle.colour_rules.specs.Refusals.{first_refusal, ids_in, own_rule, without_port};
 ghost use Rattle.colour_rules.specs.Program.{done, next};
 ghost use Rattle.colour_rules.specs.Room.{HasRoom};
-ghost use Rattle.colour_rules.specs.Table.{is_above as is_too_high};
+ghost use Rattle.colour_rules.specs.Table.{is_above};
 
+use crate::idle::IdlePulses;
 use crate::node::ColourNode;
 use crate::payload::Payload;
-use crate::phase::{Kind, Phase};
+use crate::phase::{Phase, Reduction};
 use crate::ports::is_above;
 use crate::rules::{COLOUR_RANGE, FOREST_RANGE};
-use crate::space::Space;
+use crate::scratch::Scratch;
 use node_api::{Inbox, Outbox, Refused};
 
 impl ColourNode {
-    /// A pulse: reads what came, and answers the first refusal, or does the work of the phase and sends.
+    /// A pulse: reads what came, does the work of the phase and sends. Returns pulses after this one in
+    /// which the node does nothing if nothing comes.
+    ///
+    /// # Errors
+    ///
+    /// The first rule that is broken, by ascending port and then by the node itself. Node and outbox
+    /// are then as before.
     pub fn pulse(
         &mut self,
-        space: &mut Space,
-        phase: Phase,
+        scratch: &mut Scratch,
         pulse: u32,
         inbox: &mut Inbox<Payload>,
         out: &mut Outbox<Payload>,
-    ) -> Result<(), Refused>
-        requires phase { phase ≡ phase_of self.old.sizes pulse }
-        requires room { HasRoom self.old space.old }
+    ) -> Result<IdlePulses, Refused>
+        requires room { HasRoom self.old scratch.old }
         requires rewound { inbox.old.place ≡ 0 }
         requires inbox { length inbox.old.slots ≡ ports self.old }
         requires out { out.old ≡ nothing (ports self.old) }
-        ensures answer { MatchResult result (λ _. next self.old pulse inbox.old.slots ≡ Result.Ok (self.new, out.new)) (λ refused. next self.old pulse inbox.old.slots ≡ Result.Err refused) }
+        ensures answer { let answer = next self.old pulse inbox.old.slots in
+            MatchResult result
+            (λ _. answer ≡ Result.Ok (self.new, out.new))
+            (λ refused. answer ≡ Result.Err refused) }
+        ensures idle { IfOk result (IsIdle self.new) }
         ensures refused { OnErr result ((self.new ≡ self.old) × (out.new ≡ out.old)) }
         ensures inbox { inbox.new.slots ≡ inbox.old.slots }
-        ensures room { HasRoom self.new space.new }
+        ensures room { HasRoom self.new scratch.new }
     {
-        let count = self.look_at_ports(phase, pulse, &mut space.heard, inbox)?;
+        let phase = self.phase(pulse);
+        let count = self.look_at_ports(phase, &mut scratch.identifiers, inbox)?;
         inbox.rewind();
-        self.look_at_own(phase, pulse, &space.heard[..count], inbox)?;
+        self.look_at_own(phase, &scratch.identifiers[..count], inbox)?;
         inbox.rewind();
-        self.do_work(phase, pulse, count, space, inbox, out);
-        Ok(())
+        self.do_work(phase, count, scratch, inbox, out);
+        Ok(self.idle_after(pulse, phase))
     }
 
-    /// The work of the phase, once nothing is refused.
+    // The work of the phase, once nothing is refused.
     fn do_work(
         &mut self,
         phase: Phase,
-        pulse: u32,
         count: usize,
-        space: &mut Space,
+        scratch: &mut Scratch,
         inbox: &mut Inbox<Payload>,
         out: &mut Outbox<Payload>,
     )
-        requires phase { phase ≡ phase_of self.old.sizes pulse }
-        requires room { HasRoom self.old space.old }
+        requires real { IsPhase self.old.sizes phase }
+        requires room { HasRoom self.old scratch.old }
         requires unread { inbox.old ≡ unread inbox.old.slots }
         requires inbox { length inbox.old.slots ≡ ports self.old }
         requires out { out.old ≡ nothing (ports self.old) }
-        requires heard { take count space.old.heard.items ≡ ids_in inbox.old.slots }
-        requires count { count ≤ length space.old.heard.items }
-        requires accepted { ports_refusal self.old pulse phase 0 [] self.old.roles inbox.old.slots ≡ None }
-        requires own { own_rule self.old pulse phase inbox.old.slots ≡ None }
-        ensures node { (self.new, out.new) ≡ done self.old pulse phase inbox.old.slots }
+        requires came { take count scratch.old.identifiers.items ≡ ids_in inbox.old.slots }
+        requires count { count ≤ length scratch.old.identifiers.items }
+        requires accepted { first_refusal self.old phase inbox.old.slots ≡ None }
+        requires own { own_rule self.old phase inbox.old.slots ≡ None }
+        ensures node { (self.new, out.new) ≡ done self.old phase inbox.old.slots }
         ensures slots { inbox.new.slots ≡ inbox.old.slots }
-        ensures room { HasRoom self.new space.new }
+        ensures room { HasRoom self.new scratch.new }
     {
         match phase {
-            Phase::Orient => self.orient(&space.heard[..count], out),
+            Phase::Orient => self.orient(&scratch.identifiers[..count], out),
             Phase::Seed => self.seed(inbox, out),
-            Phase::Work(kind) => self.work(kind, pulse, &mut space.above, inbox, out),
+            Phase::Work(reduction) => self.work(reduction, &mut scratch.parent_colours, inbox, out),
             Phase::Merge(forest, step) => self.merge(forest, step, inbox, out),
             Phase::Greet | Phase::Halted => {}
         }
     }
 
-    /// The refusal of the rule that the node itself breaks.
+    // The refusal of the rule that the node itself breaks.
     fn look_at_own(
         &self,
         phase: Phase,
-        pulse: u32,
-        heard: &[u64],
+        identifiers: &[u64],
         inbox: &mut Inbox<Payload>,
     ) -> Result<(), Refused>
-        requires phase { phase ≡ phase_of self.now.sizes pulse }
+        requires real { IsPhase self.now.sizes phase }
         requires unread { inbox.old ≡ unread inbox.old.slots }
-        requires heard { heard.now ≡ ids_in inbox.old.slots }
-        requires accepted { ports_refusal self.now pulse phase 0 [] self.now.roles inbox.old.slots ≡ None }
+        requires came { identifiers.now ≡ ids_in inbox.old.slots }
+        requires accepted { first_refusal self.now phase inbox.old.slots ≡ None }
         requires inbox { length inbox.old.slots ≡ ports self.now }
-        ensures answer { MatchResult result (λ _. own_rule self.now pulse phase inbox.old.slots ≡ None) (λ refused. without_port (own_rule self.now pulse phase inbox.old.slots) ≡ Some refused) }
+        ensures answer { let rule = own_rule self.now phase inbox.old.slots in
+            MatchResult result (λ _. rule ≡ None) (λ refused. without_port rule ≡ Some refused) }
         ensures slots { inbox.new.slots ≡ inbox.old.slots }
     {
         let broken = match phase {
-            Phase::Orient if self.has_many_higher(heard) => Some(FOREST_RANGE),
-            Phase::Work(Kind::Shift | Kind::Drop(_)) if self.has_colour_above(pulse) => {
-                Some(COLOUR_RANGE)
-            }
+            Phase::Orient if self.has_many_higher(identifiers) => Some(FOREST_RANGE),
+            Phase::Work(Reduction::Step(_)) => None,
+            Phase::Work(reduction) if self.has_colour_above(reduction) => Some(COLOUR_RANGE),
             Phase::Merge(forest, step) if self.has_no_choice(forest, step, inbox) => {
                 Some(COLOUR_RANGE)
             }
@@ -108,18 +117,20 @@ impl ColourNode {
         }
     }
 
-    /// Whether more identifiers are higher than the node's own than there are forests.
-    fn has_many_higher(&self, heard: &[u64]) -> bool
-        ensures { result ≡ nat_lt self.now.sizes.forests (count_by (nat_lt self.now.id) heard.now) }
+    // Whether more identifiers are higher than the node's own than there are forests.
+    fn has_many_higher(&self, identifiers: &[u64]) -> bool
+        ensures { result ≡ nat_lt self.now.sizes.forests (count_by (nat_lt self.now.id) identifiers.now) }
     {
-        let higher = heard.iter().filter(|id| self.id < **id).count();
+        let higher = identifiers.iter().filter(|id| self.id < **id).count();
         usize::from(self.forests) < higher
     }
 
-    /// Whether a colour of the node is too high at a pulse.
-    fn has_colour_above(&self, pulse: u32) -> bool
-        ensures { result ≡ list_any (is_too_high pulse) self.now.colours }
+    // Whether a colour of the node is too high.
+    fn has_colour_above(&self, reduction: Reduction) -> bool
+        ensures { result ≡ list_any (is_above reduction) self.now.colours }
     {
-        self.colours.iter().any(|colour| is_above(pulse, *colour))
+        self.colours
+            .iter()
+            .any(|colour| is_above(reduction, *colour))
     }
 }

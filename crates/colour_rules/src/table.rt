@@ -1,13 +1,13 @@
-// What may come to a node, by phase, kind of payload and role of the port: 96 cells.
+//! What may come to a node, by phase, kind of payload and role of the port: 96 cells.
 ghost use Rattle.std.specs.Prelude.{◌≡◌};
-ghost use Rattle.colour_rules.specs.Table.{cell as cell_of};
+ghost use Rattle.colour_rules.specs.Table.{cell};
 
 use crate::payload::Payload;
-use crate::phase::{Kind, Phase};
+use crate::phase::{Phase, Reduction};
 use crate::rules::{AFTER_HALT, WRONG_KIND, WRONG_ROLE};
 use forests::Role;
 
-/// One cell of a table: nothing is broken where the payload is due.
+// One cell of a table: no rule is broken if the payload is due.
 macro_rules! cell {
     (due) => {
         None
@@ -23,8 +23,8 @@ macro_rules! cell {
     };
 }
 
-/// A table of cells as an expression: a row for each phase and kind of payload, in it a cell for each
-/// role of the port.
+// A table of cells as an expression: a row for each phase and kind of payload, in it a cell for each
+// role of the port.
 macro_rules! table {
     (($phase:expr, $payload:expr, $role:expr) { $($at:pat, $kind:ident: $unknown:ident $up:ident $down:ident;)* }) => {
         match ($phase, $payload, $role) {
@@ -37,10 +37,10 @@ macro_rules! table {
     };
 }
 
-/// The rule that a payload breaks by its kind, from a port of this role in this phase; none where it
-/// is due.
+// The rule that a payload breaks by its kind, from a port of this role in this phase; none if it is
+// due.
 pub(crate) fn cell(phase: Phase, payload: Payload, role: Role) -> Option<u16>
-    ensures { result ≡ cell_of phase role payload }
+    ensures { result ≡ cell phase role payload }
 {
     // Each row: from a port that is Unknown, Up, Down.
     table! { (phase, payload, role) {
@@ -56,18 +56,18 @@ pub(crate) fn cell(phase: Phase, payload: Payload, role: Role) -> Option<u16>
         Phase::Seed, Label: due P2 P2;
         Phase::Seed, Colour: P1 P1 P1;
         Phase::Seed, Chosen: P1 P1 P1;
-        Phase::Work(Kind::Step), Hello: P1 P1 P1;
-        Phase::Work(Kind::Step), Label: P1 P1 P1;
-        Phase::Work(Kind::Step), Colour: P2 due P2;
-        Phase::Work(Kind::Step), Chosen: P1 P1 P1;
-        Phase::Work(Kind::Shift), Hello: P1 P1 P1;
-        Phase::Work(Kind::Shift), Label: P1 P1 P1;
-        Phase::Work(Kind::Shift), Colour: P2 due P2;
-        Phase::Work(Kind::Shift), Chosen: P1 P1 P1;
-        Phase::Work(Kind::Drop(_)), Hello: P1 P1 P1;
-        Phase::Work(Kind::Drop(_)), Label: P1 P1 P1;
-        Phase::Work(Kind::Drop(_)), Colour: P2 due P2;
-        Phase::Work(Kind::Drop(_)), Chosen: P1 P1 P1;
+        Phase::Work(Reduction::Step(_)), Hello: P1 P1 P1;
+        Phase::Work(Reduction::Step(_)), Label: P1 P1 P1;
+        Phase::Work(Reduction::Step(_)), Colour: P2 due P2;
+        Phase::Work(Reduction::Step(_)), Chosen: P1 P1 P1;
+        Phase::Work(Reduction::Shift(_)), Hello: P1 P1 P1;
+        Phase::Work(Reduction::Shift(_)), Label: P1 P1 P1;
+        Phase::Work(Reduction::Shift(_)), Colour: P2 due P2;
+        Phase::Work(Reduction::Shift(_)), Chosen: P1 P1 P1;
+        Phase::Work(Reduction::Drop(_)), Hello: P1 P1 P1;
+        Phase::Work(Reduction::Drop(_)), Label: P1 P1 P1;
+        Phase::Work(Reduction::Drop(_)), Colour: P2 due P2;
+        Phase::Work(Reduction::Drop(_)), Chosen: P1 P1 P1;
         Phase::Merge(_, _), Hello: P1 P1 P1;
         Phase::Merge(_, _), Label: P1 P1 P1;
         Phase::Merge(_, _), Colour: P1 P1 P1;

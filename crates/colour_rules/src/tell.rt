@@ -1,27 +1,17 @@
-// What a node sends by the roles of its ports.
-ghost use Rattle.std.specs.Prelude.{◌≡◌, ℕ, None, Some, if◌then◌else◌, map};
-ghost use Rattle.colour_rules.specs.declared.payload.Payload.TheVariants.{Chosen};
+//! What a node sends by the roles of its ports.
+ghost use Rattle.std.specs.Prelude.{◌≡◌, map};
 ghost use Rattle.node_api.specs.Boxes.{nothing};
 ghost use Rattle.colour_rules.specs.Node.{ports};
 ghost use Rattle.colour_rules.specs.Program.{tells_chosen, tells_colour, tells_label};
 
 use crate::node::ColourNode;
 use crate::payload::Payload;
+use crate::ports::is_merged;
 use forests::Role;
 use node_api::Outbox;
 
-/// Whether a port is of one of the forests up to this one.
-fn is_merged(role: Role, forest: u32) -> bool
-    ensures { (colour : ℕ) → tells_chosen forest colour role ≡ (if result then Some (Chosen colour) else None) }
-{
-    match role {
-        Role::Unknown => false,
-        Role::Up(number) | Role::Down(number) => u32::from(number) <= forest,
-    }
-}
-
 impl ColourNode {
-    /// Tells each parent the forest.
+    // Tells each parent the forest.
     pub(crate) fn tell_labels(&self, out: &mut Outbox<Payload>)
         requires { out.old ≡ nothing (ports self.now) }
         ensures { out.new ≡ map tells_label self.now.roles }
@@ -33,7 +23,7 @@ impl ColourNode {
         }
     }
 
-    /// Tells each child the node's colour in their forest.
+    // Tells each child the node's colour in their forest.
     pub(crate) fn tell_colours(&self, out: &mut Outbox<Payload>)
         requires { out.old ≡ nothing (ports self.now) }
         ensures { out.new ≡ map (tells_colour self.now.colours) self.now.roles }
@@ -45,13 +35,13 @@ impl ColourNode {
         }
     }
 
-    /// Tells each neighbour of the forests up to this one the colour that the node has chosen.
-    pub(crate) fn tell_chosen(&self, forest: u32, out: &mut Outbox<Payload>)
+    // Tells each neighbour of the forests up to this one the colour that the node has chosen.
+    pub(crate) fn tell_chosen(&self, forest: u16, out: &mut Outbox<Payload>)
         requires { out.old ≡ nothing (ports self.now) }
         ensures { out.new ≡ map (tells_chosen forest self.now.merged) self.now.roles }
     {
         for port in 0..self.roles.len() {
-            if is_merged(self.roles[port], forest) {
+            if is_merged(forest, self.roles[port]) {
                 out.send(port as u32, Payload::Chosen(self.merged));
             }
         }

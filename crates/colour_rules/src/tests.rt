@@ -43,25 +43,21 @@ fn a_node_begins(rt: HostRuntime) {
         (0, Phase::Greet),
         (1, Phase::Orient),
         (2, Phase::Seed),
-        (3, Phase::Work(Kind::Step)),
-        (7, Phase::Work(Kind::Shift)),
-        (8, Phase::Work(Kind::Drop(5))),
-        (10, Phase::Work(Kind::Drop(4))),
-        (12, Phase::Work(Kind::Drop(3))),
+        (3, Phase::Work(Reduction::Step(0))),
+        (7, Phase::Work(Reduction::Shift(5))),
+        (8, Phase::Work(Reduction::Drop(5))),
+        (10, Phase::Work(Reduction::Drop(4))),
+        (12, Phase::Work(Reduction::Drop(3))),
         (13, Phase::Merge(0, 0)),
         (18, Phase::Merge(0, 5)),
         (19, Phase::Halted),
     ] {
         assert_eq!(rt; node.phase(pulse), phase, "at {pulse}");
     }
-    let mut space = Space::make(alloc, &net, 1).expect(&rt, "memory");
+    let mut scratch = Scratch::make(alloc, &net, 1).expect(&rt, "memory");
     let mut inbox = Inbox::new(alloc, 1).expect(&rt, "memory");
     inbox.put(0, Payload::Hello(2));
     out.clear();
-    let phase = node.phase(1);
-    assert!(rt;
-        node.pulse(&mut space, phase, 1, &mut inbox, &mut out)
-            .is_ok()
-    );
+    assert_eq!(rt; node.pulse(&mut scratch, 1, &mut inbox, &mut out), Ok(IdlePulses::none()));
     assert_eq!(rt; out.get(0), Some(Payload::Label(0)));
 }

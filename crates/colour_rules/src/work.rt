@@ -1,4 +1,4 @@
-// The work of the pulses 1 to 12: numbering the ports, and the colours of the forests.
+//! The work of the pulses before the merging: numbering the ports, and the colours of the forests.
 ghost use Rattle.std.specs.Prelude.{◌≡◌, ◌≢◌, ◌<◌, ◌≤◌, ℕ, [], IfSome, None, Some, count_by, length, map, nat_lt, slice_index, slice_index_or};
 ghost use Rattle.std.specs.List.{All, AllPairs, range_with_len};
 ghost use Rattle.forests.specs.Forests.{role_by};
@@ -6,42 +6,42 @@ ghost use Rattle.forests.specs.declared.numbering.Role.TheVariants as role;
 ghost use Rattle.node_api.specs.Boxes.{at_port, nothing, unread};
 ghost use Rattle.colour_rules.specs.declared.payload.Payload.TheVariants as payload;
 ghost use Rattle.colour_rules.specs.declared.phase.Phase.TheVariants as phase;
-ghost use Rattle.colour_rules.specs.Node.{phase_of, ports};
-ghost use Rattle.colour_rules.specs.Refusals.{own_rule, ports_refusal};
-ghost use Rattle.colour_rules.specs.Program.{IsReady, all_labelled, colour_in, done, from_parent, kept, labelled as labelled_by, tells_label, turned as turned_by, with_roles};
+ghost use Rattle.colour_rules.specs.Node.{IsReduction, ports};
+ghost use Rattle.colour_rules.specs.Refusals.{own_rule, first_refusal};
+ghost use Rattle.colour_rules.specs.Program.{IsReady, all_labelled, colour_in, done, from_parent, kept, labelled, tells_label, turned, with_roles};
 
 use crate::node::ColourNode;
 use crate::payload::Payload;
-use crate::phase::Kind;
+use crate::phase::Reduction;
 use cole_vishkin::bit_step;
 use forests::{Role, number_up};
 use node_api::{Inbox, Outbox};
 use shift_down::{drop_class, shift};
 
 impl ColourNode {
-    /// Numbers the ports to higher identifiers, and tells each parent the forest; `heard` are the
-    /// identifiers by port.
-    pub(crate) fn orient(&mut self, heard: &[u64], out: &mut Outbox<Payload>)
-        requires ports { length heard.now ≡ ports self.old }
-        requires distinct { AllPairs (λ x y. x ≢ y) heard.now }
-        requires others { All (λ id. id ≢ self.old.id) heard.now }
-        requires few { count_by (nat_lt self.old.id) heard.now ≤ self.old.sizes.forests }
+    // Numbers the ports to higher identifiers, and tells each parent the forest; `identifiers` are the
+    // identifiers by port.
+    pub(crate) fn orient(&mut self, identifiers: &[u64], out: &mut Outbox<Payload>)
+        requires ports { length identifiers.now ≡ ports self.old }
+        requires distinct { AllPairs (λ x y. x ≢ y) identifiers.now }
+        requires others { All (λ id. id ≢ self.old.id) identifiers.now }
+        requires few { count_by (nat_lt self.old.id) identifiers.now ≤ self.old.sizes.forests }
         requires out { out.old ≡ nothing (ports self.old) }
-        ensures node { self.new ≡ with_roles self.old (map (role_by self.old.id heard.now) heard.now) }
+        ensures node { self.new ≡ with_roles self.old (map (role_by self.old.id identifiers.now) identifiers.now) }
         ensures out { out.new ≡ map tells_label self.new.roles }
     {
-        number_up(self.id, heard, &mut self.roles);
+        number_up(self.id, identifiers, &mut self.roles);
         self.tell_labels(out);
     }
 
-    /// Makes children of the ports that brought a label, begins with the identifier as the colour in
-    /// each forest, and tells each child.
+    // Makes children of the ports that brought a label, begins with the identifier as the colour in
+    // each forest, and tells each child.
     pub(crate) fn seed(&mut self, inbox: &mut Inbox<Payload>, out: &mut Outbox<Payload>)
         requires unread { inbox.old ≡ unread inbox.old.slots }
         requires ports { length inbox.old.slots ≡ ports self.old }
         requires labels { (port f : ℕ) → at_port inbox.old.slots port ≡ Some (payload.Label f) → f < self.old.sizes.forests }
         requires out { out.old ≡ nothing (ports self.old) }
-        ensures node { (self.new, out.new) ≡ done self.old 2 phase.Seed inbox.old.slots }
+        ensures node { (self.new, out.new) ≡ done self.old phase.Seed inbox.old.slots }
         ensures slots { inbox.new.slots ≡ inbox.old.slots }
     {
         self.label(inbox);
@@ -49,7 +49,7 @@ impl ColourNode {
         self.tell_colours(out);
     }
 
-    /// Makes children of the ports that brought a label.
+    // Makes children of the ports that brought a label.
     fn label(&mut self, inbox: &mut Inbox<Payload>)
         requires unread { inbox.old ≡ unread inbox.old.slots }
         requires ports { length inbox.old.slots ≡ ports self.old }
@@ -64,57 +64,62 @@ impl ColourNode {
         }
     }
 
-    /// Takes the next colour in each forest, and tells each child unless these are the last.
+    // Takes the next colour in each forest, and tells each child unless these are the last.
     pub(crate) fn work(
         &mut self,
-        kind: Kind,
-        pulse: u32,
-        above: &mut [Option<u64>],
+        reduction: Reduction,
+        parent_colours: &mut [Option<u64>],
         inbox: &mut Inbox<Payload>,
         out: &mut Outbox<Payload>,
     )
-        requires phase { phase_of self.old.sizes pulse ≡ phase.Work kind }
+        requires real { IsReduction reduction }
         requires unread { inbox.old ≡ unread inbox.old.slots }
         requires ports { length inbox.old.slots ≡ ports self.old }
-        requires room { length above.old ≡ self.old.sizes.forests }
+        requires room { length parent_colours.old ≡ self.old.sizes.forests }
         requires out { out.old ≡ nothing (ports self.old) }
-        requires accepted { ports_refusal self.old pulse (phase.Work kind) 0 [] self.old.roles inbox.old.slots ≡ None }
-        requires own { own_rule self.old pulse (phase.Work kind) inbox.old.slots ≡ None }
-        ensures node { (self.new, out.new) ≡ done self.old pulse (phase.Work kind) inbox.old.slots }
+        requires accepted { first_refusal self.old (phase.Work reduction) inbox.old.slots ≡ None }
+        requires own { own_rule self.old (phase.Work reduction) inbox.old.slots ≡ None }
+        ensures node { (self.new, out.new) ≡ done self.old (phase.Work reduction) inbox.old.slots }
         ensures slots { inbox.new.slots ≡ inbox.old.slots }
-        ensures room { length above.new ≡ length above.old }
+        ensures room { length parent_colours.new ≡ length parent_colours.old }
     {
-        self.hear_parents(above, inbox);
-        turn_all(kind, &mut self.colours, &mut self.before, above);
-        if pulse != 12 {
+        self.hear_parents(parent_colours, inbox);
+        turn_all(
+            reduction,
+            &mut self.colours,
+            &mut self.before,
+            parent_colours,
+        );
+        if !reduction.is_last() {
             self.tell_colours(out);
         }
     }
 
-    /// Writes the colour of the parent in each forest, if there is one.
-    fn hear_parents(&self, above: &mut [Option<u64>], inbox: &mut Inbox<Payload>)
+    // Writes the colour of the parent in each forest, if there is one.
+    fn hear_parents(&self, parent_colours: &mut [Option<u64>], inbox: &mut Inbox<Payload>)
         requires unread { inbox.old ≡ unread inbox.old.slots }
         requires ports { length inbox.old.slots ≡ ports self.now }
-        requires room { length above.old ≡ self.now.sizes.forests }
+        requires room { length parent_colours.old ≡ self.now.sizes.forests }
         requires all { (port f : ℕ) → port < ports self.now → slice_index_or self.now.roles port role.Unknown ≡ role.Up f → (c : ℕ) × (at_port inbox.old.slots port ≡ Some (payload.Colour c)) }
-        ensures above { (f : ℕ) → f < self.now.sizes.forests → slice_index_or above.new f None ≡ from_parent f self.now.roles inbox.old.slots }
+        ensures parent_colours { (f : ℕ) → f < self.now.sizes.forests → slice_index_or parent_colours.new f None ≡ from_parent f self.now.roles inbox.old.slots }
         ensures slots { inbox.new.slots ≡ inbox.old.slots }
-        ensures room { length above.new ≡ length above.old }
+        ensures room { length parent_colours.new ≡ length parent_colours.old }
     {
-        above.fill(None);
+        parent_colours.fill(None);
         while inbox.has_next() {
             let payload = inbox.next();
             let port = inbox.sender() as usize;
             if let Role::Up(forest) = self.roles[port] {
-                above[forest as usize] = above[forest as usize].or(colour_of(payload));
+                let colour = colour_of(payload);
+                parent_colours[forest as usize] = parent_colours[forest as usize].or(colour);
             }
         }
     }
 }
 
-/// What a port is, once its payload is read: where an unknown one brought a label, it leads to a child.
+// What a port is, once its payload is read: where an unknown one brought a label, it leads to a child.
 fn labelled(role: Role, payload: Payload) -> Role
-    ensures { result ≡ labelled_by role (Some payload) }
+    ensures { result ≡ labelled role (Some payload) }
 {
     match (role, payload) {
         (Role::Unknown, Payload::Label(forest)) => Role::Down(forest),
@@ -122,7 +127,7 @@ fn labelled(role: Role, payload: Payload) -> Role
     }
 }
 
-/// The colour in a payload, if it has one.
+// The colour in a payload, if it has one.
 fn colour_of(payload: Payload) -> Option<u64>
     ensures { result ≡ colour_in (Some payload) }
 {
@@ -132,36 +137,41 @@ fn colour_of(payload: Payload) -> Option<u64>
     }
 }
 
-/// Takes the next colour in each forest, where `above` are the colours of the parents.
-fn turn_all(kind: Kind, colours: &mut [u64], before: &mut [u8], above: &[Option<u64>])
+// Takes the next colour in each forest, where `parent_colours` are the colours of the parents.
+fn turn_all(
+    reduction: Reduction,
+    colours: &mut [u64],
+    before: &mut [u8],
+    parent_colours: &[Option<u64>],
+)
     requires before { length before.old ≡ length colours.old }
-    requires above { length above.now ≡ length colours.old }
-    requires ready { (f : ℕ) → f < length colours.old → IsReady kind (slice_index colours.old f) (slice_index before.old f) (slice_index_or above.now f None) }
-    ensures colours { colours.new ≡ map (λ f. turned_by kind (slice_index colours.old f) (slice_index before.old f) (slice_index_or above.now f None)) (range_with_len 0 (length colours.old)) }
-    ensures before { before.new ≡ map (λ f. kept kind (slice_index colours.old f) (slice_index before.old f)) (range_with_len 0 (length colours.old)) }
+    requires parent_colours { length parent_colours.now ≡ length colours.old }
+    requires ready { (f : ℕ) → f < length colours.old → IsReady reduction (slice_index colours.old f) (slice_index before.old f) (slice_index_or parent_colours.now f None) }
+    ensures colours { colours.new ≡ map (λ f. turned reduction (slice_index colours.old f) (slice_index before.old f) (slice_index_or parent_colours.now f None)) (range_with_len 0 (length colours.old)) }
+    ensures before { before.new ≡ map (λ f. kept reduction (slice_index colours.old f) (slice_index before.old f)) (range_with_len 0 (length colours.old)) }
 {
     for forest in 0..colours.len() {
         let own = colours[forest];
-        colours[forest] = turned(kind, own, before[forest], above[forest]);
-        if kind == Kind::Shift {
+        colours[forest] = turned(reduction, own, before[forest], parent_colours[forest]);
+        if let Reduction::Shift(_) = reduction {
             before[forest] = own as u8;
         }
     }
 }
 
-/// The next colour in a forest.
-fn turned(kind: Kind, own: u64, before: u8, parent: Option<u64>) -> u64
-    requires { IsReady kind own before parent }
-    ensures { result ≡ turned_by kind own before parent }
+// The next colour in a forest.
+fn turned(reduction: Reduction, own: u64, before: u8, parent: Option<u64>) -> u64
+    requires { IsReady reduction own before parent }
+    ensures { result ≡ turned reduction own before parent }
 {
-    match kind {
-        Kind::Step => bit_step(own, parent),
-        Kind::Shift => u64::from(shift(own as u8, small(parent))),
-        Kind::Drop(class) => u64::from(drop_class(class, own as u8, before, small(parent))),
+    match reduction {
+        Reduction::Step(_) => bit_step(own, parent),
+        Reduction::Shift(_) => u64::from(shift(own as u8, small(parent))),
+        Reduction::Drop(class) => u64::from(drop_class(class, own as u8, before, small(parent))),
     }
 }
 
-/// A colour below 6, if there is one, as a byte.
+// A colour below 6, if there is one, as a byte.
 fn small(colour: Option<u64>) -> Option<u8>
     requires { IfSome colour (λ c. c < 6) }
     ensures { result ≡ colour }

@@ -1,8 +1,9 @@
-use Rattle.std.proofs.Common.{◌≡◌, ◌-◌, ◌≤◌, ℕ, List, refl, ap, sym, ◌∙◌, arith}
+use Rattle.std.proofs.Common.{◌≡◌, ◌-◌, ◌<◌, ℕ, List, refl, ap, sym, ◌∙◌, arith}
 use Rattle.std.specs.Prelude.{Option, Some, IsTrue, false}
 use Rattle.std.specs.Ordering.{nat_cmp}
 use Rattle.std.specs.FinSet.{FinSet}
 use Rattle.node_api.specs.Boxes.{at_port, fold_rest}
+use Rattle.forest_merge.specs.declared.chosen.TheConstants.{COLOURS}
 use Rattle.node_api.proofs.Reading.{fold_rest-read, fold_rest-end}
 use Rattle.colour_rules.specs.declared.payload.Payload.{Payload}
 use Rattle.colour_rules.specs.declared.payload.Payload.TheVariants.{Chosen}
@@ -20,7 +21,7 @@ add-requires c =
     let l = c.loop-inbox in
     let there : at_port c.args.inbox.now.slots (c.next.new.self.place - 1) ≡ Some (Chosen c.in-Chosen.colour) =
     ap (λ (slots : List (Option Payload)). at_port slots (c.next.new.self.place - 1)) (sym l.invariant.same) ∙ (read-is l.inbox c.next.result c.next.new.self c.next.ensures.reads ∙ ap Some c.in-Chosen.is) in
-    let low : c.in-Chosen.colour ≤ 1023 = c.requires.colours (c.next.new.self.place - 1) c.in-Chosen.colour there in
+    let low : c.in-Chosen.colour < COLOURS = c.requires.colours (c.next.new.self.place - 1) c.in-Chosen.colour there in
     omega arith
 
 pub loop-inbox-smaller-in-Chosen : goal.loop-inbox-smaller-in-Chosen

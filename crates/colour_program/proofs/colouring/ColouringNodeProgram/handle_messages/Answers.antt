@@ -11,7 +11,7 @@ pub returns-then-not-has_next-clause-answer : goal.returns-then-not-has_next-cla
 returns-then-not-has_next-clause-answer c =
     let node : Node = c.args.self.now in
     let slots : List (Option Payload) = c.args.inbox.now.slots in
-    let covered = c.covers.ensures.0 c.if-covers.true in
+    let covered = c.contains.ensures.0 c.if-contains.true in
     let quiet : HasFrom slots 0 → ⊥ =
     subst (λ (place : ℕ). HasFrom slots place → ⊥) c.requires.rewound (λ some. let e : IsTrue false = c.if-not-has_next.ensures.more.1 some in (cc)) in
     let empty : slots ≡ nothing (ports node) = nothing-came slots quiet ∙ ap (λ (n : ℕ). nothing n) c.requires.inbox in

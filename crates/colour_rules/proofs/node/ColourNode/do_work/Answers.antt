@@ -1,64 +1,70 @@
-use Rattle.std.proofs.Common.{◌≡◌, ◌≢◌, [], None, length, take, refl, ap, sym, subst, ◌∙◌, inl, inr}
+-- The plan: what came at Orient is an identifier from each port (hellos), which are those that were written down
+-- (came); the other phases have what they ask for from what was accepted (Bounds).
+use Rattle.std.proofs.Common.{◌≡◌, ◌≢◌, [], length, take, refl, ap, sym, subst, ◌∙◌, inl, inr}
+use Rattle.std.specs.Prelude.{None}
 use Rattle.std.specs.List.{All, AllPairs}
 use Rattle.colour_rules.specs.declared.phase.Phase.{Phase}
 use Rattle.colour_rules.specs.declared.phase.Phase.TheVariants.{Seed}
-use Rattle.colour_rules.specs.Refusals.{ids_in, ports_refusal}
+use Rattle.colour_rules.specs.Node.{IsPhase}
+use Rattle.colour_rules.specs.Refusals.{first_refusal, ids_in}
 use Rattle.colour_rules.specs.Program.{done}
-use Rattle.colour_rules.proofs.Bounds.{labels-within, merge-within, chosen-within}
-use Rattle.colour_rules.proofs.Hellos.{only_hellos, oriented-is}
+use Rattle.colour_rules.proofs.Bounds.{labels-within, chosen-within}
+use Rattle.colour_rules.proofs.Hellos.{OnlyHellos, only_hellos, oriented-is}
 use Rattle.colour_rules.proofs.Rooms.{room-done, idle-is}
 use Rattle.colour_rules.proofs.node.ColourNode.do_work.Goals as goal
+use Rattle.colour_rules.proofs.node.ColourNode.do_work.Goals.{After-deref}
+
+hellos : (c : After-deref) → OnlyHellos c.args.self.now.id [] c.args.inbox.now.slots
+hellos c = only_hellos c.args.self.now c.args.phase c.args.inbox.now.slots c.in-Orient.is c.requires.inbox c.requires.accepted
+
+came : (c : After-deref) → take c.args.count c.deref.result.now ≡ ids_in c.args.inbox.now.slots
+came c = ap (take c.args.count) c.deref.ensures.value ∙ c.requires.came
 
 pub orient-requires-clause-ports : goal.orient-requires-clause-ports
 orient-requires-clause-ports c =
-    let hellos = only_hellos c.args.self.now c.args.pulse c.args.phase c.args.inbox.now.slots c.in-Orient.is c.requires.inbox c.requires.accepted in
-    let heard : take c.args.count c.deref.result.now ≡ ids_in c.args.inbox.now.slots = ap (take c.args.count) c.deref.ensures.value ∙ c.requires.heard in
-    ap length heard ∙ (hellos.size ∙ c.requires.inbox)
+    let at = (goal.at.orient-requires-clause-ports c).After-deref in
+    ap length (came at) ∙ ((hellos at).size ∙ c.requires.inbox)
 
 pub orient-requires-clause-distinct : goal.orient-requires-clause-distinct
 orient-requires-clause-distinct c =
-    let hellos = only_hellos c.args.self.now c.args.pulse c.args.phase c.args.inbox.now.slots c.in-Orient.is c.requires.inbox c.requires.accepted in
-    let heard : take c.args.count c.deref.result.now ≡ ids_in c.args.inbox.now.slots = ap (take c.args.count) c.deref.ensures.value ∙ c.requires.heard in
-    subst (AllPairs (λ x y. x ≢ y)) (sym heard) hellos.distinct
+    let at = (goal.at.orient-requires-clause-distinct c).After-deref in
+    subst (AllPairs (λ x y. x ≢ y)) (sym (came at)) (hellos at).distinct
 
 pub orient-requires-clause-others : goal.orient-requires-clause-others
 orient-requires-clause-others c =
-    let hellos = only_hellos c.args.self.now c.args.pulse c.args.phase c.args.inbox.now.slots c.in-Orient.is c.requires.inbox c.requires.accepted in
-    let heard : take c.args.count c.deref.result.now ≡ ids_in c.args.inbox.now.slots = ap (take c.args.count) c.deref.ensures.value ∙ c.requires.heard in
-    subst (All (λ id. id ≢ c.args.self.now.id)) (sym heard) hellos.others
+    let at = (goal.at.orient-requires-clause-others c).After-deref in
+    subst (All (λ id. id ≢ c.args.self.now.id)) (sym (came at)) (hellos at).others
 
 pub seed-requires-clause-labels : goal.seed-requires-clause-labels
 seed-requires-clause-labels c =
-    labels-within c.args.self.now c.args.pulse c.args.inbox.now.slots c.requires.inbox
-    (subst (λ (phase : Phase). ports_refusal c.args.self.now c.args.pulse phase 0 [] c.args.self.now.roles c.args.inbox.now.slots ≡ None) c.in-Seed.is c.requires.accepted)
+    labels-within c.args.self.now c.args.inbox.now.slots c.requires.inbox
+    (subst (λ (phase : Phase). first_refusal c.args.self.now phase c.args.inbox.now.slots ≡ None) c.in-Seed.is c.requires.accepted)
 
 pub merge-requires-clause-forest : goal.merge-requires-clause-forest
-merge-requires-clause-forest c = (merge-within c.args.self.now.sizes c.args.pulse c.in-Merge.forest c.in-Merge.step (sym c.in-Merge.is ∙ c.requires.phase)).0
+merge-requires-clause-forest c = (subst (IsPhase c.args.self.now.sizes) c.in-Merge.is c.requires.real).0
 
 pub merge-requires-clause-colours : goal.merge-requires-clause-colours
 merge-requires-clause-colours c =
-    chosen-within c.args.self.now c.args.pulse c.in-Merge.forest c.in-Merge.step c.args.inbox.now.slots c.requires.inbox
-    (subst (λ (phase : Phase). ports_refusal c.args.self.now c.args.pulse phase 0 [] c.args.self.now.roles c.args.inbox.now.slots ≡ None) c.in-Merge.is c.requires.accepted)
+    chosen-within c.args.self.now c.in-Merge.forest c.in-Merge.step c.args.inbox.now.slots c.requires.inbox
+    (subst (λ (phase : Phase). first_refusal c.args.self.now phase c.args.inbox.now.slots ≡ None) c.in-Merge.is c.requires.accepted)
 
 pub returns-in-Orient-clause-node : goal.returns-in-Orient-clause-node
 returns-in-Orient-clause-node c =
-    let hellos = only_hellos c.args.self.now c.args.pulse c.args.phase c.args.inbox.now.slots c.in-Orient.is c.requires.inbox c.requires.accepted in
-    let heard : take c.args.count c.deref.result.now ≡ ids_in c.args.inbox.now.slots = ap (take c.args.count) c.deref.ensures.value ∙ c.requires.heard in
-    oriented-is c.args.self.now c.orient.new.self c.args.pulse c.args.phase (take c.args.count c.deref.result.now) c.args.inbox.now.slots c.orient.new.out c.in-Orient.is heard hellos c.orient.ensures.node c.orient.ensures.out
+    let at = (goal.at.returns-in-Orient-clause-node c).After-deref in
+    oriented-is c.args.self.now c.orient.new.self c.args.phase (take c.args.count c.deref.result.now) c.args.inbox.now.slots c.orient.new.out c.in-Orient.is (came at) (hellos at) c.orient.ensures.node c.orient.ensures.out
 
 pub returns-in-Orient-clause-room : goal.returns-in-Orient-clause-room
 returns-in-Orient-clause-room c =
-    let hellos = only_hellos c.args.self.now c.args.pulse c.args.phase c.args.inbox.now.slots c.in-Orient.is c.requires.inbox c.requires.accepted in
-    let heard : take c.args.count c.deref.result.now ≡ ids_in c.args.inbox.now.slots = ap (take c.args.count) c.deref.ensures.value ∙ c.requires.heard in
-    room-done c.args.self.now c.orient.new.self c.args.pulse c.args.phase c.args.inbox.now.slots c.orient.new.out c.args.space.now c.args.space.now c.requires.inbox
-    (oriented-is c.args.self.now c.orient.new.self c.args.pulse c.args.phase (take c.args.count c.deref.result.now) c.args.inbox.now.slots c.orient.new.out c.in-Orient.is heard hellos c.orient.ensures.node c.orient.ensures.out)
+    let at = (goal.at.returns-in-Orient-clause-room c).After-deref in
+    room-done c.args.self.now c.orient.new.self c.args.phase c.args.inbox.now.slots c.orient.new.out c.args.scratch.now c.args.scratch.now c.requires.inbox
+    (oriented-is c.args.self.now c.orient.new.self c.args.phase (take c.args.count c.deref.result.now) c.args.inbox.now.slots c.orient.new.out c.in-Orient.is (came at) (hellos at) c.orient.ensures.node c.orient.ensures.out)
     refl refl c.requires.room
 
 pub returns-in-Seed-clause-room : goal.returns-in-Seed-clause-room
 returns-in-Seed-clause-room c =
-    room-done c.args.self.now c.seed.new.self 2 Seed c.args.inbox.now.slots c.seed.new.out c.args.space.now c.args.space.now c.requires.inbox c.seed.ensures.node refl refl c.requires.room
+    room-done c.args.self.now c.seed.new.self Seed c.args.inbox.now.slots c.seed.new.out c.args.scratch.now c.args.scratch.now c.requires.inbox c.seed.ensures.node refl refl c.requires.room
 
 pub returns-in-Greet-clause-node : goal.returns-in-Greet-clause-node
 returns-in-Greet-clause-node c =
-    let at = λ (phase : Phase). done c.args.self.now c.args.pulse phase c.args.inbox.now.slots in
-    idle-is c.args.self.now c.args.pulse c.args.phase c.args.inbox.now.slots c.args.out.now (elim c.in-Greet.is [ inl greet ↦ ap at greet | inr halted ↦ ap at halted ]) c.requires.out
+    let at = λ (phase : Phase). done c.args.self.now phase c.args.inbox.now.slots in
+    idle-is c.args.self.now c.args.phase c.args.inbox.now.slots c.args.out.now (elim c.in-Greet.is [ inl greet ↦ ap at greet | inr halted ↦ ap at halted ]) c.requires.out

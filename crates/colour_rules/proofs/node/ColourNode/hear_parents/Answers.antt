@@ -22,21 +22,21 @@ loop-self-preserved-in-Up c =
     record {
       same = c.next-payload.ensures.reads.same ∙ c.loop-self.invariant.same;
       heard =
-          rw (c.or.ensures, c.colour_of.ensures)
-          (heard-parent c.args.self.now.roles c.args.inbox.now.slots (comes (goal.at.loop-self-preserved-in-Up c).After-index) c.requires.all c.requires.ports c.loop-self.above c.in-Up.forest c.loop-self.invariant.heard c.in-Up.is);
+          rw (c.or.ensures, c.colour_of-colour.ensures)
+          (heard-parent c.args.self.now.roles c.args.inbox.now.slots (comes (goal.at.loop-self-preserved-in-Up c).After-index) c.requires.all c.requires.ports c.loop-self.parent_colours c.in-Up.forest c.loop-self.invariant.heard c.in-Up.is);
     }
 
 pub loop-self-preserved : goal.loop-self-preserved
 loop-self-preserved c =
     record {
       same = c.next-payload.ensures.reads.same ∙ c.loop-self.invariant.same;
-      heard = heard-other c.args.self.now.roles c.args.inbox.now.slots (comes (goal.at.loop-self-preserved c).After-index) c.requires.all c.requires.ports c.loop-self.above c.loop-self.invariant.heard c.in_default.not-Up;
+      heard = heard-other c.args.self.now.roles c.args.inbox.now.slots (comes (goal.at.loop-self-preserved c).After-index) c.requires.all c.requires.ports c.loop-self.parent_colours c.loop-self.invariant.heard c.in_default.not-Up;
     }
 
-pub returns-clause-above : goal.returns-clause-above
-returns-clause-above c f h =
+pub returns-clause-parent_colours : goal.returns-clause-parent_colours
+returns-clause-parent_colours c f h =
     let place = c.loop-self.inbox.place in
     let end : HasFrom c.loop-self.inbox.slots place → ⊥ = λ more. let e : IsTrue false = c.loop-self-test.ensures.more.1 more in absurd (cc) in
-    let inside : f < length c.loop-self.above = omega (arith, c.loop-self.auto.above, c.fill.ensures.len, c.requires.room) in
-    heard-all c.args.self.now.roles c.args.inbox.now.slots place c.loop-self.above c.loop-self.invariant.heard c.requires.all c.requires.ports
+    let inside : f < length c.loop-self.parent_colours = omega (arith, c.loop-self.auto.parent_colours, c.fill.ensures.len, c.requires.room) in
+    heard-all c.args.self.now.roles c.args.inbox.now.slots place c.loop-self.parent_colours c.loop-self.invariant.heard c.requires.all c.requires.ports
     (subst (λ (slots : List (Option Payload)). HasFrom slots place → ⊥) c.loop-self.invariant.same end) f inside

@@ -6,7 +6,7 @@ abbrev pub invariant-loop-self : goal.invariant-loop-self
 invariant-loop-self l =
     record {
       same : l.inbox.slots ≡ l.fn.inbox.slots;
-      heard : Heard l.fn.self.roles l.fn.inbox.slots l.inbox.place l.above;
+      heard : Heard l.fn.self.roles l.fn.inbox.slots l.inbox.place l.parent_colours;
     }
 
 abbrev pub decreases-loop-self : goal.decreases-loop-self

@@ -1,4 +1,5 @@
 use Rattle.std.proofs.Common.{rules, ◌≡◌, ◌≤◌, replicate, subst, sym, arith}
+use Rattle.interference.specs.declared.limits.TheConstants.{MAX_DEGREE}
 use Rattle.interference.specs.Net.{greatest_degree_of, forest_count_of}
 use Rattle.interference.proofs.Neighbours.{greatest_degree-within, forest_count-within}
 use Rattle.forests.specs.declared.numbering.Role.TheVariants.{Unknown}
@@ -8,22 +9,22 @@ use Rattle.colour_rules.proofs.node.ColourNode.make.Goals as goal
 
 pub overflow_cast-greatest_degree : goal.overflow_cast-greatest_degree
 overflow_cast-greatest_degree c =
-    let few : c.greatest_degree-greatest_degree.result ≤ 1023 = rw c.greatest_degree-greatest_degree.ensures (greatest_degree-within c.args.net.now c.is_network.ensures) in
+    let few : c.greatest_degree-greatest_degree.result ≤ MAX_DEGREE = rw c.greatest_degree-greatest_degree.ensures (greatest_degree-within c.args.net.now c.is_network.ensures) in
     search rules
 
 pub overflow_cast-forests : goal.overflow_cast-forests
 overflow_cast-forests c =
-    let few : greatest_degree_of c.args.net.now ≤ 1023 = greatest_degree-within c.args.net.now c.is_network.ensures in
+    let few : greatest_degree_of c.args.net.now ≤ MAX_DEGREE = greatest_degree-within c.args.net.now c.is_network.ensures in
     let fewer : forest_count_of c.args.net.now ≤ greatest_degree_of c.args.net.now = forest_count-within c.args.net.now c.is_network.ensures in
-    let here : c.forest_count-forests.result ≤ 1023 = rw c.forest_count-forests.ensures (omega arith) in
+    let here : c.forest_count-forests.result ≤ MAX_DEGREE = rw c.forest_count-forests.ensures (omega arith) in
     search rules
 
 pub invariant_of-result : goal.invariant_of-result
 invariant_of-result c =
-    let few : greatest_degree_of c.args.net.now ≤ 1023 = greatest_degree-within c.args.net.now c.is_network.ensures in
+    let few : greatest_degree_of c.args.net.now ≤ MAX_DEGREE = greatest_degree-within c.args.net.now c.is_network.ensures in
     let fewer : forest_count_of c.args.net.now ≤ greatest_degree_of c.args.net.now = forest_count-within c.args.net.now c.is_network.ensures in
-    let e : c.forest_count-forests.result ≤ 1023 = rw c.forest_count-forests.ensures (omega arith) in
-    let d : c.greatest_degree-greatest_degree.result ≤ 1023 = rw c.greatest_degree-greatest_degree.ensures few in
+    let e : c.forest_count-forests.result ≤ MAX_DEGREE = rw c.forest_count-forests.ensures (omega arith) in
+    let d : c.greatest_degree-greatest_degree.result ≤ MAX_DEGREE = rw c.greatest_degree-greatest_degree.ensures few in
     let roles : c.in_ok-roles.roles.items ≡ replicate c.degree-degree.result Unknown = search rules in
     let before : c.in_ok-before.before.items ≡ replicate c.forest_count-forests.result 0 = search rules in
     let known : HasForests c.forest_count-forests.result c.in_ok-roles.roles.items = subst (HasForests c.forest_count-forests.result) (sym roles) (unknown-known c.forest_count-forests.result c.degree-degree.result) in

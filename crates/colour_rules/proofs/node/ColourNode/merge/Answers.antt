@@ -21,9 +21,9 @@ returns-else-step-steps-clause-node c =
     let here = c.self.view_is ∙ c.gather.ensures.node in
     let end : suc c.args.step ≡ steps node.sizes = (let e : suc c.args.step ≡ c.steps.result = omega (arith, c.if-step-steps.false) in e ∙ (c.steps.ensures ∙ ap (λ (n : Node). steps n.sizes) here)) in
     let last : (suc c.args.step == steps node.sizes) ≡ true = grind (arith, nat_tests) in
-    turns-is node 13 c.args.forest c.args.step c.args.inbox.now.slots c.args.out.now _ here c.if-is_turn.ensures colour c.least_free-self-inside.ensures
+    turns-is node c.args.forest c.args.step c.args.inbox.now.slots c.args.out.now _ here c.if-is_turn.ensures colour c.least_free-self-inside.ensures
     (told-if (suc c.args.step == steps node.sizes) c.args.out.now (silent node.roles) (map (tells_chosen c.args.forest colour) node.roles) last (c.requires.out ∙ silent-is node))
 
 pub returns-else-is_turn-clause-node : goal.returns-else-is_turn-clause-node
 returns-else-is_turn-clause-node c =
-    waits-is c.args.self.now 13 c.args.forest c.args.step c.args.inbox.now.slots c.args.out.now c.gather.new.self c.gather.ensures.node c.if-is_turn.ensures c.requires.out
+    waits-is c.args.self.now c.args.forest c.args.step c.args.inbox.now.slots c.args.out.now c.gather.new.self c.gather.ensures.node c.if-is_turn.ensures c.requires.out

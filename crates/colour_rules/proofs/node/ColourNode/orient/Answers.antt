@@ -12,7 +12,7 @@ use Rattle.colour_rules.proofs.node.ColourNode.orient.Goals as goal
 pub invariant_of-self : goal.invariant_of-self
 invariant_of-self c =
     let inside = c.self.inside in
-    let ids = c.args.heard.now in
+    let ids = c.args.identifiers.now in
     let roles = c.number_up.new.roles in
     let few = subst (λ (node : Node). count_by (nat_lt node.id) ids ≤ node.sizes.forests) (sym c.self.view_is) c.requires.few in
     let size : length roles ≡ inside.roles.len = search rules in

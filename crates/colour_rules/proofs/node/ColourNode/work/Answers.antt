@@ -4,17 +4,17 @@ use Rattle.std.specs.Vec.{with_items}
 use Rattle.std.proofs.lemmas.List.{with_items_is}
 use Rattle.std.proofs.lemmas.List.FromFn.{length-map-range_with_len}
 use Rattle.colour_rules.specs.Node.{Node}
-use Rattle.colour_rules.specs.Program.{from_parent}
+use Rattle.colour_rules.specs.Program.{from_parent, next_colours, next_kept}
 use Rattle.colour_rules.specs.contracts.node.ColourNode.{the_view}
 use Rattle.colour_rules.proofs.Valid.{IsValid, valid-seen, valid-colours}
 use Rattle.colour_rules.proofs.Working.{brought, ready, kept-below}
-use Rattle.colour_rules.proofs.Worked.{next_colours, next_kept, colours-are, kept-are, tells-on, tells-nothing}
+use Rattle.colour_rules.proofs.Worked.{colours-are, kept-are, tells-on, tells-nothing}
 use Rattle.colour_rules.proofs.node.ColourNode.work.Goals as goal
 use Rattle.colour_rules.proofs.node.ColourNode.work.Goals.{After-turn_all}
 
 pub hear_parents-requires-clause-all : goal.hear_parents-requires-clause-all
 hear_parents-requires-clause-all c port f h up =
-    let b = brought c.args.self.now c.args.pulse c.args.kind c.args.inbox.now.slots c.requires.phase c.requires.own c.requires.ports c.requires.accepted port f h up in
+    let b = brought c.args.self.now c.args.reduction c.args.inbox.now.slots c.requires.real c.requires.own c.requires.ports c.requires.accepted port f h up in
     (b.0, b.1)
 
 pub turn_all-requires-clause-ready : goal.turn_all-requires-clause-ready
@@ -25,54 +25,54 @@ turn_all-requires-clause-ready c f h =
     let before : c.deref_mut-2.result.now ≡ node.before = c.deref_mut-2.ensures.value ∙ ap (λ (n : Node). n.before) c.self.view_is in
     let within : f < length node.colours = subst (λ (cs : List ℕ). f < length cs) own h in
     let in_forest : f < node.sizes.forests = omega (arith, valid.3) in
-    let heard : slice_index_or c.hear_parents.new.above f None ≡ from_parent f node.roles c.args.inbox.now.slots = c.hear_parents.ensures.above f in_forest in
+    let heard : slice_index_or c.hear_parents.new.parent_colours f None ≡ from_parent f node.roles c.args.inbox.now.slots = c.hear_parents.ensures.parent_colours f in_forest in
     rw (own, before, heard)
-    (ready node c.args.pulse c.args.kind c.args.inbox.now.slots c.requires.phase c.requires.own c.requires.ports c.requires.accepted valid.6 (valid.4 ∙ sym valid.3) f within)
+    (ready node c.args.reduction c.args.inbox.now.slots c.requires.real c.requires.own c.requires.ports c.requires.accepted valid.6 (valid.4 ∙ sym valid.3) f within)
 
 -- the colours after the turn, and those kept beside them
-turned : (c : After-turn_all) → ((with_items c.self.inside.colours c.turn_all.new.colours).items ≡ next_colours c.args.self.now c.args.kind c.args.inbox.now.slots) × ((with_items c.self.inside.before c.turn_all.new.before).items ≡ next_kept c.args.self.now c.args.kind)
+turned : (c : After-turn_all) → ((with_items c.self.inside.colours c.turn_all.new.colours).items ≡ next_colours c.args.self.now c.args.reduction c.args.inbox.now.slots) × ((with_items c.self.inside.before c.turn_all.new.before).items ≡ next_kept c.args.self.now c.args.reduction)
 turned c =
     let node = c.args.self.now in
     let slots = c.args.inbox.now.slots in
     let valid : IsValid node = valid-seen c.self.inside node c.self.view_is c.self.invariant in
     let old = c.deref_mut.result.now in
-    let former = c.deref_mut-2.result.now in
+    let old_before = c.deref_mut-2.result.now in
     let own : old ≡ node.colours = c.deref_mut.ensures.value ∙ ap (λ (n : Node). n.colours) c.self.view_is in
-    let before : former ≡ node.before = c.deref_mut-2.ensures.value ∙ ap (λ (n : Node). n.before) c.self.view_is in
+    let before : old_before ≡ node.before = c.deref_mut-2.ensures.value ∙ ap (λ (n : Node). n.before) c.self.view_is in
     let room : length c.turn_all.new.colours ≡ c.self.inside.colours.len = search rules in
     let kept_room : length c.turn_all.new.before ≡ c.self.inside.before.len = search rules in (
-      with_items_is c.self.inside.colours c.turn_all.new.colours room ∙ (c.turn_all.ensures.colours ∙ colours-are node c.args.kind slots old former own before valid.3 c.hear_parents.new.above c.hear_parents.ensures.above),
-      with_items_is c.self.inside.before c.turn_all.new.before kept_room ∙ (c.turn_all.ensures.before ∙ kept-are node c.args.kind slots old former own before valid.3),
+      with_items_is c.self.inside.colours c.turn_all.new.colours room ∙ (c.turn_all.ensures.colours ∙ colours-are node c.args.reduction slots old old_before own before valid.3 c.hear_parents.new.parent_colours c.hear_parents.ensures.parent_colours),
+      with_items_is c.self.inside.before c.turn_all.new.before kept_room ∙ (c.turn_all.ensures.before ∙ kept-are node c.args.reduction slots old old_before own before valid.3),
     )
 
-worked : (c : After-turn_all) → record (the_view c.self.inside) { colours = (with_items c.self.inside.colours c.turn_all.new.colours).items; before = (with_items c.self.inside.before c.turn_all.new.before).items } ≡ record c.args.self.now { colours = next_colours c.args.self.now c.args.kind c.args.inbox.now.slots; before = next_kept c.args.self.now c.args.kind }
+worked : (c : After-turn_all) → record (the_view c.self.inside) { colours = (with_items c.self.inside.colours c.turn_all.new.colours).items; before = (with_items c.self.inside.before c.turn_all.new.before).items } ≡ record c.args.self.now { colours = next_colours c.args.self.now c.args.reduction c.args.inbox.now.slots; before = next_kept c.args.self.now c.args.reduction }
 worked c =
     let node = c.args.self.now in
     let colours : List ℕ = (with_items c.self.inside.colours c.turn_all.new.colours).items in
     let before : List ℕ = (with_items c.self.inside.before c.turn_all.new.before).items in
     ap (λ (n : Node). record n { colours = colours; before = before }) c.self.view_is
     ∙ (ap (λ (cs : List ℕ). record node { colours = cs; before = before }) (turned c).0
-    ∙ ap (λ (cs : List ℕ). record node { colours = next_colours node c.args.kind c.args.inbox.now.slots; before = cs }) (turned c).1)
+    ∙ ap (λ (cs : List ℕ). record node { colours = next_colours node c.args.reduction c.args.inbox.now.slots; before = cs }) (turned c).1)
 
 stays : (c : After-turn_all) → IsValid (record (the_view c.self.inside) { colours = (with_items c.self.inside.colours c.turn_all.new.colours).items; before = (with_items c.self.inside.before c.turn_all.new.before).items })
 stays c =
     let node = c.args.self.now in
     let valid : IsValid node = valid-seen c.self.inside node c.self.view_is c.self.invariant in
     subst IsValid (sym (worked c))
-    (valid-colours node (next_colours node c.args.kind c.args.inbox.now.slots) (next_kept node c.args.kind) valid
+    (valid-colours node (next_colours node c.args.reduction c.args.inbox.now.slots) (next_kept node c.args.reduction) valid
     (length-map-range_with_len _ 0 node.sizes.forests) (length-map-range_with_len _ 0 node.sizes.forests)
-    (kept-below node c.args.pulse c.args.kind c.args.inbox.now.slots c.requires.phase c.requires.own valid.6 (valid.4 ∙ sym valid.3) valid.3))
+    (kept-below node c.args.reduction c.args.inbox.now.slots c.requires.real c.requires.own valid.6 (valid.4 ∙ sym valid.3) valid.3))
 
 pub invariant_of-self : goal.invariant_of-self
 invariant_of-self c = stays (goal.at.invariant_of-self c).After-turn_all
 
-pub invariant_of-self-else-pulse-ne12 : goal.invariant_of-self-else-pulse-ne12
-invariant_of-self-else-pulse-ne12 c = stays (goal.at.invariant_of-self-else-pulse-ne12 c).After-turn_all
+pub invariant_of-self-else-not-is_last : goal.invariant_of-self-else-not-is_last
+invariant_of-self-else-not-is_last c = stays (goal.at.invariant_of-self-else-not-is_last c).After-turn_all
 
-pub returns-then-pulse-ne12-clause-node : goal.returns-then-pulse-ne12-clause-node
-returns-then-pulse-ne12-clause-node c =
-    tells-on c.args.self.now _ c.args.pulse _ _ (worked (goal.at.returns-then-pulse-ne12-clause-node c).After-turn_all) c.tell_colours.new.out c.if-pulse-ne12.true c.tell_colours.ensures
+pub returns-then-not-is_last-clause-node : goal.returns-then-not-is_last-clause-node
+returns-then-not-is_last-clause-node c =
+    tells-on c.args.self.now _ c.args.reduction _ _ (worked (goal.at.returns-then-not-is_last-clause-node c).After-turn_all) c.tell_colours.new.out (sym c.if-not-is_last.ensures) c.tell_colours.ensures
 
-pub returns-else-pulse-ne12-clause-node : goal.returns-else-pulse-ne12-clause-node
-returns-else-pulse-ne12-clause-node c =
-    tells-nothing c.args.self.now _ c.args.pulse _ _ (worked (goal.at.returns-else-pulse-ne12-clause-node c).After-turn_all) c.args.out.now c.if-pulse-ne12.false c.requires.out
+pub returns-else-not-is_last-clause-node : goal.returns-else-not-is_last-clause-node
+returns-else-not-is_last-clause-node c =
+    tells-nothing c.args.self.now _ c.args.reduction _ _ (worked (goal.at.returns-else-not-is_last-clause-node c).After-turn_all) c.args.out.now (sym c.if-not-is_last.ensures) c.requires.out

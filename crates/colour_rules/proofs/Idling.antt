@@ -1,0 +1,61 @@
+-- A node whose turn it isn't, and that hears nothing, does nothing.
+use Rattle.std.proofs.Common.{◌≡◌, ◌≢◌, ℕ, zero, suc, ◌+◌, ◌-◌, ◌*◌, ◌<◌, ◌≤◌, ◌==◌, false, List, [], ◌∷◌, length, refl, ap, subst, sym, ◌∙◌, arith}
+use Rattle.std.specs.Prelude.{Option, None, Ok, slice_index}
+use Rattle.std.proofs.lemmas.Bool.Decides.{nat_tests}
+use Rattle.node_api.specs.Boxes.{nothing}
+use Rattle.forests.specs.declared.numbering.Role.{Role}
+use Rattle.colour_rules.specs.declared.payload.Payload.{Payload}
+use Rattle.colour_rules.specs.declared.phase.Phase.TheVariants.{Merge}
+use Rattle.colour_rules.specs.declared.phase.TheConstants.{FIRST_MERGE}
+use Rattle.colour_rules.specs.Node.{IsPhase, Node, phase_of, ports, steps}
+use Rattle.colour_rules.specs.Choice.{chooses, gathered, with_chosen}
+use Rattle.colour_rules.specs.Refusals.{ports_refusal, refusal}
+use Rattle.colour_rules.specs.Program.{answered, done, next}
+use Rattle.colour_rules.proofs.Pairs.{pair_test, phase_merge}
+use Rattle.colour_rules.proofs.Phases.{merge-pulse, phase-real}
+use Rattle.colour_rules.proofs.Steps.{waits-is}
+
+-- it is a node's turn at one step of a forest alone
+pub no-turn : (node : Node) (f s : ℕ) → node.colour_before ≤ node.sizes.greatest_degree → slice_index node.colours f * (node.sizes.greatest_degree + 1) + node.colour_before ≢ s → chooses node f s ≡ false
+no-turn node f s low other =
+    pair_test (slice_index node.colours f) node.colour_before (node.sizes.greatest_degree + 1) s (omega arith)
+    ∙ (let e : (slice_index node.colours f * (node.sizes.greatest_degree + 1) + node.colour_before == s) ≡ false = grind (arith, nat_tests) in e)
+
+none_refused : (node : Node) (f s port : ℕ) (earlier : List ℕ) (roles : List Role) → ports_refusal node (Merge f s) port earlier roles (nothing (length roles)) ≡ None
+none_refused node f s port earlier [] = refl
+none_refused node f s port earlier (role ∷ roles) = none_refused node f s (suc port) earlier roles
+
+nothing_chosen : (node : Node) (n : ℕ) → with_chosen node.chosen (nothing n) ≡ node.chosen
+nothing_chosen node zero = refl
+nothing_chosen node (suc n) = nothing_chosen node n
+
+-- nothing gathered, after the first step of a forest
+gathers_nothing : (node : Node) (s : ℕ) → (s == 0) ≡ false → node ≡ gathered node s (nothing (ports node))
+gathers_nothing node s later = rw (later, nothing_chosen node (ports node)) refl
+
+module _ (node : Node) (p f s : ℕ) (phase : phase_of node.sizes p ≡ Merge f s) (later : (s == 0) ≡ false) (wait : chooses node f s ≡ false) where
+  abbrev silence : List (Option Payload)
+  silence = nothing (ports node)
+
+  waits : chooses (gathered node s silence) f s ≡ false
+  waits = ap (λ (n : Node). chooses n f s) (sym (gathers_nothing node s later)) ∙ wait
+
+  -- so it stays as it is
+  pub rests : next node p (nothing (ports node)) ≡ Ok (node, nothing (ports node))
+  rests =
+      let fine : refusal node (Merge f s) silence ≡ None = rw (none_refused node f s 0 [] node.roles, waits) refl in
+      rw phase
+      (ap (λ r. answered r (done node (Merge f s) silence)) fine
+      ∙ ap Ok (sym (waits-is node f s silence silence node (gathers_nothing node s later) (sym waits) refl)))
+
+-- The pulses after one of the merging are idle, up to the node's next turn or the end of the forest.
+pub idle-until : (node : Node) (pulse f s end : ℕ) → Merge f s ≡ phase_of node.sizes pulse → end ≤ steps node.sizes → ((t : ℕ) → s < t → t < end → chooses node f t ≡ false) → (p : ℕ) → pulse < p → p < pulse + (end - s) → next node p (nothing (ports node)) ≡ Ok (node, nothing (ports node))
+idle-until node pulse f s end is within idle p low high =
+    let bounds : IsPhase node.sizes (Merge f s) = subst (IsPhase node.sizes) (sym is) (phase-real node.sizes pulse) in
+    let here : pulse ≡ FIRST_MERGE + (f * steps node.sizes + s) = merge-pulse node.sizes pulse f s is in
+    let t : ℕ = p - pulse + s in
+    let there : p ≡ FIRST_MERGE + (f * steps node.sizes + t) = omega arith in
+    let before : t < end = omega arith in
+    let phase : phase_of node.sizes p ≡ Merge f t = ap (phase_of node.sizes) there ∙ phase_merge node.sizes f t bounds.0 (omega arith) in
+    let later : (t == 0) ≡ false = (let some : 0 < t = omega arith in grind (arith, nat_tests)) in
+    rests node p f t phase later (idle t (omega arith) before)
