@@ -3,6 +3,10 @@
 #![tactic(auto)]
 
 #[cfg(test)]
+mod colour_program_checks;
+#[cfg(test)]
+mod colour_rules_checks;
+#[cfg(test)]
 mod counted;
 #[cfg(test)]
 mod node_api_checks;

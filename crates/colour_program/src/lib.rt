@@ -19,6 +19,3 @@ mod colouring;
 pub use colour_laws::laws;
 pub use colour_rules::{Payload, rules};
 pub use colouring::Colouring;
-
-#[cfg(test)]
-mod tests;

@@ -41,6 +41,3 @@ pub use node::ColourNode;
 pub use payload::Payload;
 pub use phase::{FIRST_MERGE, Phase, Reduction};
 pub use scratch::Scratch;
-
-#[cfg(test)]
-mod tests;

@@ -1,11 +1,10 @@
-// A node made for a test, and fed by hand. A caller may skip pulses.
+//! A node made for a test, and fed by hand. A caller may skip pulses.
 
 ghost use Rattle.std.specs.Prelude.{◌≡◌, ◌≤◌, IfOk, length};
 ghost use Rattle.interference.specs.Net.{IsVertex, degree_of};
 ghost use Rattle.colour_rules.specs.Node.{ports};
 
-use crate::Colouring;
-use colour_rules::Payload;
+use colour_program::{Colouring, Payload};
 use interference::{Memory, Network};
 use node_api::{Inbox, NodeProgram, Outbox, Refused};
 use std::alloc::Global;
@@ -18,7 +17,7 @@ pub fn made(alloc: Global, net: &Network, v: u32) -> Result<Colouring, Memory>
     Colouring::make(alloc, net, v)
 }
 
-/// What a node answers to these payloads at its ports, and what it sends.
+/// What a node returns on these payloads at its ports, and what it sends.
 pub fn feed(
     alloc: Global,
     node: &mut Colouring,

@@ -1,14 +1,15 @@
-// Refusals by value, by what is missing and by the node itself, and that they leave the node as it was.
+//! Refusals by value, by what is missing and by the node itself, and that they leave the node as it was.
 
 ghost use Rattle.std.specs.Prelude.{◌≡◌, IfOk};
 ghost use Rattle.interference.specs.Net.{IsVertex};
 ghost use Rattle.colour_rules.specs.Node.{ports};
 
-use crate::Colouring;
-use crate::tests::fed::{feed, made};
-use crate::tests::make;
-use colour_rules::Payload;
-use colour_rules::Payload::{Chosen, Colour, Hello, Label};
+use crate::colour_program_checks::fed::{feed, made};
+use colour_program::Payload::{Chosen, Colour, Hello, Label};
+use colour_program::rules::{
+    AFTER_HALT, COLOUR_RANGE, FOREST_RANGE, MISSING, WRONG_KIND, WRONG_ROLE,
+};
+use colour_program::{Colouring, Payload};
 use interference::{Memory, Network};
 use node_api::{Outbox, Refused};
 use std::alloc::Global;
@@ -16,7 +17,7 @@ use std::process::Abort;
 use std::test::Fail;
 
 // A pulse, and what comes to the two ports of a node at it.
-type Told = (u32, [Option<Payload>; 2]);
+type Came = (u32, [Option<Payload>; 2]);
 
 // A triangle with identifiers 1, 2 and 30: two forests, degree 2, last pulse 30. Vertex 1 has two
 // parents, vertex 2 a child and a parent, vertex 3 two children.
@@ -24,8 +25,8 @@ const IDS: [u64; 3] = [1, 2, 30];
 
 const EDGES: [(u32, u32); 3] = [(1, 2), (1, 3), (2, 3)];
 
-// What its vertices are told before, in turn.
-fn told_before(v: u32, turn: u32) -> Told {
+// What comes to its vertices before, in turn.
+fn came_before(v: u32, turn: u32) -> Came {
     match (v, turn) {
         (1, 0) => (1, [Some(Hello(2)), Some(Hello(30))]),
         (1, 1) => (2, [None, None]),
@@ -36,54 +37,96 @@ fn told_before(v: u32, turn: u32) -> Told {
     }
 }
 
-// A vertex, how often it was told before, what it refuses then, by which rule and of which port.
-const REFUSALS: [(u32, u32, Told, u16, Option<u32>); 20] = [
+// A vertex, how many pulses came before, what it refuses then, by which rule and of which port.
+const REFUSALS: [(u32, u32, Came, u16, Option<u32>); 20] = [
     // A wrong kind, and a wrong role.
-    (1, 0, (1, [Some(Hello(2)), Some(Label(0))]), 1, Some(1)),
-    (2, 1, (1, [Some(Hello(1)), Some(Hello(30))]), 2, Some(1)),
+    (
+        1,
+        0,
+        (1, [Some(Hello(2)), Some(Label(0))]),
+        WRONG_KIND,
+        Some(1),
+    ),
+    (
+        2,
+        1,
+        (1, [Some(Hello(1)), Some(Hello(30))]),
+        WRONG_ROLE,
+        Some(1),
+    ),
     // No such forest; a choice at the first step of a forest; one from a later forest.
-    (2, 1, (2, [Some(Label(2)), None]), 3, Some(0)),
-    (1, 1, (13, [Some(Chosen(0)), None]), 3, Some(0)),
-    (1, 1, (14, [None, Some(Chosen(0))]), 3, Some(1)),
+    (2, 1, (2, [Some(Label(2)), None]), FOREST_RANGE, Some(0)),
+    (1, 1, (13, [Some(Chosen(0)), None]), FOREST_RANGE, Some(0)),
+    (1, 1, (14, [None, Some(Chosen(0))]), FOREST_RANGE, Some(1)),
     // The node's own identifier; one that came before.
-    (1, 0, (1, [Some(Hello(2)), Some(Hello(1))]), 4, Some(1)),
-    (1, 0, (1, [Some(Hello(2)), Some(Hello(2))]), 4, Some(1)),
+    (
+        1,
+        0,
+        (1, [Some(Hello(2)), Some(Hello(1))]),
+        COLOUR_RANGE,
+        Some(1),
+    ),
+    (
+        1,
+        0,
+        (1, [Some(Hello(2)), Some(Hello(2))]),
+        COLOUR_RANGE,
+        Some(1),
+    ),
     // The node's own colour, which is 0 until it is seeded with the identifier.
-    (1, 1, (3, [Some(Colour(2)), Some(Colour(0))]), 4, Some(1)),
-    (1, 2, (3, [Some(Colour(2)), Some(Colour(1))]), 4, Some(1)),
+    (
+        1,
+        1,
+        (3, [Some(Colour(2)), Some(Colour(0))]),
+        COLOUR_RANGE,
+        Some(1),
+    ),
+    (
+        1,
+        2,
+        (3, [Some(Colour(2)), Some(Colour(1))]),
+        COLOUR_RANGE,
+        Some(1),
+    ),
     // A chosen colour above the greatest degree.
-    (1, 1, (14, [Some(Chosen(3)), None]), 4, Some(0)),
+    (1, 1, (14, [Some(Chosen(3)), None]), COLOUR_RANGE, Some(0)),
     // The node's own colour is 30 at a shift and at a drop, where the steps are left out.
-    (3, 2, (7, [None, None]), 4, None),
-    (3, 2, (8, [None, None]), 4, None),
+    (3, 2, (7, [None, None]), COLOUR_RANGE, None),
+    (3, 2, (8, [None, None]), COLOUR_RANGE, None),
     // No colour is free at the step of the pair of colours 1 and 0 in forest 1.
-    (1, 3, (25, [Some(Chosen(2)), None]), 4, None),
+    (1, 3, (25, [Some(Chosen(2)), None]), COLOUR_RANGE, None),
     // Nothing where something is due.
-    (1, 0, (1, [Some(Hello(2)), None]), 5, Some(1)),
-    (2, 1, (2, [None, None]), 5, Some(0)),
-    (1, 1, (3, [Some(Colour(2)), None]), 5, Some(1)),
+    (1, 0, (1, [Some(Hello(2)), None]), MISSING, Some(1)),
+    (2, 1, (2, [None, None]), MISSING, Some(0)),
+    (1, 1, (3, [Some(Colour(2)), None]), MISSING, Some(1)),
     // After the last pulse.
-    (1, 1, (31, [None, Some(Chosen(0))]), 6, Some(1)),
+    (1, 1, (31, [None, Some(Chosen(0))]), AFTER_HALT, Some(1)),
     // The first of two broken ports, and a port before the node itself.
-    (1, 0, (1, [Some(Hello(1)), Some(Label(0))]), 4, Some(0)),
-    (1, 0, (1, [None, Some(Label(0))]), 5, Some(0)),
-    (3, 2, (7, [None, Some(Colour(6))]), 2, Some(1)),
+    (
+        1,
+        0,
+        (1, [Some(Hello(1)), Some(Label(0))]),
+        COLOUR_RANGE,
+        Some(0),
+    ),
+    (1, 0, (1, [None, Some(Label(0))]), MISSING, Some(0)),
+    (3, 2, (7, [None, Some(Colour(6))]), WRONG_ROLE, Some(1)),
 ];
 
-// What the node answers and sends at a pulse.
-fn tell(
+// What the node returns and sends at a pulse.
+fn deliver(
     alloc: Global,
     node: &mut Colouring,
-    told: Told,
+    came: Came,
 ) -> Result<(Result<(), Refused>, Outbox<Payload>), Memory>
     requires ports { ports node.old ≡ 2 }
     ensures ports { ports node.new ≡ 2 }
 {
-    let (pulse, payloads) = told;
+    let (pulse, payloads) = came;
     feed(alloc, node, pulse, payloads.as_slice())
 }
 
-// The node of a vertex with two neighbours, once it was told so often.
+// The node of a vertex with two neighbours, after so many pulses.
 fn node_after(
     rt: &impl Abort,
     alloc: Global,
@@ -97,40 +140,34 @@ fn node_after(
     assert!(rt; net.degree(v) == 2);
     let mut node = made(alloc, net, v)?;
     for turn in 0..turns {
-        let (answer, _) = tell(alloc, &mut node, told_before(v, turn))?;
+        let (answer, _) = deliver(alloc, &mut node, came_before(v, turn))?;
         assert_eq!(rt; answer, Ok(()), "vertex {v}, turn {turn}");
     }
     Ok(node)
 }
 
 #[test]
-fn a_refusal_tells_its_rule_and_its_port(rt: HostRuntime) -> Result<(), Fail> {
+fn a_refusal_has_its_rule_and_its_port(rt: HostRuntime) -> Result<(), Fail> {
     let alloc = rt.alloc();
-    let net = make(&rt, alloc, &IDS, &EDGES)?;
-    for (v, turns, told, rule, port) in REFUSALS {
+    let net = Network::try_new(alloc, &IDS, &EDGES)?;
+    for (v, turns, came, rule, port) in REFUSALS {
         assert!(rt; 1 <= v && v <= net.nodes());
         let mut node = node_after(&rt, alloc, &net, v, turns)?;
         let colour = node.colour();
-        let (answer, out) = tell(alloc, &mut node, told)?;
+        let (answer, out) = deliver(alloc, &mut node, came)?;
         let want = Err(Refused { rule, port });
-        assert_eq!(rt; answer, want, "vertex {v}, {told:?}");
+        assert_eq!(rt; answer, want, "vertex {v}, {came:?}");
         assert!(rt; out.is_quiet() && node.colour() == colour);
     }
-    Ok(())
-}
-
-// On a path a node has one parent at most, and here both neighbours say that they are higher.
-#[test]
-fn more_parents_than_forests_are_refused(rt: HostRuntime) -> Result<(), Fail> {
-    let alloc = rt.alloc();
-    let net = make(&rt, alloc, &[1, 2, 3], &[(1, 2), (2, 3)])?;
-    assert!(rt; net.nodes() == 3);
-    let mut node = node_after(&rt, alloc, &net, 2, 0)?;
-    let (answer, _) = tell(alloc, &mut node, (1, [Some(Hello(4)), Some(Hello(3))]))?;
+    // On a path a node has one parent at most, and here both neighbours say that they are higher.
+    let path = Network::try_new(alloc, &[1, 2, 3], &[(1, 2), (2, 3)])?;
+    assert!(rt; path.nodes() == 3);
+    let mut node = node_after(&rt, alloc, &path, 2, 0)?;
+    let (answer, _) = deliver(alloc, &mut node, (1, [Some(Hello(4)), Some(Hello(3))]))?;
     assert_eq!(rt;
         answer,
         Err(Refused {
-            rule: 3,
+            rule: FOREST_RANGE,
             port: None
         })
     );
@@ -141,7 +178,7 @@ fn more_parents_than_forests_are_refused(rt: HostRuntime) -> Result<(), Fail> {
 #[test]
 fn colours_have_their_bounds(rt: HostRuntime) -> Result<(), Fail> {
     let alloc = rt.alloc();
-    let net = make(&rt, alloc, &IDS, &EDGES)?;
+    let net = Network::try_new(alloc, &IDS, &EDGES)?;
     assert!(rt; net.nodes() == 3);
     for (pulse, bound) in [
         (4, 127),
@@ -155,7 +192,7 @@ fn colours_have_their_bounds(rt: HostRuntime) -> Result<(), Fail> {
         (12, 3),
     ] {
         let mut node = node_after(&rt, alloc, &net, 1, 1)?;
-        let (above, _) = tell(
+        let (above, _) = deliver(
             alloc,
             &mut node,
             (pulse, [Some(Colour(1)), Some(Colour(bound + 1))]),
@@ -163,12 +200,12 @@ fn colours_have_their_bounds(rt: HostRuntime) -> Result<(), Fail> {
         assert_eq!(rt;
             above,
             Err(Refused {
-                rule: 4,
+                rule: COLOUR_RANGE,
                 port: Some(1)
             }),
             "at {pulse}"
         );
-        let (within, _) = tell(
+        let (within, _) = deliver(
             alloc,
             &mut node,
             (pulse, [Some(Colour(1)), Some(Colour(bound))]),

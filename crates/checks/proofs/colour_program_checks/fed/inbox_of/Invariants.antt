@@ -1,5 +1,5 @@
 use Rattle.std.proofs.Common.{◌≡◌, length}
-use Rattle.colour_program.proofs.tests.fed.inbox_of.Given as goal
+use Rattle.checks.proofs.colour_program_checks.fed.inbox_of.Given as goal
 
 abbrev pub invariant-loop-port : goal.invariant-loop-port
 invariant-loop-port l = record {

@@ -1,8 +1,8 @@
-// The table of what may come to a node: 96 cells, by phase, kind of payload and role of the port.
+//! The table of what may come to a node: 96 cells, by phase, kind of payload and role of the port.
 
-use crate::tests::fed::{feed, made};
-use crate::tests::make;
-use colour_rules::Payload;
+use crate::colour_program_checks::fed::{feed, made};
+use colour_program::Payload;
+use colour_program::rules::{AFTER_HALT, WRONG_KIND, WRONG_ROLE};
 use interference::Network;
 use node_api::Refused;
 use std::alloc::Global;
@@ -23,11 +23,11 @@ const CHOSEN: Payload = Payload::Chosen(0);
 // The rule that a cell breaks.
 const DUE: Option<u16> = None;
 
-const P1: Option<u16> = Some(1);
+const P1: Option<u16> = Some(WRONG_KIND);
 
-const P2: Option<u16> = Some(2);
+const P2: Option<u16> = Some(WRONG_ROLE);
 
-const P6: Option<u16> = Some(6);
+const P6: Option<u16> = Some(AFTER_HALT);
 
 // Pulse, payload, and what it breaks from a port that is Unknown, Up and Down.
 const TABLE: [(u32, Payload, [Option<u16>; 3]); 32] = [
@@ -73,21 +73,21 @@ const TABLE: [(u32, Payload, [Option<u16>; 3]); 32] = [
     (19, CHOSEN, [P6, P6, P6]),
 ];
 
-// What a node made anew answers to a payload, once it was told others at the pulses from 1 on.
+// What a node made anew returns on a payload, once others came at the pulses from 1 on.
 fn answer(
     rt: &impl Abort,
     alloc: Global,
     net: &Network,
     v: u32,
-    told: &[Payload],
+    earlier: &[Payload],
     pulse: u32,
     payload: Payload,
 ) -> Result<Result<(), Refused>, Fail> {
     assert!(rt; 1 <= v && v <= net.nodes());
-    assert!(rt; net.degree(v) == 1 && told.len() <= 2);
+    assert!(rt; net.degree(v) == 1 && earlier.len() <= 2);
     let mut node = made(alloc, net, v)?;
-    for i in 0..told.len() {
-        let (answer, _) = feed(alloc, &mut node, i as u32 + 1, &[Some(told[i])])?;
+    for i in 0..earlier.len() {
+        let (answer, _) = feed(alloc, &mut node, i as u32 + 1, &[Some(earlier[i])])?;
         assert_eq!(rt; answer, Ok(()));
     }
     let (answer, _) = feed(alloc, &mut node, pulse, &[Some(payload)])?;
@@ -95,9 +95,9 @@ fn answer(
 }
 
 #[test]
-fn each_cell_of_the_table_has_its_answer(rt: HostRuntime) -> Result<(), Fail> {
+fn each_cell_of_the_table_has_its_rule(rt: HostRuntime) -> Result<(), Fail> {
     let alloc = rt.alloc();
-    let net = make(&rt, alloc, &[1, 2], &[(1, 2)])?;
+    let net = Network::try_new(alloc, &[1, 2], &[(1, 2)])?;
     for (pulse, payload, broken) in TABLE {
         let answers = [
             answer(&rt, alloc, &net, 1, &[], pulse, payload)?,

@@ -4,7 +4,7 @@ use Rattle.node_api.specs.declared.program.Refused.{Refused}
 use Rattle.colour_rules.specs.declared.payload.Payload.{Payload}
 use Rattle.colour_rules.specs.Node.{Node, ports}
 use Rattle.colour_rules.proofs.KeptPorts.{keeps}
-use Rattle.colour_program.proofs.tests.fed.feed.Goals as goal
+use Rattle.checks.proofs.colour_program_checks.fed.feed.Goals as goal
 
 abbrev Keeps : ℕ → Node × List (Option Payload) → Type 0
 Keeps n node = (ports node.0 ≡ n) × (length node.1 ≡ n)

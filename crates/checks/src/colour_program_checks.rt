@@ -1,0 +1,5 @@
+//! A node of the colouring, fed by hand: what it refuses, and that a refusal leaves it as it was.
+
+mod cells;
+mod fed;
+mod refusals;
