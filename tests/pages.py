@@ -7,8 +7,8 @@
   the same columns, has to be its output (notes behind two blanks are left out).
 - Each table of docs/LESSONS.md is worked out from the definitions (plain_definition.py), not from the program.
 - Each excerpt of code, a fence whose first line names its file, has its lines in that file, in this order.
-- Each file named in backquotes exists, each link leads to a page and a heading, and each function and clause that a row of
-  docs/PROMISES.md names is in the code.
+- README.md names each crate. Each file named in backquotes exists, each link leads to a page and a heading, and each
+  function and clause that a row of docs/PROMISES.md names is in the code.
 """
 import os
 import re
@@ -215,6 +215,15 @@ def check_promises():
                 note(f"docs/PROMISES.md:{number} {path}", not missing, f"not in the code: {missing}")
 
 
+def check_crates():
+    """README names each crate of crates.txt, and each crate of the toolchain that it lists."""
+    readme, names = "\n".join(lines_of("README.md")), set()
+    for line in lines_of("crates.txt"):
+        names |= set(line.partition("#")[0].replace(":", " ").split())
+    missing = sorted(name for name in names if f"`{name}`" not in readme)
+    note("crates in README.md", not missing, f"not named: {missing}")
+
+
 def main():
     program = os.path.join(TOP, "crates", "forestplan", "out", "forestplan")
     if len(sys.argv) > 1:
@@ -226,6 +235,7 @@ def main():
         check_commands(page, program)
         check_names(page)
         check_excerpts(page)
+    check_crates()
     check_lessons()
     check_promises()
     print(f"{TALLY['passed']} passed, {TALLY['failed']} failed")
