@@ -160,10 +160,10 @@ def check_excerpts(page):
     """Excerpts leave lines out, so their lines are looked for one after another."""
     lines = iter(enumerate(lines_of(page), 1))
     for _, line in lines:
-        if line.strip() != "```rust":
+        if line.strip() not in ("```rust", "```antt"):
             continue
         number, head = next(lines)
-        path = head.strip().removeprefix("// ")
+        path = head.strip().removeprefix("// ").removeprefix("-- ")
         excerpt = []
         for _, line in lines:
             if line.strip() == "```":
