@@ -2,11 +2,14 @@
 """Black-box tests: runs the built program as a user would, and compares standard output, standard error and
 status byte by byte. The last line is 'N passed, M failed'.
 
-  black_box.py [PROGRAM]      default: the script `forestplan` at the top, which builds the program first
+  black_box.py [--second BINARY] [PROGRAM]
+      PROGRAM   default: the script `forestplan` at the top, which builds the program first
+      BINARY    the program as the second compiler builds it; its rows are left out if it isn't named
 
 Expected answers are worked by hand, or come from the plain definition in plain_definition.py; none is taken from
 the program.
 """
+import argparse
 import os
 import random
 import subprocess
@@ -14,7 +17,7 @@ import sys
 import tempfile
 
 from allocations import allocation_rows
-from plain_definition import forests_text
+from plain_definition import forests_text, plan_text
 from plain_networks import plain_network_rows
 from refused_memory import refused_memory_rows
 
@@ -25,6 +28,7 @@ TALLY = {"passed": 0, "failed": 0}
 
 TRIANGLE = "p edge 3 3|e 1 2|e 1 3|e 2 3|"
 TRIANGLE_FORESTS = "forests 3 2|0 1 2|0 2 3|1 1 3|"
+STREAM_LINE = b"forestplan: stream\n"
 
 
 def text(lines):
@@ -100,6 +104,13 @@ def plain_rows():
         expect(f"plan of {network[:30]!r}", done, 1, b"", f"forestplan: {fault}\n".encode())
 
 
+def example_texts():
+    folder = os.path.join(TOP, "examples")
+    for name in sorted(os.listdir(folder)):
+        with open(os.path.join(folder, name), "rb") as file:
+            yield name, file.read()
+
+
 def example_rows():
     answers = {
         "triangle": TRIANGLE_FORESTS,
@@ -107,13 +118,11 @@ def example_rows():
         "four_cycle": "forests 4 2|0 1 2|0 2 3|0 3 4|1 1 4|",
         "star": "forests 9 1|" + "".join(f"0 {v} 9|" for v in range(1, 9)),
     }
-    folder = os.path.join(TOP, "examples")
-    for name in sorted(os.listdir(folder)):
-        with open(os.path.join(folder, name), "rb") as file:
-            network = file.read()
+    for name, network in example_texts():
         stem = name.removesuffix(".col")
         wanted = text(answers[stem]) if stem in answers else forests_text(network)
         expect(f"example {name}", run(["forests"], network), 0, wanted, b"")
+        expect(f"plain of example {name}", run(["plain"], network), 0, plan_text(network), b"")
         note(f"comment of {name}", network.startswith(b"c "), "an example begins with a comment line")
 
 
@@ -122,7 +131,7 @@ def fault_rows():
     rows = [
         ("", "F1"), ("c x|", "F1"), ("e 1 2|p edge 2 1|", "F3 line 1"), ("p edge 2 1|p x|", "F2 line 2"),
         ("p edge 3|", "F4 line 1"), ("p nothing 3 1|", "F4 line 1"), ("p edge 20001 0|", "F7 line 1"),
-        ("q 1|", "F8 line 1"), ("i 1 5|", "F8 line 1"), ("b 1 1|", "F8 line 1"), ("\xff|", "F8 line 1"),
+        ("q 1|", "F8 line 1"), ("node 1|", "F8 line 1"), ("edge 1 2|", "F8 line 1"), ("x1|", "F8 line 1"), ("i 1 5|", "F8 line 1"), ("b 1 1|", "F8 line 1"), ("\xff|", "F8 line 1"),
         ("p edge 99999999999999999999999999 x|", "F4 line 1"), ("p edge 99999999999999999999999999 1|", "F7 line 1"),
         (edge + "e 1 1|", "F6 line 2"), (edge + "e 0 1|", "F5 line 2"), (edge + "e 1 3|", "F5 line 2"),
         (edge + "e 5 5|", "F5 line 2"), (edge + "e 1|", "F4 line 2"), (edge + "e 1 x|", "F4 line 2"),
@@ -181,58 +190,109 @@ def definition_rows():
     note("200 random networks against the definition", wrong == 0, f"{wrong} differ")
 
 
-def command_line_rows():
-    for words in (["--help"], ["-h"], ["forests", "--help"], ["plain", "--help"]):
-        done = run(words, b"no network")
-        good = done.returncode == 0 and done.stderr == b"" and b"forestplan" in done.stdout and b"Usage" in done.stdout
-        note(f"help by {words}", good, done)
-    for words in ([], ["nothing"], ["help"], ["--version"], ["forests", "extra"], ["forests", "--workers", "1"],
-                  ["plain", "extra"], ["plan"], ["check"], ["transcript"], [b"\xff"]):
-        done = run(words, text(TRIANGLE))
-        good = done.returncode == 2 and done.stdout == b"" and done.stderr.startswith(b"error: ")
-        note(f"refused words {words}", good, done)
+def help_rows():
+    """Each help text whole, as tests/texts/ has it."""
+    for words, name in [(["--help"], "help"), (["-h"], "help_short"),
+                        (["forests", "--help"], "forests_help"), (["forests", "-h"], "forests_help_short"),
+                        (["plain", "--help"], "plain_help"), (["plain", "-h"], "plain_help_short")]:
+        with open(os.path.join(TOP, "tests", "texts", name + ".txt"), "rb") as file:
+            wanted = file.read()
+        expect(f"help by {words}", run(words, b"no network"), 0, wanted, b"")
+
+
+def refused_words_rows():
+    """Each text whole. The first line is the fault, then maybe a tip, the usage of what was named, and where help is."""
+    program, forests, plain = "forestplan <COMMAND>", "forestplan forests", "forestplan plain"
+    none = "'forestplan' requires a subcommand but one was not provided|  [subcommands: forests, plain]"
+    like_plain = "||  tip: a similar subcommand exists: 'plain'"
+    rows = [
+        ([], none, program),
+        (["nothing"], "unrecognized subcommand 'nothing'", program),
+        (["help"], "unrecognized subcommand 'help'", program),
+        (["plan"], "unrecognized subcommand 'plan'" + like_plain, program),
+        (["check"], "unrecognized subcommand 'check'", program),
+        (["transcript"], "unrecognized subcommand 'transcript'", program),
+        (["--version"], "unexpected argument '--version' found", program),
+        (["forests", "extra"], "unexpected argument 'extra' found", forests),
+        (["forests", "plain"], "unexpected argument 'plain' found", forests),
+        (["forests", "--workers", "1"], "unexpected argument '--workers' found", forests),
+        (["plain", "extra"], "unexpected argument 'extra' found", plain),
+        (["plain", "--turns", "1", "2"], "unexpected argument '--turns' found", plain),
+        (["plain", b"\xff"], "unrecognized subcommand '\N{REPLACEMENT CHARACTER}'", program),
+        ([b"\xff"], "unrecognized subcommand '\N{REPLACEMENT CHARACTER}'", program),
+    ]
+    for words, fault, usage in rows:
+        wanted = f"error: {fault}||Usage: {usage}||For more information, try '--help'.|".replace("|", "\n")
+        expect(f"refused words {words}", run(words, text(TRIANGLE)), 2, b"", wanted.encode())
+
+
+def example_stream_rows():
+    """Each example as input of each command, written to a full device and to a closed pipe."""
+    for name, network in example_texts():
+        for command in ("forests", "plain"):
+            with open("/dev/full", "wb") as full:
+                done = run([command], network, stdout=full)
+            note(f"{command} of {name} to a full device", (done.returncode, done.stderr) == (4, STREAM_LINE), done)
+            with closed_pipe() as pipe:
+                done = run([command], network, stdout=pipe)
+            note(f"{command} of {name} to a closed pipe", (done.returncode, done.stderr) == (4, STREAM_LINE), done)
+
+
+def second_compiler_rows(program):
+    """The program as Rattle's own compiler builds it, which the gate leaves beside the other."""
+    with open(os.path.join(TOP, "examples", "queen5_5.col"), "rb") as file:
+        queens = file.read()
+    for name, network in [("queen5_5.col", queens), ("a graph without edges", b"p edge 4 0\n")]:
+        done = subprocess.run([program, "plain"], input=network, capture_output=True, timeout=LIMIT)
+        expect(f"plain of {name}, built by the second compiler", done, 0, plan_text(network), b"")
+
+
+def closed_pipe():
+    """The writing end of a pipe that nobody reads."""
+    reading, writing = os.pipe()
+    os.close(reading)
+    return os.fdopen(writing, "wb")
 
 
 def stream_rows():
-    line = b"forestplan: stream\n"
-    with open("/dev/full", "wb") as full:
-        done = run(["forests"], text(TRIANGLE), stdout=full)
-        note("full device", (done.returncode, done.stderr) == (4, line), done)
     with open("/dev/full", "wb") as full:
         done = run(["--help"], stdout=full)
-        note("help to a full device", (done.returncode, done.stderr) == (4, line), done)
+        note("help to a full device", (done.returncode, done.stderr) == (4, STREAM_LINE), done)
     with open("/dev/full", "wb") as full:
         done = run(["forests"], b"", stderr=full)
         note("a full device for errors changes no status", (done.returncode, done.stdout) == (1, b""), done)
-    reading, writing = os.pipe()
-    os.close(reading)
-    with os.fdopen(writing, "wb") as pipe:
-        done = run(["forests"], text(TRIANGLE), stdout=pipe)
-        note("closed pipe", (done.returncode, done.stderr) == (4, line), done)
     with tempfile.TemporaryDirectory() as folder:
         handle = os.open(folder, os.O_RDONLY)
         done = run(["forests"], stdin=handle)
         os.close(handle)
-        expect("a folder as standard input", done, 4, b"", line)
+        expect("a folder as standard input", done, 4, b"", STREAM_LINE)
     closed = subprocess.run(["bash", "-c", '"$0" forests <&-', PROGRAM], capture_output=True, timeout=LIMIT)
-    expect("a closed standard input", closed, 4, b"", line)
+    expect("a closed standard input", closed, 4, b"", STREAM_LINE)
 
 
 def main():
     global PROGRAM
-    if len(sys.argv) > 1:
-        PROGRAM = os.path.abspath(sys.argv[1])
+    words = argparse.ArgumentParser()
+    words.add_argument("--second", metavar="BINARY")
+    words.add_argument("program", nargs="?", metavar="PROGRAM")
+    given = words.parse_args()
+    if given.program:
+        PROGRAM = os.path.abspath(given.program)
     else:
         built = subprocess.run([PROGRAM, "--help"], stdout=subprocess.DEVNULL)
         note("the program builds", built.returncode == 0, built)
         PROGRAM = os.path.join(TOP, "crates", "forestplan", "out", "forestplan")
     if TALLY["failed"] == 0:
-        for rows in (forests_rows, plain_rows, example_rows, fault_rows, beginning_rows, edge_limit_rows,
-                     definition_rows, command_line_rows, stream_rows):
+        for rows in (forests_rows, plain_rows, example_rows, fault_rows, beginning_rows, edge_limit_rows, definition_rows,
+                     help_rows, refused_words_rows, stream_rows, example_stream_rows):
             rows()
-        given = plain_network_rows(PROGRAM) + refused_memory_rows(PROGRAM, text(TRIANGLE), text(TRIANGLE_FORESTS))
-        given += allocation_rows(PROGRAM)
-        for name, good, what in given:
+        if given.second:
+            note("the second compiler built the program", os.path.isfile(given.second), given.second)
+            if os.path.isfile(given.second):
+                second_compiler_rows(os.path.abspath(given.second))
+        more = plain_network_rows(PROGRAM) + refused_memory_rows(PROGRAM, text(TRIANGLE), text(TRIANGLE_FORESTS))
+        more += allocation_rows(PROGRAM)
+        for name, good, what in more:
             note(name, good, what)
     print(f"{TALLY['passed']} passed, {TALLY['failed']} failed")
     return 1 if TALLY["failed"] else 0
