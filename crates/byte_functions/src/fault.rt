@@ -1,7 +1,6 @@
 //! Why a text has no answer.
 
 ghost use Rattle.std.specs.Prelude.{◌≡◌};
-ghost use Rattle.byte_functions.specs.declared.fault.PlanFault.TheVariants as faults;
 
 use dimacs_col::ColFault;
 use interference::{Memory, NetFault};
@@ -18,7 +17,7 @@ pub enum PlanFault {
 }
 
 impl From<ColFault> for PlanFault {
-    ghost from_gives = { λ fault result. result ≡ faults.Col fault };
+    ghost from_gives = { λ fault result. result ≡ PlanFault.Col fault };
 
     fn from(fault: ColFault) -> PlanFault {
         PlanFault::Col(fault)
@@ -26,7 +25,7 @@ impl From<ColFault> for PlanFault {
 }
 
 impl From<NetFault> for PlanFault {
-    ghost from_gives = { λ fault result. result ≡ faults.Net fault };
+    ghost from_gives = { λ fault result. result ≡ PlanFault.Net fault };
 
     fn from(fault: NetFault) -> PlanFault {
         PlanFault::Net(fault)
@@ -34,7 +33,7 @@ impl From<NetFault> for PlanFault {
 }
 
 impl From<Memory> for PlanFault {
-    ghost from_gives = { λ _ result. result ≡ faults.Memory };
+    ghost from_gives = { λ _ result. result ≡ PlanFault.Memory };
 
     fn from(_memory: Memory) -> PlanFault {
         PlanFault::Memory

@@ -1,5 +1,6 @@
 -- The command line computes, and each of its commands has a request.
-use Rattle.std.proofs.Common.{◌≡◌, ◌≢◌, ◌⊎◌, inl, inr, subst, sym, Bool, true, false, List, [], ◌∷◌, Option, Some, None, refl, ap, ◌∙◌, is_some, find, option_map, cond}
+use Rattle.std.proofs.Common.{◌≡◌, ◌≢◌, ◌⊎◌, inl, inr, subst, sym, refl, ap, ◌∙◌, cond}
+use Rattle.std.proofs.Common.{Bool, true, false, List, [], ◌∷◌, Option, Some, None, is_some, find, option_map}
 use Rattle.std.specs.List.{AllByRecursion}
 use Rattle.clap.specs.Walk.{Row, Text, answers_to, stop_after}
 use Rattle.clap.specs.Simple.{Shape, argument_words, built, entered, label_of, names_of, is_simple, rows_at, subcommand_of}

@@ -17,9 +17,9 @@ pub const PROGRAM: Help = Help {
 
 The program reads a graph from standard input, in which transmitters are the
 vertices and edges join those that interfere, and writes its answer to standard
-output. A fault of the input is one line on standard error, and nothing is then
-on standard output. A refused command line takes several lines there. If a write
-fails, standard output holds a beginning of the answer.",
+output. A fault of the input is one line on standard error, a refused command
+line is several, and standard output then stays empty. If a write fails,
+standard output holds a beginning of the answer.",
     format: "Input: a graph in the DIMACS format, a line each
   p edge NODES EDGES   first: the number of vertices (EDGES is not looked at)
   e V W                an edge between two different vertices from 1 to NODES

@@ -23,7 +23,7 @@ abbrev pub IsUnended : Option (List ℕ) → Option (List ℕ) → Option ℕ �
 IsUnended old new left left' =
     CountsDown left read_limit left' × ((bs : List ℕ) × (read_limit ≤ length bs) × Consumes old new bs)
 
--- the fault of a stream comes only where a read failed, or where the reader did not end
+-- a failed stream is reported only if a read failed or the reader did not end, and memory only if no read failed
 abbrev pub WantsStreamFault : Option ℕ → Option ℕ → Type 0 → ReadFault → Type 0
 WantsStreamFault faults faults' unended Stream = HasGrown faults faults' ⊎ unended
 WantsStreamFault faults faults' unended Memory = CountsOn faults 0 faults'

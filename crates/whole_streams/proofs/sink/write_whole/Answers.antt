@@ -1,6 +1,7 @@
 -- At each turn the first `done` bytes stand in the output. A write that takes n makes them done + n;
 -- one that takes nothing, or fails, leaves them, and they are a beginning of all.
-use Rattle.std.proofs.Common.{◌≡◌, ◌-◌, ◌++◌, ◌==◌, ◌∙◌, ℕ, Option, Some, None, false, cond, length, take, drop, sym, ap, subst, rules, arith, length-take, take-append-drop, append-nil}
+use Rattle.std.proofs.Common.{◌≡◌, ◌-◌, ◌++◌, ◌==◌, ◌∙◌, ℕ, Option, Some, None, false, cond, length, take, drop}
+use Rattle.std.proofs.Common.{sym, ap, subst, rules, arith, length-take, take-append-drop, append-nil}
 use lib.Seq.{take-add, take-take}
 use Rattle.std.specs.Io.KnownBytes.{Appends}
 use Rattle.std.proofs.KnownBytes.{Appends-trans, Appends-kept}
