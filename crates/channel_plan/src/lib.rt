@@ -1,6 +1,6 @@
 //! Channel plans as text: `plan`, and then a line for each vertex with its channel.
 //!
-//! The program's commands that plan channels stand on it.
+//! `byte_functions` writes with it the plans that the program's commands make.
 //!
 //! ```
 //! plan_text(alloc, &[1, 2, 0])?;          // "plan", "1 2", "2 3", "3 1", a line each
@@ -14,8 +14,6 @@ mod fields;
 pub mod laws;
 mod plan;
 mod reading;
-#[cfg(test)]
-mod tests;
 mod writing;
 
 pub use checking::check;

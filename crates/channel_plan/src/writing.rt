@@ -1,4 +1,5 @@
-// The text of a channel plan.
+//! The text of a channel plan.
+
 ghost use Rattle.std.specs.Prelude.{◌≡◌, ◌++◌, ◌+◌, ◌-◌, IfOk};
 ghost use Rattle.channel_plan.specs.PlanText.{plan_of, rows_from};
 
@@ -20,8 +21,7 @@ fn push_rows(text: &mut Vec<u8>, colours: &[u16]) -> Result<(), AllocError>
 /// vertex, ascending.
 ///
 /// # Errors
-///
-/// `Memory` where memory is refused.
+/// If memory ran out.
 pub fn plan_text(alloc: Global, colours: &[u16]) -> Result<Vec<u8>, Memory>
     ensures text { IfOk result (λ text. text.items ≡ plan_of colours.now) }
 {

@@ -3,12 +3,26 @@
 #![tactic(auto)]
 
 #[cfg(test)]
+mod byte_functions_checks;
+#[cfg(test)]
+mod channel_plan_checks;
+#[cfg(test)]
 mod colour_program_checks;
 #[cfg(test)]
 mod colour_rules_checks;
 #[cfg(test)]
+mod command_line_checks;
+#[cfg(test)]
 mod counted;
+#[cfg(test)]
+mod fake_streams;
 #[cfg(test)]
 mod node_api_checks;
 #[cfg(test)]
+mod number_rows_checks;
+#[cfg(test)]
+mod serving_checks;
+#[cfg(test)]
 mod sync_rounds_checks;
+#[cfg(test)]
+mod whole_streams_checks;

@@ -9,7 +9,7 @@ use std::alloc::AllocError;
 /// Appends `number` in decimal, without leading zeros.
 ///
 /// # Errors
-/// Where the growth is refused; `text` is then as it was.
+/// If the growth is refused; `text` is then as it was.
 pub fn push_decimal(text: &mut Vec<u8>, number: u64) -> Result<(), AllocError>
     ensures items { text.new.items ≡ (if is_ok result then text.old.items ++ decimal number else text.old.items) }
 {

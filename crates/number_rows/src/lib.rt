@@ -1,5 +1,5 @@
-//! Numbers as decimal text, appended to bytes. The crates that write a text of many rows of numbers
-//! stand on it: `forestplan` and `channel_plan`.
+//! Numbers as decimal text, appended to bytes. `channel_plan` and `byte_functions` write their
+//! texts of many rows with it.
 //!
 //! ```
 //! push_row(&mut text, &[0, 1, 2])?;          // appends "0 1 2" and a line feed
@@ -11,8 +11,6 @@
 
 mod decimal;
 mod row;
-#[cfg(test)]
-mod tests;
 
 pub use decimal::push_decimal;
 pub use row::push_row;

@@ -36,7 +36,7 @@ fn push_joined(text: &mut Vec<u8>, numbers: &[u64]) -> Result<(), AllocError>
 /// Appends the numbers in decimal, parted by one space, and a line feed.
 ///
 /// # Errors
-/// Where a growth is refused; a beginning of the row may then stand behind what `text` was.
+/// If a growth is refused; `text` may then end in a beginning of the row.
 pub fn push_row(text: &mut Vec<u8>, numbers: &[u64]) -> Result<(), AllocError>
     ensures row { IfOk result (λ _. text.new.items ≡ text.old.items ++ row numbers.now) }
     ensures kept { take (length text.old.items) text.new.items ≡ text.old.items }

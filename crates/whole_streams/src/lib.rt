@@ -1,5 +1,5 @@
 //! Reading a whole input and writing a whole answer, by single reads and writes of streams that
-//! may fail. `forestplan` serves its commands through it.
+//! may fail. `serving` reads the input of a command and writes its answer through it.
 //!
 //! ```
 //! let bytes = read_whole(alloc, &mut rt.stdin())?;
@@ -7,16 +7,14 @@
 //! ```
 //!
 //! A stream that knows its faults counts them as a ghost, so that a contract can say "a read failed"
-//! and not only "the answer is an error". Standard input and output don't know theirs: of them the
+//! and not only "the result is an error". Standard input and output don't know theirs: of them the
 //! contracts say what a generic function promises of every stream. What the system does with the
-//! bytes is not in any contract.
+//! bytes is in no contract.
 #![tactic(auto)]
 
 mod sink;
 mod source;
 mod system;
-#[cfg(test)]
-mod tests;
 
 pub use sink::{Sink, WriteFault, write_whole};
 pub use source::{READ_LIMIT, ReadFault, Source, read_whole};

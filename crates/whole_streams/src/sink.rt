@@ -17,7 +17,7 @@ pub trait Sink: Write {
     /// One write: how many bytes from the start of `buf` were taken.
     ///
     /// # Errors
-    /// Where the write failed; no byte is then taken.
+    /// If the write failed; no byte is then taken.
     fn put_some(&mut self, buf: &[u8]) -> io::Result<usize>
         ensures bound { WritesAtMost result buf.now }
         ensures bytes { WriteAppends (Self.contents self.old) (Self.contents self.new) result buf.now }
@@ -38,7 +38,7 @@ pub struct WriteFault;
 /// Writes all of `bytes` by single writes.
 ///
 /// # Errors
-/// `WriteFault` where a write failed, or took nothing; a beginning of `bytes` was then written.
+/// `WriteFault` if a write failed or took nothing; a beginning of `bytes` was then written.
 pub fn write_whole<W: Sink>(output: &mut W, bytes: &[u8]) -> Result<(), WriteFault>
     ensures ok { IfOk result (λ _. Appends (W.contents output.old) (W.contents output.new) bytes.now) }
     ensures quiet { IfOk result (λ _. CountsOn (W.faults output.old) 0 (W.faults output.new)) }

@@ -20,7 +20,7 @@ pub trait Source: Read {
     /// One read: how many bytes it put at the start of `buf`, and 0 at the end of the input.
     ///
     /// # Errors
-    /// Where the read failed; no byte is then taken from the input.
+    /// If the read failed; no byte is then taken from the input.
     fn take_some(&mut self, buf: &mut [u8]) -> io::Result<usize>
         ensures bound { ReadsAtMost result buf.new }
         ensures bytes { ReadConsumes (Self.remaining self.old) (Self.remaining self.new) result buf.new }
@@ -55,8 +55,8 @@ pub enum ReadFault {
 /// Reads `input` to its end.
 ///
 /// # Errors
-/// `Stream` where a read failed, or where `READ_LIMIT` reads each gave a byte and none met the end;
-/// `Memory` where a growth was refused. What was read until then is dropped.
+/// `Stream` if a read failed, or if `READ_LIMIT` reads each gave a byte and none met the end; `Memory` if
+/// a growth was refused, and no read failed. What was read until then is dropped.
 pub fn read_whole<R: Source>(alloc: Global, input: &mut R) -> Result<Vec<u8>, ReadFault>
     ensures ok { IfOk result (λ v. EndsAfter (R.remaining input.old) (R.remaining input.new) v.items) }
     ensures quiet { IfOk result (λ _. CountsOn (R.faults input.old) 0 (R.faults input.new)) }

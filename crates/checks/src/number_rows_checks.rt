@@ -1,4 +1,6 @@
-use crate::{push_decimal, push_row};
+//! A row of each shape, and the greatest number.
+
+use number_rows::{push_decimal, push_row};
 use std::test::Fail;
 
 #[test]

@@ -1,8 +1,10 @@
-use crate::{ReadFault, Sink, Source, WriteFault, read_whole, write_whole};
+//! A reader that knows its faults, a writer that fills up, and streams in memory.
+
 use std::alloc::Global;
 use std::io;
 use std::io::{Error, ErrorKind, Read, Write};
 use std::test::Fail;
+use whole_streams::{ReadFault, Sink, Source, WriteFault, read_whole, write_whole};
 
 // Bytes of which one read fails, after `before` reads. It shows that a reader can meet the trait
 // with what it knows: its bytes, its fault and how many reads it still counts.
@@ -23,7 +25,8 @@ impl OneFault<'_> {
     fn one_read(&mut self, buf: &mut [u8]) -> io::Result<usize>
         ensures bound { ReadsAtMost result buf.new }
         ensures bytes { ReadConsumes (Some self.old.rest.now) (Some self.new.rest.now) result buf.new }
-        ensures faults { CountsRead (Some (if self.old.failed then 1 else 0)) result (Some (if self.new.failed then 1 else 0)) }
+        ensures faults { CountsRead (Some (if self.old.failed then 1 else 0)) result
+            (Some (if self.new.failed then 1 else 0)) }
         ensures reads { self.new.counted ≡ self.old.counted - 1 }
     {
         self.counted = self.counted.saturating_sub(1);

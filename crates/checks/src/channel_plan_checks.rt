@@ -1,4 +1,6 @@
-use crate::plan_text;
+//! Worked plans.
+
+use channel_plan::plan_text;
 use std::test::Fail;
 
 #[test]
