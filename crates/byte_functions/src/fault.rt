@@ -1,6 +1,7 @@
 //! Why a text has no answer.
 
 ghost use Rattle.std.specs.Prelude.{◌≡◌};
+ghost use Rattle.byte_functions.specs.declared.fault.PlanFault.TheVariants.{Col, Net, Memory};
 
 use dimacs_col::ColFault;
 use interference::{Memory, NetFault};
@@ -17,7 +18,7 @@ pub enum PlanFault {
 }
 
 impl From<ColFault> for PlanFault {
-    ghost from_gives = { λ fault result. result ≡ PlanFault.Col fault };
+    ghost from_gives = { λ fault result. result ≡ Col fault };
 
     fn from(fault: ColFault) -> PlanFault {
         PlanFault::Col(fault)
@@ -25,7 +26,7 @@ impl From<ColFault> for PlanFault {
 }
 
 impl From<NetFault> for PlanFault {
-    ghost from_gives = { λ fault result. result ≡ PlanFault.Net fault };
+    ghost from_gives = { λ fault result. result ≡ Net fault };
 
     fn from(fault: NetFault) -> PlanFault {
         PlanFault::Net(fault)
@@ -33,7 +34,7 @@ impl From<NetFault> for PlanFault {
 }
 
 impl From<Memory> for PlanFault {
-    ghost from_gives = { λ _ result. result ≡ PlanFault.Memory };
+    ghost from_gives = { λ _ result. result ≡ Memory };
 
     fn from(_memory: Memory) -> PlanFault {
         PlanFault::Memory

@@ -54,3 +54,6 @@ returns-in-Err-clause-begin g c =
       take-append-drop done xs,
       Appends-kept _ _ _ _ c.loop-done.invariant.1 c.in-Err.ensures.bytes,
     )
+
+pub returns-clause-quiet : goal.returns-clause-quiet
+returns-clause-quiet g c = search rules
