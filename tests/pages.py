@@ -5,17 +5,21 @@
 
 - Each command shown, a line `$ ..` with `./forestplan`, is run at the top of the repository; what stands under it, in
   the same columns, has to be its output (notes behind two blanks are left out).
-- Each table of docs/LESSONS.md is worked out from the definitions (plain_definition.py), not from the program.
+- Each table of docs/LESSONS.md is worked out from the definitions (plain_definition.py, alpha_definition.py), not from
+  the program.
+- These definitions fit together: on small networks the rounds, and any order of events, end with the colours.
 - Each excerpt of code, a fence whose first line names its file, has its lines in that file, in this order.
 - README.md names each crate. Each file named in backquotes exists, each link leads to a page and a heading, and each
   function and clause that a row of docs/PROMISES.md names is in the code.
 """
 import os
+import random
 import re
 import subprocess
 import sys
 
-from plain_definition import bit, colours, drop, merge, network_of, shift, three
+from alpha_definition import NetState, synchronous_run, text_of_wire
+from plain_definition import Network, bit, colours, drop, merge, network_of, shift, three
 
 TOP = os.path.dirname(os.path.dirname(os.path.abspath(__file__)))
 PAGES = ["README.md"] + sorted(f"docs/{name}" for name in os.listdir(os.path.join(TOP, "docs")) if name.endswith(".md"))
@@ -101,6 +105,35 @@ def merges_of(net):
     return rows
 
 
+def played(net, rows):
+    """The rows of a run, event by event: its events with their wires, and the nodes' pulses after each row."""
+    state, wanted = NetState(net), [rows[0][1:4]]
+    for row in rows[2:]:
+        wires = []
+        for kind, v, _, port in re.findall(r"(Pulse|Put|Take)\((\d+)(,(\d+))?\)", row[1]):
+            wire = state.step(kind, int(v), int(port) if port else None)
+            wires += [f"`{text_of_wire(wire)}`"] if wire else []
+        pulses = ", ".join(str(node.pulse_number) for _, node in sorted(state.nodes.items()))
+        wanted.append([row[1], " ".join(wires), pulses])
+    return wanted
+
+
+def check_definitions():
+    """On small networks the rounds, and any order of events, end with the colours: so the pages' definitions fit together."""
+    source, wrong = random.Random(2026), []
+    for _ in range(40):
+        nodes = source.randrange(0, 7)
+        pairs = [(v, w) for v in range(1, nodes + 1) for w in range(v + 1, nodes + 1)]
+        net = Network({v: v for v in range(1, nodes + 1)}, {pair for pair in pairs if source.random() < 0.5})
+        rounds, state = synchronous_run(net), NetState(net)
+        while events := list(state.possible()):
+            state.step(*source.choice(events))
+        ends = [{v: node.merged for v, node in rounds.items()}, {v: node.program.merged for v, node in state.nodes.items()}]
+        if ends != [colours(net)] * 2 or not all(node.drained() for node in state.nodes.values()):
+            wrong.append(net.neighbours)
+    note("rounds and events of 40 small networks end with the colours", not wrong, wrong[:1])
+
+
 def lesson_table(title, rows):
     """What the rows of a lesson's table have to be, behind the first cell of each; None for a table that is no lesson's."""
     found = re.match(r"Forest (\d+) of `(.*)`, pulse by pulse:", title)
@@ -112,6 +145,9 @@ def lesson_table(title, rows):
     if found:
         net = example(found.group(1))
         return [entries(net.identifiers)] + merges_of(net)
+    found = re.match(r"Events on `(.*)`:", title)
+    if found:
+        return played(example(found.group(1)), rows)
     if rows[0][0] == "network":
         wanted = [rows[0][1:]]
         for row in rows[2:]:
@@ -129,9 +165,9 @@ def check_lessons():
         wanted = lesson_table(title, rows)
         if wanted is not None:
             count += 1
-            got = [row[1:] for row in rows[:1] + rows[2:]]
+            got = [row[1:1 + len(wanted[0])] for row in rows[:1] + rows[2:]]
             note(f"docs/LESSONS.md:{number}", got == wanted, f"wanted {wanted}")
-    note("tables of the lessons", count >= 4, count)
+    note("tables of the lessons", count >= 5, count)
 
 
 def heading_anchor(line):
@@ -237,6 +273,7 @@ def main():
         check_excerpts(page)
     check_crates()
     check_lessons()
+    check_definitions()
     check_promises()
     print(f"{TALLY['passed']} passed, {TALLY['failed']} failed")
     return 1 if TALLY["failed"] else 0
