@@ -1,0 +1,166 @@
+-- A check fed one wire more.
+use Rattle.std.proofs.Common.{◌≡◌, ℕ, suc, zero, ◌+◌, ◌<◌, ◌≤◌, Bool, true, false, List, [], ◌∷◌, ◌++◌, length, take, drop, refl, sym, ap, ◌∙◌, arith, subst}
+use Rattle.std.proofs.Common.{◌⊎◌, inl, inr, ⊎_elim, append_assoc, append-nil, lt-ltb}
+use Rattle.std.specs.Prelude.{Contains, IsTrue, ◌↔◌, ◌&&◌, not, nat_eq, nat_lt, nat_le, MatchBool}
+use Rattle.std.proofs.lemmas.List.Elements.{Contains-append_left, Contains-append_right, Contains-append_cases, Contains-push}
+use Rattle.std.proofs.lemmas.Bool.{eqb-true, eq-eqb, cases_Bool}
+use Rattle.alpha_core.specs.declared.wire.Wire.{Wire}
+use Rattle.alpha_core.specs.declared.wire.Wire.TheVariants.{Payload, Ack, Safe, Close}
+use Rattle.alpha_core.specs.Wires.{acks_of, payloads_of, safes_of}
+use Rattle.alpha_core.proofs.Wires.{acks-append, payloads-append}
+use Rattle.link_rule.specs.Order.{MayFollow, IsInOrder}
+use Rattle.link_rule.specs.Progress.{Progress, WasFed, at_start, may_come, goes_on, advanced, after_wire}
+use Rattle.std.proofs.lemmas.List.{take-append-drop}
+use Rattle.link_rule.proofs.Orders.{contains_nil, contains_snoc, order-front, order-more, order-last, order-nil, safes-append}
+
+pub new_fed : {M : Type 0} (last : ℕ) → WasFed {M = M} (at_start last) []
+new_fed {M} last = record {
+  order = order-nil {M = M} last;
+  safes = refl;
+  paid = ((λ e. absurd cc), λ c. absurd (contains_nil 0 c));
+  payloads = λ q c. absurd (contains_nil q c);
+  acks = λ q. ((λ le r c. absurd (contains_nil r c)), λ all. omega arith);
+  closed = ((λ e. absurd cc), λ c. absurd (contains_nil {A = Wire M} Close c));
+}
+
+both : (a b : Bool) → (a && b) ≡ true → (a ≡ true) × (b ≡ true)
+both true b e = (refl, e)
+both false b e = absurd cc
+
+joined : (a b : Bool) → a ≡ true → b ≡ true → (a && b) ≡ true
+joined a b e f = rw (e, f) refl
+
+not_true : (b : Bool) → not b ≡ true → b ≡ true → ⊥
+not_true true e f = absurd cc
+not_true false e f = absurd cc
+
+no_true : (b : Bool) → (b ≡ true → ⊥) → not b ≡ true
+no_true true n = absurd (n refl)
+no_true false n = refl
+
+lt_of : (a b : ℕ) → nat_lt a b ≡ true → a < b
+lt_of a b e = grind (arith, e)
+
+le_of : (a b : ℕ) → nat_le a b ≡ true → a ≤ b
+le_of a b e = grind (arith, e)
+
+of_lt : (a b : ℕ) → a < b → nat_lt a b ≡ true
+of_lt a b e = lt-ltb a b e
+
+of_le : (a b : ℕ) → a ≤ b → nat_le a b ≡ true
+of_le a b e = grind (arith, e)
+
+module _ {M : Type 0} (p : Progress) (ws : List (Wire M)) (fed : WasFed p ws) where
+  -- what the check allows may follow
+  may : (w : Wire M) → may_come p w ≡ true → MayFollow p.last ws w
+  may (Payload q x) e =
+      let e1 = both _ _ e in
+      let e2 = both _ _ e1.1 in
+      let same = eqb-true q p.safes e1.0 in
+      (same ∙ fed.safes, lt_of q p.last e2.1, λ c. not_true p.paid e2.0 (fed.paid.1 (subst (λ n. Contains (payloads_of ws) n) same c)))
+  may (Ack q) e = let e1 = both _ _ e in (lt_of q p.last e1.1, (fed.acks q).0 (le_of p.next_ack q e1.0))
+  may (Safe q) e = let e1 = both _ _ e in (eqb-true q p.safes e1.0 ∙ fed.safes, lt_of q p.last e1.1)
+  may Close e = sym fed.safes ∙ eqb-true p.safes p.last e
+
+  may_not : (w : Wire M) → MayFollow p.last ws w → may_come p w ≡ true
+  may_not (Payload q x) m =
+      let same : q ≡ p.safes = m.0 ∙ sym fed.safes in
+      joined _ _ (eq-eqb q p.safes same) (joined _ _ (no_true p.paid (λ e. m.2 (subst (λ n. Contains (payloads_of ws) n) (sym same) (fed.paid.0 e))))
+      (of_lt q p.last m.1))
+  may_not (Ack q) m = joined _ _ (of_le p.next_ack q ((fed.acks q).1 m.1)) (of_lt q p.last m.0)
+  may_not (Safe q) m = joined _ _ (eq-eqb q p.safes (m.0 ∙ sym fed.safes)) (of_lt q p.last m.1)
+  may_not Close m = eq-eqb p.safes p.last (fed.safes ∙ m)
+
+  pub goes-may : (w : Wire M) → goes_on p w ≡ true → (Contains ws Close → ⊥) × MayFollow p.last ws w
+  goes-may w e = let e1 = both _ _ e in ((λ c. not_true p.closed e1.0 (fed.closed.1 c)), may w e1.1)
+
+  pub may-goes : (w : Wire M) → IsInOrder p.last (ws ++ w ∷ []) → goes_on p w ≡ true
+  may-goes w h = let l = order-last p.last ws w h in joined _ _ (no_true p.closed (λ e. l.0 (fed.closed.0 e))) (may_not w l.1)
+
+  closed_same : (w : Wire M) → (w ≡ Close → ⊥) → IsTrue p.closed ↔ Contains (ws ++ w ∷ []) Close
+  closed_same w other = (
+    (λ e. Contains-append_left ws (w ∷ []) Close (fed.closed.0 e)),
+    λ c. ⊎_elim fed.closed.1 (λ is. absurd (other is)) (contains_snoc ws w Close c),
+  )
+
+  -- what a wire leaves of the payloads and acknowledgements
+  keeps_payloads : (w : Wire M) → payloads_of (w ∷ []) ≡ [] → payloads_of (ws ++ w ∷ []) ≡ payloads_of ws
+  keeps_payloads w e = payloads-append ws (w ∷ []) ∙ ap (λ l. payloads_of ws ++ l) e ∙ append-nil _
+
+  keeps_acks : (w : Wire M) → acks_of (w ∷ []) ≡ [] → acks_of (ws ++ w ∷ []) ≡ acks_of ws
+  keeps_acks w e = acks-append ws (w ∷ []) ∙ ap (λ l. acks_of ws ++ l) e ∙ append-nil _
+
+  keeps_safes : (w : Wire M) → safes_of (w ∷ []) ≡ 0 → safes_of ws ≡ safes_of (ws ++ w ∷ [])
+  keeps_safes w e = let a = safes-append ws (w ∷ []) in omega arith
+
+  pub fed_true : (w : Wire M) → goes_on p w ≡ true → WasFed (advanced p w) (ws ++ w ∷ [])
+  fed_true (Payload q x) e =
+      let w : Wire M = Payload q x in
+      let g = goes-may w e in
+      let m = g.1 in
+      let is : payloads_of (ws ++ w ∷ []) ≡ payloads_of ws ++ q ∷ [] = payloads-append ws (w ∷ []) in
+      let same : q ≡ p.safes = m.0 ∙ sym fed.safes in
+      record {
+        order = order-more p.last ws w fed.order g.0 m;
+        safes = fed.safes ∙ keeps_safes w refl;
+        paid = (
+          (λ _. subst (λ l. Contains l p.safes) (sym is) (subst (λ n. Contains (payloads_of ws ++ q ∷ []) n) same (Contains-push (payloads_of ws) q))),
+          λ _. refl,
+        );
+        payloads = λ r c. ⊎_elim (fed.payloads r) (λ (y : q ≡ r). omega arith) (contains_snoc (payloads_of ws) q r (subst (λ l. Contains l r) is c));
+        acks = λ r. subst (λ l. (p.next_ack ≤ r) ↔ ((s : ℕ) → Contains l s → s < r)) (sym (keeps_acks w refl)) (fed.acks r);
+        closed = closed_same w (λ y. absurd cc);
+      }
+  fed_true (Ack q) e =
+      let w : Wire M = Ack q in
+      let g = goes-may w e in
+      let m = g.1 in
+      let is : acks_of (ws ++ w ∷ []) ≡ acks_of ws ++ q ∷ [] = acks-append ws (w ∷ []) in
+      record {
+        order = order-more p.last ws w fed.order g.0 m;
+        safes = fed.safes ∙ keeps_safes w refl;
+        paid = subst (λ l. IsTrue p.paid ↔ Contains l p.safes) (sym (keeps_payloads w refl)) fed.paid;
+        payloads = λ r c. fed.payloads r (subst (λ l. Contains l r) (keeps_payloads w refl) c);
+        acks = λ r. (
+          (λ le s c. ⊎_elim (λ y. let lt = m.1 s y in omega arith) (λ (y : q ≡ s). omega arith)
+              (contains_snoc (acks_of ws) q s (subst (λ l. Contains l s) is c))),
+          λ all. let lt = all q (subst (λ l. Contains l q) (sym is) (Contains-push (acks_of ws) q)) in omega arith,
+        );
+        closed = closed_same w (λ y. absurd cc);
+      }
+  fed_true (Safe q) e =
+      let w : Wire M = Safe q in
+      let g = goes-may w e in
+      let m = g.1 in
+      let more = safes-append ws (w ∷ []) in
+      let same : q ≡ p.safes = m.0 ∙ sym fed.safes in
+      record {
+        order = order-more p.last ws w fed.order g.0 m;
+        safes = ap (λ n. n + 1) m.0 ∙ sym more;
+        paid = ((λ f. absurd cc), λ c. let le = fed.payloads (q + 1) (subst (λ l. Contains l (q + 1)) (keeps_payloads w refl) c) in absurd (omega arith));
+        payloads = λ r c. let le = fed.payloads r (subst (λ l. Contains l r) (keeps_payloads w refl) c) in omega arith;
+        acks = λ r. subst (λ l. (p.next_ack ≤ r) ↔ ((s : ℕ) → Contains l s → s < r)) (sym (keeps_acks w refl)) (fed.acks r);
+        closed = closed_same w (λ y. absurd cc);
+      }
+  fed_true Close e =
+      let w : Wire M = Close in
+      let g = goes-may w e in
+      record {
+        order = order-more p.last ws w fed.order g.0 g.1;
+        safes = fed.safes ∙ keeps_safes w refl;
+        paid = subst (λ l. IsTrue p.paid ↔ Contains l p.safes) (sym (keeps_payloads w refl)) fed.paid;
+        payloads = λ r c. fed.payloads r (subst (λ l. Contains l r) (keeps_payloads w refl) c);
+        acks = λ r. subst (λ l. (p.next_ack ≤ r) ↔ ((s : ℕ) → Contains l s → s < r)) (sym (keeps_acks w refl)) (fed.acks r);
+        closed = ((λ _. Contains-push ws w), λ _. refl);
+      }
+
+  pub feeds : (w : Wire M) (b : Bool) (now : Progress) → b ≡ goes_on p w → now ≡ after_wire p w →
+      MatchBool b (WasFed now (ws ++ w ∷ [])) (IsInOrder p.last (ws ++ w ∷ []) → ⊥)
+  feeds w true now e f = subst (λ n. WasFed n (ws ++ w ∷ [])) (sym (f ∙ rw (sym e) refl)) (fed_true w (sym e))
+  feeds w false now e f = λ h. let yes = may-goes w h in absurd cc
+
+-- a list in which some wire doesn't go on isn't in order
+pub stops : {M : Type 0} (last i : ℕ) (wires : List (Wire M)) (w : Wire M) → take (i + 1) wires ≡ take i wires ++ w ∷ [] →
+    (IsInOrder last (take i wires ++ w ∷ []) → ⊥) → IsInOrder last wires → ⊥
+stops last i wires w e broken h = broken (subst (λ l. IsInOrder last l) e (order-front last (take (i + 1) wires) (drop (i + 1) wires)
+    (subst (λ l. IsInOrder last l) (sym (take-append-drop (i + 1) wires)) h)))

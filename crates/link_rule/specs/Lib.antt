@@ -1,0 +1,3 @@
+pub mod Order
+pub mod Legal
+pub mod Progress
