@@ -1,0 +1,5 @@
+use Rattle.link_rule.specs.Legal.{name_of}
+use Rattle.link_queue.proofs.link.Link.new.Given as goal
+
+abbrev pub ghosts-named : goal.ghosts-named
+ghosts-named g a = record { name = name_of a._network.now a._vertex a._port }

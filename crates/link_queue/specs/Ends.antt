@@ -1,0 +1,86 @@
+-- What a clause says of a link and its ends.
+use Rattle.std.specs.Prelude.{◌≡◌, ℕ, List, [], ◌++◌, Option, Some}
+use Rattle.crossbeam_queue.specs.Fifo.{Held}
+use Rattle.crossbeam_queue.specs.Passes.{view, IsPassOf, ruled_capacity}
+use Rattle.alpha_core.specs.declared.wire.Wire.{Wire}
+use Rattle.link_rule.specs.declared.name.LinkName.{LinkName}
+use Rattle.link_rule.specs.Legal.{LegalFor}
+use Rattle.link_queue.specs.declared.ends.PutSide.{PutSide}
+use Rattle.link_queue.specs.declared.ends.TakeSide.{TakeSide}
+use Rattle.link_queue.specs.declared.met.Met.{Met}
+use Rattle.link_queue.specs.declared.link.Link.{Link}
+use Rattle.link_queue.specs.Rule.{AreLastOf, MayFollow}
+
+module _ {T : Type 0} where
+  -- the link that an end is of, by its name
+  abbrev pub put_name : PutSide T → Option LinkName
+  put_name end = (view end.pass).name
+
+  -- all that an end put, oldest first
+  abbrev pub put_list : PutSide T → List (Wire T)
+  put_list end = (view end.pass).put
+
+  abbrev pub take_name : TakeSide T → Option LinkName
+  take_name end = (view end.pass).name
+
+  -- all that an end took, oldest first
+  abbrev pub taken_list : TakeSide T → List (Wire T)
+  taken_list end = (view end.pass).taken
+
+  -- the wires put and not taken when the ends met, oldest first
+  abbrev pub held_of : Met T → List (Wire T)
+  held_of met = met.held.items
+
+  -- Of a link whose ends met: its name, all that was put, and what was taken before. What was put is what was taken
+  -- and then what is held.
+  pub record HasMet (met : Met T) (name : Option LinkName) (put taken : List (Wire T)) : Type 0 where
+    pub of_link : (view met.pass).name ≡ name
+    pub all_put : (view met.pass).put ≡ put
+    pub in_order : put ≡ taken ++ held_of met
+
+  -- at a moment of the call the link held nothing
+  abbrev pub WasEmpty : (LinkName → List (Wire T) → Type 0) → Option LinkName → List (Wire T) → Type 0
+  WasEmpty legal name taken = Held 0 (MayFollow legal name taken)
+
+module _ {P T : Type 0} where
+  abbrev pub link_capacity : Link P T → ℕ
+  link_capacity link = ruled_capacity link.queue
+
+  abbrev pub IsPutEndOf : Link P T → PutSide T → Type 0
+  IsPutEndOf link end = IsPassOf link.queue end.pass
+
+  abbrev pub IsTakeEndOf : Link P T → TakeSide T → Type 0
+  IsTakeEndOf link end = IsPassOf link.queue end.pass
+
+  -- the put end of a new link of that name, at which nothing was put
+  pub record IsNewPutEnd (link : Link P T) (end : PutSide T) (name : LinkName) : Type 0 where
+    pub of_link : IsPutEndOf link end
+    pub named : put_name end ≡ Some name
+    pub put : put_list end ≡ []
+
+  -- the take end of a new link of that name, at which nothing was taken
+  pub record IsNewTakeEnd (link : Link P T) (end : TakeSide T) (name : LinkName) : Type 0 where
+    pub of_link : IsTakeEndOf link end
+    pub named : take_name end ≡ Some name
+    pub taken : taken_list end ≡ []
+
+  -- at a moment of the call the link held as many wires as it can, the last of those put
+  abbrev pub WasFull : Link P T → List (Wire T) → Type 0
+  WasFull link put = Held (link_capacity link) (AreLastOf put)
+
+  -- an end that is of the same link, and still of it after a call
+  abbrev pub StaysPutEnd : Link P T → PutSide T → PutSide T → Type 0
+  StaysPutEnd link old new = IsPutEndOf link new × (put_name new ≡ put_name old)
+
+  abbrev pub StaysTakeEnd : Link P T → TakeSide T → TakeSide T → Type 0
+  StaysTakeEnd link old new = IsTakeEndOf link new × (take_name new ≡ take_name old)
+
+  -- Link and ends that a refused meeting hands back: the very link, and ends of it with the names and lists from
+  -- before.
+  pub record AreAsBefore (now link : Link P T) (put_now put_before : PutSide T) (take_now take_before : TakeSide T)
+      : Type 0 where
+    pub same_link : now ≡ link
+    pub put_end : StaysPutEnd now put_before put_now
+    pub put : put_list put_now ≡ put_list put_before
+    pub take_end : StaysTakeEnd now take_before take_now
+    pub taken : taken_list take_now ≡ taken_list take_before

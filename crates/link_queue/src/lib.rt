@@ -1,0 +1,27 @@
+//! A bounded, lock-free link between two nodes, and its two ends.
+//!
+//! ```text
+//! let (link, mut put_end, mut take_end) = Link::<Colouring>::new(alloc, &network, 1, 0, 4)?;
+//! link.put(&rt, &mut put_end, Wire::Payload(0, Hello(1)));       // in one thread
+//! link.take(&rt, &mut take_end);                                 // in another
+//! let met = link.meet(&rt, alloc, put_end, take_end)?;           // once both ends are back
+//! ```
+//!
+//! A `Link` stands outside the scope of the threads, which share it; its ends move with the nodes. Contracts see the
+//! list that an end put or took. What is put has to begin a legal list of the link in the synchronous run of the
+//! program `P`; so what is taken does too, and when the ends meet, what was put is what was taken and then what is
+//! held. This rests on the promise of `crossbeam_queue`'s ruled array queue. `put`, `take` and `meet` may spin, and
+//! are not promised to return; a queue is pushed fewer than 2^62 times, and a link at most 3·R + 1 times, R being the
+//! last pulse.
+#![tactic(auto)]
+
+mod ends;
+mod link;
+mod met;
+mod rule;
+mod view;
+
+pub use ends::{PutEnd, PutSide, TakeEnd, TakeSide};
+pub use link::{Link, MAX_CAPACITY, MeetRefused};
+pub use met::{Full, Met};
+pub use view::EndView;

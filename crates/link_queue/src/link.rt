@@ -1,0 +1,224 @@
+//! A bounded directed link.
+
+ghost use Rattle.std.specs.Prelude.{◌≡◌, ◌<◌, ◌≤◌, ◌+◌, [], ◌∷◌, ◌++◌, true, length, IfOk, IfErr, IfSome, IfNone};
+ghost use Rattle.std.specs.Prelude.{vec_capacity, IsTrue, ◌↔◌, Contains};
+ghost use Rattle.alpha_core.specs.declared.wire.Wire.{Wire};
+ghost use Rattle.crossbeam_queue.specs.Passes.{view, IsPassOf};
+ghost use Rattle.link_rule.specs.Legal.{name_of, IsLegalOn, LegalFor};
+ghost use Rattle.link_queue.specs.Rule.{end_view, has_close};
+ghost use Rattle.link_queue.specs.Ends.{AreAsBefore, HasMet, IsNewPutEnd, IsNewTakeEnd, IsPutEndOf, IsTakeEndOf};
+ghost use Rattle.link_queue.specs.Ends.{StaysPutEnd, StaysTakeEnd, WasEmpty, WasFull, held_of, link_capacity};
+ghost use Rattle.link_queue.specs.Ends.{put_list, put_name, take_name, taken_list};
+
+use crate::ends::{PutEnd, PutSide, TakeEnd, TakeSide};
+use crate::met::{Full, Met};
+use crate::rule::{LinkRule, Named, Naming, Puts, Takes, TakesAll, TwoEnds};
+use crate::view::EndView;
+use alpha_core::Wire;
+use crossbeam_queue::{Pass, RuledArrayQueue};
+use interference::{Memory, Network};
+use node_api::NodeProgram;
+use std::alloc::Global;
+use std::marker::Brand;
+use std::sync::Wait;
+
+/// The greatest number of wires that a link holds.
+pub const MAX_CAPACITY: usize = 64;
+
+/// A bounded, lock-free, directed link of the program `P`: wires that one end puts, the other takes in the same order.
+/// It stands outside the scope of the threads that use it.
+#[derive(Drop)]
+pub struct Link<P: NodeProgram> {
+    queue: RuledArrayQueue<Wire<P::Payload>, EndView<P::Payload>, LinkRule<P>>,
+}
+
+/// Link and ends, as they were, where memory for what is held was refused.
+#[derive(Drop)]
+pub struct MeetRefused<P: NodeProgram> {
+    pub link: Link<P>,
+    pub put_end: PutEnd<P>,
+    pub take_end: TakeEnd<P>,
+}
+
+impl<T> PutSide<T> {
+    /// Whether this end put a close.
+    pub fn is_closed(&self) -> bool
+        ensures { IsTrue result ↔ Contains (put_list self.now) Wire.Close }
+    {
+        self.closed
+    }
+}
+
+// The end that puts, of a pass that may.
+fn put_end_of<T>(pass: Pass<Wire<T>, EndView<T>>, closed: bool) -> PutSide<T>
+    requires puts { (pass.me.1 ≡ []) × ((view pass).puts ≡ true) }
+    requires closed { closed ≡ has_close (view pass).put }
+    ensures { result.pass ≡ pass }
+{
+    PutSide { pass, closed }
+}
+
+// The end that takes, of a pass that may.
+fn take_end_of<T>(pass: Pass<Wire<T>, EndView<T>>) -> TakeSide<T>
+    requires { (pass.me.1 ≡ []) × ((view pass).takes ≡ true) }
+    ensures { result.pass ≡ pass }
+{
+    TakeSide { pass }
+}
+
+type Made<P: NodeProgram> = (Link<P>, PutEnd<P>, TakeEnd<P>);
+
+// A new link of a name that its making picks. Network, vertex and port are there for the name alone.
+fn named<J: Naming, P: NodeProgram>(
+    alloc: Global,
+    _network: &Network,
+    _vertex: u32,
+    _port: u32,
+    capacity: usize,
+) -> Result<Made<P>, Memory>
+    requires capacity { (0 < capacity) × (capacity ≤ MAX_CAPACITY) }
+    requires name { J.name ≡ name_of _network.now _vertex _port }
+    ensures put_end { IfOk result (λ made. IsNewPutEnd made.0 made.1 J.name) }
+    ensures take_end { IfOk result (λ made. IsNewTakeEnd made.0 made.2 J.name) }
+    ensures capacity { IfOk result (λ made. link_capacity made.0 ≡ capacity) }
+{
+    let (queue, mut pass) = RuledArrayQueue::ruled(alloc, capacity)?;
+    let _spent = queue.another::<Named<J>>(&mut pass);
+    let other = queue.another::<TwoEnds>(&mut pass);
+    Ok((Link { queue }, put_end_of(pass, false), take_end_of(other)))
+}
+
+impl<P: NodeProgram> Link<P> {
+    /// The link out of a vertex by a port, with its two ends. It holds at most `capacity` wires, 1 to `MAX_CAPACITY`.
+    ///
+    /// # Errors
+    /// `Memory` if memory was refused.
+    pub fn new(
+        alloc: Global,
+        network: &Network,
+        vertex: u32,
+        port: u32,
+        capacity: usize,
+    ) -> Result<(Link<P>, PutEnd<P>, TakeEnd<P>), Memory>
+        requires capacity { (0 < capacity) × (capacity ≤ MAX_CAPACITY) }
+        ensures put_end { IfOk result (λ made. IsNewPutEnd made.0 made.1 (name_of network.now vertex port)) }
+        ensures take_end { IfOk result (λ made. IsNewTakeEnd made.0 made.2 (name_of network.now vertex port)) }
+        ensures capacity { IfOk result (λ made. link_capacity made.0 ≡ capacity) }
+    {
+        named::<Brand, P>(alloc, network, vertex, port, capacity)
+    }
+
+    /// Puts a wire at the end of the link. It takes no memory, and may spin.
+    ///
+    /// What the end has put and then the wire has to begin a legal list of the link; so nothing is put after a close.
+    ///
+    /// # Errors
+    /// `Full` hands the same wire back, only if the link was full at a moment of the call; the end's list is as it was.
+    pub fn put<R: Wait>(
+        &self,
+        rt: &R,
+        end: &mut PutEnd<P>,
+        wire: Wire<P::Payload>,
+    ) -> Result<(), Full<Wire<P::Payload>>>
+        requires end { IsPutEndOf self.now end.old }
+        requires legal { LegalFor (IsLegalOn P.program) (put_name end.old) (put_list end.old ++ wire ∷ []) }
+        ensures end { StaysPutEnd self.now end.old end.new }
+        ensures put { IfOk result (λ _. put_list end.new ≡ put_list end.old ++ wire ∷ []) }
+        ensures same_wire { IfErr result (λ full. full.0 ≡ wire) }
+        ensures unchanged { IfErr result (λ _. put_list end.new ≡ put_list end.old) }
+        ensures full { IfErr result (λ _. WasFull self.now (put_list end.old)) }
+    {
+        match self.queue.push_as::<Puts, R>(rt, &mut end.pass, wire) {
+            Ok(()) => {
+                if let Wire::Close = wire {
+                    end.closed = true;
+                }
+                Ok(())
+            }
+            Err(wire) => Err(Full(wire)),
+        }
+    }
+
+    /// Takes the oldest wire off the link; `None` only if the link was empty at a moment of the call. It takes no
+    /// memory, and may spin.
+    pub fn take<R: Wait>(&self, rt: &R, end: &mut TakeEnd<P>) -> Option<Wire<P::Payload>>
+        requires end { IsTakeEndOf self.now end.old }
+        ensures end { StaysTakeEnd self.now end.old end.new }
+        ensures taken { IfSome result (λ wire. taken_list end.new ≡ taken_list end.old ++ wire ∷ []) }
+        ensures legal { IfSome result (λ _. LegalFor (IsLegalOn P.program) (take_name end.old) (taken_list end.new)) }
+        ensures unchanged { IfNone result (taken_list end.new ≡ taken_list end.old) }
+        ensures empty { IfNone result (WasEmpty (IsLegalOn P.program) (take_name end.old) (taken_list end.old)) }
+    {
+        self.queue.pop_as::<Takes<P>, R>(rt, &mut end.pass)
+    }
+
+    // Takes the n wires that are on the link, by the pass of both ends, into reserved room.
+    fn take_all<R: Wait>(
+        &self,
+        rt: &R,
+        mut pass: Pass<Wire<P::Payload>, EndView<P::Payload>>,
+        mut held: Vec<Wire<P::Payload>>,
+        n: usize,
+    ) -> (
+        Pass<Wire<P::Payload>, EndView<P::Payload>>,
+        Vec<Wire<P::Payload>>,
+    )
+        requires pass { IsPassOf self.now.queue pass × ((view pass).puts ≡ true) × ((view pass).takes ≡ true) }
+        requires count { length (view pass).put ≡ length (view pass).taken + n }
+        requires room { (held.items ≡ []) × (n ≤ vec_capacity held) }
+        ensures view { view result.0
+            ≡ end_view (view pass).name true true (view pass).put ((view pass).taken ++ result.1.items) }
+        ensures count { length result.1.items ≡ n }
+        ensures all { (view pass).put ≡ (view pass).taken ++ result.1.items }
+    {
+        for _ in 0..n {
+            match self.queue.pop_as::<TakesAll<P>, R>(rt, &mut pass) {
+                Some(wire) => held.push_reserved(wire),
+                None => unreachable!(),
+            }
+        }
+        self.queue.learn_as::<TakesAll<P>>(&mut pass);
+        (pass, held)
+    }
+
+    /// What a link holds once both its ends are back: all that was put is what was taken and then what is held, a
+    /// legal list, and no more is held than the capacity.
+    ///
+    /// # Errors
+    /// `MeetRefused` hands link and ends back as they were, if memory for what is held was refused.
+    pub fn meet<R: Wait>(
+        self,
+        rt: &R,
+        alloc: Global,
+        put_end: PutEnd<P>,
+        take_end: TakeEnd<P>,
+    ) -> Result<Met<P::Payload>, MeetRefused<P>>
+        requires put_end { IsPutEndOf self put_end }
+        requires take_end { IsTakeEndOf self take_end }
+        requires name { put_name put_end ≡ take_name take_end }
+        ensures met { IfOk result (λ met. HasMet met (put_name put_end) (put_list put_end) (taken_list take_end)) }
+        ensures legal { IfOk result (λ _. LegalFor (IsLegalOn P.program) (put_name put_end) (put_list put_end)) }
+        ensures room { IfOk result (λ met. length (held_of met) ≤ link_capacity self) }
+        ensures refused { IfErr result
+            (λ back. AreAsBefore back.link self back.put_end put_end back.take_end take_end) }
+    {
+        let PutSide {
+            pass: mut both,
+            closed,
+        } = put_end;
+        let TakeSide { pass: other } = take_end;
+        self.queue.absorb::<TwoEnds>(&mut both, other);
+        let n = self.queue.len_as::<TakesAll<P>, R>(rt, &mut both);
+        let mut held = Vec::new(alloc);
+        if held.reserve_exact(n).is_err() {
+            let other = self.queue.another::<TwoEnds>(&mut both);
+            return Err(MeetRefused {
+                link: self,
+                put_end: put_end_of(both, closed),
+                take_end: take_end_of(other),
+            });
+        }
+        let (both, held) = self.take_all(rt, both, held, n);
+        Ok(Met::of(held, both))
+    }
+}

@@ -1,0 +1,127 @@
+//! The rule of a link, and what each of its steps says.
+//!
+//! Eight kinds of step: put, put refused as full, take, take refused as empty, and, by one caller that has all passes,
+//! the making of the queue, the naming of its view, the splitting into two ends and their joining.
+
+use crate::view::EndView;
+use alpha_core::Wire;
+use crossbeam_queue::protocol::{Join, Lesson, Outcome, Protocol, Split};
+use node_api::NodeProgram;
+use std::marker::{Brand, PhantomData};
+
+// What was put is what was taken and then what is on the queue, and is legal on the link of that name.
+pub struct LinkRule<P> {
+    program: PhantomData<P>,
+}
+
+impl<P: NodeProgram> Protocol<Wire<P::Payload>, EndView<P::Payload>> for LinkRule<P> {
+    ghost use Rattle.std.specs.Prelude.{None, true, []};
+    ghost use Rattle.link_rule.specs.Legal.{IsLegalOn};
+    ghost use Rattle.link_queue.specs.Rule.{end_view, Linked};
+
+    ghost holds = { Linked (IsLegalOn P.program) };
+
+    ghost first = { end_view None true true [] [] };
+}
+
+// Which link it is. Each making of a link picks it.
+pub trait Naming {
+    ghost use Rattle.link_rule.specs.declared.name.LinkName.{LinkName};
+
+    ghost name: { LinkName };
+}
+
+impl Naming for Brand {
+    ghost use Rattle.std.specs.Prelude.{[]};
+
+    ghost name = { record { network = record { ids = []; ports = [] }; vertex = 0; port = 0 } };
+}
+
+// The naming: the one view of a new link gets the name; the pass that this makes is spent.
+pub struct Named<J> {
+    name: PhantomData<J>,
+}
+
+impl<J: Naming, T> Split<EndView<T>> for Named<J> {
+    ghost use Rattle.std.specs.Prelude.{Some, None, false, []};
+    ghost use Rattle.link_queue.specs.Rule.{end_view};
+
+    ghost left = { λ v. end_view (Some J.name) v.puts v.takes v.put v.taken };
+
+    ghost right = { λ v. end_view None false false [] [] };
+}
+
+// The splitting of one view into the two ends, and their joining.
+pub struct TwoEnds;
+
+impl<T> Split<EndView<T>> for TwoEnds {
+    ghost use Rattle.std.specs.Prelude.{true, false, []};
+    ghost use Rattle.link_queue.specs.Rule.{end_view};
+
+    ghost left = { λ v. end_view v.name true false v.put [] };
+
+    ghost right = { λ v. end_view v.name false true [] v.taken };
+}
+
+impl<T> Join<EndView<T>> for TwoEnds {
+    ghost use Rattle.std.specs.Prelude.{None, true, false, []};
+    ghost use Rattle.link_queue.specs.Rule.{end_view};
+
+    ghost both = { λ v w. end_view v.name true true v.put w.taken };
+
+    ghost spent = { end_view None false false [] [] };
+}
+
+// A put, and what a refused one says.
+pub struct Puts;
+
+impl<T> Outcome<Wire<T>, EndView<T>> for Puts {
+    ghost use Rattle.std.specs.Prelude.{◌≡◌, [], ◌∷◌, ◌++◌};
+    ghost use Rattle.link_queue.specs.Rule.{end_view};
+
+    ghost then = { λ v x w. w ≡ end_view v.name v.puts v.takes (v.put ++ x ∷ []) v.taken };
+}
+
+impl<T> Lesson<Wire<T>, EndView<T>> for Puts {
+    ghost use Rattle.link_queue.specs.Rule.{AreLastOf};
+
+    ghost fact = { λ v. AreLastOf v.put };
+}
+
+// A take, and what a refused one says.
+pub struct Takes<P> {
+    program: PhantomData<P>,
+}
+
+impl<P: NodeProgram> Outcome<Wire<P::Payload>, EndView<P::Payload>> for Takes<P> {
+    ghost use Rattle.link_rule.specs.Legal.{IsLegalOn};
+    ghost use Rattle.link_queue.specs.Rule.{Taking};
+
+    ghost then = { Taking (IsLegalOn P.program) };
+}
+
+impl<P: NodeProgram> Lesson<Wire<P::Payload>, EndView<P::Payload>> for Takes<P> {
+    ghost use Rattle.link_rule.specs.Legal.{IsLegalOn};
+    ghost use Rattle.link_queue.specs.Rule.{MayFollow};
+
+    ghost fact = { λ v. MayFollow (IsLegalOn P.program) v.name v.taken };
+}
+
+// A take by a view of both ends, which knows all wires on the queue.
+pub struct TakesAll<P> {
+    program: PhantomData<P>,
+}
+
+impl<P: NodeProgram> Lesson<Wire<P::Payload>, EndView<P::Payload>> for TakesAll<P> {
+    ghost use Rattle.link_rule.specs.Legal.{IsLegalOn};
+    ghost use Rattle.link_queue.specs.Rule.{IsAllOf};
+
+    ghost fact = { IsAllOf (IsLegalOn P.program) };
+}
+
+impl<P: NodeProgram> Outcome<Wire<P::Payload>, EndView<P::Payload>> for TakesAll<P> {
+    ghost use Rattle.link_rule.specs.Legal.{IsLegalOn};
+    ghost use Rattle.link_queue.specs.Rule.{Taking};
+
+    ghost then = { Taking (IsLegalOn P.program) };
+}
