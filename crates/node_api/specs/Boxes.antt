@@ -1,26 +1,6 @@
 -- What an inbox and an outbox hold: a payload or none at each port.
-use Rattle.std.specs.Prelude.{
-  ◌≡◌,
-  ◌≢◌,
-  ◌↔◌,
-  ℕ,
-  ◌+◌,
-  ◌<◌,
-  ◌≤◌,
-  List,
-  [],
-  ◌∷◌,
-  length,
-  Option,
-  Some,
-  None,
-  IsSome,
-  slice_index_or,
-  drop,
-  replicate,
-  AllPairs,
-  Contains,
-}
+use Rattle.std.specs.Prelude.{◌≡◌, ◌≢◌, ◌↔◌, ℕ, ◌+◌, ◌<◌, ◌≤◌, List, [], ◌∷◌, length, Option, Some, None, IsSome}
+use Rattle.std.specs.Prelude.{slice_index_or, drop, replicate, AllPairs, Contains}
 
 -- nothing at each of n ports
 abbrev pub nothing : {M : Type 0} → ℕ → List (Option M)

@@ -1,20 +1,6 @@
 -- How the inbox is kept: the pairs of a port and its payload, ascending by port.
-use Rattle.std.specs.Prelude.{
-  ℕ,
-  ◌<◌,
-  ◌≤◌,
-  ◌==◌,
-  if◌then◌else◌,
-  List,
-  [],
-  ◌∷◌,
-  length,
-  slice_index,
-  Option,
-  Some,
-  None,
-  map,
-}
+use Rattle.std.specs.Prelude.{ℕ, ◌<◌, ◌≤◌, ◌==◌, if◌then◌else◌, List, [], ◌∷◌, length, slice_index, Option, Some}
+use Rattle.std.specs.Prelude.{None, map}
 use Rattle.std.specs.List.{range_with_len}
 
 -- the ports of a list of pairs

@@ -1,28 +1,7 @@
 -- One message more is delivered. A message has its place in one inbox alone: at the sender's
 -- neighbour, at the port that leads back; so it moves one entry, and no other is touched.
-use Rattle.std.proofs.Common.{
-  ◌≡◌,
-  ◌≢◌,
-  ℕ,
-  ◌-◌,
-  ◌<◌,
-  ◌++◌,
-  List,
-  [],
-  ◌∷◌,
-  length,
-  get_or,
-  set,
-  ap,
-  sym,
-  ◌∙◌,
-  arith,
-  inl,
-  inr,
-  subst,
-  get_or-set_same,
-  get_or-set_other,
-}
+use Rattle.std.proofs.Common.{◌≡◌, ◌≢◌, ℕ, ◌-◌, ◌<◌, ◌++◌, List, [], ◌∷◌, length, get_or, set, ap, sym, ◌∙◌, arith, inl, inr, subst, get_or-set_same}
+use Rattle.std.proofs.Common.{get_or-set_other}
 use Rattle.std.specs.Prelude.{Option, Some, None, ◌⊎◌, Contains}
 use Rattle.std.proofs.lemmas.List.{length-set}
 use Rattle.std.proofs.lemmas.List.Elements.{Contains-append_left, Contains-push, Contains-push_cases}
@@ -55,6 +34,13 @@ module _ {M : Type 0} (net : Net) (ok : IsNetwork net) (outs : List (List (Optio
     pub free_there : (d : Mail M) → at_port (get_or inboxes (neighbour_of net w q - 1) d).slots (back_port_of net w q) ≡ None
     free_there d = h.left (neighbour_of net w q) (back_port_of net w q) d is_to (ok.symmetric w q is_w in_row)
         (λ was. elim was [ inl low ↦ omega (arith, leads_back) | inr (same, has) ↦ fresh (subst (Contains of_w) leads_again has) ])
+
+    -- so with the numbers of its inbox and its port there
+    pub free_at : (v back : ℕ) (d : Mail M) → v ≡ neighbour_of net w q → back ≡ back_port_of net w q
+        → at_port (get_or inboxes (v - 1) d).slots back ≡ None
+    free_at v back d to at =
+        ap (λ (u : ℕ). at_port (get_or inboxes (u - 1) d).slots back) to
+        ∙ (ap (at_port (get_or inboxes (neighbour_of net w q - 1) d).slots) at ∙ free_there d)
 
     -- what is done after it was done before, or is it
     new_done : (v port : ℕ) → IsVertex net v → port < degree_of net v → IsDone net w (of_w ++ q ∷ []) v port →
@@ -155,3 +141,16 @@ module _ {M : Type 0} (net : Net) (ok : IsNetwork net) (outs : List (List (Optio
         done = done_after;
         left = left_after;
       }
+
+    -- so with the numbers of its inbox and its port there
+    pub delivered_at : (x : M) → sent_in outs w q ≡ Some x → (v back : ℕ) (old new : Mail M) → v ≡ neighbour_of net w q
+        → back ≡ back_port_of net w q → old ≡ get_or inboxes (v - 1) old
+        → new.slots ≡ set (get_or inboxes (v - 1) old).slots back (Some x) → new.place ≡ (get_or inboxes (v - 1) old).place
+        → Delivered net outs w (of_w ++ q ∷ []) (set inboxes (v - 1) new)
+    delivered_at x sent v back old new to at is_old slots place =
+        let here : old ≡ get_or inboxes (neighbour_of net w q - 1) old = is_old ∙ ap (λ (u : ℕ). get_or inboxes (u - 1) old) to in
+        let filled : new.slots ≡ set old.slots (back_port_of net w q) (Some x) =
+        slots ∙ (ap (λ (mail : Mail M). set mail.slots back (Some x)) (sym is_old) ∙ ap (λ (b : ℕ). set old.slots b (Some x)) at) in
+        let start : new.place ≡ old.place = place ∙ ap (λ (mail : Mail M). mail.place) (sym is_old) in
+        subst (λ (u : ℕ). Delivered net outs w (of_w ++ q ∷ []) (set inboxes (u - 1) new)) (sym to)
+        (delivered_put x sent old new here filled start)

@@ -17,17 +17,11 @@ use std::alloc::Global;
 ///
 /// `Memory` if memory is refused, which only the making of nodes and boxes at the start can return.
 pub fn run_rounds<P: NodeProgram>(alloc: Global, net: &Network) -> Result<Vec<P>, Memory>
-    ensures states { IfOk result (λ programs. programs.items ≡ last_states P.program net.now) }
+    ensures states { IfOk result (λ nodes. nodes.items ≡ last_states P.program net.now) }
 {
-    let (mut programs, mut inboxes, mut outs) = start::<P>(alloc, net)?;
-    rounds(
-        net,
-        P::last_pulse(net),
-        &mut programs,
-        &mut inboxes,
-        &mut outs,
-    );
-    Ok(programs)
+    let (mut nodes, mut inboxes, mut outs) = start::<P>(alloc, net)?;
+    rounds(net, P::last_pulse(net), &mut nodes, &mut inboxes, &mut outs);
+    Ok(nodes)
 }
 
 // All nodes after pulse 0, with what they sent and empty inboxes.
@@ -35,43 +29,43 @@ fn start<P: NodeProgram>(
     alloc: Global,
     net: &Network,
 ) -> Result<(Vec<P>, Vec<Inbox<P::Payload>>, Vec<Outbox<P::Payload>>), Memory>
-    ensures programs { IfOk result (λ all. Lists (count_of net.now) (state_at P.program net.now 0) all.0.items) }
+    ensures nodes { IfOk result (λ all. Lists (count_of net.now) (state_at P.program net.now 0) all.0.items) }
     ensures inboxes { IfOk result (λ all. Lists (count_of net.now) (empty_inbox net.now) all.1.items) }
     ensures outs { IfOk result (λ all. Lists (count_of net.now) (outbox_at P.program net.now 0) all.2.items) }
 {
-    let mut programs = Vec::new(alloc);
+    let mut nodes = Vec::new(alloc);
     let mut inboxes = Vec::new(alloc);
     let mut outs = Vec::new(alloc);
     for i in 0..net.nodes() {
         let degree = net.degree(i + 1);
         let inbox = Inbox::new(alloc, degree)?;
         let mut out = Outbox::new(alloc, degree)?;
-        let mut program = P::make(alloc, net, i + 1)?;
-        program.init(&mut out);
-        programs.push(program)?;
+        let mut node = P::make(alloc, net, i + 1)?;
+        node.init(&mut out);
+        nodes.push(node)?;
         inboxes.push(inbox)?;
         outs.push(out)?;
     }
-    Ok((programs, inboxes, outs))
+    Ok((nodes, inboxes, outs))
 }
 
 // The pulses 1 to `last` of all nodes.
 fn rounds<P: NodeProgram>(
     net: &Network,
     last: u32,
-    programs: &mut [P],
+    nodes: &mut [P],
     inboxes: &mut [Inbox<P::Payload>],
     outs: &mut [Outbox<P::Payload>],
 )
-    requires programs { Lists (count_of net.now) (state_at P.program net.now 0) programs.old }
+    requires nodes { Lists (count_of net.now) (state_at P.program net.now 0) nodes.old }
     requires inboxes { Lists (count_of net.now) (empty_inbox net.now) inboxes.old }
     requires outs { Lists (count_of net.now) (outbox_at P.program net.now 0) outs.old }
-    ensures programs { Lists (count_of net.now) (state_at P.program net.now last) programs.new }
+    ensures nodes { Lists (count_of net.now) (state_at P.program net.now last) nodes.new }
 {
     net.is_network();
     for done in 0..last {
         deliver(net, outs, inboxes);
-        pulse_all(net, done, programs, inboxes, outs);
+        pulse_all(net, done, nodes, inboxes, outs);
     }
 }
 
@@ -79,45 +73,45 @@ fn rounds<P: NodeProgram>(
 fn pulse_all<P: NodeProgram>(
     net: &Network,
     done: u32,
-    programs: &mut [P],
+    nodes: &mut [P],
     inboxes: &mut [Inbox<P::Payload>],
     outs: &mut [Outbox<P::Payload>],
 )
     requires done { done + 1 < 2 ^ 32 }
-    requires programs { Lists (count_of net.now) (state_at P.program net.now done) programs.old }
+    requires nodes { Lists (count_of net.now) (state_at P.program net.now done) nodes.old }
     requires inboxes { Lists (count_of net.now) (λ v. unread (inbox_at P.program net.now (suc done) v)) inboxes.old }
     requires outs { Lists (count_of net.now) (outbox_at P.program net.now done) outs.old }
-    ensures programs { Lists (count_of net.now) (state_at P.program net.now (suc done)) programs.new }
+    ensures nodes { Lists (count_of net.now) (state_at P.program net.now (suc done)) nodes.new }
     ensures inboxes { Lists (count_of net.now) (empty_inbox net.now) inboxes.new }
     ensures outs { Lists (count_of net.now) (outbox_at P.program net.now (suc done)) outs.new }
 {
     for i in 0..net.nodes() {
-        let program = &mut programs[i as usize];
+        let node = &mut nodes[i as usize];
         let inbox = &mut inboxes[i as usize];
         let out = &mut outs[i as usize];
-        pulse_one(program, done + 1, inbox, out);
+        pulse_one(node, done + 1, inbox, out);
     }
 }
 
 // One pulse of one node. It leaves the inbox empty.
 fn pulse_one<P: NodeProgram>(
-    program: &mut P,
+    node: &mut P,
     pulse: u32,
     inbox: &mut Inbox<P::Payload>,
     out: &mut Outbox<P::Payload>,
 )
     requires pulse { 1 ≤ pulse }
     requires unread { inbox.old ≡ unread inbox.old.slots }
-    requires ports { length inbox.old.slots ≡ P.program.ports program.old }
-    requires out { length out.old ≡ P.program.ports program.old }
-    ensures node { (program.new, out.new)
-        ≡ after program.old (P.program.ports program.old) (P.program.next program.old pulse inbox.old.slots) }
+    requires ports { length inbox.old.slots ≡ P.program.ports node.old }
+    requires out { length out.old ≡ P.program.ports node.old }
+    ensures node { (node.new, out.new)
+        ≡ after node.old (P.program.ports node.old) (P.program.next node.old pulse inbox.old.slots) }
     ensures empty { inbox.new ≡ unread (nothing (length inbox.old.slots)) }
 {
     out.clear();
-    program.pre_step(pulse);
+    node.pre_step(pulse);
     // No program refuses what comes in the synchronous run; after a refusal the state would stay.
-    let _ = program.handle_messages(pulse, inbox, out);
-    program.post_step(pulse);
+    let _ = node.handle_messages(pulse, inbox, out);
+    node.post_step(pulse);
     inbox.clear();
 }

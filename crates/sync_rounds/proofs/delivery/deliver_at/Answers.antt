@@ -1,13 +1,15 @@
-use Rattle.std.proofs.Common.{◌≡◌, ◌<◌, ◌-◌, ◌+◌, ℕ, [], List, get_or, set, take, ap, sym, ◌∙◌, arith, subst}
+-- The ports before the loop's have been served. The port is one of the sender's and wasn't served before, since the list has each
+-- filled port once (port-below, port-fresh); so its place is empty, and the outbox has a payload for it.
+use Rattle.std.proofs.Common.{◌≡◌, ◌<◌, ◌-◌, ℕ, [], List, get_or, set, take, ap, sym, ◌∙◌, arith, subst}
 use Rattle.std.specs.Prelude.{Option, Some}
 use Rattle.std.proofs.lemmas.List.{take_more, take_all}
-use Rattle.interference.specs.Net.{degree_of, neighbour_of, back_port_of}
-use Rattle.node_api.specs.Boxes.{at_port, Mail}
+use Rattle.interference.specs.Net.{degree_of}
+use Rattle.node_api.specs.Boxes.{at_port}
 use Rattle.node_api.proofs.Slots.{some_or_none}
 use Rattle.sync_rounds.specs.Lists.{sent_in}
 use Rattle.sync_rounds.specs.Delivery.{Delivered}
 use Rattle.sync_rounds.proofs.Deliveries.{delivered_sender}
-use Rattle.sync_rounds.proofs.Messages.{free_there, delivered_put}
+use Rattle.sync_rounds.proofs.Messages.{free_at, delivered_at}
 use Rattle.sync_rounds.proofs.Walks.{out_of, port-some, port-below, port-fresh}
 use Rattle.sync_rounds.proofs.delivery.deliver_at.Goals as goal
 
@@ -40,14 +42,12 @@ put-requires-clause-empty g c =
     let ports = c.args.ports.now in
     let k = c.loop-port.port-index in
     let port = get_or ports k 0 in
-    let inboxes = c.loop-port.inboxes in
     let row = get_or c.args.outs.now (w - 1) [] in
     let in_row : port < degree_of net w = port-below row ports c.requires.sent k c.loop-port-test.true (degree_of net w) c.requires.size in
     let fresh = port-fresh row ports c.requires.sent k c.loop-port-test.true in
-    ap (λ (v : ℕ). at_port (get_or inboxes (v - 1) c.index-inboxes-v.result).slots c.back_port.result) c.neighbour-v.ensures.value
-    ∙ (ap (at_port (get_or inboxes (neighbour_of net w port - 1) c.index-inboxes-v.result).slots) c.back_port.ensures.value
-    ∙ free_there net c.is_network.ensures c.args.outs.now w (take k ports) port c.requires.vertex in_row fresh inboxes c.loop-port.invariant
-    c.index-inboxes-v.result)
+    free_at net c.is_network.ensures c.args.outs.now w (take k ports) port c.requires.vertex in_row fresh c.loop-port.inboxes
+    c.loop-port.invariant c.neighbour-v.result c.back_port.result c.index-inboxes-v.result c.neighbour-v.ensures.value
+    c.back_port.ensures.value
 
 pub loop-port-preserved : goal.loop-port-preserved
 loop-port-preserved g c =
@@ -58,25 +58,17 @@ loop-port-preserved g c =
     let k = c.loop-port.port-index in
     let port = get_or ports k 0 in
     let inboxes = c.loop-port.inboxes in
-    let row = get_or c.args.outs.now (w - 1) [] in
+    let row = get_or outs (w - 1) [] in
     let in_row : port < degree_of net w = port-below row ports c.requires.sent k c.loop-port-test.true (degree_of net w) c.requires.size in
     let fresh = port-fresh row ports c.requires.sent k c.loop-port-test.true in
     let out = out_of net outs w c.requires.vertex c.requires.outs c.index-outs-w.result c.index-outs-w.is in
-    let got : sent_in outs w port ≡ Some c.in-Some.payload = ap (λ (slots : List (Option g.row.T.Denot)). at_port slots port) out ∙
-    (sym c.get.ensures.payload ∙ c.in-Some.is) in
-    let to : c.neighbour-v.result ≡ neighbour_of net w port = c.neighbour-v.ensures.value in
-    let old = c.index-inboxes-v.result in
-    let is_old : old ≡ get_or inboxes (neighbour_of net w port - 1) old = c.index-inboxes-v.is ∙ ap (λ (v : ℕ). get_or inboxes (v - 1) old) to in
-    let slots : c.put.new.self.slots ≡ set old.slots (back_port_of net w port) (Some c.in-Some.payload) =
-    c.put.ensures.slots
-    ∙ (ap (λ (mail : Mail g.row.T.Denot). set mail.slots c.back_port.result (Some c.in-Some.payload)) (sym c.index-inboxes-v.is)
-    ∙ ap (λ (q : ℕ). set old.slots q (Some c.in-Some.payload)) c.back_port.ensures.value) in
-    let place = c.put.ensures.place ∙ ap (λ (mail : Mail g.row.T.Denot). mail.place) (sym c.index-inboxes-v.is) in
-    subst (λ (mails : List (Mail g.row.T.Denot)). Delivered net outs w (take (k + 1) ports) mails) (sym (ap (λ (v : ℕ). set inboxes (v - 1) c.put.new.self) to))
-    (subst (λ (of_w : List ℕ). Delivered net outs w of_w (set inboxes (neighbour_of net w port - 1) c.put.new.self))
+    let got : sent_in outs w port ≡ Some c.in-Some.payload =
+    ap (λ (slots : List (Option g.row.T.Denot)). at_port slots port) out ∙ (sym c.get.ensures.payload ∙ c.in-Some.is) in
+    subst (λ (of_w : List ℕ). Delivered net outs w of_w (set inboxes (c.neighbour-v.result - 1) c.put.new.self))
     (sym (take_more ports k 0 c.loop-port-test.true))
-    (delivered_put net c.is_network.ensures outs w (take k ports) port c.requires.vertex in_row fresh inboxes c.loop-port.invariant c.in-Some.payload got old
-    c.put.new.self is_old slots place))
+    (delivered_at net c.is_network.ensures outs w (take k ports) port c.requires.vertex in_row fresh inboxes c.loop-port.invariant
+    c.in-Some.payload got c.neighbour-v.result c.back_port.result c.index-inboxes-v.result c.put.new.self c.neighbour-v.ensures.value
+    c.back_port.ensures.value c.index-inboxes-v.is c.put.ensures.slots c.put.ensures.place)
 
 pub returns : goal.returns
 returns g c =

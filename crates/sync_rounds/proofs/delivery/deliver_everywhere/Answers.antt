@@ -1,15 +1,15 @@
 -- The ports below the loop's have been served, whatever the outboxes are that send this payload everywhere; that
 -- a place is there and empty needs such outboxes, which the precondition has.
-use Rattle.std.proofs.Common.{◌≡◌, ◌<◌, ◌-◌, ◌+◌, ℕ, [], List, get_or, set, ap, sym, ◌∙◌, arith, subst}
+use Rattle.std.proofs.Common.{◌≡◌, ◌<◌, ◌-◌, ℕ, [], List, get_or, set, ap, sym, ◌∙◌, arith, subst}
 use Rattle.std.specs.Prelude.{Option, Some, None}
 use Rattle.std.specs.List.{range_with_len}
 use Rattle.std.proofs.lemmas.List.{get_or-replicate}
-use Rattle.interference.specs.Net.{degree_of, neighbour_of, back_port_of}
-use Rattle.node_api.specs.Boxes.{at_port, Mail, FilledPorts}
+use Rattle.interference.specs.Net.{degree_of}
+use Rattle.node_api.specs.Boxes.{at_port, FilledPorts}
 use Rattle.sync_rounds.specs.Lists.{sent_in}
 use Rattle.sync_rounds.specs.Delivery.{Delivered}
 use Rattle.sync_rounds.proofs.Deliveries.{delivered_sender}
-use Rattle.sync_rounds.proofs.Messages.{free_there, delivered_put}
+use Rattle.sync_rounds.proofs.Messages.{free_at, delivered_at}
 use Rattle.sync_rounds.proofs.Walks.{first-ports, first-fresh, filled-everywhere}
 use Rattle.sync_rounds.proofs.delivery.deliver_everywhere.Goals as goal
 
@@ -29,13 +29,11 @@ put-requires-clause-empty g c =
     let net = c.args.net.now in
     let w = c.args.w in
     let port = c.loop-port.port in
-    let inboxes = c.loop-port.inboxes in
     let (outs, now) = c.requires.before in
     let in_row : port < degree_of net w = omega (arith, c.loop-port-test.true, c.degree-port-end.ensures.value) in
-    ap (λ (v : ℕ). at_port (get_or inboxes (v - 1) c.index-inboxes-v.result).slots c.back_port.result) c.neighbour-v.ensures.value
-    ∙ (ap (at_port (get_or inboxes (neighbour_of net w port - 1) c.index-inboxes-v.result).slots) c.back_port.ensures.value
-    ∙ free_there net c.is_network.ensures outs w (range_with_len 0 port) port c.requires.vertex in_row (first-fresh port) inboxes
-    (c.loop-port.invariant outs now) c.index-inboxes-v.result)
+    free_at net c.is_network.ensures outs w (range_with_len 0 port) port c.requires.vertex in_row (first-fresh port) c.loop-port.inboxes
+    (c.loop-port.invariant outs now) c.neighbour-v.result c.back_port.result c.index-inboxes-v.result c.neighbour-v.ensures.value
+    c.back_port.ensures.value
 
 pub loop-port-init : goal.loop-port-init
 loop-port-init g c = λ outs now. now.before
@@ -51,20 +49,10 @@ loop-port-preserved g c = λ outs now.
     let got : sent_in outs w port ≡ Some payload =
     ap (λ (slots : List (Option g.row.T.Denot)). at_port slots port) now.sent
     ∙ get_or-replicate (degree_of net w) port (Some payload) None in_row in
-    let to : c.neighbour-v.result ≡ neighbour_of net w port = c.neighbour-v.ensures.value in
-    let old = c.index-inboxes-v.result in
-    let is_old : old ≡ get_or inboxes (neighbour_of net w port - 1) old =
-    c.index-inboxes-v.is ∙ ap (λ (v : ℕ). get_or inboxes (v - 1) old) to in
-    let slots : c.put.new.self.slots ≡ set old.slots (back_port_of net w port) (Some payload) =
-    c.put.ensures.slots
-    ∙ (ap (λ (mail : Mail g.row.T.Denot). set mail.slots c.back_port.result (Some payload)) (sym c.index-inboxes-v.is)
-    ∙ ap (λ (q : ℕ). set old.slots q (Some payload)) c.back_port.ensures.value) in
-    let place = c.put.ensures.place ∙ ap (λ (mail : Mail g.row.T.Denot). mail.place) (sym c.index-inboxes-v.is) in
-    subst (λ (mails : List (Mail g.row.T.Denot)). Delivered net outs w (range_with_len 0 (port + 1)) mails)
-    (sym (ap (λ (v : ℕ). set inboxes (v - 1) c.put.new.self) to))
-    (subst (λ (of_w : List ℕ). Delivered net outs w of_w (set inboxes (neighbour_of net w port - 1) c.put.new.self)) (first-ports port)
-    (delivered_put net c.is_network.ensures outs w (range_with_len 0 port) port c.requires.vertex in_row (first-fresh port) inboxes
-    (c.loop-port.invariant outs now) payload got old c.put.new.self is_old slots place))
+    subst (λ (of_w : List ℕ). Delivered net outs w of_w (set inboxes (c.neighbour-v.result - 1) c.put.new.self)) (first-ports port)
+    (delivered_at net c.is_network.ensures outs w (range_with_len 0 port) port c.requires.vertex in_row (first-fresh port) inboxes
+    (c.loop-port.invariant outs now) payload got c.neighbour-v.result c.back_port.result c.index-inboxes-v.result c.put.new.self
+    c.neighbour-v.ensures.value c.back_port.ensures.value c.index-inboxes-v.is c.put.ensures.slots c.put.ensures.place)
 
 pub returns : goal.returns
 returns g c = record {

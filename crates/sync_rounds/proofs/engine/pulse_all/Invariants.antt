@@ -10,11 +10,11 @@ abbrev pub invariant-loop-i : goal.invariant-loop-i
 invariant-loop-i g l =
     let m = g.P.NodeProgram in
     record {
-      programs : length l.programs ≡ count_of l.net;
+      nodes : length l.nodes ≡ count_of l.net;
       inboxes : length l.inboxes ≡ count_of l.net;
       outs : length l.outs ≡ count_of l.net;
-      programs_done : (k : ℕ) (d : _) → k < l.i → slice_index_or l.programs k d ≡ state_at m.program l.net (suc l.done) (k + 1);
-      programs_left : (k : ℕ) (d : _) → l.i ≤ k → k < count_of l.net → slice_index_or l.programs k d ≡ (state_at m.program l.net l.done (k + 1));
+      nodes_done : (k : ℕ) (d : _) → k < l.i → slice_index_or l.nodes k d ≡ state_at m.program l.net (suc l.done) (k + 1);
+      nodes_left : (k : ℕ) (d : _) → l.i ≤ k → k < count_of l.net → slice_index_or l.nodes k d ≡ (state_at m.program l.net l.done (k + 1));
       inboxes_done : (k : ℕ) (d : Mail _) → k < l.i → slice_index_or l.inboxes k d ≡ empty_inbox l.net (k + 1);
       inboxes_left : (k : ℕ) (d : Mail _) → l.i ≤ k → k < count_of l.net →
           slice_index_or l.inboxes k d ≡ unread (inbox_from l.net (node_at m.program l.net l.done) (k + 1));

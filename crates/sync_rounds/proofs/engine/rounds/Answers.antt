@@ -23,7 +23,7 @@ loop-done-preserved g c =
     let net = c.args.net.now in
     let more : suc c.loop-done.done ≡ c.loop-done.done + 1 = omega arith in
     record {
-      programs = subst (λ (p : ℕ). Lists (count_of net) (state_at m.program net p) c.pulse_all.new.programs) more c.pulse_all.ensures.programs;
+      nodes = subst (λ (p : ℕ). Lists (count_of net) (state_at m.program net p) c.pulse_all.new.nodes) more c.pulse_all.ensures.nodes;
       inboxes = c.pulse_all.ensures.inboxes;
       outs = subst (λ (p : ℕ). Lists (count_of net) (outbox_at m.program net p) c.pulse_all.new.outs) more c.pulse_all.ensures.outs;
     }

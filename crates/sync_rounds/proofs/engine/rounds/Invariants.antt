@@ -7,7 +7,7 @@ abbrev pub invariant-loop-done : goal.invariant-loop-done
 invariant-loop-done g l =
     let m = g.P.NodeProgram in
     record {
-      programs : Lists (count_of l.net) (state_at m.program l.net l.done) l.programs;
+      nodes : Lists (count_of l.net) (state_at m.program l.net l.done) l.nodes;
       inboxes : Lists (count_of l.net) (empty_inbox l.net) l.inboxes;
       outs : Lists (count_of l.net) (outbox_at m.program l.net l.done) l.outs;
     }

@@ -1,3 +1,5 @@
+-- The port goes to its rank among the ports that are there: there is a free place for it, since the port is empty (put_fits); the pairs
+-- stay ascending, and those before the place of reading stay read (put_reads); the slots are set at this port alone (put_slots).
 use Rattle.std.proofs.Common.{◌+◌, ℕ, List, ap, sym, ◌∙◌, arith, subst, inl, inr, refl}
 use Rattle.node_api.specs.Pairs.{IsRead, ports_of, slots_of}
 use Rattle.node_api.proofs.Putting.{put_reads, put_slots, put_fits}
