@@ -14,3 +14,5 @@ pub mod Starts
 pub mod Forests
 pub mod Proper
 pub mod Rounds
+pub mod FirstRefusal
+pub mod StepsInOrder

@@ -13,7 +13,14 @@ three parents ids = three_from parents (six parents ids)
 -- forest f merged with those before it, of which these are the colours
 abbrev pub merging : Net → ℕ → (ℕ → ℕ) → Merging
 merging net f old =
-    record { neighbours = neighbours net; number = number net; limit = greatest_degree_of net; forest = f; three = three (parent net f) (id_of net); old = old }
+    record {
+      neighbours = neighbours net;
+      number = number net;
+      limit = greatest_degree_of net;
+      forest = f;
+      three = three (parent net f) (id_of net);
+      old = old;
+    }
 
 -- the colours after the first f forests, all 0 before the first
 unfoldable pub colours_after : Net → ℕ → ℕ → ℕ
