@@ -41,12 +41,15 @@ before_test k j k' j' w h h' =
       | inl same ↦
           let products : k * w ≡ k' * w = ap (λ x. x * w) same in
           let test : (k == k') ≡ true = grind (arith, nat_tests) in
-          rw test (same_bool (nat_lt j j') (nat_lt (k * w + j) (k' * w + j')) (λ e. lt-ltb (k * w + j) (k' * w + j') (let l : j < j' = ltb-true j j' e in omega arith)) (λ e. lt-ltb j j' (let l : k * w + j < k' * w + j' = ltb-true (k * w + j) (k' * w + j') e in omega arith)))
+          rw test (same_bool (nat_lt j j') (nat_lt (k * w + j) (k' * w + j')) (λ e. lt-ltb (k * w + j) (k' * w + j') (let l : j < j' = ltb-true j j' e in
+          omega arith)) (λ e. lt-ltb j j' (let l : k * w + j < k' * w + j' = ltb-true (k * w + j) (k' * w + j') e in omega arith)))
       | inr side ↦
           let apart : (k == k') ≡ false = elim side [ inl lt ↦ grind (arith, nat_tests) | inr gt ↦ grind (arith, nat_tests) ] in
           rw apart (elim side [
-            | inl lt ↦ let products : (k + 1) * w ≤ k' * w = mul-le-mul_right w (omega arith) in lt-ltb k k' lt ∙ sym (lt-ltb (k * w + j) (k' * w + j') (omega arith))
-            | inr gt ↦ let products : (k' + 1) * w ≤ k * w = mul-le-mul_right w (omega arith) in le-ltb k k' (omega arith) ∙ sym (le-ltb (k * w + j) (k' * w + j') (omega arith))
+            | inl lt ↦ let products : (k + 1) * w ≤ k' * w = mul-le-mul_right w (omega arith) in lt-ltb k k' lt ∙
+                sym (lt-ltb (k * w + j) (k' * w + j') (omega arith))
+            | inr gt ↦ let products : (k' + 1) * w ≤ k * w = mul-le-mul_right w (omega arith) in le-ltb k k' (omega arith) ∙
+                sym (le-ltb (k * w + j) (k' * w + j') (omega arith))
           ])
     ]
 
@@ -88,14 +91,21 @@ merged_is net f v w = merged_if (nat_lt (id_of net v) (id_of net w)) f (number n
 
 -- the six colours of a forest are 0 to 5
 pub six_within : (parents : ℕ → Option ℕ) (ids : ℕ → ℕ) → IsProper parents ids → HasDigits IDENTIFIER_DIGITS ids → IsWithin 5 (six parents ids)
-six_within parents ids proper small v = omega (arith, four-small IDENTIFIER_DIGITS 8 (omega arith) (omega arith) (omega arith) (omega arith) parents ids proper small v)
+six_within parents ids proper small v = omega (
+  arith,
+  four-small IDENTIFIER_DIGITS 8 (omega arith) (omega arith) (omega arith) (omega arith) parents ids
+      proper small v,
+)
 
 module _ (net : Net) (forest : IsForest net) where
   -- an edge has one number at both ends
-  same_number : (v k : ℕ) → IsVertex net v → k < degree_of net v → (role : Role) → role_of net v (neighbour_of net v k) ≡ role → number net v (neighbour_of net v k) ≡ number net (neighbour_of net v k) v
+  same_number : (v k : ℕ) → IsVertex net v → k < degree_of net v → (role : Role) → role_of net v (neighbour_of net v k) ≡ role →
+      number net v (neighbour_of net v k) ≡ number net (neighbour_of net v k) v
   same_number v k is_vertex h Unknown e = absurd (forest.known v k is_vertex h e)
-  same_number v k is_vertex h (Up g) e = number_up net v (neighbour_of net v k) g e ∙ sym (number_down net (neighbour_of net v k) v g (forest.up v k g is_vertex h e).1)
-  same_number v k is_vertex h (Down g) e = number_down net v (neighbour_of net v k) g e ∙ sym (number_up net (neighbour_of net v k) v g (forest.down v k g is_vertex h e).0)
+  same_number v k is_vertex h (Up g) e = number_up net v (neighbour_of net v k) g e ∙
+      sym (number_down net (neighbour_of net v k) v g (forest.up v k g is_vertex h e).1)
+  same_number v k is_vertex h (Down g) e = number_down net v (neighbour_of net v k) g e ∙
+      sym (number_up net (neighbour_of net v k) v g (forest.down v k g is_vertex h e).0)
 
   pub number-same : (v k : ℕ) → IsVertex net v → k < degree_of net v → number net v (neighbour_of net v k) ≡ number net (neighbour_of net v k) v
   number-same v k is_vertex h = same_number v k is_vertex h (role_of net v (neighbour_of net v k)) refl
@@ -113,8 +123,11 @@ module _ (net : Net) (forest : IsForest net) where
 
   pub looked_as_heard : (f v : ℕ) → looked_at (merging net f (colours_after net f)) v ≡ filter (is_heard net f (step_in net f v) v) (neighbours net v)
   looked_as_heard f v = filter-same (is_looked_at (merging net f (colours_after net f)) v) (is_heard net f (step_in net f v) v) (neighbours net v)
-      (λ w. looked-is (merging net f (colours_after net f)) v w (number net v w) (nat_lt (step_in net f w) (step_in net f v)) refl (before_test (three (parent net f) (id_of net) w) (colours_after net f w) (three (parent net f) (id_of net) v) (colours_after net f v) (greatest_degree_of net + 1) (let a = colours_within f w in omega arith) (let a = colours_within f v in omega arith)))
+      (λ w. looked-is (merging net f (colours_after net f)) v w (number net v w) (nat_lt (step_in net f w) (step_in net f v)) refl
+      (before_test (three (parent net f) (id_of net) w) (colours_after net f w) (three (parent net f) (id_of net) v) (colours_after net f v)
+      (greatest_degree_of net + 1) (let a = colours_within f w in omega arith) (let a = colours_within f v in omega arith)))
 
   pub choice_is : (f v : ℕ) → colours_after net (suc f) v ≡ least_free_colour (greatest_degree_of net) (λ c. among c (heard net f (step_in net f v) v))
   unfolding colours_after
-  choice_is f v = merge-is (merging net f (colours_after net f)) v ∙ ap (λ (ws : List ℕ). least_free_colour (greatest_degree_of net) (λ c. among c (map (colours_after net (suc f)) ws))) (looked_as_heard f v)
+  choice_is f v = merge-is (merging net f (colours_after net f)) v ∙
+      ap (λ (ws : List ℕ). least_free_colour (greatest_degree_of net) (λ c. among c (map (colours_after net (suc f)) ws))) (looked_as_heard f v)

@@ -1,5 +1,31 @@
 -- What each node is, and has told its neighbours, after each pulse of the synchronous run.
-use Rattle.std.specs.Prelude.{◌≡◌, ◌≢◌, ℕ, zero, suc, ◌+◌, ◌*◌, ◌<◌, ◌≤◌, ◌==◌, Bool, false, List, [], ◌∷◌, ◌++◌, map, Option, Some, None, if◌then◌else◌, nat_lt, nat_le, count_by, filter}
+use Rattle.std.specs.Prelude.{
+  ◌≡◌,
+  ◌≢◌,
+  ℕ,
+  zero,
+  suc,
+  ◌+◌,
+  ◌*◌,
+  ◌<◌,
+  ◌≤◌,
+  ◌==◌,
+  Bool,
+  false,
+  List,
+  [],
+  ◌∷◌,
+  ◌++◌,
+  map,
+  Option,
+  Some,
+  None,
+  if◌then◌else◌,
+  nat_lt,
+  nat_le,
+  count_by,
+  filter,
+}
 use Rattle.std.specs.List.{range_with_len}
 use Rattle.std.specs.FinSet.{empty, from_list}
 use Rattle.interference.specs.Net.{Net, IsVertex, id_of, degree_of, neighbours, neighbour_of, forest_count_of, greatest_degree_of}
@@ -80,14 +106,17 @@ abbrev pub state_after_choice : Net → ℕ → ℕ → ℕ → Node
 state_after_choice net f s v = record (state_before_choice net f s v) { merged = merged_by net f (suc s) v }
 
 abbrev pub chose : Net → ℕ → ℕ → ℕ → ℕ → Option Payload
-chose net f s v w = if step_in net f v == s then (if suc s == steps (sizes_of net) then None else tells_chosen f (colours_after net (suc f) v) (role_of net v w)) else None
+chose net f s v w = if step_in net f v == s then (if suc s == steps (sizes_of net) then None else tells_chosen f (colours_after net (suc f) v)
+    (role_of net v w)) else None
 
 -- What the forests of a network keep.
 pub record IsForest (net : Net) : Type 0 where
   pub known : (v k : ℕ) → IsVertex net v → k < degree_of net v → role_of net v (neighbour_of net v k) ≢ Unknown
-  pub up : (v k f : ℕ) → IsVertex net v → k < degree_of net v → role_of net v (neighbour_of net v k) ≡ Up f → (parent net f v ≡ Some (neighbour_of net v k)) × (role_of net (neighbour_of net v k) v ≡ Down f) × (f < forest_count_of net)
+  pub up : (v k f : ℕ) → IsVertex net v → k < degree_of net v → role_of net v (neighbour_of net v k) ≡ Up f → (parent net f v ≡ Some (neighbour_of net v k)) ×
+      (role_of net (neighbour_of net v k) v ≡ Down f) × (f < forest_count_of net)
   pub above : (f v w : ℕ) → IsVertex net v → parent net f v ≡ Some w → (k : ℕ) × (k < degree_of net v) × (role_of net v (neighbour_of net v k) ≡ Up f)
-  pub down : (v k f : ℕ) → IsVertex net v → k < degree_of net v → role_of net v (neighbour_of net v k) ≡ Down f → (role_of net (neighbour_of net v k) v ≡ Up f) × (f < forest_count_of net)
+  pub down : (v k f : ℕ) → IsVertex net v → k < degree_of net v → role_of net v (neighbour_of net v k) ≡ Down f →
+      (role_of net (neighbour_of net v k) v ≡ Up f) × (f < forest_count_of net)
   pub apart : (f v w : ℕ) → parent net f v ≡ Some w → id_of net v ≢ id_of net w
   pub small : HasDigits IDENTIFIER_DIGITS (id_of net)
   pub few : (v : ℕ) → degree_of net v ≤ greatest_degree_of net

@@ -43,7 +43,8 @@ with_has : (set : FinSet nat_cmp) (slots : List (Option Payload)) (c : ℕ) → 
 unfolding or has
 with_has set [] c = refl
 with_has set (Some (Chosen x) ∷ slots) c =
-    with_has (insert set x) slots c ∙ ap (λ (b : Bool). or (has slots c) b) (contains-insert_colour set x c) ∙ one_in (c == x) (x == c) (has slots c) (contains set c) (same_bool (c == x) (x == c) (λ e. grind (arith, nat_tests)) (λ e. grind (arith, nat_tests)))
+    with_has (insert set x) slots c ∙ ap (λ (b : Bool). or (has slots c) b) (contains-insert_colour set x c) ∙
+    one_in (c == x) (x == c) (has slots c) (contains set c) (same_bool (c == x) (x == c) (λ e. grind (arith, nat_tests)) (λ e. grind (arith, nat_tests)))
 with_has set (Some (Hello x) ∷ slots) c = with_has set slots c
 with_has set (Some (Label x) ∷ slots) c = with_has set slots c
 with_has set (Some (Colour x) ∷ slots) c = with_has set slots c
@@ -68,7 +69,9 @@ was_here false h a0 a1 e = e
 abbrev pub slot_by : Bool → Bool → ℕ → Option Payload
 slot_by e i x = if e then (if i then Some (Chosen x) else None) else None
 
-one_more : (i e l : Bool) (new : ℕ → ℕ) (w c : ℕ) (slots : List (Option Payload)) (a0 a1 : List ℕ) → (e ≡ true → l ≡ true → ⊥) → among c (map new a1) ≡ or (has slots c) (among c (map new a0)) → among c (map new (if (if i then or e l else false) then w ∷ a1 else a1)) ≡ or (has (slot_by e i (new w) ∷ slots) c) (among c (map new (if (if i then l else false) then w ∷ a0 else a0)))
+one_more : (i e l : Bool) (new : ℕ → ℕ) (w c : ℕ) (slots : List (Option Payload)) (a0 a1 : List ℕ) → (e ≡ true → l ≡ true → ⊥) →
+    among c (map new a1) ≡ or (has slots c) (among c (map new a0)) → among c (map new (if (if i then or e l else false) then w ∷ a1 else a1))
+    ≡ or (has (slot_by e i (new w) ∷ slots) c) (among c (map new (if (if i then l else false) then w ∷ a0 else a0)))
 unfolding or has
 one_more false true l new w c slots a0 a1 ne ih = ih
 one_more false false l new w c slots a0 a1 ne ih = ih
@@ -89,10 +92,14 @@ lt_more a s =
     ]
 
 -- what is heard before the next step: what came, and what was heard before
-heard_more : (near : ℕ → Bool) (place new : ℕ → ℕ) (s c : ℕ) (ws : List ℕ) → among c (map new (filter (λ w. if near w then nat_lt (place w) (suc s) else false) ws)) ≡ or (has (map (λ w. slot_by (place w == s) (near w) (new w)) ws) c) (among c (map new (filter (λ w. if near w then nat_lt (place w) s else false) ws)))
+heard_more : (near : ℕ → Bool) (place new : ℕ → ℕ) (s c : ℕ) (ws : List ℕ) →
+    among c (map new (filter (λ w. if near w then nat_lt (place w) (suc s) else false) ws))
+    ≡ or (has (map (λ w. slot_by (place w == s) (near w) (new w)) ws) c) (among c (map new (filter (λ w. if near w then nat_lt (place w) s else false) ws)))
 unfolding or has
 heard_more near place new s c [] = refl
-heard_more near place new s c (w ∷ ws) = rw (lt_more (place w) s) (one_more (near w) (place w == s) (nat_lt (place w) s) new w c (map (λ w. slot_by (place w == s) (near w) (new w)) ws) (filter (λ w. if near w then nat_lt (place w) s else false) ws) (filter (λ w. if near w then nat_lt (place w) (suc s) else false) ws) (λ e l. grind (arith, nat_tests)) (heard_more near place new s c ws))
+heard_more near place new s c (w ∷ ws) = rw (lt_more (place w) s) (one_more (near w) (place w == s) (nat_lt (place w) s) new w c
+    (map (λ w. slot_by (place w == s) (near w) (new w)) ws) (filter (λ w. if near w then nat_lt (place w) s else false) ws)
+    (filter (λ w. if near w then nat_lt (place w) (suc s) else false) ws) (λ e l. grind (arith, nat_tests)) (heard_more near place new s c ws))
 
 never : (b : Bool) (x : ℕ) → (if b then nat_lt x 0 else false) ≡ false
 never true x = le-ltb x 0 (omega arith)
@@ -110,13 +117,17 @@ list_of : (colours : List ℕ) → [] ≡ colours → empty {R = nat_cmp} ≡ fr
 list_of colours e = same_colours empty (from_list colours) (λ c. contains-empty nat_cmp c ∙ (ap (among c) e ∙ sym (contains-from_list_nat colours c)))
 
 pub empty_set : (net : Net) (f v : ℕ) → empty ≡ heard_set net f 0 v
-empty_set net f v = list_of (heard net f 0 v) (sym (nothing_heard (λ w. nat_le (number net v w) f) (step_in net f) (colours_after net (suc f)) (neighbours net v)))
+empty_set net f v = list_of (heard net f 0 v) (sym (nothing_heard (λ w. nat_le (number net v w) f) (step_in net f) (colours_after net (suc f))
+    (neighbours net v)))
 
 -- the set at the next step of the forest
-pub more_set : (net : Net) (f s v : ℕ) → with_chosen (heard_set net f s v) (map (λ w. slot_by (step_in net f w == s) (nat_le (number net v w) f) (colours_after net (suc f) w)) (neighbours net v)) ≡ heard_set net f (suc s) v
+pub more_set : (net : Net) (f s v : ℕ) → with_chosen (heard_set net f s v)
+    (map (λ w. slot_by (step_in net f w == s) (nat_le (number net v w) f) (colours_after net (suc f) w)) (neighbours net v)) ≡ heard_set net f (suc s) v
 more_set net f s v =
-    let slots : List (Option Payload) = map (λ w. slot_by (step_in net f w == s) (nat_le (number net v w) f) (colours_after net (suc f) w)) (neighbours net v) in
+    let slots : List (Option Payload) = map (λ w. slot_by (step_in net f w == s) (nat_le (number net v w) f) (colours_after net (suc f) w)) (neighbours net v)
+    in
     same_colours (with_chosen (heard_set net f s v) slots) (heard_set net f (suc s) v) (λ c.
     with_has (heard_set net f s v) slots c
     ∙ ap (λ (b : Bool). or (has slots c) b) (contains-from_list_nat (heard net f s v) c)
-    ∙ sym (contains-from_list_nat (heard net f (suc s) v) c ∙ heard_more (λ w. nat_le (number net v w) f) (step_in net f) (colours_after net (suc f)) s c (neighbours net v)))
+    ∙ sym (contains-from_list_nat (heard net f (suc s) v) c ∙ heard_more (λ w. nat_le (number net v w) f) (step_in net f) (colours_after net (suc f)) s c
+    (neighbours net v)))

@@ -16,7 +16,8 @@ map-members f g (w ∷ ws) same =
     let rest : map f ws ≡ map g ws = map-members f g ws (λ k h. same (suc k) (omega arith)) in
     cc
 
-place-case : (b : Bool) (v w p d : ℕ) (ws : List ℕ) → (b ≡ true → w ≡ v) → (p < length ws → get_or ws p d ≡ v) → (if b then 0 else p + 1) < suc (length ws) → get_or (w ∷ ws) (if b then 0 else p + 1) d ≡ v
+place-case : (b : Bool) (v w p d : ℕ) (ws : List ℕ) → (b ≡ true → w ≡ v) → (p < length ws → get_or ws p d ≡ v) → (if b then 0 else p + 1) < suc (length ws) →
+    get_or (w ∷ ws) (if b then 0 else p + 1) d ≡ v
 place-case true v w p d ws met rest h = met refl
 place-case false v w p d ws met rest h = let e : p + 1 ≡ suc p = omega arith in rw e (rest (omega arith))
 
@@ -32,8 +33,10 @@ map-map f g [] = refl
 map-map f g (w ∷ ws) = ap (λ rest. f (g w) ∷ rest) (map-map f g ws)
 
 -- What stands in an inbox where each node's outbox is by its neighbours.
-module _ {S M : Type 0} (net : Net) (ok : IsNetwork net) (nodes : ℕ → S × List (Option M)) (sent : ℕ → ℕ → Option M) (out : (w : ℕ) → IsVertex net w → (nodes w).1 ≡ map (sent w) (neighbours net w)) where
-  slot_is : (v k : ℕ) → IsVertex net v → k < degree_of net v → at_port (nodes (neighbour_of net v k)).1 (port_to net (neighbour_of net v k) v) ≡ sent (neighbour_of net v k) v
+module _ {S M : Type 0} (net : Net) (ok : IsNetwork net) (nodes : ℕ → S × List (Option M)) (sent : ℕ → ℕ → Option M) (out : (w : ℕ) → IsVertex net w →
+    (nodes w).1 ≡ map (sent w) (neighbours net w)) where
+  slot_is : (v k : ℕ) → IsVertex net v → k < degree_of net v → at_port (nodes (neighbour_of net v k)).1 (port_to net (neighbour_of net v k) v)
+      ≡ sent (neighbour_of net v k) v
   slot_is v k is_vertex below =
       let w : ℕ = neighbour_of net v k in
       let place : port_to net w v < length (neighbours net w) = ok.symmetric v k is_vertex below in
@@ -47,7 +50,8 @@ pub range-members : {X : Type 0} (f g : ℕ → X) (a n : ℕ) → ((k : ℕ) �
 range-members f g a zero same = refl
 range-members f g a (suc n) same =
     let now : f a ≡ g a = same a (omega arith) (omega arith) in
-    let rest : map f (range_with_len (a + 1) n) ≡ map g (range_with_len (a + 1) n) = range-members f g (a + 1) n (λ k low high. same k (omega arith) (omega arith)) in
+    let rest : map f (range_with_len (a + 1) n) ≡ map g (range_with_len (a + 1) n) =
+    range-members f g (a + 1) n (λ k low high. same k (omega arith) (omega arith)) in
     cc
 
 pub any-none : (test : ℕ → Bool) (f : ℕ → ℕ) (ks : List ℕ) → ((k : ℕ) → test (f k) ≡ false) → list_any test (map f ks) ≡ false

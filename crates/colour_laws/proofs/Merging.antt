@@ -36,19 +36,23 @@ use Rattle.colour_rules.proofs.Pairs.{pair_test, phase_merge}
 use Rattle.colour_laws.proofs.Choices.{colours_within, choice_is}
 use Rattle.colour_laws.proofs.Heard.{or, lt_more, slot_by}
 
-port_chosen : (node : Node) (f s c : ℕ) (earlier : List ℕ) (role : Role) → is_merged f role ≡ true → 0 < s → c ≤ node.sizes.greatest_degree → port_rule node earlier (Merge f s) role (Some (Chosen c)) ≡ None
+port_chosen : (node : Node) (f s c : ℕ) (earlier : List ℕ) (role : Role) → is_merged f role ≡ true → 0 < s → c ≤ node.sizes.greatest_degree →
+    port_rule node earlier (Merge f s) role (Some (Chosen c)) ≡ None
 port_chosen node f s c earlier Unknown near later small = absurd (cc)
 port_chosen node f s c earlier (Up g) near later small =
     let e0 : (s == 0) ≡ false = grind (arith, nat_tests) in rw (e0, near, le-ltb node.sizes.greatest_degree c small) refl
 port_chosen node f s c earlier (Down g) near later small =
     let e0 : (s == 0) ≡ false = grind (arith, nat_tests) in rw (e0, near, le-ltb node.sizes.greatest_degree c small) refl
 
-pub slot_fine : (e i : Bool) (node : Node) (f s c : ℕ) (earlier : List ℕ) (role : Role) → (i ≡ true → is_merged f role ≡ true) → 0 < s → c ≤ node.sizes.greatest_degree → port_rule node earlier (Merge f s) role (slot_by e i c) ≡ None
+pub slot_fine : (e i : Bool) (node : Node) (f s c : ℕ) (earlier : List ℕ) (role : Role) → (i ≡ true → is_merged f role ≡ true) → 0 < s →
+    c ≤ node.sizes.greatest_degree → port_rule node earlier (Merge f s) role (slot_by e i c) ≡ None
 slot_fine true true node f s c earlier role near later small = port_chosen node f s c earlier role (near refl) later small
 slot_fine true false node f s c earlier role near later small = refl
 slot_fine false i node f s c earlier role near later small = refl
 
-told_if : (b d : Bool) (f free c : ℕ) (role : ℕ → Role) (ws : List ℕ) → (b ≡ true → free ≡ c) → (if b then (if d then silent (map role ws) else map (tells_chosen f free) (map role ws)) else silent (map role ws)) ≡ map (λ w. if b then (if d then None else tells_chosen f c (role w)) else None) ws
+told_if : (b d : Bool) (f free c : ℕ) (role : ℕ → Role) (ws : List ℕ) → (b ≡ true → free ≡ c) →
+    (if b then (if d then silent (map role ws) else map (tells_chosen f free) (map role ws)) else silent (map role ws))
+    ≡ map (λ w. if b then (if d then None else tells_chosen f c (role w)) else None) ws
 told_if true true f free c role ws e = map-map (λ x. None) role ws
 told_if true false f free c role ws e = ap (λ x. map (tells_chosen f x) (map role ws)) (e refl) ∙ map-map (tells_chosen f c) role ws
 told_if false d f free c role ws e = map-map (λ x. None) role ws
@@ -57,9 +61,11 @@ own_when : (b : Bool) (d x : ℕ) → x ≤ d → (if b then rule_if (nat_lt d x
 own_when true d x h = rw (le-ltb d x h) refl
 own_when false d x h = refl
 
-merged_if : (b : Bool) (a s new old free : ℕ) → b ≡ (a == s) → (b ≡ true → free ≡ new) → (if b then free else (if nat_lt a s then new else old)) ≡ (if nat_lt a (suc s) then new else old)
+merged_if : (b : Bool) (a s new old free : ℕ) → b ≡ (a == s) → (b ≡ true → free ≡ new) → (if b then free else (if nat_lt a s then new else old))
+    ≡ (if nat_lt a (suc s) then new else old)
 unfolding or
-merged_if true a s new old free e is = let t : nat_lt a (suc s) ≡ true = lt-ltb a (suc s) (let h : a ≡ s = grind (arith, nat_tests) in omega arith) in rw t (is refl)
+merged_if true a s new old free e is = let t : nat_lt a (suc s) ≡ true = lt-ltb a (suc s) (let h : a ≡ s = grind (arith, nat_tests) in omega arith) in
+    rw t (is refl)
 merged_if false a s new old free e is = let t : nat_lt a (suc s) ≡ nat_lt a s = lt_more a s ∙ ap (λ b. or b (nat_lt a s)) (sym e) ∙ refl in rw t refl
 
 free_in : (limit : ℕ) (colours : List ℕ) → least_free_colour limit (contains (from_list {R = nat_cmp} colours)) ≡ least_free_colour limit (λ c. among c colours)
@@ -71,38 +77,59 @@ step_from f s here merged sizes roles = (
   if chooses here f s then (if suc s == steps sizes then silent roles else map (tells_chosen f (free_for here)) roles) else silent roles,
 )
 
-module _ (net : Net) (ok : IsNetwork net) (forest : IsForest net) (f : ℕ) (in_range : f < forest_count_of net) (s : ℕ) (below : s < steps (sizes_of net)) (v : ℕ) (is_vertex : IsVertex net v) where
+module _ (net : Net) (ok : IsNetwork net) (forest : IsForest net) (f : ℕ) (in_range : f < forest_count_of net) (s : ℕ) (below : s < steps (sizes_of net))
+    (v : ℕ) (is_vertex : IsVertex net v) where
   -- what a node chooses before its choice, and when
   chooses_is : chooses (state_before_choice net f s v) f s ≡ (step_in net f v == s)
   chooses_is =
       rw (in_forest net (λ g. (stages net g 10).0 v) f in_range, stages_are_three net f v)
-      (pair_test (three (parent net f) (id_of net) v) (colours_after net f v) (greatest_degree_of net + 1) s (let a = colours_within net forest f v in omega arith))
+      (pair_test (three (parent net f) (id_of net) v) (colours_after net f v) (greatest_degree_of net + 1) s (let a = colours_within net forest f v in
+      omega arith))
 
   free_is : (step_in net f v == s) ≡ true → free_for (state_before_choice net f s v) ≡ colours_after net (suc f) v
-  free_is h = let e : step_in net f v ≡ s = grind (arith, nat_tests) in sym (choice_is net forest f v ∙ ap (λ k. least_free_colour (greatest_degree_of net) (λ c. among c (heard net f k v))) e ∙ sym (free_in (greatest_degree_of net) (heard net f s v)))
+  free_is h = let e : step_in net f v ≡ s = grind (arith, nat_tests) in
+      sym (choice_is net forest f v ∙ ap (λ k. least_free_colour (greatest_degree_of net) (λ c. among c (heard net f k v))) e ∙
+      sym (free_in (greatest_degree_of net) (heard net f s v)))
 
   free_within : free_for (state_before_choice net f s v) ≤ greatest_degree_of net
-  free_within = rw (free_in (greatest_degree_of net) (heard net f s v)) (least_free_colour-within (greatest_degree_of net) (heard net f s v) (omega (arith, length-map-filter (is_heard net f s v) (colours_after net (suc f)) (neighbours net v), forest.few v)))
+  free_within = rw (free_in (greatest_degree_of net) (heard net f s v)) (least_free_colour-within (greatest_degree_of net) (heard net f s v) (omega (
+    arith,
+    length-map-filter (is_heard net f s v) (colours_after net (suc f)) (neighbours net v),
+    forest.few v,
+  )))
 
-  own_fine : (node : Node) (inbox : List (Option Payload)) → node.sizes ≡ sizes_of net → gathered node s inbox ≡ state_before_choice net f s v → own_rule node (Merge f s) inbox ≡ None
+  own_fine : (node : Node) (inbox : List (Option Payload)) → node.sizes ≡ sizes_of net → gathered node s inbox ≡ state_before_choice net f s v →
+      own_rule node (Merge f s) inbox ≡ None
   own_fine node inbox sizes g =
       ap (λ (h : Node). if chooses h f s then rule_if (nat_lt node.sizes.greatest_degree (free_for h)) else None) g
-      ∙ (ap (λ (z : Sizes). if chooses (state_before_choice net f s v) f s then rule_if (nat_lt z.greatest_degree (free_for (state_before_choice net f s v))) else None) sizes
+      ∙ (ap (λ (z : Sizes). if chooses (state_before_choice net f s v) f s then rule_if (nat_lt z.greatest_degree (free_for (state_before_choice net f s v)))
+      else None) sizes
       ∙ own_when (chooses (state_before_choice net f s v) f s) (greatest_degree_of net) (free_for (state_before_choice net f s v)) free_within)
 
   turn_free : chooses (state_before_choice net f s v) f s ≡ true → free_for (state_before_choice net f s v) ≡ colours_after net (suc f) v
   turn_free h = free_is (sym chooses_is ∙ h)
 
-  step_is : step_from f s (state_before_choice net f s v) (merged_by net f s v) (sizes_of net) (map (role_of net v) (neighbours net v)) ≡ (state_after_choice net f s v, map (chose net f s v) (neighbours net v))
+  step_is : step_from f s (state_before_choice net f s v) (merged_by net f s v) (sizes_of net) (map (role_of net v) (neighbours net v))
+      ≡ (state_after_choice net f s v, map (chose net f s v) (neighbours net v))
   step_is =
-      ap (λ (m : ℕ). (record (state_before_choice net f s v) { merged = m }, if chooses (state_before_choice net f s v) f s then (if suc s == steps (sizes_of net) then silent (map (role_of net v) (neighbours net v)) else map (tells_chosen f (free_for (state_before_choice net f s v))) (map (role_of net v) (neighbours net v))) else silent (map (role_of net v) (neighbours net v))))
-      (merged_if (chooses (state_before_choice net f s v) f s) (step_in net f v) s (colours_after net (suc f) v) (colours_after net f v) (free_for (state_before_choice net f s v)) chooses_is turn_free)
+      ap (λ (m : ℕ). (
+        record (state_before_choice net f s v) { merged = m },
+        if chooses (state_before_choice net f s v) f s then (if suc s == steps (sizes_of net) then silent (map (role_of net v) (neighbours net v)) else map
+            (tells_chosen f (free_for (state_before_choice net f s v))) (map (role_of net v) (neighbours net v))) else silent
+            (map (role_of net v) (neighbours net v)),
+      ))
+      (merged_if (chooses (state_before_choice net f s v) f s) (step_in net f v) s (colours_after net (suc f) v) (colours_after net f v)
+      (free_for (state_before_choice net f s v)) chooses_is turn_free)
       ∙ (ap (λ (out : List (Option Payload)). (state_after_choice net f s v, out))
-      (told_if (chooses (state_before_choice net f s v) f s) (suc s == steps (sizes_of net)) f (free_for (state_before_choice net f s v)) (colours_after net (suc f) v) (role_of net v) (neighbours net v) turn_free
-      ∙ ap (λ (b : Bool). map (λ w. if b then (if suc s == steps (sizes_of net) then None else tells_chosen f (colours_after net (suc f) v) (role_of net v w)) else None) (neighbours net v)) chooses_is))
+      (told_if (chooses (state_before_choice net f s v) f s) (suc s == steps (sizes_of net)) f (free_for (state_before_choice net f s v))
+      (colours_after net (suc f) v) (role_of net v) (neighbours net v) turn_free
+      ∙ ap (λ (b : Bool). map (λ w. if b then (if suc s == steps (sizes_of net) then None else tells_chosen f (colours_after net (suc f) v) (role_of net v w))
+      else None) (neighbours net v)) chooses_is))
 
   -- a node that has heard what it is to hear makes its step
-  pub merge_next : (node : Node) (inbox : List (Option Payload)) → node.sizes ≡ sizes_of net → node.roles ≡ map (role_of net v) (neighbours net v) → gathered node s inbox ≡ state_before_choice net f s v → first_refusal node (Merge f s) inbox ≡ None → next node (FIRST_MERGE + (f * steps (sizes_of net) + s)) inbox ≡ Ok (state_after_choice net f s v, map (chose net f s v) (neighbours net v))
+  pub merge_next : (node : Node) (inbox : List (Option Payload)) → node.sizes ≡ sizes_of net → node.roles ≡ map (role_of net v) (neighbours net v) →
+      gathered node s inbox ≡ state_before_choice net f s v → first_refusal node (Merge f s) inbox ≡ None →
+      next node (FIRST_MERGE + (f * steps (sizes_of net) + s)) inbox ≡ Ok (state_after_choice net f s v, map (chose net f s v) (neighbours net v))
   merge_next node inbox sizes roles g ports =
       let p : ℕ = FIRST_MERGE + (f * steps (sizes_of net) + s) in
       let phase : phase_of node.sizes p ≡ Merge f s = ap (λ (z : Sizes). phase_of z p) sizes ∙ phase_merge (sizes_of net) f s in_range below in

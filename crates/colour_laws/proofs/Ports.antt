@@ -23,7 +23,9 @@ use Rattle.colour_rules.specs.declared.phase.Phase.TheVariants.{Work}
 use Rattle.colour_laws.proofs.Expected.{by_forest}
 use Rattle.colour_laws.proofs.Lists.{map-map}
 
-pub ports_none : (node : Node) (phase : Phase) (role : ℕ → Role) (slot : ℕ → Option Payload) (ws : List ℕ) → ((k : ℕ) → k < length ws → (earlier : List ℕ) → port_rule node earlier phase (role (get_or ws k 0)) (slot (get_or ws k 0)) ≡ None) → (port : ℕ) (earlier : List ℕ) → ports_refusal node phase port earlier (map role ws) (map slot ws) ≡ None
+pub ports_none : (node : Node) (phase : Phase) (role : ℕ → Role) (slot : ℕ → Option Payload) (ws : List ℕ) →
+    ((k : ℕ) → k < length ws → (earlier : List ℕ) → port_rule node earlier phase (role (get_or ws k 0)) (slot (get_or ws k 0)) ≡ None) →
+    (port : ℕ) (earlier : List ℕ) → ports_refusal node phase port earlier (map role ws) (map slot ws) ≡ None
 ports_none node phase role slot [] fine port earlier = refl
 ports_none node phase role slot (w ∷ ws) fine port earlier =
     rw (fine 0 (omega arith) earlier) (ports_none node phase role slot ws (λ k h. fine (suc k) (omega arith)) (suc port) _)
@@ -33,20 +35,26 @@ port-case true x rest y here later = here refl
 port-case false x rest y here later = later refl
 
 -- where no port is up in forest f nothing came from a parent
-pub from_nobody : (f : ℕ) (role : ℕ → Role) (slot : ℕ → Option Payload) (ws : List ℕ) → ((k : ℕ) → k < length ws → is_up f (role (get_or ws k 0)) ≡ true → ⊥) → from_parent f (map role ws) (map slot ws) ≡ None
+pub from_nobody : (f : ℕ) (role : ℕ → Role) (slot : ℕ → Option Payload) (ws : List ℕ) → ((k : ℕ) → k < length ws → is_up f (role (get_or ws k 0)) ≡ true → ⊥)
+    → from_parent f (map role ws) (map slot ws) ≡ None
 from_nobody f role slot [] none = refl
 from_nobody f role slot (w ∷ ws) none =
-    port-case (is_up f (role w)) (slot w) (from_parent f (map role ws) (map slot ws)) None (λ e. absurd (none 0 (omega arith) e)) (λ e. from_nobody f role slot ws (λ k h. none (suc k) (omega arith)))
+    port-case (is_up f (role w)) (slot w) (from_parent f (map role ws) (map slot ws)) None (λ e. absurd (none 0 (omega arith) e))
+    (λ e. from_nobody f role slot ws (λ k h. none (suc k) (omega arith)))
 
 -- where some port is, and all of those brought y, y came from the parent
-pub from_somebody : (f : ℕ) (role : ℕ → Role) (slot : ℕ → Option Payload) (y : Option ℕ) (ws : List ℕ) (k : ℕ) → k < length ws → is_up f (role (get_or ws k 0)) ≡ true → ((j : ℕ) → j < length ws → is_up f (role (get_or ws j 0)) ≡ true → colour_in (slot (get_or ws j 0)) ≡ y) → from_parent f (map role ws) (map slot ws) ≡ y
+pub from_somebody : (f : ℕ) (role : ℕ → Role) (slot : ℕ → Option Payload) (y : Option ℕ) (ws : List ℕ) (k : ℕ) → k < length ws →
+    is_up f (role (get_or ws k 0)) ≡ true → ((j : ℕ) → j < length ws → is_up f (role (get_or ws j 0)) ≡ true → colour_in (slot (get_or ws j 0)) ≡ y) →
+    from_parent f (map role ws) (map slot ws) ≡ y
 from_somebody f role slot y [] k h up all = absurd (omega arith)
 from_somebody f role slot y (w ∷ ws) zero h up all =
     port-case (is_up f (role w)) (slot w) (from_parent f (map role ws) (map slot ws)) y (all 0 (omega arith)) (λ e. absurd (cc))
 from_somebody f role slot y (w ∷ ws) (suc k) h up all =
-    port-case (is_up f (role w)) (slot w) (from_parent f (map role ws) (map slot ws)) y (all 0 (omega arith)) (λ e. from_somebody f role slot y ws k (omega arith) up (λ j l. all (suc j) (omega arith)))
+    port-case (is_up f (role w)) (slot w) (from_parent f (map role ws) (map slot ws)) y (all 0 (omega arith))
+    (λ e. from_somebody f role slot y ws k (omega arith) up (λ j l. all (suc j) (omega arith)))
 
-pub port_up : (node : Node) (earlier : List ℕ) (reduction : Reduction) (f c : ℕ) → is_above reduction c ≡ false → (c ≡ slice_index node.colours f → ⊥) → port_rule node earlier (Work reduction) (Up f) (Some (Colour c)) ≡ None
+pub port_up : (node : Node) (earlier : List ℕ) (reduction : Reduction) (f c : ℕ) → is_above reduction c ≡ false → (c ≡ slice_index node.colours f → ⊥) →
+    port_rule node earlier (Work reduction) (Up f) (Some (Colour c)) ≡ None
 port_up node earlier reduction f c low apart = let e : (c == slice_index node.colours f) ≡ false = grind (arith, nat_tests) in rw (low, e) refl
 
 pub same_forest : (f : ℕ) → (f == f) ≡ true
@@ -64,18 +72,21 @@ phase_work sizes p low high =
     rw (e0, e1, e2, e3) refl
 
 -- what is sent from a list of roles, or nothing
-pub sent_if : {X : Type 0} (b b' : Bool) (g : X → Option Payload) (role : ℕ → X) (ws : List ℕ) → b ≡ b' → (if b then silent (map role ws) else map g (map role ws)) ≡ map (λ w. if b' then None else g (role w)) ws
+pub sent_if : {X : Type 0} (b b' : Bool) (g : X → Option Payload) (role : ℕ → X) (ws : List ℕ) → b ≡ b' →
+    (if b then silent (map role ws) else map g (map role ws)) ≡ map (λ w. if b' then None else g (role w)) ws
 sent_if true true g role ws e = map-map (λ x. None) role ws
 sent_if false false g role ws e = map-map g role ws
 sent_if true false g role ws e = absurd (cc)
 sent_if false true g role ws e = absurd (cc)
 
-pub no_own_rule : (node : Node) (reduction : Reduction) (inbox : List (Option Payload)) → list_any (is_above reduction) node.colours ≡ false → own_rule node (Work reduction) inbox ≡ None
+pub no_own_rule : (node : Node) (reduction : Reduction) (inbox : List (Option Payload)) → list_any (is_above reduction) node.colours ≡ false →
+    own_rule node (Work reduction) inbox ≡ None
 no_own_rule node (Step k) inbox none = refl
 no_own_rule node (Shift x) inbox none = rw none refl
 no_own_rule node (Drop x) inbox none = rw none refl
 
-pub accepted : (node : Node) (p : ℕ) (phase : Phase) (inbox : List (Option Payload)) → phase_of node.sizes p ≡ phase → first_refusal node phase inbox ≡ None → own_rule node phase inbox ≡ None → next node p inbox ≡ Ok (done node phase inbox)
+pub accepted : (node : Node) (p : ℕ) (phase : Phase) (inbox : List (Option Payload)) → phase_of node.sizes p ≡ phase → first_refusal node phase inbox ≡ None →
+    own_rule node phase inbox ≡ None → next node p inbox ≡ Ok (done node phase inbox)
 accepted node p phase inbox e ports own =
     let none : refusal node phase inbox ≡ None = rw (ports, own) refl in
     rw e (ap (λ r. answered r (done node phase inbox)) none)

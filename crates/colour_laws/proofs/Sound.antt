@@ -42,7 +42,8 @@ module _ (net : Net) (forest : IsForest net) (f : ℕ) where
   drop_kept : (most : ℕ) (c : ℕ → ℕ) → 2 ≤ most → IsKept (suc most) c → IsKept most (reduce (suc most) (parent net f) c)
   drop_kept most c low keeps = record {
     proper = reduce-proper (suc most) (parent net f) c keeps.proper;
-    within = λ v. let less : reduce (suc most) (parent net f) c v < suc most = reduce-below (suc most) (parent net f) c (omega arith) keeps.within v in omega arith;
+    within = λ v. let less : reduce (suc most) (parent net f) c v < suc most = reduce-below (suc most) (parent net f) c (omega arith) keeps.within v in
+        omega arith;
   }
 
   bits_kept : (k most : ℕ) → IsWithin most (bit_steps k (parent net f) (id_of net)) → IsKept most (bit_steps k (parent net f) (id_of net))
@@ -50,19 +51,35 @@ module _ (net : Net) (forest : IsForest net) (f : ℕ) where
 
   kept1 : IsKept 127 (stages net f 1).0
   unfolding stages
-  kept1 = bits_kept 1 127 (λ v. omega (arith, one-small IDENTIFIER_DIGITS 8 (omega arith) (omega arith) (omega arith) (omega arith) (parent net f) (id_of net) (forest.apart f) forest.small v))
+  kept1 = bits_kept 1 127 (λ v. omega (
+    arith,
+    one-small IDENTIFIER_DIGITS 8 (omega arith) (omega arith) (omega arith) (omega arith) (parent net f) (id_of net)
+        (forest.apart f) forest.small v,
+  ))
 
   kept2 : IsKept 13 (stages net f 2).0
   unfolding stages
-  kept2 = bits_kept 2 13 (λ v. omega (arith, two-small IDENTIFIER_DIGITS 7 (omega arith) (omega arith) (omega arith) (omega arith) (parent net f) (id_of net) (forest.apart f) forest.small v))
+  kept2 = bits_kept 2 13 (λ v. omega (
+    arith,
+    two-small IDENTIFIER_DIGITS 7 (omega arith) (omega arith) (omega arith) (omega arith) (parent net f) (id_of net)
+        (forest.apart f) forest.small v,
+  ))
 
   kept3 : IsKept 7 (stages net f 3).0
   unfolding stages
-  kept3 = bits_kept 3 7 (λ v. omega (arith, three-small IDENTIFIER_DIGITS 8 (omega arith) (omega arith) (omega arith) (omega arith) (parent net f) (id_of net) (forest.apart f) forest.small v))
+  kept3 = bits_kept 3 7 (λ v. omega (
+    arith,
+    three-small IDENTIFIER_DIGITS 8 (omega arith) (omega arith) (omega arith) (omega arith) (parent net f) (id_of net)
+        (forest.apart f) forest.small v,
+  ))
 
   kept4 : IsKept 5 (stages net f 4).0
   unfolding stages
-  kept4 = bits_kept 4 5 (λ v. omega (arith, four-small IDENTIFIER_DIGITS 8 (omega arith) (omega arith) (omega arith) (omega arith) (parent net f) (id_of net) (forest.apart f) forest.small v))
+  kept4 = bits_kept 4 5 (λ v. omega (
+    arith,
+    four-small IDENTIFIER_DIGITS 8 (omega arith) (omega arith) (omega arith) (omega arith) (parent net f) (id_of net)
+        (forest.apart f) forest.small v,
+  ))
 
   kept5 : IsKept 5 (stages net f 5).0
   unfolding stages

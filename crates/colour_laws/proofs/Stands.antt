@@ -32,7 +32,8 @@ pub fine_next : (net : Net) (p : ℕ) (state : ℕ → Node) (sent : ℕ → ℕ
 fine_next net p state sent goes v is_vertex = rw (goes v is_vertex) refl
 
 -- from what was sent to what comes
-pub comes : (net : Net) → IsNetwork net → (p : ℕ) (state : ℕ → Node) (sent : ℕ → ℕ → Option Payload) → HoldsAfter net p state sent → (n : ℕ) → suc p ≡ n → (v : ℕ) → IsVertex net v → next (at net p v).0 (suc p) (inbox_from net (at net p) v) ≡ next (state v) n (map (λ w. sent w v) (neighbours net v))
+pub comes : (net : Net) → IsNetwork net → (p : ℕ) (state : ℕ → Node) (sent : ℕ → ℕ → Option Payload) → HoldsAfter net p state sent → (n : ℕ) → suc p ≡ n →
+    (v : ℕ) → IsVertex net v → next (at net p v).0 (suc p) (inbox_from net (at net p) v) ≡ next (state v) n (map (λ w. sent w v) (neighbours net v))
 comes net ok p state sent stand n e v is_vertex =
     ap (λ k. next (at net p v).0 k (inbox_from net (at net p) v)) e
     ∙ (ap (λ node. next node n (inbox_from net (at net p) v)) (ap (λ pair. pair.0) (stand v is_vertex))

@@ -44,9 +44,15 @@ all_merged net forest f s v e = rw (lt-ltb (step_in net f v) (suc s) (let h = st
 
 module _ (net : Net) (ok : IsNetwork net) (forest : IsForest net) (f : ℕ) (in_range : f < forest_count_of net) where
   -- the first step of a forest, where nothing comes
-  pub first_next : (node : Node) (v : ℕ) → IsVertex net v → gathered node 0 (map (λ (w : ℕ). None) (neighbours net v)) ≡ state_before_choice net f 0 v → node.sizes ≡ sizes_of net → node.roles ≡ map (role_of net v) (neighbours net v) → next node (FIRST_MERGE + (f * steps (sizes_of net) + 0)) (map (λ (w : ℕ). None) (neighbours net v)) ≡ Ok (state_after_choice net f 0 v, map (chose net f 0 v) (neighbours net v))
+  pub first_next : (node : Node) (v : ℕ) → IsVertex net v → gathered node 0 (map (λ (w : ℕ). None) (neighbours net v)) ≡ state_before_choice net f 0 v →
+      node.sizes ≡ sizes_of net → node.roles ≡ map (role_of net v) (neighbours net v) →
+      next node (FIRST_MERGE + (f * steps (sizes_of net) + 0)) (map (λ (w : ℕ). None) (neighbours net v)) ≡ Ok (
+        state_after_choice net f 0 v,
+        map (chose net f 0 v) (neighbours net v),
+      )
   first_next node v is_vertex g sizes roles =
-      merge_next net ok forest f in_range 0 (let h = step_within net forest f v in omega arith) v is_vertex node (map (λ (w : ℕ). None) (neighbours net v)) sizes roles g
+      merge_next net ok forest f in_range 0 (let h = step_within net forest f v in omega arith) v is_vertex node (map (λ (w : ℕ). None) (neighbours net v))
+      sizes roles g
       (rw roles (ports_none node (Merge f 0) (role_of net v) (λ (w : ℕ). None) (neighbours net v) (λ k h earlier. refl) 0 []))
 
   -- each further step
@@ -65,17 +71,26 @@ module _ (net : Net) (ok : IsNetwork net) (forest : IsForest net) (f : ℕ) (in_
     gathered_is : gathered (state_after_choice net f s v) (suc s) (map slot (neighbours net v)) ≡ state_before_choice net f (suc s) v
     gathered_is =
         let later : (suc s == 0) ≡ false = not_zero s in
-        ap (λ (b : Bool). record (state_after_choice net f s v) { colour_before = if b then merged_by net f (suc s) v else colours_after net f v; chosen = if b then empty else with_chosen (heard_set net f s v) (map slot (neighbours net v)) }) later
+        ap (λ (b : Bool). record (state_after_choice net f s v) {
+          colour_before = if b then merged_by net f (suc s) v else colours_after net f v;
+          chosen =
+              if b then empty else with_chosen (heard_set net f s v) (map slot (neighbours net v));
+        }) later
         ∙ ap (λ (set : FinSet nat_cmp). record (state_after_choice net f s v) { chosen = set }) (more_set net f s v)
 
-    ports_fine : ports_refusal (state_after_choice net f s v) (Merge f (suc s)) 0 [] (map (role_of net v) (neighbours net v)) (map slot (neighbours net v)) ≡ None
+    ports_fine : ports_refusal (state_after_choice net f s v) (Merge f (suc s)) 0 [] (map (role_of net v) (neighbours net v)) (map slot (neighbours net v))
+        ≡ None
     ports_fine = ports_none (state_after_choice net f s v) (Merge f (suc s)) (role_of net v) slot (neighbours net v)
-        (λ k h earlier. slot_fine (step_in net f (neighbour_of net v k) == s) (nat_le (number net v (neighbour_of net v k)) f) (state_after_choice net f s v) f (suc s) (colours_after net (suc f) (neighbour_of net v k)) earlier (role_of net v (neighbour_of net v k))
+        (λ k h earlier. slot_fine (step_in net f (neighbour_of net v k) == s) (nat_le (number net v (neighbour_of net v k)) f) (state_after_choice net f s v)
+        f (suc s) (colours_after net (suc f) (neighbour_of net v k)) earlier (role_of net v (neighbour_of net v k))
         (λ near. merged_is net f v (neighbour_of net v k) ∙ near) (omega arith) (colours_within net forest (suc f) (neighbour_of net v k)))
         0 []
 
-    pub further_next : next (state_after_choice net f s v) (FIRST_MERGE + (f * steps (sizes_of net) + suc s)) (map (λ w. chose net f s w v) (neighbours net v)) ≡ Ok (state_after_choice net f (suc s) v, map (chose net f (suc s) v) (neighbours net v))
+    pub further_next : next (state_after_choice net f s v) (FIRST_MERGE + (f * steps (sizes_of net) + suc s))
+        (map (λ w. chose net f s w v) (neighbours net v)) ≡ Ok (state_after_choice net f (suc s) v, map (chose net f (suc s) v) (neighbours net v))
     further_next =
-        let came : map (λ w. chose net f s w v) (neighbours net v) ≡ map slot (neighbours net v) = map-members (λ w. chose net f s w v) slot (neighbours net v) slot_is in
+        let came : map (λ w. chose net f s w v) (neighbours net v) ≡ map slot (neighbours net v) =
+        map-members (λ w. chose net f s w v) slot (neighbours net v) slot_is in
         ap (λ (inbox : List (Option Payload)). next (state_after_choice net f s v) (FIRST_MERGE + (f * steps (sizes_of net) + suc s)) inbox) came
-        ∙ merge_next net ok forest f in_range (suc s) below v is_vertex (state_after_choice net f s v) (map slot (neighbours net v)) refl refl gathered_is ports_fine
+        ∙ merge_next net ok forest f in_range (suc s) below v is_vertex (state_after_choice net f s v) (map slot (neighbours net v)) refl refl gathered_is
+        ports_fine

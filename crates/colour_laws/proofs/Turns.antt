@@ -33,21 +33,25 @@ same_test : (a b : ℕ) → a ≡ b → (a == b) ≡ true
 same_test a b h = grind (arith, nat_tests)
 
 module _ (net : Net) (ok : IsNetwork net) (forest : IsForest net) where
-  pub work_goes : (p q : ℕ) → p ≡ q + 2 → q < 10 → HoldsAfter net p (state_while_reducing net q) (tells net q) → NextIs net p (state_while_reducing net (suc q)) (tells net (suc q))
+  pub work_goes : (p q : ℕ) → p ≡ q + 2 → q < 10 → HoldsAfter net p (state_while_reducing net q) (tells net q) →
+      NextIs net p (state_while_reducing net (suc q)) (tells net (suc q))
   work_goes p q e early stand v is_vertex =
       let number : suc p ≡ q + 3 = omega arith in
       ap (λ n. next (at net p v).0 n (inbox_from net (at net p) v)) number ∙ work_step net ok forest q early (at net p) stand v is_vertex
 
-  pub further_goes : (p f s : ℕ) → p ≡ FIRST_MERGE + (f * steps (sizes_of net) + s) → f < forest_count_of net → suc s < steps (sizes_of net) → HoldsAfter net p (state_after_choice net f s) (chose net f s) → NextIs net p (state_after_choice net f (suc s)) (chose net f (suc s))
+  pub further_goes : (p f s : ℕ) → p ≡ FIRST_MERGE + (f * steps (sizes_of net) + s) → f < forest_count_of net → suc s < steps (sizes_of net) →
+      HoldsAfter net p (state_after_choice net f s) (chose net f s) → NextIs net p (state_after_choice net f (suc s)) (chose net f (suc s))
   further_goes p f s e in_range below stand v is_vertex =
       comes net ok p (state_after_choice net f s) (chose net f s) stand (FIRST_MERGE + (f * steps (sizes_of net) + suc s)) (omega arith) v is_vertex
       ∙ further_next net ok forest f in_range s below v is_vertex
 
   first_gathered : (v : ℕ) → gathered (state_while_reducing net 10 v) 0 (map (λ (w : ℕ). None) (neighbours net v)) ≡ state_before_choice net 0 0 v
   unfolding colours_after
-  first_gathered v = ap (λ (m : ℕ). record (state_while_reducing net 10 v) { merged = m; chosen = empty }) (sym (nothing_merged net 0 v)) ∙ ap (λ (set : FinSet nat_cmp). record (state_before_choice net 0 0 v) { chosen = set }) (empty_set net 0 v)
+  first_gathered v = ap (λ (m : ℕ). record (state_while_reducing net 10 v) { merged = m; chosen = empty }) (sym (nothing_merged net 0 v)) ∙
+      ap (λ (set : FinSet nat_cmp). record (state_before_choice net 0 0 v) { chosen = set }) (empty_set net 0 v)
 
-  pub first_goes : (p : ℕ) → p ≡ 12 → 0 < forest_count_of net → HoldsAfter net p (state_while_reducing net 10) (tells net 10) → NextIs net p (state_after_choice net 0 0) (chose net 0 0)
+  pub first_goes : (p : ℕ) → p ≡ 12 → 0 < forest_count_of net → HoldsAfter net p (state_while_reducing net 10) (tells net 10) →
+      NextIs net p (state_after_choice net 0 0) (chose net 0 0)
   first_goes p e some stand v is_vertex =
       comes net ok p (state_while_reducing net 10) (tells net 10) stand (FIRST_MERGE + (0 * steps (sizes_of net) + 0)) (omega arith) v is_vertex
       ∙ first_next net ok forest 0 some (state_while_reducing net 10 v) v is_vertex (first_gathered v) refl refl
@@ -59,15 +63,19 @@ module _ (net : Net) (ok : IsNetwork net) (forest : IsForest net) where
       ap (λ (d : Bool). if step_in net f w == s then (if d then None else tells_chosen f (colours_after net (suc f) w) (role_of net w v)) else None) test
       ∙ none_if (step_in net f w == s)
 
-  forest_gathered : (f s v : ℕ) → suc s ≡ steps (sizes_of net) → gathered (state_after_choice net f s v) 0 (map (λ (w : ℕ). None) (neighbours net v)) ≡ state_before_choice net (suc f) 0 v
+  forest_gathered : (f s v : ℕ) → suc s ≡ steps (sizes_of net) → gathered (state_after_choice net f s v) 0 (map (λ (w : ℕ). None) (neighbours net v))
+      ≡ state_before_choice net (suc f) 0 v
   forest_gathered f s v e =
       ap (λ (m : ℕ). record (state_after_choice net f s v) { colour_before = m; merged = m; chosen = empty }) (all_merged net forest f s v e)
-      ∙ (ap (λ (m : ℕ). record (state_after_choice net f s v) { colour_before = colours_after net (suc f) v; merged = m; chosen = empty }) (sym (nothing_merged net (suc f) v))
+      ∙ (ap (λ (m : ℕ). record (state_after_choice net f s v) { colour_before = colours_after net (suc f) v; merged = m; chosen = empty })
+      (sym (nothing_merged net (suc f) v))
       ∙ ap (λ (set : FinSet nat_cmp). record (state_before_choice net (suc f) 0 v) { chosen = set }) (empty_set net (suc f) v))
 
-  pub forest_goes : (p f s : ℕ) → p ≡ FIRST_MERGE + (f * steps (sizes_of net) + s) → suc f < forest_count_of net → suc s ≡ steps (sizes_of net) → HoldsAfter net p (state_after_choice net f s) (chose net f s) → NextIs net p (state_after_choice net (suc f) 0) (chose net (suc f) 0)
+  pub forest_goes : (p f s : ℕ) → p ≡ FIRST_MERGE + (f * steps (sizes_of net) + s) → suc f < forest_count_of net → suc s ≡ steps (sizes_of net) →
+      HoldsAfter net p (state_after_choice net f s) (chose net f s) → NextIs net p (state_after_choice net (suc f) 0) (chose net (suc f) 0)
   forest_goes p f s e in_range done stand v is_vertex =
       let product : suc f * steps (sizes_of net) ≡ f * steps (sizes_of net) + steps (sizes_of net) = omega arith in
       comes net ok p (state_after_choice net f s) (chose net f s) stand (FIRST_MERGE + (suc f * steps (sizes_of net) + 0)) (omega arith) v is_vertex
-      ∙ (ap (λ inbox. next (state_after_choice net f s v) (FIRST_MERGE + (suc f * steps (sizes_of net) + 0)) inbox) (map-members (λ w. chose net f s w v) (λ w. None) (neighbours net v) (λ k h. silent_at_last f s v (neighbour_of net v k) done))
+      ∙ (ap (λ inbox. next (state_after_choice net f s v) (FIRST_MERGE + (suc f * steps (sizes_of net) + 0)) inbox)
+      (map-members (λ w. chose net f s w v) (λ w. None) (neighbours net v) (λ k h. silent_at_last f s v (neighbour_of net v k) done))
       ∙ first_next net ok forest (suc f) in_range (state_after_choice net f s v) v is_vertex (forest_gathered f s v done) refl refl)

@@ -60,7 +60,8 @@ module _ (net : Net) (ok : IsNetwork net) (forest : IsForest net) (q : ℕ) (ear
     unfolding told
     told_up w f e = ap (tells_colour (by_forest net (λ f. own f w))) e
 
-    port_fine : (k : ℕ) → k < degree_of net v → (earlier : List ℕ) (role : Role) → role_of net v (neighbour_of net v k) ≡ role → port_rule (state_while_reducing net q v) earlier (Work (reduction_of (q + 3))) role (told (neighbour_of net v k) v) ≡ None
+    port_fine : (k : ℕ) → k < degree_of net v → (earlier : List ℕ) (role : Role) → role_of net v (neighbour_of net v k) ≡ role →
+        port_rule (state_while_reducing net q v) earlier (Work (reduction_of (q + 3))) role (told (neighbour_of net v k) v) ≡ None
     port_fine k h earlier Unknown e = absurd (forest.known v k is_vertex h e)
     port_fine k h earlier (Up f) e =
         let w : ℕ = neighbour_of net v k in
@@ -73,18 +74,22 @@ module _ (net : Net) (ok : IsNetwork net) (forest : IsForest net) (q : ℕ) (ear
         rw none refl
 
     -- what came from the parent in forest f, by whether there is one
-    came_from : (f : ℕ) → f < forest_count_of net → (above : Option ℕ) → parent net f v ≡ above → from_parent f (map (role_of net v) (neighbours net v)) (map (λ w. told w v) (neighbours net v)) ≡ colour_of (own f) above
+    came_from : (f : ℕ) → f < forest_count_of net → (above : Option ℕ) → parent net f v ≡ above →
+        from_parent f (map (role_of net v) (neighbours net v)) (map (λ w. told w v) (neighbours net v)) ≡ colour_of (own f) above
     came_from f h None e = from_nobody f (role_of net v) (λ w. told w v) (neighbours net v)
-        (λ k below up. let there : Some (neighbour_of net v k) ≡ None = sym (forest.up v k f is_vertex below (up-is f (role_of net v (neighbour_of net v k)) up)).0 ∙ e in cc)
+        (λ k below up. let there : Some (neighbour_of net v k) ≡ None =
+        sym (forest.up v k f is_vertex below (up-is f (role_of net v (neighbour_of net v k)) up)).0 ∙ e in cc)
     came_from f h (Some w) e =
         let port = forest.above f v w is_vertex e in
         from_somebody f (role_of net v) (λ w. told w v) (Some (own f w)) (neighbours net v) port.0 port.1 (ap (is_up f) port.2 ∙ same_forest f)
         (λ k below up.
-        let facts : (parent net f v ≡ Some (neighbour_of net v k)) × (role_of net (neighbour_of net v k) v ≡ Down f) × (f < forest_count_of net) = forest.up v k f is_vertex below (up-is f (role_of net v (neighbour_of net v k)) up) in
+        let facts : (parent net f v ≡ Some (neighbour_of net v k)) × (role_of net (neighbour_of net v k) v ≡ Down f) × (f < forest_count_of net) =
+        forest.up v k f is_vertex below (up-is f (role_of net v (neighbour_of net v k)) up) in
         let same : neighbour_of net v k ≡ w = (let a : Some (neighbour_of net v k) ≡ Some w = sym facts.0 ∙ e in cc) in
         ap colour_in (told_down (neighbour_of net v k) f facts.1 h) ∙ ap (λ (u : ℕ). Some (own f u)) same)
 
-    parent_is : (f : ℕ) → f < forest_count_of net → from_parent f (map (role_of net v) (neighbours net v)) (map (λ w. told w v) (neighbours net v)) ≡ at_parent (parent net f) (own f) v
+    parent_is : (f : ℕ) → f < forest_count_of net → from_parent f (map (role_of net v) (neighbours net v)) (map (λ w. told w v) (neighbours net v))
+        ≡ at_parent (parent net f) (own f) v
     parent_is f h = came_from f h (parent net f v) refl
 
     inbox : List (Option Payload)
@@ -93,30 +98,46 @@ module _ (net : Net) (ok : IsNetwork net) (forest : IsForest net) (q : ℕ) (ear
     colours_are : next_colours (state_while_reducing net q v) (reduction_of (q + 3)) inbox ≡ by_forest net (λ f. (stages net f (suc q)).0 v)
     unfolding inbox stages
     colours_are = range-members _ (λ f. (stages net f (suc q)).0 v) 0 (forest_count_of net)
-        (λ f low high. let h : f < forest_count_of net = omega arith in rw (in_forest net (λ f. (stages net f q).0 v) f h, in_forest net (λ f. (stages net f q).1 v) f h, parent_is f h) refl)
+        (λ f low high. let h : f < forest_count_of net = omega arith in
+        rw (in_forest net (λ f. (stages net f q).0 v) f h, in_forest net (λ f. (stages net f q).1 v) f h, parent_is f h) refl)
 
     before_is : next_kept (state_while_reducing net q v) (reduction_of (q + 3)) ≡ by_forest net (λ f. (stages net f (suc q)).1 v)
     unfolding stages
     before_is = range-members _ (λ f. (stages net f (suc q)).1 v) 0 (forest_count_of net)
-        (λ f low high. let h : f < forest_count_of net = omega arith in rw (in_forest net (λ f. (stages net f q).0 v) f h, in_forest net (λ f. (stages net f q).1 v) f h) refl)
+        (λ f low high. let h : f < forest_count_of net = omega arith in
+        rw (in_forest net (λ f. (stages net f q).0 v) f h, in_forest net (λ f. (stages net f q).1 v) f h) refl)
 
-    pub worked_next : next (state_while_reducing net q v) (q + 3) (map (λ w. tells net q w v) (neighbours net v)) ≡ Ok (state_while_reducing net (suc q) v, map (tells net (suc q) v) (neighbours net v))
+    pub worked_next : next (state_while_reducing net q v) (q + 3) (map (λ w. tells net q w v) (neighbours net v)) ≡ Ok (
+      state_while_reducing net (suc q) v,
+      map (tells net (suc q) v) (neighbours net v),
+    )
     unfolding inbox
     worked_next =
-        let came : map (λ w. tells net q w v) (neighbours net v) ≡ inbox = map-members (λ w. tells net q w v) (λ w. told w v) (neighbours net v) (λ k h. tells-told (neighbour_of net v k) v) in
+        let came : map (λ w. tells net q w v) (neighbours net v) ≡ inbox =
+        map-members (λ w. tells net q w v) (λ w. told w v) (neighbours net v) (λ k h. tells-told (neighbour_of net v k) v) in
         let ports : ports_refusal (state_while_reducing net q v) (Work (reduction_of (q + 3))) 0 [] (map (role_of net v) (neighbours net v)) inbox ≡ None =
-        ports_none (state_while_reducing net q v) (Work (reduction_of (q + 3))) (role_of net v) (λ w. told w v) (neighbours net v) (λ k h earlier. port_fine k h earlier (role_of net v (neighbour_of net v k)) refl) 0 [] in
+        ports_none (state_while_reducing net q v) (Work (reduction_of (q + 3))) (role_of net v) (λ w. told w v) (neighbours net v)
+        (λ k h earlier. port_fine k h earlier (role_of net v (neighbour_of net v k)) refl) 0 [] in
         let none : own_rule (state_while_reducing net q v) (Work (reduction_of (q + 3))) inbox ≡ None =
-        no_own_rule (state_while_reducing net q v) (reduction_of (q + 3)) inbox (any-none (is_above (reduction_of (q + 3))) (λ f. own f v) (range_with_len 0 (forest_count_of net)) (λ f. (sound net forest f q early).below v)) in
-        let done_is : next (state_while_reducing net q v) (q + 3) inbox ≡ Ok (done (state_while_reducing net q v) (Work (reduction_of (q + 3))) inbox) = accepted (state_while_reducing net q v) (q + 3) (Work (reduction_of (q + 3))) inbox (phase_work (sizes_of net) (q + 3) (omega arith) (omega arith)) ports none in
+        no_own_rule (state_while_reducing net q v) (reduction_of (q + 3)) inbox (any-none (is_above (reduction_of (q + 3))) (λ f. own f v)
+        (range_with_len 0 (forest_count_of net)) (λ f. (sound net forest f q early).below v)) in
+        let done_is : next (state_while_reducing net q v) (q + 3) inbox ≡ Ok (done (state_while_reducing net q v) (Work (reduction_of (q + 3))) inbox) =
+        accepted (state_while_reducing net q v) (q + 3) (Work (reduction_of (q + 3))) inbox
+        (phase_work (sizes_of net) (q + 3) (omega arith) (omega arith)) ports none in
         rw came (done_is
-        ∙ (ap (λ cs. Ok (with_colours (state_while_reducing net q v) (reduction_of (q + 3)) cs (next_kept (state_while_reducing net q v) (reduction_of (q + 3))))) colours_are
+        ∙ (ap (λ cs. Ok (with_colours (state_while_reducing net q v) (reduction_of (q + 3)) cs
+        (next_kept (state_while_reducing net q v) (reduction_of (q + 3))))) colours_are
         ∙ (ap (λ bs. Ok (with_colours (state_while_reducing net q v) (reduction_of (q + 3)) (by_forest net (λ f. (stages net f (suc q)).0 v)) bs)) before_is
-        ∙ ap (λ out. Ok (state_while_reducing net (suc q) v, out)) (sent_if (is_last (reduction_of (q + 3))) (suc q == 10) (tells_colour (by_forest net (λ f. (stages net f (suc q)).0 v))) (role_of net v) (neighbours net v) (last-is q early)))))
+        ∙ ap (λ out. Ok (state_while_reducing net (suc q) v, out)) (sent_if (is_last (reduction_of (q + 3))) (suc q == 10)
+        (tells_colour (by_forest net (λ f. (stages net f (suc q)).0 v))) (role_of net v) (neighbours net v) (last-is q early)))))
 
   -- All nodes that stand after one pulse stand after the next.
-  pub work_step : (nodes : ℕ → Node × List (Option Payload)) → ((w : ℕ) → IsVertex net w → nodes w ≡ (state_while_reducing net q w, map (tells net q w) (neighbours net w))) → (v : ℕ) → IsVertex net v → next (nodes v).0 (q + 3) (inbox_from net nodes v) ≡ Ok (state_while_reducing net (suc q) v, map (tells net (suc q) v) (neighbours net v))
+  pub work_step : (nodes : ℕ → Node × List (Option Payload)) → ((w : ℕ) → IsVertex net w →
+      nodes w ≡ (state_while_reducing net q w, map (tells net q w) (neighbours net w))) → (v : ℕ) → IsVertex net v →
+      next (nodes v).0 (q + 3) (inbox_from net nodes v) ≡ Ok (state_while_reducing net (suc q) v, map (tells net (suc q) v) (neighbours net v))
   work_step nodes stand v is_vertex =
-      let came : inbox_from net nodes v ≡ map (λ w. tells net q w v) (neighbours net v) = inbox_is net ok nodes (tells net q) (λ w h. ap (λ node. node.1) (stand w h)) v is_vertex in
+      let came : inbox_from net nodes v ≡ map (λ w. tells net q w v) (neighbours net v) =
+      inbox_is net ok nodes (tells net q) (λ w h. ap (λ node. node.1) (stand w h)) v is_vertex in
       let state : (nodes v).0 ≡ state_while_reducing net q v = ap (λ node. node.0) (stand v is_vertex) in
-      ap (λ node. next node (q + 3) (inbox_from net nodes v)) state ∙ (ap (λ inbox. next (state_while_reducing net q v) (q + 3) inbox) came ∙ worked_next v is_vertex)
+      ap (λ node. next node (q + 3) (inbox_from net nodes v)) state ∙ (ap (λ inbox. next (state_while_reducing net q v) (q + 3) inbox) came ∙
+      worked_next v is_vertex)

@@ -1,9 +1,10 @@
--- The number of the last pulse.
-use Rattle.std.proofs.Common.{ℕ, ◌+◌, ◌*◌, ◌≤◌, arith, mul-le-mul}
+-- How many pulses there are.
+use Rattle.std.proofs.Common.{ℕ, ◌+◌, ◌*◌, ◌^◌, ◌<◌, ◌≤◌, arith, mul-le-mul}
+use Rattle.interference.specs.declared.limits.TheConstants.{MAX_DEGREE}
 
--- with at most 1,023 forests and degree 1,023 there are at most 3,142,668 pulses
-pub pulses-few : (forests degree : ℕ) → forests ≤ 1023 → degree ≤ 1023 → forests * (3 * (degree + 1)) ≤ 3142656
+-- the pulses of the merging are few enough to be counted in 31 bits
+pub pulses-few : (forests degree : ℕ) → forests ≤ MAX_DEGREE → degree ≤ MAX_DEGREE → forests * (3 * (degree + 1)) < 2 ^ 31
 pulses-few forests degree few low =
-    let steps : 3 * (degree + 1) ≤ 3072 = omega arith in
-    let most : forests * (3 * (degree + 1)) ≤ 1023 * 3072 = mul-le-mul few steps in
+    let steps : 3 * (degree + 1) ≤ 3 * (MAX_DEGREE + 1) = omega arith in
+    let most : forests * (3 * (degree + 1)) ≤ MAX_DEGREE * (3 * (MAX_DEGREE + 1)) = mul-le-mul few steps in
     omega arith

@@ -15,10 +15,13 @@ neither None port rest none = (refl, none)
 neither (Some rule) port rest none = absurd (cc)
 
 -- a port breaks no rule, after what the ports before it brought
-pub fine_at : (node : Node) (phase : Phase) (port : ℕ) (earlier : List ℕ) (roles : List Role) (slots : List (Option Payload)) → length slots ≡ length roles → ports_refusal node phase port earlier roles slots ≡ None → (k : ℕ) → k < length roles → (heard : List ℕ) × (port_rule node heard phase (get_or roles k Unknown) (at_port slots k) ≡ None)
+pub fine_at : (node : Node) (phase : Phase) (port : ℕ) (earlier : List ℕ) (roles : List Role) (slots : List (Option Payload)) → length slots ≡ length roles →
+    ports_refusal node phase port earlier roles slots ≡ None → (k : ℕ) → k < length roles → (heard : List ℕ) ×
+    (port_rule node heard phase (get_or roles k Unknown) (at_port slots k) ≡ None)
 fine_at node phase port earlier [] slots size none k h = absurd (omega arith)
 fine_at node phase port earlier (role ∷ roles) [] size none k h = absurd (omega arith)
 fine_at node phase port earlier (role ∷ roles) (slot ∷ slots) size none zero h =
     (earlier, (neither (port_rule node earlier phase role slot) port (ports_refusal node phase (suc port) (and_id earlier slot) roles slots) none).0)
 fine_at node phase port earlier (role ∷ roles) (slot ∷ slots) size none (suc k) h =
-    fine_at node phase (suc port) (and_id earlier slot) roles slots (omega arith) (neither (port_rule node earlier phase role slot) port (ports_refusal node phase (suc port) (and_id earlier slot) roles slots) none).1 k (omega arith)
+    fine_at node phase (suc port) (and_id earlier slot) roles slots (omega arith) (neither (port_rule node earlier phase role slot) port
+    (ports_refusal node phase (suc port) (and_id earlier slot) roles slots) none).1 k (omega arith)

@@ -21,10 +21,16 @@ use Rattle.colour_rules.proofs.Accepted.{fine_at}
 -- a port that brought something is one of the ports
 is_port : (slots : List (Option Payload)) (port : ℕ) (payload : Payload) → at_port slots port ≡ Some payload → port < length slots
 is_port slots port payload here =
-    elim (dec_lt port (length slots)) [ yes below ↦ below | no past ↦ (let none : at_port slots port ≡ None = get_or-eq_default slots None (omega arith) in absurd (cc)) ]
+    elim (dec_lt port (length slots)) [
+      | yes below ↦ below
+      | no past ↦ (let none : at_port slots port ≡ None = get_or-eq_default slots None (omega arith) in
+          absurd (cc))
+    ]
 
 -- what came from a port breaks no rule there
-came : (node : Node) (phase : Phase) (slots : List (Option Payload)) → length slots ≡ ports node → first_refusal node phase slots ≡ None → (port : ℕ) (payload : Payload) → at_port slots port ≡ Some payload → (heard : List ℕ) × (port_rule node heard phase (get_or node.roles port Unknown) (Some payload) ≡ None)
+came : (node : Node) (phase : Phase) (slots : List (Option Payload)) → length slots ≡ ports node → first_refusal node phase slots ≡ None →
+    (port : ℕ) (payload : Payload) → at_port slots port ≡ Some payload → (heard : List ℕ) ×
+    (port_rule node heard phase (get_or node.roles port Unknown) (Some payload) ≡ None)
 came node phase slots size none port payload here =
     let fine = fine_at node phase 0 [] node.roles slots size none port (let h : port < length slots = is_port slots port payload here in omega arith) in
     (fine.0, ap (port_rule node fine.0 phase (get_or node.roles port Unknown)) (sym here) ∙ fine.1)
@@ -43,7 +49,8 @@ label_fine node heard (Up g) f h = absurd (cc)
 label_fine node heard (Down g) f h = absurd (cc)
 
 -- at Seed a label that came is a forest
-pub labels-within : (node : Node) (slots : List (Option Payload)) → length slots ≡ ports node → first_refusal node Seed slots ≡ None → (port f : ℕ) → at_port slots port ≡ Some (Label f) → f < node.sizes.forests
+pub labels-within : (node : Node) (slots : List (Option Payload)) → length slots ≡ ports node → first_refusal node Seed slots ≡ None → (port f : ℕ) →
+    at_port slots port ≡ Some (Label f) → f < node.sizes.forests
 labels-within node slots size none port f here =
     let c = came node Seed slots size none port (Label f) here in
     label_fine node c.0 (get_or node.roles port Unknown) f c.1
@@ -59,13 +66,15 @@ chosen_test limit c false true true e h = absurd (cc)
 chosen_test limit c false false high e h = absurd (cc)
 chosen_test limit c true merged high e h = absurd (cc)
 
-chosen_fine : (node : Node) (f s : ℕ) (heard : List ℕ) (role : Role) (c : ℕ) → port_rule node heard (Merge f s) role (Some (Chosen c)) ≡ None → c ≤ node.sizes.greatest_degree
+chosen_fine : (node : Node) (f s : ℕ) (heard : List ℕ) (role : Role) (c : ℕ) → port_rule node heard (Merge f s) role (Some (Chosen c)) ≡ None →
+    c ≤ node.sizes.greatest_degree
 chosen_fine node f s heard Unknown c h = absurd (cc)
 chosen_fine node f s heard (Up g) c h = chosen_test node.sizes.greatest_degree c (s == 0) (is_merged f (Up g)) (nat_lt node.sizes.greatest_degree c) refl h
 chosen_fine node f s heard (Down g) c h = chosen_test node.sizes.greatest_degree c (s == 0) (is_merged f (Down g)) (nat_lt node.sizes.greatest_degree c) refl h
 
 -- in the merging a colour that came as chosen is no greater than the greatest degree
-pub chosen-within : (node : Node) (f s : ℕ) (slots : List (Option Payload)) → length slots ≡ ports node → first_refusal node (Merge f s) slots ≡ None → (port c : ℕ) → at_port slots port ≡ Some (Chosen c) → c ≤ node.sizes.greatest_degree
+pub chosen-within : (node : Node) (f s : ℕ) (slots : List (Option Payload)) → length slots ≡ ports node → first_refusal node (Merge f s) slots ≡ None →
+    (port c : ℕ) → at_port slots port ≡ Some (Chosen c) → c ≤ node.sizes.greatest_degree
 chosen-within node f s slots size none port c here =
     let r = came node (Merge f s) slots size none port (Chosen c) here in
     chosen_fine node f s r.0 (get_or node.roles port Unknown) c r.1

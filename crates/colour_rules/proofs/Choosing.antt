@@ -13,7 +13,8 @@ not_true false h = refl
 not_true true h = absurd (cc)
 
 -- the least free colour is too high where none is free
-pub least_free_colour-high : (limit : ℕ) (is_taken : ℕ → Bool) (free : Bool) → (IsTrue free ↔ HasFree limit is_taken) → nat_lt limit (least_free_colour limit is_taken) ≡ not free
+pub least_free_colour-high : (limit : ℕ) (is_taken : ℕ → Bool) (free : Bool) → (IsTrue free ↔ HasFree limit is_taken) →
+    nat_lt limit (least_free_colour limit is_taken) ≡ not free
 least_free_colour-high limit is_taken true h =
     let some : HasFree limit is_taken = h.0 refl in
     let low : least_free_colour limit is_taken ≤ some.0 = least-at_most (λ c. not (is_taken c)) (suc limit) some.0 (ap not some.2) in

@@ -13,7 +13,8 @@ same-for_all y [] = refl
 same-for_all y (x ∷ xs) = ap (λ rest. y ∷ rest) (same-for_all y xs)
 
 -- one payload at each port
-pub greets : (node : Node) (id : ℕ) (before after : List (Option Payload)) → id ≡ node.id → before ≡ nothing (ports node) → after ≡ replicate (length before) (Some (Hello id)) → (node, after) ≡ greet node
+pub greets : (node : Node) (id : ℕ) (before after : List (Option Payload)) → id ≡ node.id → before ≡ nothing (ports node) →
+    after ≡ replicate (length before) (Some (Hello id)) → (node, after) ≡ greet node
 greets node id before after own none told =
     ap (λ (out : List (Option Payload)). (node, out))
     (told

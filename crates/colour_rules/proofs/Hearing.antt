@@ -1,5 +1,30 @@
 -- The colours of the parents heard, one payload after another.
-use Rattle.std.proofs.Common.{◌≡◌, ℕ, zero, suc, ◌+◌, ◌-◌, ◌<◌, ◌≤◌, ◌==◌, Bool, true, false, List, ◌∷◌, length, refl, ap, sym, ◌∙◌, arith, drop, get_or, inl, inr}
+use Rattle.std.proofs.Common.{
+  ◌≡◌,
+  ℕ,
+  zero,
+  suc,
+  ◌+◌,
+  ◌-◌,
+  ◌<◌,
+  ◌≤◌,
+  ◌==◌,
+  Bool,
+  true,
+  false,
+  List,
+  ◌∷◌,
+  length,
+  refl,
+  ap,
+  sym,
+  ◌∙◌,
+  arith,
+  drop,
+  get_or,
+  inl,
+  inr,
+}
 use Rattle.std.specs.Prelude.{if◌then◌else◌, Option, Some, None, IsSome, slice_set}
 use Rattle.std.specs.Option.{option_or}
 use Rattle.std.proofs.lemmas.Bool.{cases_eq}
@@ -44,21 +69,27 @@ module _ (roles : List Role) (slots : List (Option Payload)) where
   pub record Heard (place : ℕ) (above : List (Option ℕ)) : Type 0 where
     pub rest : (f : ℕ) → f < length above → option_or (get_or above f None) (from_parent f (drop place roles) (drop place slots)) ≡ from_parent f roles slots
 
-  at_port-next : (f k : ℕ) → length slots ≡ length roles → k < length roles → from_parent f (drop k roles) (drop k slots) ≡ (if is_up f (get_or roles k Unknown) then colour_in (at_port slots k) else from_parent f (drop (k + 1) roles) (drop (k + 1) slots))
+  at_port-next : (f k : ℕ) → length slots ≡ length roles → k < length roles →
+      from_parent f (drop k roles) (drop k slots) ≡ (if is_up f (get_or roles k Unknown) then colour_in (at_port slots k) else from_parent f
+      (drop (k + 1) roles) (drop (k + 1) slots))
   at_port-next f k ports h =
       ap (λ (rs : List Role). from_parent f rs (drop k slots)) (drop_more roles k Unknown h)
       ∙ ap (λ (ss : List (Option Payload)). from_parent f (get_or roles k Unknown ∷ drop (k + 1) roles) ss) (drop_more slots k None (omega arith))
 
-  passes : (f k : ℕ) → length slots ≡ length roles → k < length roles → is_up f (get_or roles k Unknown) ≡ false → from_parent f (drop k roles) (drop k slots) ≡ from_parent f (drop (k + 1) roles) (drop (k + 1) slots)
-  passes f k ports h e = at_port-next f k ports h ∙ ap (λ (b : Bool). if b then colour_in (at_port slots k) else from_parent f (drop (k + 1) roles) (drop (k + 1) slots)) e
+  passes : (f k : ℕ) → length slots ≡ length roles → k < length roles → is_up f (get_or roles k Unknown) ≡ false →
+      from_parent f (drop k roles) (drop k slots) ≡ from_parent f (drop (k + 1) roles) (drop (k + 1) slots)
+  passes f k ports h e = at_port-next f k ports h ∙ ap (λ (b : Bool). if b then colour_in (at_port slots k) else from_parent f (drop (k + 1) roles)
+      (drop (k + 1) slots)) e
 
-  stops : (f k c : ℕ) → length slots ≡ length roles → k < length roles → is_up f (get_or roles k Unknown) ≡ true → at_port slots k ≡ Some (Colour c) → from_parent f (drop k roles) (drop k slots) ≡ Some c
+  stops : (f k c : ℕ) → length slots ≡ length roles → k < length roles → is_up f (get_or roles k Unknown) ≡ true → at_port slots k ≡ Some (Colour c) →
+      from_parent f (drop k roles) (drop k slots) ≡ Some c
   stops f k c ports h e slot =
       at_port-next f k ports h
       ∙ (ap (λ (b : Bool). if b then colour_in (at_port slots k) else from_parent f (drop (k + 1) roles) (drop (k + 1) slots)) e ∙ ap colour_in slot)
 
   -- no colour comes from ports that brought nothing
-  skips : (gap f i : ℕ) → HaveColours → length slots ≡ length roles → i + gap ≤ length roles → ((k : ℕ) → i ≤ k → k < i + gap → at_port slots k ≡ None) → from_parent f (drop i roles) (drop i slots) ≡ from_parent f (drop (i + gap) roles) (drop (i + gap) slots)
+  skips : (gap f i : ℕ) → HaveColours → length slots ≡ length roles → i + gap ≤ length roles → ((k : ℕ) → i ≤ k → k < i + gap → at_port slots k ≡ None) →
+      from_parent f (drop i roles) (drop i slots) ≡ from_parent f (drop (i + gap) roles) (drop (i + gap) slots)
   skips zero f i colours ports h none = ap (λ (k : ℕ). from_parent f (drop k roles) (drop k slots)) (let e : i ≡ i + 0 = omega arith in e)
   skips (suc gap) f i colours ports h none =
       let here : at_port slots i ≡ None = none i (omega arith) (omega arith) in
@@ -67,13 +98,15 @@ module _ (roles : List Role) (slots : List (Option Payload)) where
       ∙ ap (λ (k : ℕ). from_parent f (drop k roles) (drop k slots)) (let e : i + 1 + gap ≡ i + suc gap = omega arith in e))
 
   -- where nothing is left to be read, the colours of the parents have been heard
-  pub heard-all : (place : ℕ) (above : List (Option ℕ)) → Heard place above → HaveColours → length slots ≡ length roles → (HasFrom slots place → ⊥) → (f : ℕ) → f < length above → get_or above f None ≡ from_parent f roles slots
+  pub heard-all : (place : ℕ) (above : List (Option ℕ)) → Heard place above → HaveColours → length slots ≡ length roles → (HasFrom slots place → ⊥) →
+      (f : ℕ) → f < length above → get_or above f None ≡ from_parent f roles slots
   heard-all place above heard colours ports end f h =
       let over : from_parent f (drop place roles) (drop place slots) ≡ None =
       elim (dec_lt place (length roles)) [
         | yes below ↦
             skips (length roles - place) f place colours ports (omega arith) (λ k low high. none-past slots place end k low (omega arith))
-            ∙ ap (λ (rs : List Role). from_parent f rs (drop (place + (length roles - place)) slots)) (drop_all (place + (length roles - place)) roles (omega arith))
+            ∙ ap (λ (rs : List Role). from_parent f rs (drop (place + (length roles - place)) slots))
+            (drop_all (place + (length roles - place)) roles (omega arith))
         | no other ↦ ap (λ (rs : List Role). from_parent f rs (drop place slots)) (drop_all place roles (omega arith))
       ] in
       sym (or-none (get_or above f None)) ∙ (ap (option_or (get_or above f None)) (sym over) ∙ heard.rest f h)
@@ -85,7 +118,8 @@ module _ (roles : List Role) (slots : List (Option Payload)) where
     pub at : k + 1 ≡ new.place
     pub is : role ≡ get_or roles k role
 
-  module _ {mail new : Mail Payload} {payload : Payload} {k : ℕ} {role : Role} (comes : Comes mail new payload k role) (colours : HaveColours) (ports : length slots ≡ length roles) where
+  module _ {mail new : Mail Payload} {payload : Payload} {k : ℕ} {role : Role} (comes : Comes mail new payload k role) (colours : HaveColours)
+      (ports : length slots ≡ length roles) where
     here : k < length roles
     here = omega (arith, comes.at, comes.reads.within, ap (λ (s : List (Option Payload)). length s) comes.same)
 
@@ -99,19 +133,26 @@ module _ (roles : List Role) (slots : List (Option Payload)) where
     reaches f =
         let there : mail.place + (k - mail.place) ≡ k = omega (arith, comes.at, comes.reads.later) in
         let inside : k < length roles = here in
-        skips (k - mail.place) f mail.place colours ports (omega (arith, comes.at, comes.reads.later)) (λ j low high. ap (λ (s : List (Option Payload)). at_port s j) (sym comes.same) ∙ comes.reads.first j low (omega (arith, comes.at, comes.reads.later)))
+        skips (k - mail.place) f mail.place colours ports (omega (arith, comes.at, comes.reads.later))
+        (λ j low high. ap (λ (s : List (Option Payload)). at_port s j) (sym comes.same) ∙
+        comes.reads.first j low (omega (arith, comes.at, comes.reads.later)))
         ∙ ap (λ (j : ℕ). from_parent f (drop j roles) (drop j slots)) there
 
-    past : (f : ℕ) → is_up f (get_or roles k Unknown) ≡ false → from_parent f (drop mail.place roles) (drop mail.place slots) ≡ from_parent f (drop new.place roles) (drop new.place slots)
+    past : (f : ℕ) → is_up f (get_or roles k Unknown) ≡ false → from_parent f (drop mail.place roles) (drop mail.place slots)
+        ≡ from_parent f (drop new.place roles) (drop new.place slots)
     past f e = reaches f ∙ (passes f k ports here e ∙ ap (λ (j : ℕ). from_parent f (drop j roles) (drop j slots)) comes.at)
 
     -- a payload from a port that leads to no parent
     pub heard-other : (above : List (Option ℕ)) → Heard mail.place above → ((g : ℕ) → role ≡ Up g → ⊥) → Heard new.place above
     heard-other above heard other =
-        record { rest = λ f h. ap (option_or (get_or above f None)) (sym (past f (not_up f (get_or roles k Unknown) (λ g up. other g (known ∙ up))))) ∙ heard.rest f h }
+        record {
+          rest = λ f h. ap (option_or (get_or above f None)) (sym (past f (not_up f (get_or roles k Unknown) (λ g up. other g (known ∙ up))))) ∙
+              heard.rest f h;
+        }
 
     -- a colour of a parent, which is kept where it is the first
-    pub heard-parent : (above : List (Option ℕ)) (g : ℕ) → Heard mail.place above → role ≡ Up g → Heard new.place (slice_set above g (option_or (get_or above g None) (colour_in (Some payload))))
+    pub heard-parent : (above : List (Option ℕ)) (g : ℕ) → Heard mail.place above → role ≡ Up g →
+        Heard new.place (slice_set above g (option_or (get_or above g None) (colour_in (Some payload))))
     heard-parent above g heard leads =
         let up : get_or roles k Unknown ≡ Up g = sym known ∙ leads in
         let came = colours k g here up in
@@ -133,7 +174,8 @@ module _ (roles : List Role) (slots : List (Option Payload)) where
                     ∙ (ap (option_or (get_or above g None)) (sym (reaches g ∙ stops g k c ports here is_up_here came.1)) ∙ heard.rest g inside)))
                 | inr other ↦
                     let down : is_up f (get_or roles k Unknown) ≡ false = ap (is_up f) up ∙ (let t : (f == g) ≡ false = grind (arith, nat_tests) in t) in
-                    ap (λ (x : Option ℕ). option_or x (from_parent f (drop new.place roles) (drop new.place slots))) (get_or-set_other above g f first None other)
+                    ap (λ (x : Option ℕ). option_or x (from_parent f (drop new.place roles) (drop new.place slots)))
+                    (get_or-set_other above g f first None other)
                     ∙ (ap (option_or (get_or above f None)) (sym (past f down)) ∙ heard.rest f (omega arith))
               ];
         }

@@ -68,7 +68,8 @@ not_earlier earlier n m h =
     let other : (n == m) ≡ false = (or_false (n == m) false parts.1).0 in
     (parts.0, (let apart : n ≢ m = grind (arith, nat_tests) in apart))
 
-hellos-more : (own n : ℕ) (earlier : List ℕ) (slots : List (Option Payload)) → n ≢ own → is_among earlier n ≡ false → OnlyHellos own (earlier ++ (n ∷ [])) slots → OnlyHellos own earlier (Some (Hello n) ∷ slots)
+hellos-more : (own n : ℕ) (earlier : List ℕ) (slots : List (Option Payload)) → n ≢ own → is_among earlier n ≡ false →
+    OnlyHellos own (earlier ++ (n ∷ [])) slots → OnlyHellos own earlier (Some (Hello n) ∷ slots)
 hellos-more own n earlier slots other new more = record {
   roles = λ id ids. ap (λ (rest : List Role). role_by id ids n ∷ rest) (more.roles id ids);
   size = omega (arith, more.size);
@@ -77,24 +78,38 @@ hellos-more own n earlier slots other new more = record {
   distinct = AllPairs-cons (λ x y. x ≢ y) n (ids_in slots) (λ k d h. (not_earlier earlier n _ (more.fresh k d h)).1) more.distinct;
 }
 
-pub hellos : (node : Node) (port : ℕ) (earlier : List ℕ) (roles : List Role) (slots : List (Option Payload)) → length slots ≡ length roles → ports_refusal node Orient port earlier roles slots ≡ None → OnlyHellos node.id earlier slots
-hellos node port earlier [] [] size none = record { roles = λ id ids. refl; size = refl; others = λ k d h. absurd (omega arith); fresh = λ k d h. absurd (omega arith); distinct = λ i j d low h. absurd (omega arith) }
+pub hellos : (node : Node) (port : ℕ) (earlier : List ℕ) (roles : List Role) (slots : List (Option Payload)) → length slots ≡ length roles →
+    ports_refusal node Orient port earlier roles slots ≡ None → OnlyHellos node.id earlier slots
+hellos node port earlier [] [] size none = record {
+  roles = λ id ids. refl;
+  size = refl;
+  others = λ k d h. absurd (omega arith);
+  fresh =
+      λ k d h. absurd (omega arith);
+  distinct = λ i j d low h. absurd (omega arith);
+}
 hellos node port earlier [] (slot ∷ slots) size none = absurd (omega arith)
 hellos node port earlier (role ∷ roles) [] size none = absurd (omega arith)
 hellos node port earlier (role ∷ roles) (slot ∷ slots) size none =
     let parts = neither (port_rule node earlier Orient role slot) port (ports_refusal node Orient (suc port) (and_id earlier slot) roles slots) none in
     let b : Brings node.id earlier slot = brings node earlier role slot parts.0 in
-    let more : OnlyHellos node.id (earlier ++ (b.0 ∷ [])) slots = subst (λ (s : Option Payload). OnlyHellos node.id (and_id earlier s) slots) b.1 (hellos node (suc port) (and_id earlier slot) roles slots (omega arith) parts.1) in
+    let more : OnlyHellos node.id (earlier ++ (b.0 ∷ [])) slots =
+    subst (λ (s : Option Payload). OnlyHellos node.id (and_id earlier s) slots) b.1 (hellos node (suc port) (and_id earlier slot) roles slots
+    (omega arith) parts.1) in
     subst (λ (s : Option Payload). OnlyHellos node.id earlier (s ∷ slots)) (sym b.1) (hellos-more node.id b.0 earlier slots b.2 b.3 more)
 
 -- the same, of all ports in that phase
-pub only_hellos : (node : Node) (phase : Phase) (slots : List (Option Payload)) → phase ≡ Orient → length slots ≡ length node.roles → first_refusal node phase slots ≡ None → OnlyHellos node.id [] slots
+pub only_hellos : (node : Node) (phase : Phase) (slots : List (Option Payload)) → phase ≡ Orient → length slots ≡ length node.roles →
+    first_refusal node phase slots ≡ None → OnlyHellos node.id [] slots
 only_hellos node phase slots e size none = hellos node 0 [] node.roles slots size (subst (λ (x : Phase). first_refusal node x slots ≡ None) e none)
 
 -- a node that numbered its ports by what it heard has done the work of Orient
-pub oriented-is : (node new : Node) (phase : Phase) (heard : List ℕ) (slots out : List (Option Payload)) → phase ≡ Orient → heard ≡ ids_in slots → OnlyHellos node.id [] slots → new ≡ with_roles node (map (role_by node.id heard) heard) → out ≡ map tells_label new.roles → (new, out) ≡ done node phase slots
+pub oriented-is : (node new : Node) (phase : Phase) (heard : List ℕ) (slots out : List (Option Payload)) → phase ≡ Orient → heard ≡ ids_in slots →
+    OnlyHellos node.id [] slots → new ≡ with_roles node (map (role_by node.id heard) heard) → out ≡ map tells_label new.roles →
+    (new, out) ≡ done node phase slots
 oriented-is node new phase heard slots out e all h is told =
-    let roles : map (role_by node.id heard) heard ≡ map (oriented_slot node.id (ids_in slots)) slots = ap (λ (ids : List ℕ). map (role_by node.id ids) ids) all ∙ sym (h.roles node.id (ids_in slots)) in
+    let roles : map (role_by node.id heard) heard ≡ map (oriented_slot node.id (ids_in slots)) slots =
+    ap (λ (ids : List ℕ). map (role_by node.id ids) ids) all ∙ sym (h.roles node.id (ids_in slots)) in
     let node_is : new ≡ with_roles node (map (oriented_slot node.id (ids_in slots)) slots) = is ∙ ap (with_roles node) roles in
     ap (λ (o : List (Option Payload)). (new, o)) told
     ∙ (ap (λ (n : Node). (n, map tells_label n.roles)) node_is

@@ -16,12 +16,14 @@ use Rattle.colour_rules.proofs.Phases.{merge-pulse, phase-real}
 use Rattle.colour_rules.proofs.Steps.{waits-is}
 
 -- it is a node's turn at one step of a forest alone
-pub no-turn : (node : Node) (f s : ℕ) → node.colour_before ≤ node.sizes.greatest_degree → slice_index node.colours f * (node.sizes.greatest_degree + 1) + node.colour_before ≢ s → chooses node f s ≡ false
+pub no-turn : (node : Node) (f s : ℕ) → node.colour_before ≤ node.sizes.greatest_degree →
+    slice_index node.colours f * (node.sizes.greatest_degree + 1) + node.colour_before ≢ s → chooses node f s ≡ false
 no-turn node f s low other =
     pair_test (slice_index node.colours f) node.colour_before (node.sizes.greatest_degree + 1) s (omega arith)
     ∙ (let e : (slice_index node.colours f * (node.sizes.greatest_degree + 1) + node.colour_before == s) ≡ false = grind (arith, nat_tests) in e)
 
-none_refused : (node : Node) (f s port : ℕ) (earlier : List ℕ) (roles : List Role) → ports_refusal node (Merge f s) port earlier roles (nothing (length roles)) ≡ None
+none_refused : (node : Node) (f s port : ℕ) (earlier : List ℕ) (roles : List Role) →
+    ports_refusal node (Merge f s) port earlier roles (nothing (length roles)) ≡ None
 none_refused node f s port earlier [] = refl
 none_refused node f s port earlier (role ∷ roles) = none_refused node f s (suc port) earlier roles
 
@@ -49,7 +51,9 @@ module _ (node : Node) (p f s : ℕ) (phase : phase_of node.sizes p ≡ Merge f 
       ∙ ap Ok (sym (waits-is node f s silence silence node (gathers_nothing node s later) (sym waits) refl)))
 
 -- The pulses after one of the merging are idle, up to the node's next turn or the end of the forest.
-pub idle-until : (node : Node) (pulse f s end : ℕ) → Merge f s ≡ phase_of node.sizes pulse → end ≤ steps node.sizes → ((t : ℕ) → s < t → t < end → chooses node f t ≡ false) → (p : ℕ) → pulse < p → p < pulse + (end - s) → next node p (nothing (ports node)) ≡ Ok (node, nothing (ports node))
+pub idle-until : (node : Node) (pulse f s end : ℕ) → Merge f s ≡ phase_of node.sizes pulse → end ≤ steps node.sizes →
+    ((t : ℕ) → s < t → t < end → chooses node f t ≡ false) → (p : ℕ) → pulse < p → p < pulse + (end - s) →
+    next node p (nothing (ports node)) ≡ Ok (node, nothing (ports node))
 idle-until node pulse f s end is within idle p low high =
     let bounds : IsPhase node.sizes (Merge f s) = subst (IsPhase node.sizes) (sym is) (phase-real node.sizes pulse) in
     let here : pulse ≡ FIRST_MERGE + (f * steps node.sizes + s) = merge-pulse node.sizes pulse f s is in

@@ -20,7 +20,8 @@ Keeps n node = (ports node.0 ≡ n) × (length node.1 ≡ n)
 pub length-labelled : (roles : List Role) (inbox : List (Option Payload)) → length inbox ≡ length roles → length (all_labelled roles inbox) ≡ length roles
 length-labelled [] inbox e = refl
 length-labelled (role ∷ roles) [] e = absurd (omega arith)
-length-labelled (role ∷ roles) (slot ∷ inbox) e = let more : length (all_labelled roles inbox) ≡ length roles = length-labelled roles inbox (omega arith) in omega arith
+length-labelled (role ∷ roles) (slot ∷ inbox) e = let more : length (all_labelled roles inbox) ≡ length roles = length-labelled roles inbox (omega arith) in
+    omega arith
 
 length-if : {X : Type 0} (b : Bool) (xs ys : List X) (n : ℕ) → length xs ≡ n → length ys ≡ n → length (if b then xs else ys) ≡ n
 length-if true xs ys n e f = e
@@ -30,8 +31,17 @@ pub done-keeps : (node : Node) (phase : Phase) (inbox : List (Option Payload)) �
 done-keeps node Greet inbox e = (refl, length-map node.roles _)
 done-keeps node Orient inbox e = (length-map inbox _ ∙ e, length-map (map (oriented_slot node.id (ids_in inbox)) inbox) _ ∙ length-map inbox _ ∙ e)
 done-keeps node Seed inbox e = (length-labelled node.roles inbox e, length-map (all_labelled node.roles inbox) _ ∙ length-labelled node.roles inbox e)
-done-keeps node (Work reduction) inbox e = (refl, length-if (is_last reduction) (silent node.roles) (map (tells_colour _) node.roles) (ports node) (length-map node.roles _) (length-map node.roles _))
-done-keeps node (Merge f s) inbox e = (refl, length-if (chooses (gathered node s inbox) f s) _ _ (ports node) (length-if (suc s == steps node.sizes) (silent node.roles) (map (tells_chosen f (free_for (gathered node s inbox))) node.roles) (ports node) (length-map node.roles _) (length-map node.roles _)) (length-map node.roles _))
+done-keeps node (Work reduction) inbox e = (
+  refl,
+  length-if (is_last reduction) (silent node.roles) (map (tells_colour _) node.roles) (ports node)
+      (length-map node.roles _) (length-map node.roles _),
+)
+done-keeps node (Merge f s) inbox e = (
+  refl,
+  length-if (chooses (gathered node s inbox) f s) _ _ (ports node)
+      (length-if (suc s == steps node.sizes) (silent node.roles) (map (tells_chosen f (free_for (gathered node s inbox))) node.roles) (ports node)
+      (length-map node.roles _) (length-map node.roles _)) (length-map node.roles _),
+)
 done-keeps node Halted inbox e = (refl, length-map node.roles _)
 
 answered-keeps : (n : ℕ) (r : Option Refused) (node : Node × List (Option Payload)) → Keeps n node → IfOk (answered r node) (Keeps n)
@@ -42,5 +52,6 @@ pub keeps : KeepsPorts colouring
 keeps = record {
   made_ports = λ own. length-replicate own.degree _;
   greet_shape = λ node. (refl, length-map node.roles _);
-  next_shape = λ node p inbox e. answered-keeps (ports node) (refusal node (phase_of node.sizes p) inbox) (done node (phase_of node.sizes p) inbox) (done-keeps node (phase_of node.sizes p) inbox e);
+  next_shape = λ node p inbox e. answered-keeps (ports node) (refusal node (phase_of node.sizes p) inbox) (done node (phase_of node.sizes p) inbox)
+      (done-keeps node (phase_of node.sizes p) inbox e);
 }

@@ -32,7 +32,9 @@ stays role slot none = sym (ap (labelled role) none ∙ by_nothing role)
 
 module _ (old : List Role) (slots : List (Option Payload)) (now : List Role) where
   -- one payload more is taken in
-  pub labelled-read : (mail new : Mail Payload) (payload : Payload) (k : ℕ) (role : Role) → Labelled old slots mail.place now → mail.slots ≡ slots → length slots ≡ length old → Reads mail payload new → k + 1 ≡ new.place → role ≡ get_or now k role → Labelled old slots new.place (slice_set now k (labelled role (Some payload)))
+  pub labelled-read : (mail new : Mail Payload) (payload : Payload) (k : ℕ) (role : Role) → Labelled old slots mail.place now → mail.slots ≡ slots →
+      length slots ≡ length old → Reads mail payload new → k + 1 ≡ new.place → role ≡ get_or now k role →
+      Labelled old slots new.place (slice_set now k (labelled role (Some payload)))
   labelled-read mail new payload k role l same ports reads at read =
       let here : k < length now = omega (arith, reads.later, reads.within, l.size, ap (λ (s : List (Option Payload)). length s) same) in
       let from : mail.place ≤ k = omega (arith, reads.later) in
@@ -42,27 +44,31 @@ module _ (old : List Role) (slots : List (Option Payload)) (now : List Role) whe
         size = length-set now k _ ∙ l.size;
         before = λ j h.
             elim (cases_eq j k) [
-              | inl is ↦ rw is (get_or-set_same now k _ Unknown here ∙ (ap (λ (r : Role). labelled r (Some payload)) was ∙ ap (labelled (get_or old k Unknown)) (sym slot)))
+              | inl is ↦ rw is (get_or-set_same now k _ Unknown here ∙
+                  (ap (λ (r : Role). labelled r (Some payload)) was ∙ ap (labelled (get_or old k Unknown)) (sym slot)))
               | inr other ↦
                   get_or-set_other now k j _ Unknown other
                   ∙ elim (dec_lt j mail.place) [
                     | yes read ↦ l.before j read
                     | no later ↦
-                        let none : at_port slots j ≡ None = ap (λ (s : List (Option Payload)). at_port s j) (sym same) ∙ reads.first j (omega arith) (omega arith) in
+                        let none : at_port slots j ≡ None = ap (λ (s : List (Option Payload)). at_port s j) (sym same) ∙
+                        reads.first j (omega arith) (omega arith) in
                         l.after j (omega arith) ∙ stays (get_or old j Unknown) (at_port slots j) none
                   ]
             ];
         after = λ j h. get_or-set_other now k j _ Unknown (omega arith) ∙ l.after j (omega arith);
       }
 
-at_labelled : (roles : List Role) (slots : List (Option Payload)) (k : ℕ) → length slots ≡ length roles → k < length roles → get_or (all_labelled roles slots) k Unknown ≡ labelled (get_or roles k Unknown) (at_port slots k)
+at_labelled : (roles : List Role) (slots : List (Option Payload)) (k : ℕ) → length slots ≡ length roles → k < length roles →
+    get_or (all_labelled roles slots) k Unknown ≡ labelled (get_or roles k Unknown) (at_port slots k)
 at_labelled [] slots k e h = absurd (omega arith)
 at_labelled (role ∷ roles) [] k e h = absurd (omega arith)
 at_labelled (role ∷ roles) (slot ∷ slots) zero e h = refl
 at_labelled (role ∷ roles) (slot ∷ slots) (suc k) e h = at_labelled roles slots k (omega arith) (omega arith)
 
 -- where nothing is left to be read, every port has been labelled
-pub labelled-all : (old : List Role) (slots : List (Option Payload)) (place : ℕ) (now : List Role) → Labelled old slots place now → length slots ≡ length old → (HasFrom slots place → ⊥) → now ≡ all_labelled old slots
+pub labelled-all : (old : List Role) (slots : List (Option Payload)) (place : ℕ) (now : List Role) → Labelled old slots place now →
+    length slots ≡ length old → (HasFrom slots place → ⊥) → now ≡ all_labelled old slots
 labelled-all old slots place now l ports end =
     ext_get_or Unknown now (all_labelled old slots) (l.size ∙ sym (length-labelled old slots ports))
     (λ k h.
@@ -82,7 +88,9 @@ stays_in n (Up f) slot h small = h
 stays_in n (Down f) slot h small = h
 
 -- every label that came names one of the forests, and so every port does
-pub labelled-in : (n : ℕ) (roles : List Role) (slots : List (Option Payload)) → length slots ≡ length roles → HasForests n roles → ((port f : ℕ) → at_port slots port ≡ Some (Label f) → f < n) → HasForests n (all_labelled roles slots)
+pub labelled-in : (n : ℕ) (roles : List Role) (slots : List (Option Payload)) → length slots ≡ length roles → HasForests n roles →
+    ((port f : ℕ) → at_port slots port ≡ Some (Label f) → f < n) → HasForests n (all_labelled roles slots)
 labelled-in n roles slots ports in_forests small port h =
     let within : port < length roles = omega (arith, length-labelled roles slots ports) in
-    subst (IsIn n) (sym (at_labelled roles slots port ports within)) (stays_in n (get_or roles port Unknown) (at_port slots port) (in_forests port within) (small port))
+    subst (IsIn n) (sym (at_labelled roles slots port ports within)) (stays_in n (get_or roles port Unknown) (at_port slots port) (in_forests port within)
+    (small port))

@@ -24,11 +24,18 @@ role-in own ids n id few has =
     let above : List ℕ = filter (nat_lt own) ids in
     in_if (nat_lt own id) n (place_of id (in_order (λ i. i) above))
     (λ higher.
-    let there : Contains (in_order (λ i. i) above) id = Contains-permutation above (in_order (λ i. i) above) id (order-moves (λ i. i) above) (Contains-filter (nat_lt own) ids id has higher) in
-    omega (arith, place_of-below id (in_order (λ i. i) above) there, length_permutation above (in_order (λ i. i) above) (order-moves (λ i. i) above), length-filter (nat_lt own) ids))
+    let there : Contains (in_order (λ i. i) above) id = Contains-permutation above (in_order (λ i. i) above) id (order-moves (λ i. i) above)
+    (Contains-filter (nat_lt own) ids id has higher) in
+    omega (
+      arith,
+      place_of-below id (in_order (λ i. i) above) there,
+      length_permutation above (in_order (λ i. i) above) (order-moves (λ i. i) above),
+      length-filter (nat_lt own) ids,
+    ))
 
 -- where no more identifiers are higher than there are forests, each port leads to one of them
 pub oriented-in : (own : ℕ) (ids : List ℕ) (n : ℕ) → count_by (nat_lt own) ids ≤ n → HasForests n (map (role_by own ids) ids)
 oriented-in own ids n few port h =
     let within : port < length ids = omega (arith, length-map ids (role_by own ids)) in
-    subst (IsIn n) (sym (get_or-map (role_by own ids) ids port 0 Unknown within)) (role-in own ids n (get_or ids port 0) few (Contains-get_or ids port 0 within))
+    subst (IsIn n) (sym (get_or-map (role_by own ids) ids port 0 Unknown within))
+    (role-in own ids n (get_or ids port 0) few (Contains-get_or ids port 0 within))

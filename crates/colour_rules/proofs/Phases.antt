@@ -12,7 +12,9 @@ use Rattle.colour_rules.specs.declared.phase.Phase.TheVariants.{Greet, Orient, S
 use Rattle.colour_rules.specs.Node.{IsPhase, IsReduction, last, phase_of, reduction_of, steps}
 use Rattle.colour_rules.specs.Table.{is_above}
 
-reduction-if : (b6 b7 b8 b9 b10 b11 : Bool) (k : ℕ) → (b6 ≡ true → k ≤ 3) → IsReduction (if b6 then Step k else if b7 then Shift 5 else if b8 then Drop 5 else if b9 then Shift 4 else if b10 then Drop 4 else if b11 then Shift 3 else Drop 3)
+reduction-if : (b6 b7 b8 b9 b10 b11 : Bool) (k : ℕ) → (b6 ≡ true → k ≤ 3) →
+    IsReduction (if b6 then Step k else if b7 then Shift 5 else if b8 then Drop 5 else if b9 then Shift 4 else if b10 then Drop 4 else if b11 then Shift 3
+    else Drop 3)
 reduction-if true b7 b8 b9 b10 b11 k low = low refl
 reduction-if false true b8 b9 b10 b11 k low = (omega arith, omega arith)
 reduction-if false false true b9 b10 b11 k low = (omega arith, omega arith)
@@ -28,9 +30,11 @@ reduction-real p =
 
 -- the phase that the tests of a pulse choose
 abbrev phase-by : Bool → Bool → Bool → Bool → Bool → Reduction → ℕ → ℕ → Phase
-phase-by b0 b1 b2 b3 b4 reduction f s = if b0 then Greet else if b1 then Orient else if b2 then Seed else if b3 then Work reduction else if b4 then Merge f s else Halted
+phase-by b0 b1 b2 b3 b4 reduction f s = if b0 then Greet else if b1 then Orient else if b2 then Seed else if b3 then Work reduction else if b4 then Merge f s
+    else Halted
 
-real-if : (sizes : Sizes) (b0 b1 b2 b3 b4 : Bool) (reduction : Reduction) (f s : ℕ) → IsReduction reduction → (b3 ≡ false → b4 ≡ true → IsPhase sizes (Merge f s)) → IsPhase sizes (phase-by b0 b1 b2 b3 b4 reduction f s)
+real-if : (sizes : Sizes) (b0 b1 b2 b3 b4 : Bool) (reduction : Reduction) (f s : ℕ) → IsReduction reduction →
+    (b3 ≡ false → b4 ≡ true → IsPhase sizes (Merge f s)) → IsPhase sizes (phase-by b0 b1 b2 b3 b4 reduction f s)
 real-if sizes true b1 b2 b3 b4 reduction f s work merge = tt
 real-if sizes false true b2 b3 b4 reduction f s work merge = tt
 real-if sizes false false true b3 b4 reduction f s work merge = tt

@@ -8,9 +8,14 @@ use Rattle.forests.specs.declared.numbering.Role.{Role}
 use Rattle.forests.specs.declared.numbering.Role.TheVariants.{Unknown}
 
 -- the role that code reads is that of the port
-pub role-is : (items roles : List Role) (port : ℕ) (role : Role) → items ≡ roles → role ≡ get_or items port role → port < length roles → role ≡ slice_index_or roles port Unknown
+pub role-is : (items roles : List Role) (port : ℕ) (role : Role) → items ≡ roles → role ≡ get_or items port role → port < length roles →
+    role ≡ slice_index_or roles port Unknown
 role-is items roles port role same here h = here ∙ (ap (λ (rs : List Role). get_or rs port role) same ∙ get_or_default roles port role Unknown h)
 
 -- what holds from one number to below another, and there, holds to below the next
 pub holds-more : (P : ℕ → Type 0) (from to : ℕ) → ((i : ℕ) → from ≤ i → i < to → P i) → P to → (i : ℕ) → from ≤ i → i < to + 1 → P i
-holds-more P from to before here i low high = elim (dec_lt i to) [ yes below ↦ before i low below | no other ↦ subst P (let e : to ≡ i = omega arith in e) here ]
+holds-more P from to before here i low high = elim (dec_lt i to) [
+  | yes below ↦ before i low below
+  | no other ↦ subst P (let e : to ≡ i = omega arith in
+      e) here
+]

@@ -34,7 +34,8 @@ pub read-is : (old : Mail Payload) (payload : Payload) (new : Mail Payload) → 
 read-is old payload new r = r.here (new.place - 1) (omega (arith, r.later))
 
 -- and less is left to be read
-pub read-less : (old : Mail Payload) (payload : Payload) (new : Mail Payload) → Reads old payload new → length new.slots - new.place < length old.slots - old.place
+pub read-less : (old : Mail Payload) (payload : Payload) (new : Mail Payload) → Reads old payload new →
+    length new.slots - new.place < length old.slots - old.place
 read-less old payload new r = let same : length new.slots ≡ length old.slots = ap length r.same in omega (arith, r.later, r.within)
 
 -- Reading on from a port: the next payload, at this port, and nothing at those between.
@@ -44,7 +45,8 @@ pub record Next (slots : List (Option Payload)) (from port : ℕ) (payload : Pay
   pub none : (q : ℕ) → from ≤ q → q < port → at_port slots q ≡ None
   pub here : at_port slots port ≡ Some payload
 
-pub next-is : (slots : List (Option Payload)) (from port : ℕ) (old : Mail Payload) (payload : Payload) (new : Mail Payload) → old.slots ≡ slots → from ≡ old.place → port + 1 ≡ new.place → Reads old payload new → Next slots from port payload
+pub next-is : (slots : List (Option Payload)) (from port : ℕ) (old : Mail Payload) (payload : Payload) (new : Mail Payload) → old.slots ≡ slots →
+    from ≡ old.place → port + 1 ≡ new.place → Reads old payload new → Next slots from port payload
 next-is slots from port old payload new same start end r =
     let n : length old.slots ≡ length slots = ap length same in
     record {
@@ -59,7 +61,8 @@ none_unless : (x : Option Payload) → (IsSome x → ⊥) → x ≡ None
 none_unless None h = refl
 none_unless (Some x) h = absurd (h refl)
 
-pub none-left : (slots : List (Option Payload)) (from : ℕ) (mail : Mail Payload) → mail.slots ≡ slots → from ≡ mail.place → (HasFrom mail.slots mail.place → ⊥) → (q : ℕ) → from ≤ q → q < length slots → at_port slots q ≡ None
+pub none-left : (slots : List (Option Payload)) (from : ℕ) (mail : Mail Payload) → mail.slots ≡ slots → from ≡ mail.place →
+    (HasFrom mail.slots mail.place → ⊥) → (q : ℕ) → from ≤ q → q < length slots → at_port slots q ≡ None
 none-left slots from mail same start none q low high =
     let n : length mail.slots ≡ length slots = ap length same in
     ap (λ (s : List (Option Payload)). at_port s q) (sym same) ∙ none_unless (at_port mail.slots q) (λ some. none (q, omega arith, omega arith, some))

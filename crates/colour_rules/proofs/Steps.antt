@@ -28,10 +28,15 @@ module _ (node : Node) (f s : ℕ) (inbox out : Sent) (here : Node) (is : here �
       rw (sym wait) (ap (λ (n : Node). (n, out)) is ∙ ap (λ (o : Sent). (gathered node s inbox, o)) (quiet ∙ silent-is node))
 
   -- a node at its turn takes a colour and tells it, but for the last step
-  pub turns-is : true ≡ chooses (gathered node s inbox) f s → (c : ℕ) → c ≡ free_for here → out ≡ (if suc s == steps node.sizes then silent node.roles else map (tells_chosen f c) node.roles) → (record here { merged = c }, out) ≡ done node (Merge f s) inbox
+  pub turns-is : true ≡ chooses (gathered node s inbox) f s → (c : ℕ) → c ≡ free_for here →
+      out ≡ (if suc s == steps node.sizes then silent node.roles else map (tells_chosen f c) node.roles) →
+      (record here { merged = c }, out) ≡ done node (Merge f s) inbox
   turns-is turn c free told =
       let same : c ≡ free_for (gathered node s inbox) = free ∙ ap free_for is in
       rw (sym turn)
       (ap (λ (n : Node). (record n { merged = c }, out)) is
       ∙ (ap (λ (o : Sent). (record (gathered node s inbox) { merged = c }, o)) told
-      ∙ ap (λ (d : ℕ). (record (gathered node s inbox) { merged = d }, if suc s == steps node.sizes then silent node.roles else map (tells_chosen f d) node.roles)) same))
+      ∙ ap (λ (d : ℕ). (
+        record (gathered node s inbox) { merged = d },
+        if suc s == steps node.sizes then silent node.roles else map (tells_chosen f d) node.roles,
+      )) same))

@@ -14,7 +14,8 @@ pub record Told (tell : Role → Option Payload) (roles : List Role) (i : ℕ) (
   pub after : (k : ℕ) → i ≤ k → k < length roles → at_port out k ≡ None
 
 -- past the last port all have been told
-pub told-all : {tell : Role → Option Payload} {roles : List Role} {i : ℕ} {out : List (Option Payload)} → Told tell roles i out → length roles ≤ i → out ≡ map tell roles
+pub told-all : {tell : Role → Option Payload} {roles : List Role} {i : ℕ} {out : List (Option Payload)} → Told tell roles i out → length roles ≤ i →
+    out ≡ map tell roles
 told-all {tell = tell} {roles = roles} {out = out} told past =
     ext_get_or None out (map tell roles) (told.size ∙ sym (length-map roles tell))
     (λ k h. let within : k < length roles = omega (arith, told.size) in told.before k (omega arith) ∙ sym (get_or-map tell roles k Unknown None within))

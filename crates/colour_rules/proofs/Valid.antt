@@ -20,11 +20,13 @@ pub valid-seen : (inside : Inside) (node : Node) → the_view inside ≡ node �
 valid-seen inside node e h = subst IsValid e h
 
 -- a node with other roles for its ports
-pub valid-roles : (node : Node) (roles : List Role) → IsValid node → length roles ≡ ports node → HasForests node.sizes.forests roles → IsValid (record node { roles = roles })
+pub valid-roles : (node : Node) (roles : List Role) → IsValid node → length roles ≡ ports node → HasForests node.sizes.forests roles →
+    IsValid (record node { roles = roles })
 valid-roles node roles v size known = (v.0, v.1, subst (λ (n : ℕ). n ≤ MAX_DEGREE) (sym size) v.2, v.3, v.4, known, v.6, v.7, v.8)
 
 -- a node with other colours in its forests
-pub valid-colours : (node : Node) (colours before : List ℕ) → IsValid node → length colours ≡ node.sizes.forests → length before ≡ node.sizes.forests → AreBelow 6 before → IsValid (record node { colours = colours; before = before })
+pub valid-colours : (node : Node) (colours before : List ℕ) → IsValid node → length colours ≡ node.sizes.forests → length before ≡ node.sizes.forests →
+    AreBelow 6 before → IsValid (record node { colours = colours; before = before })
 valid-colours node colours before v size kept low = (v.0, v.1, v.2, size, kept, v.5, low, v.7, v.8)
 
 -- roles that nobody knows yet, and numbers that are all 0

@@ -16,7 +16,8 @@ same-map F G m n e same =
     fill_by_all G (map F (range_with_len 0 m)) n 0 (length-map-range_with_len F 0 m ∙ e)
     (λ f h. get_or-map-range_with_len F 0 m f f 0 (omega arith) (omega arith) ∙ same f h)
 
-module _ (node : Node) (reduction : Reduction) (slots : List (Option Payload)) (old old_before : List ℕ) (own : old ≡ node.colours) (before : old_before ≡ node.before) (size : length node.colours ≡ node.sizes.forests) where
+module _ (node : Node) (reduction : Reduction) (slots : List (Option Payload)) (old old_before : List ℕ) (own : old ≡ node.colours) (before : old_before
+    ≡ node.before) (size : length node.colours ≡ node.sizes.forests) where
   long : length old ≡ node.sizes.forests
   long = ap (λ (cs : List ℕ). length cs) own ∙ size
 
@@ -27,7 +28,9 @@ module _ (node : Node) (reduction : Reduction) (slots : List (Option Payload)) (
   before-at f = ap (λ (cs : List ℕ). slice_index cs f) before
 
   -- the colours are the next ones, from what is above
-  pub colours-are : (above : List (Option ℕ)) → ((f : ℕ) → f < node.sizes.forests → slice_index_or above f None ≡ from_parent f node.roles slots) → map (λ f. turned reduction (slice_index old f) (slice_index old_before f) (slice_index_or above f None)) (range_with_len 0 (length old)) ≡ next_colours node reduction slots
+  pub colours-are : (above : List (Option ℕ)) → ((f : ℕ) → f < node.sizes.forests → slice_index_or above f None ≡ from_parent f node.roles slots) →
+      map (λ f. turned reduction (slice_index old f) (slice_index old_before f) (slice_index_or above f None)) (range_with_len 0 (length old))
+      ≡ next_colours node reduction slots
   colours-are above heard = same-map _ _ (length old) node.sizes.forests long (λ f h. rw (own-at f, before-at f, heard f h) refl)
 
   -- and so are those kept beside them
@@ -42,8 +45,10 @@ sent-if : (b : Bool) (out x y : List (Option Payload)) → (b ≡ true → out �
 sent-if true out x y last more = last refl
 sent-if false out x y last more = more refl
 
-module _ (node after : Node) (reduction : Reduction) (colours before : List ℕ) (is : after ≡ record node { colours = colours; before = before }) (out : List (Option Payload)) where
-  sent : out ≡ (if is_last reduction then silent node.roles else map (tells_colour colours) node.roles) → (after, out) ≡ with_colours node reduction colours before
+module _ (node after : Node) (reduction : Reduction) (colours before : List ℕ) (is : after ≡ record node { colours = colours; before = before })
+    (out : List (Option Payload)) where
+  sent : out ≡ (if is_last reduction then silent node.roles else map (tells_colour colours) node.roles) →
+      (after, out) ≡ with_colours node reduction colours before
   sent told = pair-is after _ out _ is told
 
   -- before the last work each child is told

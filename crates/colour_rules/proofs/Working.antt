@@ -29,7 +29,8 @@ rules-if false false x y e = (refl, refl)
 abbrev pub BringsColour : Node → Reduction → ℕ → Option Payload → Type 0
 BringsColour node reduction f slot = (c : ℕ) × (slot ≡ Some (Colour c)) × (is_above reduction c ≡ false) × (c ≢ slice_index node.colours f)
 
-brings : (node : Node) (heard : List ℕ) (reduction : Reduction) (f : ℕ) (slot : Option Payload) → port_rule node heard (Work reduction) (Up f) slot ≡ None → BringsColour node reduction f slot
+brings : (node : Node) (heard : List ℕ) (reduction : Reduction) (f : ℕ) (slot : Option Payload) → port_rule node heard (Work reduction) (Up f) slot ≡ None →
+    BringsColour node reduction f slot
 brings node heard reduction f None e = absurd (cc)
 brings node heard reduction f (Some (Hello n)) e = absurd (cc)
 brings node heard reduction f (Some (Label g)) e = absurd (cc)
@@ -49,7 +50,8 @@ parent-if P true x y here later = here refl
 parent-if P false x y here later = later
 
 -- what holds of nothing, and of what each port to a parent in forest f brought, holds of the parent's colour
-parent-has : (P : Option ℕ → Type 0) (f : ℕ) (roles : List Role) (slots : List (Option Payload)) → P None → ((k : ℕ) → k < length roles → get_or roles k Unknown ≡ Up f → P (colour_in (at_port slots k))) → P (from_parent f roles slots)
+parent-has : (P : Option ℕ → Type 0) (f : ℕ) (roles : List Role) (slots : List (Option Payload)) → P None →
+    ((k : ℕ) → k < length roles → get_or roles k Unknown ≡ Up f → P (colour_in (at_port slots k))) → P (from_parent f roles slots)
 parent-has P f [] slots none each = none
 parent-has P f (role ∷ roles) [] none each = none
 parent-has P f (role ∷ roles) (slot ∷ slots) none each =
@@ -69,7 +71,8 @@ none-of test [] none i h = absurd (omega arith)
 none-of test (c ∷ cs) none zero h = (neither-or (test c) (list_any test cs) none).0
 none-of test (c ∷ cs) none (suc i) h = none-of test cs (neither-or (test c) (list_any test cs) none).1 i (omega arith)
 
-module _ (node : Node) (reduction : Reduction) (slots : List (Option Payload)) (real : IsReduction reduction) (own : own_rule node (Work reduction) slots ≡ None) where
+module _ (node : Node) (reduction : Reduction) (slots : List (Option Payload)) (real : IsReduction reduction) (own : own_rule node (Work reduction) slots
+    ≡ None) where
   -- the node's own colours are 0 to 5 if they are shifted or dropped
   own-low : ((k : ℕ) → reduction ≡ Step k → ⊥) → (f : ℕ) → f < length node.colours → slice_index node.colours f < 6
   own-low other f h = low-colour reduction (slice_index node.colours f) real other (none-of (is_above reduction) node.colours (none reduction own other) f h)
@@ -84,7 +87,8 @@ module _ (node : Node) (reduction : Reduction) (slots : List (Option Payload)) (
     pub brought : (port f : ℕ) → port < ports node → get_or node.roles port Unknown ≡ Up f → BringsColour node reduction f (at_port slots port)
     brought port f h up =
         let fine = fine_at node (Work reduction) 0 [] node.roles slots size accepted port h in
-        brings node fine.0 reduction f (at_port slots port) (subst (λ (role : Role). port_rule node fine.0 (Work reduction) role (at_port slots port) ≡ None) up fine.1)
+        brings node fine.0 reduction f (at_port slots port) (subst (λ (role : Role). port_rule node fine.0 (Work reduction) role (at_port slots port) ≡ None)
+        up fine.1)
 
     parent-apart : (f : ℕ) → from_parent f node.roles slots ≢ Some (slice_index node.colours f)
     parent-apart f =
@@ -99,10 +103,14 @@ module _ (node : Node) (reduction : Reduction) (slots : List (Option Payload)) (
         subst (λ (s : Option Payload). IfSome (colour_in s) (λ c. c < 6)) (sym b.1) (low-colour reduction b.0 real other b.2))
 
     -- what a turn asks for
-    pub ready : AreBelow 6 node.before → length node.before ≡ length node.colours → (f : ℕ) → f < length node.colours → IsReady reduction (slice_index node.colours f) (slice_index node.before f) (from_parent f node.roles slots)
+    pub ready : AreBelow 6 node.before → length node.before ≡ length node.colours → (f : ℕ) → f < length node.colours →
+        IsReady reduction (slice_index node.colours f) (slice_index node.before f) (from_parent f node.roles slots)
     ready low as_many f h = of_reduction reduction real (parent-apart f) (λ other. own-low other f h) (low f (omega arith)) (λ other. parent-low other f)
       where
-        of_reduction : (r : Reduction) → IsReduction r → from_parent f node.roles slots ≢ Some (slice_index node.colours f) → (((k : ℕ) → r ≡ Step k → ⊥) → slice_index node.colours f < 6) → slice_index node.before f < 6 → (((k : ℕ) → r ≡ Step k → ⊥) → IfSome (from_parent f node.roles slots) (λ c. c < 6)) → IsReady r (slice_index node.colours f) (slice_index node.before f) (from_parent f node.roles slots)
+        of_reduction : (r : Reduction) → IsReduction r → from_parent f node.roles slots ≢ Some (slice_index node.colours f) →
+            (((k : ℕ) → r ≡ Step k → ⊥) → slice_index node.colours f < 6) → slice_index node.before f < 6 →
+            (((k : ℕ) → r ≡ Step k → ⊥) → IfSome (from_parent f node.roles slots) (λ c. c < 6)) →
+            IsReady r (slice_index node.colours f) (slice_index node.before f) (from_parent f node.roles slots)
         of_reduction (Step k) is apart own before parent = apart
         of_reduction (Shift x) is apart own before parent = (apart, own (λ k e. absurd (cc)), before, parent (λ k e. absurd (cc)))
         of_reduction (Drop x) is apart own before parent = (apart, own (λ k e. absurd (cc)), before, parent (λ k e. absurd (cc)), is.0, is.1)
@@ -113,7 +121,8 @@ module _ (node : Node) (reduction : Reduction) (slots : List (Option Payload)) (
   kept-low (Drop x) own before low small = small
 
   -- the colours that are kept are 0 to 5 again
-  pub kept-below : AreBelow 6 node.before → length node.before ≡ length node.colours → length node.colours ≡ node.sizes.forests → AreBelow 6 (next_kept node reduction)
+  pub kept-below : AreBelow 6 node.before → length node.before ≡ length node.colours → length node.colours ≡ node.sizes.forests →
+      AreBelow 6 (next_kept node reduction)
   kept-below low as_many size f h =
       let F = λ (g : ℕ). kept reduction (slice_index node.colours g) (slice_index node.before g) in
       let within : f < node.sizes.forests = omega (arith, length-map-range_with_len F 0 node.sizes.forests) in

@@ -1,7 +1,9 @@
 -- How a node chooses its colour when a forest is merged with those before it.
-use Rattle.std.specs.Prelude.{ℕ, ◌+◌, ◌/◌, ◌%◌, ◌==◌, Bool, false, List, [], ◌∷◌, Option, Some, if◌then◌else◌, slice_index}
+use Rattle.std.specs.Prelude.{◌≡◌, ◌≤◌, ℕ, ◌+◌, ◌/◌, ◌%◌, ◌==◌, Bool, false, List, []}
+use Rattle.std.specs.Prelude.{◌∷◌, Option, Some, if◌then◌else◌, slice_index}
 use Rattle.std.specs.Ordering.{nat_cmp}
 use Rattle.std.specs.FinSet.{FinSet, empty, insert, contains}
+use Rattle.node_api.specs.Boxes.{at_port}
 use Rattle.forest_merge.specs.Free.{least_free_colour}
 use Rattle.colour_rules.specs.declared.payload.Payload.{Payload}
 use Rattle.colour_rules.specs.declared.payload.Payload.TheVariants.{Chosen}
@@ -12,6 +14,10 @@ abbrev pub with_chosen : FinSet nat_cmp → List (Option Payload) → FinSet nat
 with_chosen set [] = set
 with_chosen set (Some (Chosen c) ∷ slots) = with_chosen (insert set c) slots
 with_chosen set (slot ∷ slots) = with_chosen set slots
+
+-- every colour that came as chosen is n at most
+abbrev pub ChosenWithin : ℕ → List (Option Payload) → Type 0
+ChosenWithin n slots = (port c : ℕ) → at_port slots port ≡ Some (Chosen c) → c ≤ n
 
 -- a node at a step of the merging once it has heard: the first step of a forest begins with the colour so far
 -- and nothing heard

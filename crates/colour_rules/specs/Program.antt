@@ -1,8 +1,10 @@
 -- What a node makes of a pulse, where nothing is refused, and the node program of the rounds.
-use Rattle.std.specs.Prelude.{◌≢◌, ℕ, suc, ◌<◌, ◌≤◌, ◌==◌, Bool, false, if◌then◌else◌}
-use Rattle.std.specs.Prelude.{List, [], ◌∷◌, map, replicate, slice_index, Option, Some, None, IfSome, Result, Ok, Err}
+use Rattle.std.specs.Prelude.{◌≡◌, ◌≢◌, ℕ, suc, ◌<◌, ◌≤◌, ◌==◌, Bool, false, if◌then◌else◌}
+use Rattle.std.specs.Prelude.{List, [], ◌∷◌, length, map, replicate, slice_index, slice_index_or}
+use Rattle.std.specs.Prelude.{Option, Some, None, IfSome, Result, Ok, Err}
 use Rattle.std.specs.List.{range_with_len}
 use Rattle.node_api.specs.Program.{Program}
+use Rattle.node_api.specs.Boxes.{at_port}
 use Rattle.node_api.specs.declared.program.Refused.{Refused}
 use Rattle.cole_vishkin.specs.BitStep.{bit_by}
 use Rattle.shift_down.specs.Steps.{shift_by, drop_by}
@@ -55,6 +57,16 @@ tells_chosen f c role = if is_merged f role then Some (Chosen c) else None
 abbrev pub silent : {A : Type 0} → List A → List (Option Payload)
 silent xs = map (λ x. None) xs
 
+-- every label that came is below n
+abbrev pub LabelsBelow : ℕ → List (Option Payload) → Type 0
+LabelsBelow n slots = (port f : ℕ) → at_port slots port ≡ Some (Label f) → f < n
+
+-- each port to a parent brought a colour
+abbrev pub HaveColours : List Role → List (Option Payload) → Type 0
+HaveColours roles slots =
+    (port f : ℕ) → port < length roles → slice_index_or roles port Unknown ≡ Up f
+    → (c : ℕ) × (at_port slots port ≡ Some (Colour c))
+
 -- whether a port leads to the parent in forest f
 abbrev pub is_up : ℕ → Role → Bool
 is_up f (Up g) = f == g
@@ -92,6 +104,21 @@ IsReady (Shift x) own before parent =
 IsReady (Drop x) own before parent =
     (parent ≢ Some own) × (own < 6) × (before < 6) × IfSome parent (λ c. c < 6) × (3 ≤ x) × (x ≤ 5)
 
+-- the same for all forests, by the colours of the parents
+abbrev pub AreReady : Reduction → List ℕ → List ℕ → List (Option ℕ) → Type 0
+AreReady reduction colours before parents =
+    (f : ℕ) → f < length colours
+    → IsReady reduction (slice_index colours f) (slice_index before f) (slice_index_or parents f None)
+
+abbrev pub turned_all : Reduction → List ℕ → List ℕ → List (Option ℕ) → List ℕ
+turned_all reduction colours before parents =
+    map (λ f. turned reduction (slice_index colours f) (slice_index before f) (slice_index_or parents f None))
+    (range_with_len 0 (length colours))
+
+abbrev pub kept_all : Reduction → List ℕ → List ℕ → List ℕ
+kept_all reduction colours before =
+    map (λ f. kept reduction (slice_index colours f) (slice_index before f)) (range_with_len 0 (length colours))
+
 -- whether no work on the colours is left: the last drop is that of 3
 abbrev pub is_last : Reduction → Bool
 is_last (Step k) = false
@@ -116,7 +143,8 @@ with_colours node reduction colours before = (
 -- the next colours, by forest, and those kept beside them
 abbrev pub next_colours : Node → Reduction → List (Option Payload) → List ℕ
 next_colours node reduction inbox =
-    map (λ f. turned reduction (slice_index node.colours f) (slice_index node.before f) (from_parent f node.roles inbox))
+    map
+    (λ f. turned reduction (slice_index node.colours f) (slice_index node.before f) (from_parent f node.roles inbox))
     (range_with_len 0 node.sizes.forests)
 
 abbrev pub next_kept : Node → Reduction → List ℕ

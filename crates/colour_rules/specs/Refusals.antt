@@ -40,6 +40,11 @@ ports_refusal node phase port earlier (role ∷ roles) (slot ∷ slots) =
     (ports_refusal node phase (suc port) (and_id earlier slot) roles slots)
 ports_refusal node phase port earlier roles slots = None
 
+-- from no port in [from, to) a payload is due
+abbrev pub AreUndue : Phase → List Role → ℕ → ℕ → Type 0
+AreUndue phase roles from to =
+    (port : ℕ) → from ≤ port → port < to → is_due phase (slice_index_or roles port Unknown) ≡ false
+
 -- `refused` names the first port in [from, to) from which a payload is due but missing.
 pub record IsFirstMissing (phase : Phase) (roles : List Role) (from to : ℕ) (refused : Refused) : Type 0 where
   pub port : ℕ
@@ -47,7 +52,7 @@ pub record IsFirstMissing (phase : Phase) (roles : List Role) (from to : ℕ) (r
   pub low : from ≤ port
   pub high : port < to
   pub due : is_due phase (slice_index_or roles port Unknown) ≡ true
-  pub first : (before : ℕ) → from ≤ before → before < port → is_due phase (slice_index_or roles before Unknown) ≡ false
+  pub first : AreUndue phase roles from port
 
 -- the identifiers that came
 abbrev pub ids_in : List (Option Payload) → List ℕ

@@ -11,8 +11,13 @@ abbrev Fields : Type 0
 Fields = ℕ × ((ℕ × (ℕ × ℕ)) × (List Role × (List ℕ × (List ℕ × (ℕ × (ℕ × set.FinSet nat_cmp))))))
 
 abbrev fields_of : Node → Fields
-fields_of node =
-    (node.id, ((node.sizes.nodes, (node.sizes.greatest_degree, node.sizes.forests)), (node.roles, (node.colours, (node.before, (node.colour_before, (node.merged, node.chosen)))))))
+fields_of node = (
+  node.id,
+  (
+    (node.sizes.nodes, (node.sizes.greatest_degree, node.sizes.forests)),
+    (node.roles, (node.colours, (node.before, (node.colour_before, (node.merged, node.chosen))))),
+  ),
+)
 
 abbrev node_of : Fields → Node
 node_of (id, (sizes, (roles, (colours, (before, (colour_before, (merged, chosen))))))) =
@@ -31,5 +36,7 @@ node_of (id, (sizes, (roles, (colours, (before, (colour_before, (merged, chosen)
 abbrev pub node_code : Coded Node
 node_code =
     code_by Fields
-    (coded× coded_ℕ (coded× (coded× coded_ℕ (coded× coded_ℕ coded_ℕ)) (coded× (coded_list the_row.coded) (coded× (coded_list coded_ℕ) (coded× (coded_list coded_ℕ) (coded× coded_ℕ (coded× coded_ℕ (set.code coded_ℕ))))))))
+    (coded× coded_ℕ (coded× (coded× coded_ℕ (coded× coded_ℕ coded_ℕ))
+    (coded× (coded_list the_row.coded) (coded× (coded_list coded_ℕ) (coded× (coded_list coded_ℕ)
+    (coded× coded_ℕ (coded× coded_ℕ (set.code coded_ℕ))))))))
     fields_of node_of (λ _. refl)

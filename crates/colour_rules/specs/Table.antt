@@ -1,5 +1,6 @@
 -- What may come to a node: by phase, kind of payload and role of the port, and by value.
-use Rattle.std.specs.Prelude.{ℕ, ◌==◌, Bool, true, false, List, Option, Some, None, if◌then◌else◌, nat_lt, nat_le, slice_index}
+use Rattle.std.specs.Prelude.{ℕ, ◌==◌, Bool, true, false, if◌then◌else◌, nat_lt, nat_le}
+use Rattle.std.specs.Prelude.{List, Option, Some, None, slice_index}
 use Rattle.forest_merge.specs.Free.{is_among}
 use Rattle.forests.specs.Forests.{forest}
 use Rattle.forests.specs.declared.numbering.Role.{Role}
@@ -10,7 +11,8 @@ use Rattle.colour_rules.specs.declared.payload.Payload.{Payload}
 use Rattle.colour_rules.specs.declared.payload.Payload.TheVariants.{Hello, Label, Colour, Chosen}
 use Rattle.colour_rules.specs.declared.phase.Reduction.{Reduction}
 use Rattle.colour_rules.specs.declared.phase.Reduction.TheVariants.{Step, Shift, Drop}
-use Rattle.colour_rules.specs.declared.rules.TheConstants.{WRONG_KIND, WRONG_ROLE, FOREST_RANGE, COLOUR_RANGE, AFTER_HALT}
+use Rattle.colour_rules.specs.declared.rules.TheConstants.{WRONG_KIND, WRONG_ROLE, AFTER_HALT}
+use Rattle.colour_rules.specs.declared.rules.TheConstants.{FOREST_RANGE, COLOUR_RANGE}
 use Rattle.colour_rules.specs.Node.{Node}
 
 -- The table: a payload in a phase, from a port of a role, is due (None), or breaks a rule: it is of the wrong kind,

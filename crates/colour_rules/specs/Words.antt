@@ -1,5 +1,6 @@
 -- The text of a payload: a word for its kind, and its number.
-use Rattle.std.specs.Prelude.{◌≡◌, ℕ, ◌<◌, ◌^◌, List, length, Option, Some, None, if◌then◌else◌, nat_lt, codes, All, ◌&&◌, nat_eq}
+use Rattle.std.specs.Prelude.{◌≡◌, ℕ, ◌<◌, ◌^◌, ◌&&◌, if◌then◌else◌, nat_lt, nat_eq}
+use Rattle.std.specs.Prelude.{List, length, All, codes, Option, Some, None}
 use Rattle.std.specs.Cmp.Lexicographic.{pointwise}
 use Rattle.std.proofs.Common.{arith, rules}
 use Rattle.std.proofs.lemmas.Bool.Decides.{nat_tests}
@@ -45,7 +46,8 @@ words_are_letters (Colour colour) = (omega arith, grind (arith, rules))
 words_are_letters (Chosen colour) = (omega arith, grind (arith, rules))
 
 -- the word and the number of a payload say it
-pub words_read_back : (payload : Payload) → IsPayload payload → payload_from (word_in payload) (number_in payload) ≡ Some payload
+pub words_read_back : (payload : Payload)
+    → IsPayload payload → payload_from (word_in payload) (number_in payload) ≡ Some payload
 words_read_back (Hello id) h = grind (arith, nat_tests)
 words_read_back (Label forest) h = grind (arith, nat_tests)
 words_read_back (Colour colour) h = grind (arith, nat_tests)

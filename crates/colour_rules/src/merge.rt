@@ -1,10 +1,10 @@
 //! A step of the merging of a forest with those before it.
 ghost use Rattle.std.specs.Prelude.{◌≡◌, ◌<◌, ◌≤◌, ℕ, Some, None, [], true, if◌then◌else◌, length};
 ghost use Rattle.node_api.specs.Boxes.{at_port, nothing, unread};
-ghost use Rattle.colour_rules.specs.declared.payload.Payload.TheVariants as payload;
-ghost use Rattle.colour_rules.specs.declared.phase.Phase.TheVariants as phase;
+ghost use Rattle.colour_rules.specs.declared.payload.Payload.TheVariants.{Chosen};
+ghost use Rattle.colour_rules.specs.declared.phase.Phase.TheVariants.{Merge};
 ghost use Rattle.colour_rules.specs.Node.{ports, steps};
-ghost use Rattle.colour_rules.specs.Choice.{chooses, free_for, gathered, with_chosen};
+ghost use Rattle.colour_rules.specs.Choice.{ChosenWithin, chooses, free_for, gathered, with_chosen};
 ghost use Rattle.colour_rules.specs.Refusals.{own_rule};
 ghost use Rattle.colour_rules.specs.Program.{done};
 
@@ -17,7 +17,7 @@ use node_api::{Inbox, Outbox};
 // Puts the colours that came as chosen into a set.
 fn add_chosen(chosen: &mut ChosenSet, inbox: &mut Inbox<Payload>)
     requires unread { inbox.old ≡ unread inbox.old.slots }
-    requires colours { (port c : ℕ) → at_port inbox.old.slots port ≡ Some (payload.Chosen c) → c < COLOURS }
+    requires colours { (port c : ℕ) → at_port inbox.old.slots port ≡ Some (Chosen c) → c < COLOURS }
     ensures chosen { chosen.new ≡ with_chosen chosen.old inbox.old.slots }
     ensures slots { inbox.new.slots ≡ inbox.old.slots }
 {
@@ -51,8 +51,9 @@ impl ColourNode {
         requires forest { forest < self.now.sizes.forests }
         requires step { step < steps self.now.sizes }
         requires unread { inbox.old ≡ unread inbox.old.slots }
-        requires colours { (port c : ℕ) → at_port inbox.old.slots port ≡ Some (payload.Chosen c) → c ≤ self.now.sizes.greatest_degree }
-        ensures refused { own_rule self.now (phase.Merge forest step) inbox.old.slots ≡ (if result then Some COLOUR_RANGE else None) }
+        requires colours { ChosenWithin self.now.sizes.greatest_degree inbox.old.slots }
+        ensures refused { let rule = own_rule self.now (Merge forest step) inbox.old.slots in
+            rule ≡ (if result then Some COLOUR_RANGE else None) }
         ensures slots { inbox.new.slots ≡ inbox.old.slots }
     {
         if !self.chooses(forest, step) {
@@ -65,7 +66,7 @@ impl ColourNode {
     // What neighbours have chosen in the forest, with what came at this step of it.
     fn chosen_with(&self, step: u32, inbox: &mut Inbox<Payload>) -> ChosenSet
         requires unread { inbox.old ≡ unread inbox.old.slots }
-        requires colours { (port c : ℕ) → at_port inbox.old.slots port ≡ Some (payload.Chosen c) → c ≤ self.now.sizes.greatest_degree }
+        requires colours { ChosenWithin self.now.sizes.greatest_degree inbox.old.slots }
         ensures chosen { result ≡ (gathered self.now step inbox.old.slots).chosen }
         ensures slots { inbox.new.slots ≡ inbox.old.slots }
     {
@@ -91,9 +92,10 @@ impl ColourNode {
         requires unread { inbox.old ≡ unread inbox.old.slots }
         requires ports { length inbox.old.slots ≡ ports self.old }
         requires out { out.old ≡ nothing (ports self.old) }
-        requires colours { (port c : ℕ) → at_port inbox.old.slots port ≡ Some (payload.Chosen c) → c ≤ self.old.sizes.greatest_degree }
-        requires free { chooses (gathered self.old step inbox.old.slots) forest step ≡ true → free_for (gathered self.old step inbox.old.slots) ≤ self.old.sizes.greatest_degree }
-        ensures node { (self.new, out.new) ≡ done self.old (phase.Merge forest step) inbox.old.slots }
+        requires colours { ChosenWithin self.old.sizes.greatest_degree inbox.old.slots }
+        requires free { let here = gathered self.old step inbox.old.slots in
+            chooses here forest step ≡ true → free_for here ≤ self.old.sizes.greatest_degree }
+        ensures node { (self.new, out.new) ≡ done self.old (Merge forest step) inbox.old.slots }
         ensures slots { inbox.new.slots ≡ inbox.old.slots }
     {
         let is_turn = self.chooses(forest, step);
@@ -109,7 +111,7 @@ impl ColourNode {
     // Hears what was chosen; at the first step of a forest, begins with the colour so far.
     fn gather(&mut self, step: u32, inbox: &mut Inbox<Payload>)
         requires unread { inbox.old ≡ unread inbox.old.slots }
-        requires colours { (port c : ℕ) → at_port inbox.old.slots port ≡ Some (payload.Chosen c) → c ≤ self.old.sizes.greatest_degree }
+        requires colours { ChosenWithin self.old.sizes.greatest_degree inbox.old.slots }
         ensures node { self.new ≡ gathered self.old step inbox.old.slots }
         ensures slots { inbox.new.slots ≡ inbox.old.slots }
     {

@@ -52,7 +52,8 @@ impl Model for ColourNode {
       chosen = a.chosen;
     } };
 
-    ghost invariant = { λ a. (a.greatest_degree ≤ MAX_DEGREE) × (a.forests ≤ MAX_DEGREE) × (length a.roles.items ≤ MAX_DEGREE)
+    ghost invariant = { λ a. (a.greatest_degree ≤ MAX_DEGREE) × (a.forests ≤ MAX_DEGREE)
+        × (length a.roles.items ≤ MAX_DEGREE)
         × (length a.colours.items ≡ a.forests) × (length a.before.items ≡ a.forests)
         × HasForests a.forests a.roles.items × AreBelow 6 a.before.items
         × (a.colour_before ≤ a.greatest_degree) × (a.merged ≤ a.greatest_degree) };

@@ -1,11 +1,12 @@
 //! The first rule that a port breaks.
-ghost use Rattle.std.specs.Prelude.{◌≡◌, ◌≤◌, ◌<◌, ℕ, [], IfOk, MatchResult, None, Some, false, length, slice_index_or, take};
+ghost use Rattle.std.specs.Prelude.{◌≡◌, ◌≤◌, ◌<◌, IfOk, MatchResult, None, Some, false, length, slice_index_or, take};
 ghost use Rattle.node_api.specs.Boxes.{HasFrom, unread};
 ghost use Rattle.forests.specs.declared.numbering.Role.{Role};
-ghost use Rattle.forests.specs.declared.numbering.Role.TheVariants as role;
+ghost use Rattle.forests.specs.declared.numbering.Role.TheVariants.{Unknown};
 ghost use Rattle.colour_rules.specs.Node.{IsIn, ports};
 ghost use Rattle.colour_rules.specs.Table.{is_above, is_due, is_merged, value_rule};
-ghost use Rattle.colour_rules.specs.Refusals.{IsFirstMissing, Looked, and_id, first_refusal, ids_in, port_rule};
+ghost use Rattle.colour_rules.specs.Refusals.{AreUndue, IsFirstMissing, Looked};
+ghost use Rattle.colour_rules.specs.Refusals.{and_id, first_refusal, ids_in, port_rule};
 
 use crate::node::ColourNode;
 use crate::payload::Payload;
@@ -93,7 +94,7 @@ impl ColourNode {
         payload: Payload,
     ) -> Result<(), Refused>
         requires { port < ports self.now }
-        ensures { let role = slice_index_or self.now.roles port role.Unknown in
+        ensures { let role = slice_index_or self.now.roles port Unknown in
             let rule = port_rule self.now earlier.now phase role (Some payload) in
             MatchResult result
             (λ _. rule ≡ None)
@@ -114,7 +115,7 @@ impl ColourNode {
     fn none_due(&self, phase: Phase, from: u32, to: u32) -> Result<(), Refused>
         requires { to ≤ ports self.now }
         ensures { MatchResult result
-            (λ _. (port : ℕ) → from ≤ port → port < to → is_due phase (slice_index_or self.now.roles port role.Unknown) ≡ false)
+            (λ _. AreUndue phase self.now.roles from to)
             (λ refused. IsFirstMissing phase self.now.roles from to refused) }
     {
         if waits(phase) {
@@ -145,11 +146,9 @@ impl ColourNode {
         requires looked { Looked self.now phase inbox.old.slots from earlier.now }
         ensures slots { inbox.new.slots ≡ inbox.old.slots }
         ensures later { (inbox.old.place < inbox.new.place) × (inbox.new.place ≤ ports self.now) }
-        ensures answer {
-            MatchResult result
-                (λ payload. Looked self.now phase inbox.old.slots inbox.new.place (and_id earlier.now (Some payload)))
-                (λ refused. first_refusal self.now phase inbox.old.slots ≡ Some refused)
-        }
+        ensures answer { MatchResult result
+            (λ payload. Looked self.now phase inbox.old.slots inbox.new.place (and_id earlier.now (Some payload)))
+            (λ refused. first_refusal self.now phase inbox.old.slots ≡ Some refused) }
     {
         let payload = inbox.next();
         let port = inbox.sender();
@@ -173,7 +172,8 @@ impl ColourNode {
         ensures answer { MatchResult result
             (λ _. first_refusal self.now phase inbox.old.slots ≡ None)
             (λ refused. first_refusal self.now phase inbox.old.slots ≡ Some refused) }
-        ensures came { IfOk result (λ count. (count ≤ length identifiers.new) × (take count identifiers.new ≡ ids_in inbox.old.slots)) }
+        ensures came { IfOk result
+            (λ count. (count ≤ length identifiers.new) × (take count identifiers.new ≡ ids_in inbox.old.slots)) }
     {
         let ports = self.roles.len() as u32;
         let mut count = 0;

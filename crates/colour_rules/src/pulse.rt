@@ -1,7 +1,8 @@
 //! A whole pulse of a node: what it refuses, and the work of the phase.
-ghost use Rattle.std.specs.Prelude.{◌≡◌, ◌≤◌, None, OnErr, IfOk, MatchResult, Result, Some, [], count_by, length, nat_lt, take};
+ghost use Rattle.std.specs.Prelude.{◌≡◌, ◌≤◌, IfOk, MatchResult, None, OnErr, Some, count_by, length, nat_lt, take};
 ghost use Rattle.std.specs.List.{list_any};
 ghost use Rattle.node_api.specs.Boxes.{nothing, unread};
+ghost use Rattle.node_api.specs.Program.{Matches};
 ghost use Rattle.colour_rules.specs.Idle.{IsIdle};
 ghost use Rattle.colour_rules.specs.Node.{IsPhase, ports};
 ghost use Rattle.colour_rules.specs.Refusals.{first_refusal, ids_in, own_rule, without_port};
@@ -37,10 +38,7 @@ impl ColourNode {
         requires rewound { inbox.old.place ≡ 0 }
         requires inbox { length inbox.old.slots ≡ ports self.old }
         requires out { out.old ≡ nothing (ports self.old) }
-        ensures answer { let answer = next self.old pulse inbox.old.slots in
-            MatchResult result
-            (λ _. answer ≡ Result.Ok (self.new, out.new))
-            (λ refused. answer ≡ Result.Err refused) }
+        ensures answer { Matches result (next self.old pulse inbox.old.slots) (self.new, out.new) }
         ensures idle { IfOk result (IsIdle self.new) }
         ensures refused { OnErr result ((self.new ≡ self.old) × (out.new ≡ out.old)) }
         ensures inbox { inbox.new.slots ≡ inbox.old.slots }

@@ -23,7 +23,8 @@ impl Scratch {
     pub fn make(alloc: Global, net: &Network, v: u32) -> Result<Scratch, Memory>
         requires { IsVertex net.now v }
         ensures identifiers { IfOk result (λ scratch. length scratch.identifiers.items ≡ degree_of net.now v) }
-        ensures parent_colours { IfOk result (λ scratch. length scratch.parent_colours.items ≡ forest_count_of net.now) }
+        ensures parent_colours { IfOk result
+            (λ scratch. length scratch.parent_colours.items ≡ forest_count_of net.now) }
     {
         net.is_network();
         let identifiers = vec![in alloc; 0; net.degree(v) as usize]?;

@@ -1,14 +1,15 @@
 //! The work of the pulses before the merging: numbering the ports, and the colours of the forests.
-ghost use Rattle.std.specs.Prelude.{◌≡◌, ◌≢◌, ◌<◌, ◌≤◌, ℕ, [], IfSome, None, Some, count_by, length, map, nat_lt, slice_index, slice_index_or};
-ghost use Rattle.std.specs.List.{All, AllPairs, range_with_len};
+ghost use Rattle.std.specs.Prelude.{◌≡◌, ◌≢◌, ◌<◌, ◌≤◌, ℕ, IfSome, None, Some};
+ghost use Rattle.std.specs.Prelude.{count_by, length, map, nat_lt, slice_index_or};
+ghost use Rattle.std.specs.List.{All, AllPairs};
 ghost use Rattle.forests.specs.Forests.{role_by};
-ghost use Rattle.forests.specs.declared.numbering.Role.TheVariants as role;
-ghost use Rattle.node_api.specs.Boxes.{at_port, nothing, unread};
-ghost use Rattle.colour_rules.specs.declared.payload.Payload.TheVariants as payload;
-ghost use Rattle.colour_rules.specs.declared.phase.Phase.TheVariants as phase;
+ghost use Rattle.node_api.specs.Boxes.{nothing, unread};
+ghost use Rattle.colour_rules.specs.declared.phase.Phase.TheVariants.{Seed, Work};
 ghost use Rattle.colour_rules.specs.Node.{IsReduction, ports};
-ghost use Rattle.colour_rules.specs.Refusals.{own_rule, first_refusal};
-ghost use Rattle.colour_rules.specs.Program.{IsReady, all_labelled, colour_in, done, from_parent, kept, labelled, tells_label, turned, with_roles};
+ghost use Rattle.colour_rules.specs.Refusals.{first_refusal, own_rule};
+ghost use Rattle.colour_rules.specs.Program.{AreReady, HaveColours, IsReady, LabelsBelow};
+ghost use Rattle.colour_rules.specs.Program.{all_labelled, colour_in, done, from_parent, labelled};
+ghost use Rattle.colour_rules.specs.Program.{kept_all, tells_label, turned, turned_all, with_roles};
 
 use crate::node::ColourNode;
 use crate::payload::Payload;
@@ -19,7 +20,7 @@ use node_api::{Inbox, Outbox};
 use shift_down::{drop_class, shift};
 
 impl ColourNode {
-    // Numbers the ports to higher identifiers, and tells each parent the forest; `identifiers` are the
+    // Numbers the ports to higher identifiers, and sends each parent the forest; `identifiers` are the
     // identifiers by port.
     pub(crate) fn orient(&mut self, identifiers: &[u64], out: &mut Outbox<Payload>)
         requires ports { length identifiers.now ≡ ports self.old }
@@ -35,13 +36,13 @@ impl ColourNode {
     }
 
     // Makes children of the ports that brought a label, begins with the identifier as the colour in
-    // each forest, and tells each child.
+    // each forest, and sends it to each child.
     pub(crate) fn seed(&mut self, inbox: &mut Inbox<Payload>, out: &mut Outbox<Payload>)
         requires unread { inbox.old ≡ unread inbox.old.slots }
         requires ports { length inbox.old.slots ≡ ports self.old }
-        requires labels { (port f : ℕ) → at_port inbox.old.slots port ≡ Some (payload.Label f) → f < self.old.sizes.forests }
+        requires labels { LabelsBelow self.old.sizes.forests inbox.old.slots }
         requires out { out.old ≡ nothing (ports self.old) }
-        ensures node { (self.new, out.new) ≡ done self.old phase.Seed inbox.old.slots }
+        ensures node { (self.new, out.new) ≡ done self.old Seed inbox.old.slots }
         ensures slots { inbox.new.slots ≡ inbox.old.slots }
     {
         self.label(inbox);
@@ -53,7 +54,7 @@ impl ColourNode {
     fn label(&mut self, inbox: &mut Inbox<Payload>)
         requires unread { inbox.old ≡ unread inbox.old.slots }
         requires ports { length inbox.old.slots ≡ ports self.old }
-        requires labels { (port f : ℕ) → at_port inbox.old.slots port ≡ Some (payload.Label f) → f < self.old.sizes.forests }
+        requires labels { LabelsBelow self.old.sizes.forests inbox.old.slots }
         ensures node { self.new ≡ with_roles self.old (all_labelled self.old.roles inbox.old.slots) }
         ensures slots { inbox.new.slots ≡ inbox.old.slots }
     {
@@ -64,7 +65,7 @@ impl ColourNode {
         }
     }
 
-    // Takes the next colour in each forest, and tells each child unless these are the last.
+    // Takes the next colour in each forest, and sends it to each child unless these are the last.
     pub(crate) fn work(
         &mut self,
         reduction: Reduction,
@@ -77,9 +78,9 @@ impl ColourNode {
         requires ports { length inbox.old.slots ≡ ports self.old }
         requires room { length parent_colours.old ≡ self.old.sizes.forests }
         requires out { out.old ≡ nothing (ports self.old) }
-        requires accepted { first_refusal self.old (phase.Work reduction) inbox.old.slots ≡ None }
-        requires own { own_rule self.old (phase.Work reduction) inbox.old.slots ≡ None }
-        ensures node { (self.new, out.new) ≡ done self.old (phase.Work reduction) inbox.old.slots }
+        requires accepted { first_refusal self.old (Work reduction) inbox.old.slots ≡ None }
+        requires own { own_rule self.old (Work reduction) inbox.old.slots ≡ None }
+        ensures node { (self.new, out.new) ≡ done self.old (Work reduction) inbox.old.slots }
         ensures slots { inbox.new.slots ≡ inbox.old.slots }
         ensures room { length parent_colours.new ≡ length parent_colours.old }
     {
@@ -100,8 +101,9 @@ impl ColourNode {
         requires unread { inbox.old ≡ unread inbox.old.slots }
         requires ports { length inbox.old.slots ≡ ports self.now }
         requires room { length parent_colours.old ≡ self.now.sizes.forests }
-        requires all { (port f : ℕ) → port < ports self.now → slice_index_or self.now.roles port role.Unknown ≡ role.Up f → (c : ℕ) × (at_port inbox.old.slots port ≡ Some (payload.Colour c)) }
-        ensures parent_colours { (f : ℕ) → f < self.now.sizes.forests → slice_index_or parent_colours.new f None ≡ from_parent f self.now.roles inbox.old.slots }
+        requires all { HaveColours self.now.roles inbox.old.slots }
+        ensures parent_colours { (f : ℕ) → f < self.now.sizes.forests →
+            slice_index_or parent_colours.new f None ≡ from_parent f self.now.roles inbox.old.slots }
         ensures slots { inbox.new.slots ≡ inbox.old.slots }
         ensures room { length parent_colours.new ≡ length parent_colours.old }
     {
@@ -117,7 +119,7 @@ impl ColourNode {
     }
 }
 
-// What a port is, once its payload is read: where an unknown one brought a label, it leads to a child.
+// What a port is, once its payload is read: an unknown port that brought a label leads to a child.
 fn labelled(role: Role, payload: Payload) -> Role
     ensures { result ≡ labelled role (Some payload) }
 {
@@ -137,7 +139,7 @@ fn colour_of(payload: Payload) -> Option<u64>
     }
 }
 
-// Takes the next colour in each forest, where `parent_colours` are the colours of the parents.
+// Takes the next colour in each forest, by the colours of the parents.
 fn turn_all(
     reduction: Reduction,
     colours: &mut [u64],
@@ -146,9 +148,9 @@ fn turn_all(
 )
     requires before { length before.old ≡ length colours.old }
     requires parent_colours { length parent_colours.now ≡ length colours.old }
-    requires ready { (f : ℕ) → f < length colours.old → IsReady reduction (slice_index colours.old f) (slice_index before.old f) (slice_index_or parent_colours.now f None) }
-    ensures colours { colours.new ≡ map (λ f. turned reduction (slice_index colours.old f) (slice_index before.old f) (slice_index_or parent_colours.now f None)) (range_with_len 0 (length colours.old)) }
-    ensures before { before.new ≡ map (λ f. kept reduction (slice_index colours.old f) (slice_index before.old f)) (range_with_len 0 (length colours.old)) }
+    requires ready { AreReady reduction colours.old before.old parent_colours.now }
+    ensures colours { colours.new ≡ turned_all reduction colours.old before.old parent_colours.now }
+    ensures before { before.new ≡ kept_all reduction colours.old before.old }
 {
     for forest in 0..colours.len() {
         let own = colours[forest];

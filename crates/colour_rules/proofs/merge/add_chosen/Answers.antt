@@ -20,7 +20,8 @@ pub add-requires : goal.add-requires
 add-requires c =
     let l = c.loop-inbox in
     let there : at_port c.args.inbox.now.slots (c.next.new.self.place - 1) ≡ Some (Chosen c.in-Chosen.colour) =
-    ap (λ (slots : List (Option Payload)). at_port slots (c.next.new.self.place - 1)) (sym l.invariant.same) ∙ (read-is l.inbox c.next.result c.next.new.self c.next.ensures.reads ∙ ap Some c.in-Chosen.is) in
+    ap (λ (slots : List (Option Payload)). at_port slots (c.next.new.self.place - 1)) (sym l.invariant.same) ∙
+    (read-is l.inbox c.next.result c.next.new.self c.next.ensures.reads ∙ ap Some c.in-Chosen.is) in
     let low : c.in-Chosen.colour < COLOURS = c.requires.colours (c.next.new.self.place - 1) c.in-Chosen.colour there in
     omega arith
 
@@ -46,13 +47,15 @@ loop-inbox-preserved c =
     record {
       same = c.next.ensures.reads.same ∙ c.loop-inbox.invariant.same;
       rest =
-          ap (λ (set : FinSet nat_cmp). fold_rest taken_in set c.next.new.self) (sym (taken_in-other c.loop-inbox.chosen (c.next.new.self.place - 1) c.next.result c.in_default.not-Chosen))
+          ap (λ (set : FinSet nat_cmp). fold_rest taken_in set c.next.new.self)
+          (sym (taken_in-other c.loop-inbox.chosen (c.next.new.self.place - 1) c.next.result c.in_default.not-Chosen))
           ∙ (sym (fold_rest-read taken_in c.loop-inbox.inbox c.next.result c.next.new.self c.loop-inbox.chosen c.next.ensures.reads)
           ∙ c.loop-inbox.invariant.rest);
     }
 
 pub returns-clause-chosen : goal.returns-clause-chosen
-returns-clause-chosen c = sym (fold_rest-end taken_in c.loop-inbox.inbox c.loop-inbox.chosen (λ h. let e : IsTrue false = c.loop-inbox-test.ensures.more.1 h in (cc))) ∙ c.loop-inbox.invariant.rest
+returns-clause-chosen c = sym (fold_rest-end taken_in c.loop-inbox.inbox c.loop-inbox.chosen (λ h. let e : IsTrue false =
+    c.loop-inbox-test.ensures.more.1 h in (cc))) ∙ c.loop-inbox.invariant.rest
 
 pub returns-clause-slots : goal.returns-clause-slots
 returns-clause-slots c = c.loop-inbox.invariant.same

@@ -6,7 +6,8 @@ use Rattle.colour_rules.proofs.work.turn_all.Goals as goal
 
 pub returns-clause-colours : goal.returns-clause-colours
 returns-clause-colours c =
-    fill_by_all (λ f. turned c.args.reduction (slice_index c.args.colours.now f) (slice_index c.args.before.now f) (slice_index_or c.args.parent_colours.now f None))
+    fill_by_all (λ f. turned c.args.reduction (slice_index c.args.colours.now f) (slice_index c.args.before.now f)
+    (slice_index_or c.args.parent_colours.now f None))
     c.loop-forest.colours _ 0 c.loop-forest.invariant.size
     (λ f h. c.loop-forest.invariant.done f (omega arith))
 

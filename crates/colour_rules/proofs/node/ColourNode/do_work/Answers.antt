@@ -51,20 +51,24 @@ merge-requires-clause-colours c =
 pub returns-in-Orient-clause-node : goal.returns-in-Orient-clause-node
 returns-in-Orient-clause-node c =
     let at = (goal.at.returns-in-Orient-clause-node c).After-deref in
-    oriented-is c.args.self.now c.orient.new.self c.args.phase (take c.args.count c.deref.result.now) c.args.inbox.now.slots c.orient.new.out c.in-Orient.is (came at) (hellos at) c.orient.ensures.node c.orient.ensures.out
+    oriented-is c.args.self.now c.orient.new.self c.args.phase (take c.args.count c.deref.result.now) c.args.inbox.now.slots c.orient.new.out c.in-Orient.is
+    (came at) (hellos at) c.orient.ensures.node c.orient.ensures.out
 
 pub returns-in-Orient-clause-room : goal.returns-in-Orient-clause-room
 returns-in-Orient-clause-room c =
     let at = (goal.at.returns-in-Orient-clause-room c).After-deref in
     room-done c.args.self.now c.orient.new.self c.args.phase c.args.inbox.now.slots c.orient.new.out c.args.scratch.now c.args.scratch.now c.requires.inbox
-    (oriented-is c.args.self.now c.orient.new.self c.args.phase (take c.args.count c.deref.result.now) c.args.inbox.now.slots c.orient.new.out c.in-Orient.is (came at) (hellos at) c.orient.ensures.node c.orient.ensures.out)
+    (oriented-is c.args.self.now c.orient.new.self c.args.phase (take c.args.count c.deref.result.now) c.args.inbox.now.slots c.orient.new.out c.in-Orient.is
+    (came at) (hellos at) c.orient.ensures.node c.orient.ensures.out)
     refl refl c.requires.room
 
 pub returns-in-Seed-clause-room : goal.returns-in-Seed-clause-room
 returns-in-Seed-clause-room c =
-    room-done c.args.self.now c.seed.new.self Seed c.args.inbox.now.slots c.seed.new.out c.args.scratch.now c.args.scratch.now c.requires.inbox c.seed.ensures.node refl refl c.requires.room
+    room-done c.args.self.now c.seed.new.self Seed c.args.inbox.now.slots c.seed.new.out c.args.scratch.now c.args.scratch.now c.requires.inbox
+    c.seed.ensures.node refl refl c.requires.room
 
 pub returns-in-Greet-clause-node : goal.returns-in-Greet-clause-node
 returns-in-Greet-clause-node c =
     let at = λ (phase : Phase). done c.args.self.now phase c.args.inbox.now.slots in
-    idle-is c.args.self.now c.args.phase c.args.inbox.now.slots c.args.out.now (elim c.in-Greet.is [ inl greet ↦ ap at greet | inr halted ↦ ap at halted ]) c.requires.out
+    idle-is c.args.self.now c.args.phase c.args.inbox.now.slots c.args.out.now (elim c.in-Greet.is [ inl greet ↦ ap at greet | inr halted ↦ ap at halted ])
+    c.requires.out

@@ -15,6 +15,7 @@ returns-clause-refused c =
     let set : FinSet nat_cmp = c.chosen_with-chosen.result in
     let same : c.self.inside.greatest_degree ≡ limit = ap (λ (x : Node). x.sizes.greatest_degree) c.self.view_is in
     let high : nat_lt limit (free_for node) ≡ not c.has_free.result =
-    sym (ap (λ (n : ℕ). nat_lt n (least_free_colour n (contains set))) same ∙ ap (λ (x : FinSet nat_cmp). nat_lt limit (least_free_colour limit (contains x))) c.chosen_with-chosen.ensures.chosen)
+    sym (ap (λ (n : ℕ). nat_lt n (least_free_colour n (contains set))) same ∙
+    ap (λ (x : FinSet nat_cmp). nat_lt limit (least_free_colour limit (contains x))) c.chosen_with-chosen.ensures.chosen)
     ∙ least_free_colour-high c.self.inside.greatest_degree (contains set) c.has_free.result c.has_free.ensures in
     turn-rule (chooses node c.args.forest c.args.step) (nat_lt limit (free_for node)) (not c.has_free.result) c.if-not-chooses.ensures high

@@ -8,7 +8,8 @@ use Rattle.colour_rules.proofs.node.ColourNode.hear_parents.Goals as goal
 use Rattle.colour_rules.proofs.node.ColourNode.hear_parents.Goals.{After-index}
 
 -- a payload is read
-comes : (c : After-index) → Comes c.args.self.now.roles c.args.inbox.now.slots c.loop-self.inbox c.next-payload.new.self c.next-payload.result c.sender-port.result c.index.result.now
+comes : (c : After-index) → Comes c.args.self.now.roles c.args.inbox.now.slots c.loop-self.inbox c.next-payload.new.self c.next-payload.result
+    c.sender-port.result c.index.result.now
 comes c =
     record {
       same = c.loop-self.invariant.same;
@@ -23,14 +24,16 @@ loop-self-preserved-in-Up c =
       same = c.next-payload.ensures.reads.same ∙ c.loop-self.invariant.same;
       heard =
           rw (c.or.ensures, c.colour_of-colour.ensures)
-          (heard-parent c.args.self.now.roles c.args.inbox.now.slots (comes (goal.at.loop-self-preserved-in-Up c).After-index) c.requires.all c.requires.ports c.loop-self.parent_colours c.in-Up.forest c.loop-self.invariant.heard c.in-Up.is);
+          (heard-parent c.args.self.now.roles c.args.inbox.now.slots (comes (goal.at.loop-self-preserved-in-Up c).After-index) c.requires.all c.requires.ports
+          c.loop-self.parent_colours c.in-Up.forest c.loop-self.invariant.heard c.in-Up.is);
     }
 
 pub loop-self-preserved : goal.loop-self-preserved
 loop-self-preserved c =
     record {
       same = c.next-payload.ensures.reads.same ∙ c.loop-self.invariant.same;
-      heard = heard-other c.args.self.now.roles c.args.inbox.now.slots (comes (goal.at.loop-self-preserved c).After-index) c.requires.all c.requires.ports c.loop-self.parent_colours c.loop-self.invariant.heard c.in_default.not-Up;
+      heard = heard-other c.args.self.now.roles c.args.inbox.now.slots (comes (goal.at.loop-self-preserved c).After-index) c.requires.all c.requires.ports
+          c.loop-self.parent_colours c.loop-self.invariant.heard c.in_default.not-Up;
     }
 
 pub returns-clause-parent_colours : goal.returns-clause-parent_colours

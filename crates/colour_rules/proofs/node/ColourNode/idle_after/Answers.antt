@@ -14,4 +14,5 @@ next_due-end-requires-clause-step c =
 
 pub returns-in-Merge : goal.returns-in-Merge
 returns-in-Merge c p low high =
-    idle-until c.args.self.now c.args.pulse c.in-Merge.forest c.in-Merge.step c.next_due-end.result (sym c.in-Merge.is ∙ c.requires) c.next_due-end.ensures.within c.next_due-end.ensures.idle p (omega arith) (omega arith)
+    idle-until c.args.self.now c.args.pulse c.in-Merge.forest c.in-Merge.step c.next_due-end.result (sym c.in-Merge.is ∙
+    c.requires) c.next_due-end.ensures.within c.next_due-end.ensures.idle p (omega arith) (omega arith)

@@ -19,7 +19,8 @@ loop-self-preserved c =
       node = ap (λ (node : Node). with_roles node (slice_set roles port c.labelled.result)) c.loop-self.invariant.node;
       roles =
           rw c.labelled.ensures
-          (labelled-read old slots roles c.loop-self.inbox c.next-payload.new.self c.next-payload.result port c.index.result.now c.loop-self.invariant.roles c.loop-self.invariant.same c.requires.ports reads c.sender-port.ensures.port c.index.ensures);
+          (labelled-read old slots roles c.loop-self.inbox c.next-payload.new.self c.next-payload.result port c.index.result.now c.loop-self.invariant.roles
+          c.loop-self.invariant.same c.requires.ports reads c.sender-port.ensures.port c.index.ensures);
     }
 
 pub returns-clause-node : goal.returns-clause-node

@@ -20,7 +20,9 @@ none c =
     none-left c.args.inbox.now.slots c.loop-identifiers.from c.loop-identifiers.inbox c.loop-identifiers.invariant.same c.loop-identifiers.invariant.cursor
     (λ h. let e : IsTrue false = c.loop-identifiers-test.ensures.more.1 h in (cc))
 
-end : (c : After-none_due) → ((q : ℕ) → c.loop-identifiers.from ≤ q → q < c.len-ports.result → is_due c.args.phase (slice_index_or c.args.self.now.roles q Unknown) ≡ false) → (first_refusal c.args.self.now c.args.phase c.args.inbox.now.slots ≡ None) × (take c.loop-identifiers.count c.loop-identifiers.identifiers ≡ ids_in c.args.inbox.now.slots)
+end : (c : After-none_due) → ((q : ℕ) → c.loop-identifiers.from ≤ q → q < c.len-ports.result →
+    is_due c.args.phase (slice_index_or c.args.self.now.roles q Unknown) ≡ false) → (first_refusal c.args.self.now c.args.phase c.args.inbox.now.slots ≡ None)
+    × (take c.loop-identifiers.count c.loop-identifiers.identifiers ≡ ids_in c.args.inbox.now.slots)
 end c undue =
     let node = c.args.self.now in
     let slots = c.args.inbox.now.slots in
@@ -36,7 +38,8 @@ pub returns-in_err-none_due-clause-answer : goal.returns-in_err-none_due-clause-
 returns-in_err-none_due-clause-answer c =
     let at = (goal.at.returns-in_err-none_due-clause-answer c).After-none_due in
     let refused : first_refusal c.args.self.now c.args.phase c.args.inbox.now.slots ≡ Some c.in_err-none_due.field-0.0 =
-    looked-missing c.args.self.now c.args.phase c.args.inbox.now.slots c.requires.ports c.loop-identifiers.from c.len-ports.result (take c.loop-identifiers.count c.loop-identifiers.identifiers) c.in_err-none_due.field-0.0 (omega (arith, all at))
+    looked-missing c.args.self.now c.args.phase c.args.inbox.now.slots c.requires.ports c.loop-identifiers.from c.len-ports.result
+    (take c.loop-identifiers.count c.loop-identifiers.identifiers) c.in_err-none_due.field-0.0 (omega (arith, all at))
     (λ q low high. none at q low (omega (arith, all at, high, c.requires.ports))) c.in_err-none_due.ensures c.loop-identifiers.invariant.looked in
     search rules
 
@@ -44,5 +47,7 @@ pub returns-clause-answer : goal.returns-clause-answer
 returns-clause-answer c = (end (goal.at.returns-clause-answer c).After-none_due c.in_ok-none_due.ensures).0
 
 pub returns-clause-came : goal.returns-clause-came
-returns-clause-came c =
-    (omega (arith, c.loop-identifiers.invariant.few, c.loop-identifiers.invariant.within, c.loop-identifiers.invariant.room), (end (goal.at.returns-clause-came c).After-none_due c.in_ok-none_due.ensures).1)
+returns-clause-came c = (
+  omega (arith, c.loop-identifiers.invariant.few, c.loop-identifiers.invariant.within, c.loop-identifiers.invariant.room),
+  (end (goal.at.returns-clause-came c).After-none_due c.in_ok-none_due.ensures).1,
+)

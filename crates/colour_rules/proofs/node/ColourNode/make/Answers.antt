@@ -9,7 +9,8 @@ use Rattle.colour_rules.proofs.node.ColourNode.make.Goals as goal
 
 pub overflow_cast-greatest_degree : goal.overflow_cast-greatest_degree
 overflow_cast-greatest_degree c =
-    let few : c.greatest_degree-greatest_degree.result ≤ MAX_DEGREE = rw c.greatest_degree-greatest_degree.ensures (greatest_degree-within c.args.net.now c.is_network.ensures) in
+    let few : c.greatest_degree-greatest_degree.result ≤ MAX_DEGREE =
+    rw c.greatest_degree-greatest_degree.ensures (greatest_degree-within c.args.net.now c.is_network.ensures) in
     search rules
 
 pub overflow_cast-forests : goal.overflow_cast-forests
@@ -27,6 +28,7 @@ invariant_of-result c =
     let d : c.greatest_degree-greatest_degree.result ≤ MAX_DEGREE = rw c.greatest_degree-greatest_degree.ensures few in
     let roles : c.in_ok-roles.roles.items ≡ replicate c.degree-degree.result Unknown = search rules in
     let before : c.in_ok-before.before.items ≡ replicate c.forest_count-forests.result 0 = search rules in
-    let known : HasForests c.forest_count-forests.result c.in_ok-roles.roles.items = subst (HasForests c.forest_count-forests.result) (sym roles) (unknown-known c.forest_count-forests.result c.degree-degree.result) in
+    let known : HasForests c.forest_count-forests.result c.in_ok-roles.roles.items =
+    subst (HasForests c.forest_count-forests.result) (sym roles) (unknown-known c.forest_count-forests.result c.degree-degree.result) in
     let low : AreBelow 6 c.in_ok-before.before.items = subst (AreBelow 6) (sym before) (zeros-below c.forest_count-forests.result) in
     (d, e, search rules, search rules, search rules, known, low, omega arith, omega arith)

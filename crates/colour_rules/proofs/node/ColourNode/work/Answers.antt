@@ -25,12 +25,16 @@ turn_all-requires-clause-ready c f h =
     let before : c.deref_mut-2.result.now ≡ node.before = c.deref_mut-2.ensures.value ∙ ap (λ (n : Node). n.before) c.self.view_is in
     let within : f < length node.colours = subst (λ (cs : List ℕ). f < length cs) own h in
     let in_forest : f < node.sizes.forests = omega (arith, valid.3) in
-    let heard : slice_index_or c.hear_parents.new.parent_colours f None ≡ from_parent f node.roles c.args.inbox.now.slots = c.hear_parents.ensures.parent_colours f in_forest in
+    let heard : slice_index_or c.hear_parents.new.parent_colours f None ≡ from_parent f node.roles c.args.inbox.now.slots =
+    c.hear_parents.ensures.parent_colours f in_forest in
     rw (own, before, heard)
-    (ready node c.args.reduction c.args.inbox.now.slots c.requires.real c.requires.own c.requires.ports c.requires.accepted valid.6 (valid.4 ∙ sym valid.3) f within)
+    (ready node c.args.reduction c.args.inbox.now.slots c.requires.real c.requires.own c.requires.ports c.requires.accepted valid.6 (valid.4 ∙
+    sym valid.3) f within)
 
 -- the colours after the turn, and those kept beside them
-turned : (c : After-turn_all) → ((with_items c.self.inside.colours c.turn_all.new.colours).items ≡ next_colours c.args.self.now c.args.reduction c.args.inbox.now.slots) × ((with_items c.self.inside.before c.turn_all.new.before).items ≡ next_kept c.args.self.now c.args.reduction)
+turned : (c : After-turn_all) → ((with_items c.self.inside.colours c.turn_all.new.colours).items
+    ≡ next_colours c.args.self.now c.args.reduction c.args.inbox.now.slots) ×
+    ((with_items c.self.inside.before c.turn_all.new.before).items ≡ next_kept c.args.self.now c.args.reduction)
 turned c =
     let node = c.args.self.now in
     let slots = c.args.inbox.now.slots in
@@ -41,11 +45,22 @@ turned c =
     let before : old_before ≡ node.before = c.deref_mut-2.ensures.value ∙ ap (λ (n : Node). n.before) c.self.view_is in
     let room : length c.turn_all.new.colours ≡ c.self.inside.colours.len = search rules in
     let kept_room : length c.turn_all.new.before ≡ c.self.inside.before.len = search rules in (
-      with_items_is c.self.inside.colours c.turn_all.new.colours room ∙ (c.turn_all.ensures.colours ∙ colours-are node c.args.reduction slots old old_before own before valid.3 c.hear_parents.new.parent_colours c.hear_parents.ensures.parent_colours),
-      with_items_is c.self.inside.before c.turn_all.new.before kept_room ∙ (c.turn_all.ensures.before ∙ kept-are node c.args.reduction slots old old_before own before valid.3),
+      with_items_is c.self.inside.colours c.turn_all.new.colours room ∙
+          (c.turn_all.ensures.colours ∙ colours-are node c.args.reduction slots old old_before own before valid.3 c.hear_parents.new.parent_colours
+          c.hear_parents.ensures.parent_colours),
+      with_items_is c.self.inside.before c.turn_all.new.before kept_room ∙
+          (c.turn_all.ensures.before ∙ kept-are node c.args.reduction slots old old_before own before valid.3),
     )
 
-worked : (c : After-turn_all) → record (the_view c.self.inside) { colours = (with_items c.self.inside.colours c.turn_all.new.colours).items; before = (with_items c.self.inside.before c.turn_all.new.before).items } ≡ record c.args.self.now { colours = next_colours c.args.self.now c.args.reduction c.args.inbox.now.slots; before = next_kept c.args.self.now c.args.reduction }
+worked : (c : After-turn_all) → record (the_view c.self.inside) {
+  colours = (with_items c.self.inside.colours c.turn_all.new.colours).items;
+  before =
+      (with_items c.self.inside.before c.turn_all.new.before).items;
+} ≡ record c.args.self.now {
+  colours =
+      next_colours c.args.self.now c.args.reduction c.args.inbox.now.slots;
+  before = next_kept c.args.self.now c.args.reduction;
+}
 worked c =
     let node = c.args.self.now in
     let colours : List ℕ = (with_items c.self.inside.colours c.turn_all.new.colours).items in
@@ -54,7 +69,11 @@ worked c =
     ∙ (ap (λ (cs : List ℕ). record node { colours = cs; before = before }) (turned c).0
     ∙ ap (λ (cs : List ℕ). record node { colours = next_colours node c.args.reduction c.args.inbox.now.slots; before = cs }) (turned c).1)
 
-stays : (c : After-turn_all) → IsValid (record (the_view c.self.inside) { colours = (with_items c.self.inside.colours c.turn_all.new.colours).items; before = (with_items c.self.inside.before c.turn_all.new.before).items })
+stays : (c : After-turn_all) → IsValid (record (the_view c.self.inside) {
+  colours = (with_items c.self.inside.colours c.turn_all.new.colours).items;
+  before =
+      (with_items c.self.inside.before c.turn_all.new.before).items;
+})
 stays c =
     let node = c.args.self.now in
     let valid : IsValid node = valid-seen c.self.inside node c.self.view_is c.self.invariant in
@@ -71,8 +90,10 @@ invariant_of-self-else-not-is_last c = stays (goal.at.invariant_of-self-else-not
 
 pub returns-then-not-is_last-clause-node : goal.returns-then-not-is_last-clause-node
 returns-then-not-is_last-clause-node c =
-    tells-on c.args.self.now _ c.args.reduction _ _ (worked (goal.at.returns-then-not-is_last-clause-node c).After-turn_all) c.tell_colours.new.out (sym c.if-not-is_last.ensures) c.tell_colours.ensures
+    tells-on c.args.self.now _ c.args.reduction _ _ (worked (goal.at.returns-then-not-is_last-clause-node c).After-turn_all) c.tell_colours.new.out
+    (sym c.if-not-is_last.ensures) c.tell_colours.ensures
 
 pub returns-else-not-is_last-clause-node : goal.returns-else-not-is_last-clause-node
 returns-else-not-is_last-clause-node c =
-    tells-nothing c.args.self.now _ c.args.reduction _ _ (worked (goal.at.returns-else-not-is_last-clause-node c).After-turn_all) c.args.out.now (sym c.if-not-is_last.ensures) c.requires.out
+    tells-nothing c.args.self.now _ c.args.reduction _ _ (worked (goal.at.returns-else-not-is_last-clause-node c).After-turn_all) c.args.out.now
+    (sym c.if-not-is_last.ensures) c.requires.out
