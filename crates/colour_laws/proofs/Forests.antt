@@ -6,6 +6,7 @@ use Rattle.std.proofs.lemmas.Bool.Decides.{nat_tests}
 use Rattle.std.proofs.lemmas.Bool.{cases_eq}
 use Rattle.std.proofs.lemmas.List.Elements.{Contains-get_or}
 use Rattle.interference.specs.Net.{Net, IsNetwork, IsVertex, id_of, neighbours, degree_of, neighbour_of, place_of}
+use Rattle.interference.proofs.Members.{filter-map}
 use Rattle.interference.proofs.Neighbours.{
   both-ways,
   neighbour-is_vertex,
@@ -39,15 +40,6 @@ place-map key w (x ∷ xs) apart =
     let test : (key w == key x) ≡ (w == x) = same_test key w x (apart x (0, omega arith, refl)) in
     let rest : place_of (key w) (map key xs) ≡ place_of w xs = place-map key w xs (λ y c. apart y (suc c.0, omega (arith, c.1), c.2)) in
     rw (test, rest) refl
-
-filter-step : (b : Bool) (key : ℕ → ℕ) (w : ℕ) (xs : List ℕ) (ws : List ℕ) → xs ≡ map key ws →
-    (if b then key w ∷ xs else xs) ≡ map key (if b then w ∷ ws else ws)
-filter-step true key w xs ws e = ap (λ rest. key w ∷ rest) e
-filter-step false key w xs ws e = e
-
-filter-map : (test : ℕ → Bool) (key : ℕ → ℕ) (ws : List ℕ) → filter test (map key ws) ≡ map key (filter (λ w. test (key w)) ws)
-filter-map test key [] = refl
-filter-map test key (w ∷ ws) = filter-step (test (key w)) key w (filter test (map key ws)) (filter (λ w. test (key w)) ws) (filter-map test key ws)
 
 up-if : (b : Bool) (x y : ℕ) → (if b then Up x else Unknown) ≡ (if b then Up (if b then x else y) else Unknown)
 up-if true x y = refl

@@ -5,6 +5,7 @@ use Rattle.std.specs.List.{range_with_len, fold}
 use Rattle.std.proofs.lemmas.Bool.Decides.{nat_tests}
 use Rattle.std.proofs.lemmas.List.{get_or-map}
 use Rattle.interference.specs.Net.{Net, IsNetwork, IsVertex, degree_of, neighbours, neighbour_of, place_of, port_to}
+use Rattle.interference.proofs.Members.{place_of-is}
 use Rattle.node_api.specs.Boxes.{at_port}
 use Rattle.std.specs.List.{list_any}
 use Rattle.node_api.specs.Run.{inbox_from}
@@ -16,22 +17,6 @@ map-members f g (w ∷ ws) same =
     let rest : map f ws ≡ map g ws = map-members f g ws (λ k h. same (suc k) (omega arith)) in
     cc
 
-place-case : (b : Bool) (v w p d : ℕ) (ws : List ℕ) → (b ≡ true → w ≡ v) → (p < length ws → get_or ws p d ≡ v) → (if b then 0 else p + 1) < suc (length ws) →
-    get_or (w ∷ ws) (if b then 0 else p + 1) d ≡ v
-place-case true v w p d ws met rest h = met refl
-place-case false v w p d ws met rest h = let e : p + 1 ≡ suc p = omega arith in rw e (rest (omega arith))
-
-same_if : (v w : ℕ) → (v == w) ≡ true → w ≡ v
-same_if v w h = grind (arith, nat_tests)
-
-pub place_is : (v : ℕ) (ws : List ℕ) (d : ℕ) → place_of v ws < length ws → get_or ws (place_of v ws) d ≡ v
-place_is v [] d h = absurd (omega arith)
-place_is v (w ∷ ws) d h = place-case (v == w) v w (place_of v ws) d ws (same_if v w) (place_is v ws d) h
-
-pub map-map : {X Y : Type 0} (f : X → Y) (g : ℕ → X) (ws : List ℕ) → map f (map g ws) ≡ map (λ w. f (g w)) ws
-map-map f g [] = refl
-map-map f g (w ∷ ws) = ap (λ rest. f (g w) ∷ rest) (map-map f g ws)
-
 -- What stands in an inbox where each node's outbox is by its neighbours.
 module _ {S M : Type 0} (net : Net) (ok : IsNetwork net) (nodes : ℕ → S × List (Option M)) (sent : ℕ → ℕ → Option M) (out : (w : ℕ) → IsVertex net w →
     (nodes w).1 ≡ map (sent w) (neighbours net w)) where
@@ -41,7 +26,7 @@ module _ {S M : Type 0} (net : Net) (ok : IsNetwork net) (nodes : ℕ → S × L
       let w : ℕ = neighbour_of net v k in
       let place : port_to net w v < length (neighbours net w) = ok.symmetric v k is_vertex below in
       ap (λ slots. at_port slots (port_to net w v)) (out w (ok.vertices v k is_vertex below))
-      ∙ (get_or-map (sent w) (neighbours net w) (port_to net w v) 0 None place ∙ ap (sent w) (place_is v (neighbours net w) 0 place))
+      ∙ (get_or-map (sent w) (neighbours net w) (port_to net w v) 0 None place ∙ ap (sent w) (place_of-is v (neighbours net w) 0 place))
 
   pub inbox_is : (v : ℕ) → IsVertex net v → inbox_from net nodes v ≡ map (λ w. sent w v) (neighbours net v)
   inbox_is v is_vertex = map-members (λ w. at_port (nodes w).1 (port_to net w v)) (λ w. sent w v) (neighbours net v) (λ k below. slot_is v k is_vertex below)

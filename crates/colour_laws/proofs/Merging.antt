@@ -27,7 +27,7 @@ use Rattle.colour_laws.specs.Colours.{colours_after}
 use Rattle.colour_laws.proofs.Expected.{stages, step_in, is_heard, heard, merged_by, state_before_choice, state_after_choice, chose, among, IsForest}
 use Rattle.forests.specs.Forests.{role_of}
 use Rattle.forests.specs.Forests.{parent}
-use Rattle.colour_laws.proofs.Lists.{map-map}
+use Rattle.std.proofs.lemmas.Simd.{map-map}
 use Rattle.colour_laws.proofs.Sound.{stages_are_three}
 use Rattle.colour_laws.proofs.Ports.{in_forest, accepted}
 use Rattle.std.proofs.lemmas.Bool.{lt-ltb, le-ltb}

@@ -21,7 +21,7 @@ use Rattle.colour_rules.specs.declared.phase.TheConstants.{FIRST_MERGE}
 use Rattle.colour_rules.specs.declared.phase.Phase.{Phase}
 use Rattle.colour_rules.specs.declared.phase.Phase.TheVariants.{Work}
 use Rattle.colour_laws.proofs.Expected.{by_forest}
-use Rattle.colour_laws.proofs.Lists.{map-map}
+use Rattle.std.proofs.lemmas.Simd.{map-map}
 
 pub ports_none : (node : Node) (phase : Phase) (role : ℕ → Role) (slot : ℕ → Option Payload) (ws : List ℕ) →
     ((k : ℕ) → k < length ws → (earlier : List ℕ) → port_rule node earlier phase (role (get_or ws k 0)) (slot (get_or ws k 0)) ≡ None) →

@@ -19,7 +19,7 @@ use Rattle.colour_laws.specs.Colours.{merging, colours_after, colours}
 use Rattle.colour_laws.proofs.Expected.{IsForest}
 use Rattle.forests.specs.Forests.{role_of}
 use Rattle.forests.specs.Forests.{parent}
-use Rattle.colour_laws.proofs.Lists.{place_is}
+use Rattle.interference.proofs.Members.{place_of-is}
 use Rattle.colour_laws.proofs.Forests.{has_forest}
 
 module _ (net : Net) (ok : IsNetwork net) where
@@ -42,7 +42,7 @@ module _ (net : Net) (ok : IsNetwork net) where
       (
         port_to net (neighbour_of net v near.0) v,
         ok.symmetric v near.0 is_vertex near.1,
-        place_is v (neighbours net (neighbour_of net v near.0)) v (ok.symmetric v near.0 is_vertex near.1),
+        place_of-is v (neighbours net (neighbour_of net v near.0)) v (ok.symmetric v near.0 is_vertex near.1),
       ),
     );
     same_number = λ v w is_vertex near. subst (λ (u : ℕ). number net v u ≡ number net u v) (at_port_of v w near)
@@ -57,7 +57,7 @@ module _ (net : Net) (ok : IsNetwork net) where
       (subst (λ (i : ℕ). parent net i v ≡ Some (neighbour_of net v k)) (sym (number_up net v (neighbour_of net v k) g e) ∙ n) (forest.up v k g is_vertex h e).0)
   three_apart f v k is_vertex h (Down g) e n =
       let w : ℕ = neighbour_of net v k in
-      let back : neighbour_of net w (port_to net w v) ≡ v = place_is v (neighbours net w) 0 (ok.symmetric v k is_vertex h) in
+      let back : neighbour_of net w (port_to net w v) ≡ v = place_of-is v (neighbours net w) 0 (ok.symmetric v k is_vertex h) in
       let role : role_of net w (neighbour_of net w (port_to net w v)) ≡ Up g = ap (role_of net w) back ∙ (forest.down v k g is_vertex h e).0 in
       let above : parent net g w ≡ Some v = (forest.up w (port_to net w v) g (ok.vertices v k is_vertex h) (ok.symmetric v k is_vertex h) role).0 ∙
       ap (λ (u : ℕ). Some u) back in

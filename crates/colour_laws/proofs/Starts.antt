@@ -15,10 +15,12 @@ use Rattle.colour_rules.specs.Node.{Node, made, last}
 use Rattle.colour_rules.specs.Refusals.{ports_refusal, port_rule, own_rule, ids_in}
 use Rattle.colour_rules.specs.Program.{colouring, next, oriented_slot, tells_label, labelled, all_labelled, tells_colour, with_orient}
 use Rattle.colour_rules.specs.declared.phase.Phase.TheVariants.{Orient, Seed}
+use Rattle.colour_rules.proofs.Greets.{same-for_all}
 use Rattle.colour_laws.specs.Colours.{colours}
 use Rattle.colour_laws.proofs.Expected.{stages, by_forest, state_while_reducing, tells, IsForest, IsOriented, Fresh}
 use Rattle.forests.specs.Forests.{role_of}
-use Rattle.colour_laws.proofs.Lists.{map-map, map-members}
+use Rattle.colour_laws.proofs.Lists.{map-members}
+use Rattle.std.proofs.lemmas.Simd.{map-map}
 use Rattle.std.proofs.lemmas.Bool.{lt-ltb, le-ltb}
 use Rattle.forests.specs.Forests.{role_by, number, up}
 use Rattle.colour_laws.proofs.Forests.{role_by-is}
@@ -37,10 +39,6 @@ oriented_node net v = record (greeted net v) { roles = map (orient net v) (neigh
 
 abbrev pub hello : Net → ℕ → ℕ → Option Payload
 hello net v w = Some (Hello (id_of net v))
-
-pub same-all : {X : Type 0} (x : X) (ws : List ℕ) → replicate (length ws) x ≡ map (λ w. x) ws
-same-all x [] = refl
-same-all x (w ∷ ws) = ap (λ rest. x ∷ rest) (same-all x ws)
 
 ids_of-map : (id : ℕ → ℕ) (ws : List ℕ) → ids_in (map (λ w. Some (Hello (id w))) ws) ≡ map id ws
 ids_of-map id [] = refl
@@ -66,7 +64,7 @@ module _ (net : Net) (ok : IsNetwork net) (forest : IsForest net) (start : IsOri
   greets v is_vertex = node_at-none colouring net v ∙ ap (λ (out : List (Option Payload)). (greeted net v, out)) (hello-all v)
     where
       hello-all : (v : ℕ) → map (λ (role : Role). Some (Hello (id_of net v))) (replicate (degree_of net v) Unknown) ≡ map (hello net v) (neighbours net v)
-      hello-all v = ap (map (λ (role : Role). Some (Hello (id_of net v)))) (same-all Unknown (neighbours net v)) ∙
+      hello-all v = ap (map (λ (role : Role). Some (Hello (id_of net v)))) (same-for_all Unknown (neighbours net v)) ∙
           map-map (λ (role : Role). Some (Hello (id_of net v))) (λ w. Unknown) (neighbours net v)
 
   oriented-map : (v : ℕ) → IsVertex net v → map (oriented_slot (id_of net v) (map (id_of net) (neighbours net v)))
@@ -89,7 +87,7 @@ module _ (net : Net) (ok : IsNetwork net) (forest : IsForest net) (start : IsOri
   orient_next v is_vertex =
       let inbox : List (Option Payload) = map (λ w. hello net w v) (neighbours net v) in
       let ports : ports_refusal (greeted net v) Orient 0 [] (replicate (degree_of net v) Unknown) inbox ≡ None =
-      ap (λ (roles : List Role). ports_refusal (greeted net v) Orient 0 [] roles inbox) (same-all Unknown (neighbours net v))
+      ap (λ (roles : List Role). ports_refusal (greeted net v) Orient 0 [] roles inbox) (same-for_all Unknown (neighbours net v))
       ∙ hellos_fine (greeted net v) (id_of net) (neighbours net v) (λ k h. start.not_own v k is_vertex h) [] (start.fresh v is_vertex) 0 in
       accepted (greeted net v) 1 Orient inbox refl ports (own_orient v is_vertex)
       ∙ ap (λ (roles : List Role). Ok (with_orient (greeted net v) inbox roles)) (ap (λ (ids : List ℕ). map (oriented_slot (id_of net v) ids) inbox)

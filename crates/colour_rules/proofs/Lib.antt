@@ -1,7 +1,7 @@
 mod Accepted
 mod Bounds
 pub mod Choosing
-mod Greets
+pub mod Greets
 mod Hearing
 mod Hellos
 pub mod KeptPorts
