@@ -42,7 +42,7 @@ use Rattle.net_core.specs.declared.event.Event.TheVariants.{Pulse, Put, Take}
 use Rattle.net_core.specs.declared.refused.StepRefused.{StepRefused}
 use Rattle.net_core.specs.State.{Link, State, sent_of, node_of, link_at, link_to, set_node, set_link, set_link_to}
 use Rattle.net_core.specs.Step.{is_vertex, has_port, else_old, after_put, after_take, step}
-use Rattle.net_core.proofs.Links.{link_same, link_other, link_field, rows_kept, row_kept}
+use Rattle.net_core.proofs.LinkTable.{link_same, link_other, link_field, rows_kept, row_kept}
 use Rattle.net_core.proofs.NetKept.{NetKept, all_kept, node_changes, vertex_from, port_from}
 
 abbrev pub Good : {S M E : Type 0} → Program S M E → Net → Result (State S M) StepRefused → Type 0

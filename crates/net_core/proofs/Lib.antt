@@ -1,8 +1,10 @@
 pub mod Parts
-pub mod Links
+pub mod LinkTable
 pub mod NetKept
 pub mod KeptSteps
 pub mod KeptRuns
 pub mod Reached
 pub mod Stepping
 pub mod Exactly
+pub mod Held
+pub mod Started

@@ -1,12 +1,14 @@
 -- The states that some list of events reaches: the start, and what a step leads to.
-use Rattle.std.proofs.Common.{◌≡◌, ℕ, suc, ◌+◌, List, [], ◌∷◌, ◌++◌, length, Result, Ok, Err, refl, ap, ◌∙◌, arith}
+use Rattle.std.proofs.Common.{◌≡◌, ℕ, suc, ◌+◌, ◌<◌, List, [], ◌∷◌, ◌++◌, take, drop, length, get_or, Result, Ok, Err, refl, ap, ◌∙◌, arith}
 use Rattle.interference.specs.Net.{Net}
 use Rattle.node_api.specs.Program.{Program}
 use Rattle.net_core.specs.declared.event.Event.{Event}
 use Rattle.net_core.specs.declared.refused.StepRefused.{StepRefused}
 use Rattle.net_core.specs.declared.refused.RunRefused.{RunRefused}
 use Rattle.net_core.specs.State.{State, start}
-use Rattle.net_core.specs.Step.{step, go_on, run_from}
+use Rattle.net_core.specs.Step.{step, go_on, run_from, run}
+use Rattle.net_core.specs.Refusals.{at_index}
+use Rattle.net_core.proofs.Parts.{take-split}
 use Rattle.net_core.specs.Simulation.{IsReached}
 
 abbrev and_then : {A B : Type 0} → Result A RunRefused → (A → Result B RunRefused) → Result B RunRefused
@@ -19,16 +21,15 @@ go_on-then k (Ok x) f g h same = same x
 go_on-then k (Err refused) f g h same = refl
 
 module _ {S M E : Type 0} (program : Program S M E) (net : Net) where
-  -- one event more
-  pub run-more : (k : ℕ) (events : List Event) (event : Event) (state : State S M)
-      → run_from program net k (events ++ (event ∷ [])) state ≡ and_then (run_from program net k events state)
-      (λ s. go_on (k + length events) (step program net s event) (λ next. Ok next))
-  run-more k [] event state = ap (λ n. go_on n (step program net state event) (λ next. Ok next)) (let e : k ≡ k + 0 = omega arith in e)
-  run-more k (first ∷ events) event state =
-      let e : suc k + length events ≡ k + suc (length events) = omega arith in
-      go_on-then k (step program net state first) _ _ _ (λ s. run-more (suc k) events event s)
-      ∙ ap (λ n. and_then (go_on k (step program net state first) (λ next. run_from program net (suc k) events next))
-      (λ s. go_on n (step program net s event) (λ next. Ok next))) e
+  -- a list, and then another
+  pub run-append : (k : ℕ) (before after : List Event) (state : State S M)
+      → run_from program net k (before ++ after) state
+      ≡ and_then (run_from program net k before state) (λ s. run_from program net (k + length before) after s)
+  run-append k [] after state = ap (λ n. run_from program net n after state) (let e : k ≡ k + 0 = omega arith in e)
+  run-append k (first ∷ before) after state =
+      let e : suc k + length before ≡ k + suc (length before) = omega arith in
+      go_on-then k (step program net state first) _ _ _ (λ s. run-append (suc k) before after s)
+      ∙ ap (λ n. and_then (go_on k (step program net state first) (λ next. run_from program net (suc k) before next)) (λ s. run_from program net n after s)) e
 
   pub reached_start : IsReached program net (start program net)
   reached_start = ([], refl)
@@ -37,7 +38,30 @@ module _ {S M E : Type 0} (program : Program S M E) (net : Net) where
       IsReached program net next
   reached_step state next event (events, is) e = (
     events ++ (event ∷ []),
-    run-more 0 events event (start program net) ∙
-        ap (λ r. and_then r (λ s. go_on (0 + length events) (step program net s event) (λ next. Ok next))) is ∙
-        ap (λ r. go_on (0 + length events) r (λ next. Ok next)) e,
+    run-append 0 events (event ∷ []) (start program net)
+        ∙ ap (λ r. and_then r (λ s. run_from program net (0 + length events) (event ∷ []) s)) is
+        ∙ ap (λ r. go_on (0 + length events) r (λ next. Ok next)) e,
   )
+
+  -- the event at an index of a list, and what the list comes to by it
+  module _ (events : List Event) (i : ℕ) (event : Event) (lt : i < length events) (event_is : event ≡ get_or events i event)
+      (state : State S M) (before : run program net (take i events) ≡ Ok state) where
+    pub run_next : (next : State S M) → step program net state event ≡ Ok next → run program net (take (i + 1) events) ≡ Ok next
+    run_next next made =
+        let parts = take-split events i event lt event_is in
+        let one : i + 1 ≡ suc i = omega arith in
+        ap (λ n. run program net (take n events)) one ∙ ap (λ l. run program net l) parts.0
+        ∙ run-append 0 (take i events) (event ∷ []) (start program net)
+        ∙ ap (λ r. and_then r (λ s. run_from program net (0 + length (take i events)) (event ∷ []) s)) before
+        ∙ ap (λ r. go_on (0 + length (take i events)) r (λ next. Ok next)) made
+
+    pub run_stops : (refused : StepRefused) → step program net state event ≡ Err refused → run program net events ≡ Err (at_index i refused)
+    run_stops refused made =
+        let parts = take-split events i event lt event_is in
+        let after = drop (suc i) events in
+        let place : 0 + length (take i events) ≡ i = omega (arith, parts.2) in
+        ap (λ l. run program net l) parts.1
+        ∙ run-append 0 (take i events) (event ∷ after) (start program net)
+        ∙ ap (λ r. and_then r (λ s. run_from program net (0 + length (take i events)) (event ∷ after) s)) before
+        ∙ ap (λ r. go_on (0 + length (take i events)) r (λ next. run_from program net (suc (0 + length (take i events))) after next)) made
+        ∙ ap (λ n. Err (at_index n refused)) place

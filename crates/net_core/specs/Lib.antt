@@ -1,6 +1,7 @@
 pub mod State
 pub mod Refusals
 pub mod Step
+pub mod Outcome
 pub mod Events
 pub mod Simulation
 pub mod Laws

@@ -1,10 +1,11 @@
 -- What holds of every state that a list of events reaches.
-use Rattle.std.specs.Prelude.{◌≡◌, List, Ok}
+use Rattle.std.specs.Prelude.{◌≡◌, List, All, Ok}
 use Rattle.interference.specs.Net.{Net}
-use Rattle.node_api.specs.Program.{Program}
+use Rattle.node_api.specs.Program.{Program, last_pulse_on}
+use Rattle.alpha_core.specs.View.{Alpha}
 use Rattle.alpha_laws.specs.Simulates.{Simulates}
 use Rattle.net_core.specs.declared.event.Event.{Event}
-use Rattle.net_core.specs.State.{State, node_of, link_at, link_to, sent_of}
+use Rattle.net_core.specs.State.{Link, State, node_of, link_at, link_to, sent_of, state_in}
 use Rattle.net_core.specs.Step.{run}
 
 -- the nodes of a state, with the lists put on their links and taken from them, simulate the synchronous run
@@ -16,3 +17,8 @@ IsSimulation program net state =
 -- a state that some list of events reaches
 abbrev pub IsReached : {S M E : Type 0} → Program S M E → Net → State S M → Type 0
 IsReached program net state = (events : List Event) × (run program net events ≡ Ok state)
+
+-- what a `NetState` keeps: some list of events reaches its state, and each of its nodes knows the last pulse
+abbrev pub IsNetState : {S M E : Type 0} → Program S M E → Net → List (Alpha S M) → List (List (Link M)) → Type 0
+IsNetState {S} {M} program net nodes links =
+    IsReached program net (state_in nodes links) × All (λ (n : Alpha S M). n.last ≡ last_pulse_on program net) nodes

@@ -1,9 +1,24 @@
 -- The state of a network of nodes: each node, and of each direction of a link what was put on it and what was taken.
-use Rattle.std.specs.Prelude.{ℕ, ◌-◌, List, [], ◌++◌, map, take, drop, replicate, slice_index_or, slice_set}
+use Rattle.std.specs.Prelude.{
+  ℕ,
+  ◌-◌,
+  ◌<◌,
+  ◌≤◌,
+  List,
+  [],
+  ◌++◌,
+  length,
+  map,
+  take,
+  drop,
+  replicate,
+  slice_index_or,
+  slice_set,
+}
 use Rattle.interference.specs.Net.{Net, vertices, degree_of, neighbour_of, back_port_of}
-use Rattle.node_api.specs.Program.{Program}
+use Rattle.node_api.specs.Program.{Program, last_pulse_on}
 use Rattle.alpha_core.specs.declared.wire.Wire.{Wire}
-use Rattle.alpha_core.specs.View.{Node}
+use Rattle.alpha_core.specs.View.{Node, Alpha}
 use Rattle.alpha_core.specs.Program.{start_node}
 
 -- One direction of a link: the wires that were taken, and those that were put and not taken, oldest first.
@@ -35,6 +50,10 @@ node_of program net state v = slice_index_or state.nodes (v - 1) (start_node pro
 abbrev pub link_at : {M : Type 0} → List (List (Link M)) → ℕ → ℕ → Link M
 link_at links v i = slice_index_or (slice_index_or links (v - 1) []) i no_link
 
+-- there is a link out of v by port i
+abbrev pub HasLink : {M : Type 0} → List (List (Link M)) → ℕ → ℕ → Type 0
+HasLink links v i = (1 ≤ v) × (v - 1 < length links) × (i < length (slice_index_or links (v - 1) []))
+
 -- the link that comes to v by port i
 abbrev pub link_to : {M : Type 0} → Net → List (List (Link M)) → ℕ → ℕ → Link M
 link_to net links v i = link_at links (neighbour_of net v i) (back_port_of net v i)
@@ -54,6 +73,15 @@ start program net = record {
   nodes = map (λ v. start_node program net v) (vertices net);
   links = map (λ v. replicate (degree_of net v) no_link) (vertices net);
 }
+
+-- the same nodes, each with the last pulse, at some vertices
+abbrev pub started_nodes : {S M E : Type 0} → Program S M E → Net → List ℕ → List (Alpha S M)
+started_nodes program net vs = map (λ v. record { last = last_pulse_on program net; node = start_node program net v })
+    vs
+
+-- the state of nodes that each know the last pulse
+abbrev pub state_in : {S M : Type 0} → List (Alpha S M) → List (List (Link M)) → State S M
+state_in nodes links = record { nodes = map (λ n. n.node) nodes; links = links }
 
 -- What contracts see of a `NetState`: its network, and the state.
 pub record NetView (S M : Type 0) : Type 0 where

@@ -1,6 +1,6 @@
 -- One event, and a list of events, as functions of the state. `Events` says the same in relations.
-use Rattle.std.specs.Prelude.{ℕ, suc, Bool, ◌&&◌, nat_lt, nat_le, if◌then◌else◌}
-use Rattle.std.specs.Prelude.{List, [], ◌∷◌, ◌++◌, Result, Ok, Err}
+use Rattle.std.specs.Prelude.{◌≡◌, ◌≢◌, ℕ, suc, Bool, ◌&&◌, nat_lt, nat_le, if◌then◌else◌}
+use Rattle.std.specs.Prelude.{List, [], ◌∷◌, ◌++◌, Result, Ok, Err, MatchResult}
 use Rattle.interference.specs.Net.{Net, count_of, degree_of}
 use Rattle.node_api.specs.Program.{Program, last_pulse_on}
 use Rattle.alpha_core.specs.declared.wire.Wire.{Wire}
@@ -9,10 +9,10 @@ use Rattle.alpha_core.specs.Alpha.{pulse, reaction, put_done}
 use Rattle.net_core.specs.declared.event.Event.{Event}
 use Rattle.net_core.specs.declared.event.Event.TheVariants.{Pulse, Put, Take}
 use Rattle.net_core.specs.declared.refused.StepRefused.{StepRefused}
-use Rattle.net_core.specs.declared.refused.StepRefused.TheVariants.{NotReady, NothingToPut, LinkEmpty, NoSuch}
+use Rattle.net_core.specs.declared.refused.StepRefused.TheVariants.{NotReady, NothingToPut, LinkEmpty, NoSuch, Memory}
 use Rattle.net_core.specs.declared.refused.RunRefused.{RunRefused}
 use Rattle.net_core.specs.Refusals.{at_index}
-use Rattle.net_core.specs.State.{State, start, node_of, link_at, link_to, set_node, set_link, set_link_to}
+use Rattle.net_core.specs.State.{State, NetView, start, node_of, link_at, link_to, set_node, set_link, set_link_to}
 
 abbrev pub is_vertex : Net → ℕ → Bool
 is_vertex net v = nat_le 1 v && nat_le v (count_of net)
@@ -93,3 +93,11 @@ run_from program net k (event ∷ events) state =
 -- A list of events from the start: the state that it reaches, or the refusal of the first event that isn't possible.
 abbrev pub run : {S M E : Type 0} → Program S M E → Net → List Event → Result (State S M) RunRefused
 run program net events = run_from program net 0 events (start program net)
+
+-- A call of `step` does what the function says: it leads to its state, or is refused as it says. Of memory the function
+-- says nothing.
+abbrev pub StepMatches : {A S M E : Type 0} → Program S M E → NetView S M → Event → Result A StepRefused →
+    NetView S M → Type 0
+StepMatches program old event result new = MatchResult result
+    (λ _. step program old.net old.state event ≡ Ok new.state)
+    (λ refused. refused ≢ Memory → step program old.net old.state event ≡ Err refused)

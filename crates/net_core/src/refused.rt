@@ -57,7 +57,7 @@ impl From<Memory> for RunRefused {
 impl StepRefused {
     /// The refusal of a run whose event of this index is refused so.
     pub fn at(self, index: usize) -> RunRefused
-        ensures { result ≡ at_index index self }
+        ensures index { result ≡ at_index index self }
     {
         match self {
             StepRefused::NotReady => RunRefused::NotReady(index),

@@ -1,8 +1,10 @@
 -- The table of links after one of them has changed.
-use Rattle.std.proofs.Common.{◌≡◌, ℕ, ◌-◌, ◌<◌, ◌≤◌, List, [], length, get_or, set, sym, ap, ◌∙◌, arith, ⊎_elim}
+use Rattle.std.proofs.Common.{◌≡◌, ℕ, ◌-◌, ◌<◌, ◌≤◌, List, [], map, length, get_or, set, sym, ap, ◌∙◌, arith, ⊎_elim}
 use Rattle.std.proofs.lemmas.Bool.{cases_eq}
 use Rattle.std.proofs.lemmas.List.{get_or-set_same, get_or-set_other, length-set}
-use Rattle.net_core.specs.State.{Link, no_link, link_at, set_link}
+use Rattle.std.proofs.lemmas.List.{get_or_default, get_or-map, length-map, map-set}
+use Rattle.net_core.specs.State.{Link, HasLink, no_link, link_at, set_link}
+use Rattle.net_core.proofs.Parts.{set-same}
 
 module _ {M : Type 0} (links : List (List (Link M))) (v i : ℕ) (link : Link M) (low : 1 ≤ v) (in_rows : v - 1 < length links)
     (in_row : i < length (get_or links (v - 1) [])) where
@@ -45,3 +47,25 @@ module _ {M : Type 0} (links : List (List (Link M))) (v i : ℕ) (link : Link M)
       ∙ length-set (get_or links (v - 1) []) i link ∙ ap (λ k. length (get_or links k [])) (sym at))
       (λ ne. ap length (get_or-set_other links (v - 1) a (set (get_or links (v - 1) []) i link) [] ne))
       (cases_eq a (v - 1))
+
+-- a link that is written where it stands leaves the table
+pub link_kept : {M : Type 0} (links : List (List (Link M))) (v i : ℕ) → HasLink links v i → set_link links v i (link_at links v i) ≡ links
+link_kept links v i has =
+    let row = get_or links (v - 1) [] in
+    ap (λ r. set links (v - 1) r) (set-same row i (get_or row i no_link) has.2 (get_or_default row i no_link (get_or row i no_link) has.2))
+    ∙ set-same links (v - 1) row has.1 (get_or_default links (v - 1) [] row has.1)
+
+-- A table is kept as a list of rows, each with its links in it. One link of one row, and what it becomes:
+module _ {R M : Type 0} (f : R → List (Link M)) (rows : List R) (v i : ℕ) (row : R) (link : Link M) (has : HasLink (map f rows) v i)
+    (row_is : row ≡ get_or rows (v - 1) row) (link_is : link ≡ get_or (f row) i link) where
+  row_in : f row ≡ get_or (map f rows) (v - 1) []
+  row_in = ap f row_is ∙ sym (get_or-map f rows (v - 1) row [] (omega (arith, has.1, length-map rows f)))
+
+  pub link_found : link ≡ link_at (map f rows) v i
+  link_found =
+      let lt : i < length (f row) = omega (arith, has.2, ap length row_in) in
+      link_is ∙ get_or_default (f row) i link no_link lt ∙ ap (λ l. get_or l i no_link) row_in
+
+  pub link_written : (row' : R) (link' : Link M) → f row' ≡ set (f row) i link' → map f (set rows (v - 1) row') ≡ set_link (map f rows) v i link'
+  link_written row' link' is =
+      map-set f rows (v - 1) row' ∙ ap (λ l. set (map f rows) (v - 1) l) (is ∙ ap (λ l. set l i link') row_in)

@@ -1,0 +1,13 @@
+use Rattle.std.proofs.Common.{subst}
+use Rattle.net_core.specs.Simulation.{IsSimulation}
+use Rattle.net_core.proofs.Held.{simulation}
+use Rattle.net_core.proofs.state.NetState.is_simulation.Goals as goal
+
+pub returns : goal.returns
+returns g c =
+    let m = g.P.NodeProgram in
+    let a = c.self.inside in
+    record {
+      simulates = subst (λ s. IsSimulation m.program s.net s.state) c.self.view_is
+          (simulation m.program m.laws a.net c.is_network.ensures a.nodes.items a.links c.self.invariant);
+    }

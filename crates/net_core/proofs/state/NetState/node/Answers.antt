@@ -1,0 +1,22 @@
+use Rattle.std.proofs.Common.{sym, ap, ◌∙◌, arith, subst}
+use Rattle.interference.specs.Net.{IsVertex}
+use Rattle.net_core.specs.State.{node_of}
+use Rattle.net_core.proofs.Held.{in_nodes, node_is}
+use Rattle.net_core.proofs.state.NetState.node.Goals as goal
+
+pub index-requires : goal.index-requires
+index-requires g c =
+    let m = g.P.NodeProgram in
+    let a = c.self.inside in
+    let vertex : IsVertex a.net c.args.v = subst (λ s. IsVertex s.net c.args.v) (sym c.self.view_is) c.requires.vertex in
+    omega (arith, a.nodes.ok.0, in_nodes m.program m.laws a.net c.is_network.ensures a.nodes.items a.links c.self.invariant c.args.v vertex)
+
+pub returns : goal.returns
+returns g c =
+    let m = g.P.NodeProgram in
+    let a = c.self.inside in
+    let vertex : IsVertex a.net c.args.v = subst (λ s. IsVertex s.net c.args.v) (sym c.self.view_is) c.requires.vertex in
+    record {
+      node = node_is m.program m.laws a.net c.is_network.ensures a.nodes.items a.links c.self.invariant c.args.v vertex c.index.result.now c.index.ensures
+          ∙ ap (λ s. node_of m.program s.net s.state c.args.v) c.self.view_is;
+    }

@@ -1,0 +1,113 @@
+use Rattle.std.proofs.Common.{refl, sym, ap, ◌∙◌, arith}
+use Rattle.alpha_core.specs.View.{port_at}
+use Rattle.net_core.specs.declared.event.Event.TheVariants.{Put}
+use Rattle.std.proofs.lemmas.Result.{err_from_is_err_and}
+use Rattle.net_core.specs.State.{state_in}
+use Rattle.net_core.specs.Step.{has_port, step}
+use Rattle.net_core.proofs.Parts.{first-some, first-none, on_err}
+use Rattle.net_core.proofs.NetKept.{port_from}
+use Rattle.net_core.proofs.Held.{in_nodes, has_link, in_ports, unchanged, kept_same, put_nothing, put_made}
+use Rattle.net_core.proofs.state.NetState.put.Goals as goal
+
+pub index_mut-node-requires : goal.index_mut-node-requires
+index_mut-node-requires g c =
+    let m = g.P.NodeProgram in
+    let a = c.self.inside in
+    let ok = c.is_network.ensures in
+    let there = port_from a.net c.args.v c.args.port
+    (ap (λ s. has_port s.net c.args.v c.args.port) c.self.view_is ∙ sym c.has_port.ensures.port ∙ c.if-not-has_port.false) in
+    omega (arith, a.nodes.ok.0, in_nodes m.program m.laws a.net ok a.nodes.items a.links c.self.invariant c.args.v there.0)
+
+pub front-requires-clause-port : goal.front-requires-clause-port
+front-requires-clause-port g c κs within =
+    let m = g.P.NodeProgram in
+    let a = c.self.inside in
+    let ok = c.is_network.ensures in
+    let there = port_from a.net c.args.v c.args.port
+    (ap (λ s. has_port s.net c.args.v c.args.port) c.self.view_is ∙ sym c.has_port.ensures.port ∙ c.if-not-has_port.false) in
+    in_ports m.program m.laws a.net ok a.nodes.items a.links c.self.invariant c.args.v there.0 c.index_mut-node.result.now c.index_mut-node.ensures.value
+    c.args.port there.1
+
+pub put-requires : goal.put-requires
+put-requires g c =
+    let m = g.P.NodeProgram in
+    let a = c.self.inside in
+    let ok = c.is_network.ensures in
+    let there = port_from a.net c.args.v c.args.port
+    (ap (λ s. has_port s.net c.args.v c.args.port) c.self.view_is ∙ sym c.has_port.ensures.port ∙ c.if-not-has_port.false) in
+    record { link = has_link m.program m.laws a.net ok a.nodes.items a.links c.self.invariant c.args.v c.args.port there.0 there.1 }
+
+pub returns-in-None-clause-step : goal.returns-in-None-clause-step
+returns-in-None-clause-step g c =
+    let m = g.P.NodeProgram in
+    let a = c.self.inside in
+    let ok = c.is_network.ensures in
+    let there = port_from a.net c.args.v c.args.port
+    (ap (λ s. has_port s.net c.args.v c.args.port) c.self.view_is ∙ sym c.has_port.ensures.port ∙ c.if-not-has_port.false) in
+    λ _. ap (λ s. step m.program s.net s.state (Put c.args.v c.args.port)) (sym c.self.view_is)
+    ∙ put_nothing m.program m.laws a.net ok a.nodes.items a.links c.self.invariant c.args.v there.0 c.index_mut-node.result.now c.index_mut-node.ensures.value
+    c.args.port there.1
+    (first-none _ (sym c.front.ensures.oldest ∙ c.in-None.is))
+
+pub invariant_of-self : goal.invariant_of-self
+invariant_of-self g c =
+    let m = g.P.NodeProgram in
+    let a = c.self.inside in
+    let ok = c.is_network.ensures in
+    let there = port_from a.net c.args.v c.args.port
+    (ap (λ s. has_port s.net c.args.v c.args.port) c.self.view_is ∙ sym c.has_port.ensures.port ∙ c.if-not-has_port.false) in
+    kept_same m.program m.laws a.net ok a.nodes.items a.links c.self.invariant c.args.v there.0 c.index_mut-node.result.now c.index_mut-node.ensures.value
+    c.index_mut-node.result.now refl a.links refl
+
+pub invariant_of-self-in_err-put : goal.invariant_of-self-in_err-put
+invariant_of-self-in_err-put g c =
+    let m = g.P.NodeProgram in
+    let a = c.self.inside in
+    let ok = c.is_network.ensures in
+    let there = port_from a.net c.args.v c.args.port
+    (ap (λ s. has_port s.net c.args.v c.args.port) c.self.view_is ∙ sym c.has_port.ensures.port ∙ c.if-not-has_port.false) in
+    kept_same m.program m.laws a.net ok a.nodes.items a.links c.self.invariant c.args.v there.0 c.index_mut-node.result.now c.index_mut-node.ensures.value
+    c.index_mut-node.result.now refl c.put.new.self c.in_err-put.ensures.refused
+
+pub returns-in_err-put-clause-step : goal.returns-in_err-put-clause-step
+returns-in_err-put-clause-step g c =
+    let p = err_from_is_err_and c.from_residual.result c.from_residual.ensures.1 in
+    rw (p.1, p.2) (λ never. absurd (never refl))
+
+pub returns-in_err-put-clause-refused : goal.returns-in_err-put-clause-refused
+returns-in_err-put-clause-refused g c =
+    let m = g.P.NodeProgram in
+    let a = c.self.inside in
+    let ok = c.is_network.ensures in
+    let there = port_from a.net c.args.v c.args.port
+    (ap (λ s. has_port s.net c.args.v c.args.port) c.self.view_is ∙ sym c.has_port.ensures.port ∙ c.if-not-has_port.false) in
+    on_err c.from_residual.result
+    (ap (λ ns. record { net = a.net; state = state_in ns c.put.new.self }) (unchanged m.program m.laws a.net ok a.nodes.items a.links c.self.invariant
+    c.args.v there.0 c.index_mut-node.result.now c.index_mut-node.ensures.value)
+    ∙ ap (λ l. record { net = a.net; state = state_in a.nodes.items l }) c.in_err-put.ensures.refused ∙ c.self.view_is)
+
+pub invariant_of-self-2 : goal.invariant_of-self-2
+invariant_of-self-2 g c =
+    let m = g.P.NodeProgram in
+    let a = c.self.inside in
+    let ok = c.is_network.ensures in
+    let there = port_from a.net c.args.v c.args.port
+    (ap (λ s. has_port s.net c.args.v c.args.port) c.self.view_is ∙ sym c.has_port.ensures.port ∙ c.if-not-has_port.false) in
+    let first = first-some (port_at c.index_mut-node.result.now.node.view c.args.port).out _ (sym c.front.ensures.oldest ∙ c.in-Some.is) in
+    let made = put_made m.program m.laws a.net ok a.nodes.items a.links c.self.invariant c.args.v there.0 c.index_mut-node.result.now
+    c.index_mut-node.ensures.value c.args.port there.1 _ first.0 first.1
+    c.put_done.new.self c.put_done.ensures.view c.put_done.ensures.state c.put_done.ensures.last c.put.new.self c.in_ok-put.ensures.put in
+    made.1
+
+pub returns-clause-step : goal.returns-clause-step
+returns-clause-step g c =
+    let m = g.P.NodeProgram in
+    let a = c.self.inside in
+    let ok = c.is_network.ensures in
+    let there = port_from a.net c.args.v c.args.port
+    (ap (λ s. has_port s.net c.args.v c.args.port) c.self.view_is ∙ sym c.has_port.ensures.port ∙ c.if-not-has_port.false) in
+    let first = first-some (port_at c.index_mut-node.result.now.node.view c.args.port).out _ (sym c.front.ensures.oldest ∙ c.in-Some.is) in
+    let made = put_made m.program m.laws a.net ok a.nodes.items a.links c.self.invariant c.args.v there.0 c.index_mut-node.result.now
+    c.index_mut-node.ensures.value c.args.port there.1 _ first.0 first.1
+    c.put_done.new.self c.put_done.ensures.view c.put_done.ensures.state c.put_done.ensures.last c.put.new.self c.in_ok-put.ensures.put in
+    ap (λ s. step m.program s.net s.state (Put c.args.v c.args.port)) (sym c.self.view_is) ∙ made.0

@@ -1,0 +1,16 @@
+-- What a call of `run` returns.
+use Rattle.std.specs.Prelude.{◌≡◌, ◌≢◌, List, Result, Ok, Err, MatchResult}
+use Rattle.interference.specs.Net.{Net}
+use Rattle.node_api.specs.Program.{Program}
+use Rattle.net_core.specs.declared.event.Event.{Event}
+use Rattle.net_core.specs.declared.refused.RunRefused.{RunRefused}
+use Rattle.net_core.specs.declared.refused.RunRefused.TheVariants.{Memory}
+use Rattle.net_core.specs.State.{NetView}
+use Rattle.net_core.specs.Step.{run}
+
+-- A call of `run` does what the function says: it returns its state, or refuses as it says. Of memory the function says
+-- nothing.
+abbrev pub RunMatches : {S M E : Type 0} → Program S M E → Net → List Event → Result (NetView S M) RunRefused → Type 0
+RunMatches program net events result = MatchResult result
+    (λ view. (view.net ≡ net) × (run program net events ≡ Ok view.state))
+    (λ refused. refused ≢ Memory → run program net events ≡ Err refused)
