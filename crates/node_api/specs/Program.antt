@@ -20,7 +20,8 @@ pub record Own : Type 0 where
 abbrev pub own_of : Net → ℕ → Own
 own_of net v = record { id = id_of net v; degree = degree_of net v; sizes = sizes_of net }
 
--- A program with states S, payloads M and refusals E. Nothing is asked of `next` at a pulse above the last one.
+-- A program with states S, payloads M and refusals E. At a pulse above the last one `next` keeps the ports, and no law
+-- says more of it.
 pub record Program (S M E : Type 0) : Type 0 where
   -- the last pulse: it depends on n, Δ and U alone
   pub last : Sizes → ℕ

@@ -23,8 +23,8 @@ pub struct Refused {
 /// A program that every node of a network runs, pulse by pulse.
 ///
 /// At pulse 0 `init` is called. At each later pulse, up to the last, `pre_step`, `handle_messages` and
-/// `post_step` are called in this order with the pulse's number, also if the inbox is empty; no contract can say
-/// that an engine calls `pre_step` and `post_step`, and a test shows it of `run_rounds`. Vertices
+/// `post_step` are called in this order with the pulse's number, also if the inbox is empty. No contract
+/// can say that an engine calls `pre_step` and `post_step`; a test shows it of `run_rounds`. Vertices
 /// count from 1, ports and pulses from 0. The names of the calls are those of the simulator Sinalgo (ETH
 /// Zurich).
 pub trait NodeProgram: Sized + Drop + Send {
