@@ -1,6 +1,6 @@
 -- How many rows a vertex has, and the channel that they give it.
-use Rattle.std.proofs.Common.{◌≡◌, ◌<◌, ◌≤◌, ◌+◌, ◌++◌, ◌∷◌, [], ◌⊎◌, inl, inr, ◌==◌, ◌∙◌, ℕ, zero, suc, Bool, true, false, Option, Some, None, List, arith, ap, ap₂, cond, count_by, get_or, is_some, length, refl, subst, sym}
-use Rattle.std.proofs.lemmas.Bool.{eqb-true, eqb-false}
+use Rattle.std.proofs.Common.{◌≡◌, ◌≤◌, ◌+◌, ◌++◌, ◌∷◌, [], ◌⊎◌, inl, inr, ◌==◌, ◌∙◌, ℕ, zero, suc, Bool, true, false, Some, None, List, arith, ap, ap₂, cond, count_by, is_some, refl}
+use Rattle.std.proofs.lemmas.Bool.{eqb-true}
 use Rattle.std.proofs.lemmas.List.Elements.{Contains-append_right}
 use Rattle.std.proofs.lemmas.List.Recursion.{is_count_by}
 use Rattle.std.specs.List.{Contains}

@@ -6,3 +6,7 @@ pub mod Counts
 pub mod Proper
 pub mod Same
 pub mod Readings
+pub mod Parts
+pub mod Splitting
+pub mod Blank
+pub mod Written

@@ -1,10 +1,9 @@
 -- A plan without a fault is proper, and a proper plan has no fault.
 -- Without a fault each row is good after those before it, so a vertex has at most one row; none is missing,
 -- so it has one; and no two neighbours have one channel in the table, which is the channel of their rows.
-use Rattle.std.proofs.Common.{◌≡◌, ◌<◌, ◌≤◌, ◌+◌, ◌-◌, ◌++◌, ◌∷◌, [], ◌⊎◌, inl, inr, ◌==◌, ◌&&◌, ◌∙◌, ℕ, Bool, true, false, Option, Some, None, List, All, arith, ap, append_assoc, cond, get_or, if◌then◌else◌, is_none, is_some, length, nat_lt, not, refl, subst, sym}
-use Rattle.std.proofs.lemmas.Bool.{cases_order, eqb-true, eqb-false, lt-ltb, ltb-false}
+use Rattle.std.proofs.Common.{◌≡◌, ◌<◌, ◌≤◌, ◌+◌, ◌-◌, ◌++◌, ◌∷◌, [], inl, inr, ◌==◌, ◌&&◌, ◌∙◌, ℕ, Bool, true, false, Option, Some, None, List, All, arith, ap, append_assoc, cond, get_or, if◌then◌else◌, is_none, is_some, nat_lt, not, refl, subst, sym}
+use Rattle.std.proofs.lemmas.Bool.{cases_order, eqb-true, lt-ltb, ltb-false}
 use Rattle.std.proofs.lemmas.Bool.Decides.{nat_tests}
-use Rattle.std.proofs.lemmas.List.{append-nil}
 use Rattle.std.proofs.lemmas.List.Elements.{All-contains, All-from_recursion, Contains-append_right, Contains-get_or, recursion_from_All}
 use Rattle.std.proofs.lemmas.List.FromFn.{get_or-range_with_len, length-range_with_len}
 use Rattle.std.specs.List.{AllByRecursion, Contains, find}

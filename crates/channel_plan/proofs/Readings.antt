@@ -39,10 +39,10 @@ unfolding known_after
 header-right known next line words word k e h n = rw (k, e, h, n) refl
 
 -- ---- all lines
-abbrev then_read : ℕ → List Line → Option (Option (List Row)) → Result (List Row) ℕ
+abbrev pub then_read : ℕ → List Line → Option (Option (List Row)) → Result (List Row) ℕ
 then_read n lines known = elim known [ None ↦ Err n | Some next ↦ read_from (n + 1) next lines ]
 
-read-one : (n : ℕ) (known : Option (List Row)) (line : Line) (lines : List Line) → read_from n known (line ∷ lines) ≡ then_read n lines (known_after known line)
+pub read-one : (n : ℕ) (known : Option (List Row)) (line : Line) (lines : List Line) → read_from n known (line ∷ lines) ≡ then_read n lines (known_after known line)
 unfolding read_from
 read-one n known line lines = refl
 

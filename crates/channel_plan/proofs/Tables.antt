@@ -1,6 +1,6 @@
 -- The table of the rows so far, and what is wrong with the next row.
-use Rattle.std.proofs.Common.{◌≡◌, ◌≢◌, ◌<◌, ◌≤◌, ◌+◌, ◌-◌, ◌++◌, ◌∷◌, [], ◌⊎◌, inl, inr, ◌==◌, ◌∙◌, ℕ, Bool, true, false, Option, Some, None, List, arith, ap, cond, get_or, if◌then◌else◌, is_some, length, nat_lt, refl, set, sym, replicate, take, drop}
-use Rattle.std.proofs.lemmas.Bool.{le-ltb, lt-ltb, ne_eqb, eqb-true, eqb-false}
+use Rattle.std.proofs.Common.{◌≡◌, ◌≢◌, ◌<◌, ◌≤◌, ◌+◌, ◌-◌, ◌++◌, ◌∷◌, [], ◌⊎◌, ◌==◌, ◌∙◌, ℕ, Bool, true, false, Option, Some, None, List, arith, ap, get_or, if◌then◌else◌, is_some, length, refl, set, sym, replicate, take, drop}
+use Rattle.std.proofs.lemmas.Bool.{le-ltb, lt-ltb, eqb-true, eqb-false}
 use Rattle.std.proofs.lemmas.Bool.Decides.{nat_tests}
 use Rattle.std.proofs.lemmas.List.{at_drop_all, at_drop_more, get_or-replicate, get_or-set_other, get_or-set_same, length-replicate, length-set, take_more}
 use Rattle.std.specs.Option.{option_or}

@@ -1,11 +1,11 @@
 -- What is right and what is wrong with the rows of a plan, for a network.
-use Rattle.std.specs.Prelude.{◌≡◌, ◌≤◌, ◌+◌, ◌-◌, ℕ, Bool, true, false, Option, Some, None, List, [], ◌∷◌, ◌++◌, ◌==◌, ◌&&◌, if◌then◌else◌, Contains, All, count_by, fold, is_none, is_some, length, map, max, nat_lt, not, option_map, slice_index_or}
+use Rattle.std.specs.Prelude.{◌≡◌, ◌≤◌, ◌+◌, ◌-◌, ℕ, Bool, false, Option, Some, None, List, [], ◌∷◌, ◌++◌, ◌==◌, ◌&&◌, if◌then◌else◌, Contains, count_by, fold, is_none, is_some, length, map, max, nat_lt, not, option_map, slice_index_or}
 use Rattle.std.specs.List.{find}
 use Rattle.std.specs.Option.{option_or}
 use Rattle.interference.specs.Net.{Net, IsEdge, IsVertex, count_of, greatest_degree_of, neighbours, vertices}
 use Rattle.channel_plan.specs.Reading.{Row}
 use Rattle.channel_plan.specs.declared.plan.CheckFault.{CheckFault}
-use Rattle.channel_plan.specs.declared.plan.CheckFault.TheVariants.{Missing, Stranger, Twice, Clash, TooHigh, Syntax, Memory}
+use Rattle.channel_plan.specs.declared.plan.CheckFault.TheVariants.{Missing, Stranger, Twice, Clash, TooHigh, Memory}
 
 -- the greatest channel of some rows, 0 for none
 abbrev pub greatest_channel : List Row → ℕ

@@ -1,9 +1,8 @@
 -- What a reader of a plan text knows, and what it refuses.
-use Rattle.std.specs.Prelude.{◌≡◌, ℕ, Option, Err, List, option_map}
-use Rattle.dimacs_col.specs.Lines.{Line}
-use Rattle.channel_plan.specs.Reading.{Row, reading_of}
+use Rattle.std.specs.Prelude.{◌≡◌, ℕ, Option, List, option_map}
+use Rattle.channel_plan.specs.Reading.{Row}
 use Rattle.channel_plan.specs.declared.plan.CheckFault.{CheckFault}
-use Rattle.channel_plan.specs.declared.plan.CheckFault.TheVariants.{Missing, Stranger, Twice, Clash, TooHigh, Syntax, Memory}
+use Rattle.channel_plan.specs.declared.plan.CheckFault.TheVariants.{Syntax, Memory}
 use Rattle.channel_plan.specs.declared.reading.Reader.{Reader}
 
 -- the rows so far, once the line `plan` came

@@ -1,12 +1,16 @@
-//! Channel plans as text: `plan`, and then a line for each vertex with its channel.
+//! Channel plans as text: written, read, and checked for a network.
 //!
-//! `byte_functions` writes with it the plans that the program's commands make.
+//! A plan text is `plan`, and then a line for each vertex with its channel. `byte_functions` writes the plans
+//! of its commands by `plan_text`, and checks the plans of anybody by `split_plan`, `read_plan` and `check`.
 //!
 //! ```
-//! plan_text(alloc, &[1, 2, 0])?;          // "plan", "1 2", "2 3", "3 1", a line each
+//! let text = plan_text(alloc, &[1, 2, 0])?;          // "plan", "1 2", "2 3", "3 1", a line each
+//! let plan = read_plan(alloc, text.as_slice())?;     // rows (1, 2), (2, 3), (3, 1)
+//! let greatest = check(alloc, &triangle, &plan)?;    // 3
 //! ```
 //!
-//! A channel is a colour plus one. Colours are below 2^16, as nodes have at most 1,023 neighbours.
+//! A channel is a colour plus one. Vertices and channels that are read are below 2^32; a check takes time
+//! in proportion to rows and edges.
 #![tactic(auto)]
 
 mod checking;
@@ -14,9 +18,11 @@ mod fields;
 pub mod laws;
 mod plan;
 mod reading;
+mod split;
 mod writing;
 
 pub use checking::check;
 pub use plan::{CheckFault, Plan};
 pub use reading::read_plan;
+pub use split::split_plan;
 pub use writing::plan_text;

@@ -10,7 +10,7 @@ use Rattle.dimacs_col.specs.Bag.{SameMembers}
 use Rattle.dimacs_col.proofs.Members.{count-same, count-ascending}
 
 -- ---- a line in a list that has one more at its end
-last-or-before : (xs : List Line) (x : Line) (b : List Line) (l : Line) (a : List Line) → xs ++ x ∷ [] ≡ b ++ l ∷ a → ((xs ≡ b) × (x ≡ l)) ⊎ ((m : List Line) × (xs ≡ b ++ l ∷ m))
+pub last-or-before : (xs : List Line) (x : Line) (b : List Line) (l : Line) (a : List Line) → xs ++ x ∷ [] ≡ b ++ l ∷ a → ((xs ≡ b) × (x ≡ l)) ⊎ ((m : List Line) × (xs ≡ b ++ l ∷ m))
 last-or-before [] x [] l a e = inl (refl, cc)
 last-or-before [] x (y ∷ ys) l a e = let t : [] ≡ ys ++ l ∷ a = cc in absurd (no-empty ys l a t)
   where

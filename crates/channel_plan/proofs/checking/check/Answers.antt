@@ -1,6 +1,6 @@
 use Rattle.std.proofs.Common.{◌≡◌, ◌∙◌, [], Some, None, ap, subst, sym}
 use Rattle.std.proofs.lemmas.Result.{err_from_is_err_and}
-use Rattle.channel_plan.specs.Checked.{IsFaultOfRow, IsTable, channel_of, first_clash, first_missing, looked, rows_fault}
+use Rattle.channel_plan.specs.Checked.{IsFaultOfRow, IsTable, first_clash, first_missing, looked, rows_fault}
 use Rattle.channel_plan.proofs.Same.{fault-clash, fault-missing, fault-none, fault-row, same-clash, same-missing}
 use Rattle.channel_plan.proofs.checking.check.Goals as goal
 

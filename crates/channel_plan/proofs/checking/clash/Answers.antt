@@ -1,4 +1,4 @@
-use Rattle.std.proofs.Common.{◌≡◌, ◌+◌, ◌<◌, ◌≤◌, ◌∙◌, Some, None, ap, arith, drop, sym}
+use Rattle.std.proofs.Common.{◌+◌, ◌<◌, ◌≤◌, ◌∙◌, ap, arith, drop, sym}
 use Rattle.std.specs.Option.{option_or}
 use Rattle.interference.specs.Net.{count_of, vertices}
 use Rattle.channel_plan.specs.Checked.{clash_among, looked}

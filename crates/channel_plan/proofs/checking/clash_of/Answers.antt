@@ -1,5 +1,5 @@
 use Rattle.std.proofs.Common.{◌≡◌, ◌<◌, ap, arith, get_or, length}
-use Rattle.interference.specs.Net.{IsVertex, neighbours}
+use Rattle.interference.specs.Net.{neighbours}
 use Rattle.channel_plan.proofs.checking.clash_of.Goals as goal
 
 pub bounds-table-w : goal.bounds-table-w

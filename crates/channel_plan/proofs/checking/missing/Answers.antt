@@ -1,4 +1,4 @@
-use Rattle.std.proofs.Common.{◌≡◌, ◌+◌, ◌<◌, ◌≤◌, ◌∙◌, ap, arith, not, sub-one, sym, true, false}
+use Rattle.std.proofs.Common.{◌≡◌, ◌+◌, ◌<◌, ◌≤◌, ◌∙◌, ap, arith, not, sym, true, false}
 use Rattle.interference.specs.Net.{count_of}
 use Rattle.std.proofs.Common.{is_none}
 use Rattle.channel_plan.specs.Checked.{looked}

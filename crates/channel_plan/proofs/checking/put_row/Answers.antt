@@ -1,7 +1,7 @@
-use Rattle.std.proofs.Common.{◌≡◌, ◌<◌, ◌≤◌, ◌-◌, ◌∙◌, ap, arith, inl, inr, is_some, sym, true, false}
+use Rattle.std.proofs.Common.{◌≡◌, ◌∙◌, ap, arith, inl, inr, is_some, sym, true, false}
 use Rattle.interference.specs.Net.{IsVertex}
 use Rattle.interference.proofs.Neighbours.{greatest_degree-within}
-use Rattle.channel_plan.specs.Checked.{channel_of, looked, most_channel}
+use Rattle.channel_plan.specs.Checked.{channel_of, looked}
 use Rattle.channel_plan.proofs.Tables.{row-good, row-high, row-stranger, row-twice, table-put}
 use Rattle.channel_plan.proofs.checking.put_row.Goals as goal
 use Rattle.channel_plan.proofs.checking.put_row.Goals.{then-v-eq0-via-then-v-eq0, then-v-eq0-via-else-v-eq0+then-v-nodes}

@@ -1,4 +1,4 @@
-use Rattle.std.proofs.Common.{◌≡◌, ◌+◌, ◌∙◌, [], None, drop, get_or, refl, subst, sym, take}
+use Rattle.std.proofs.Common.{◌+◌, ◌∙◌, [], None, drop, get_or, refl, subst, sym, take}
 use Rattle.std.proofs.lemmas.List.{get_or_default, take_more}
 use Rattle.std.proofs.lemmas.Result.{err_from_is_err_and}
 use Rattle.channel_plan.specs.Checked.{IsFaultOfRow, IsTable, row_fault, rows_fault}

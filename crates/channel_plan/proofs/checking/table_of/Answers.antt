@@ -1,4 +1,4 @@
-use Rattle.std.proofs.Common.{◌≡◌, ◌∙◌, None, ap, replicate, rules}
+use Rattle.std.proofs.Common.{◌∙◌, None, ap, replicate, rules}
 use Rattle.channel_plan.proofs.Tables.{table-none}
 use Rattle.channel_plan.proofs.checking.table_of.Goals as goal
 

@@ -1,6 +1,5 @@
-use Rattle.std.proofs.Common.{◌≡◌, ◌<◌, ◌^◌, ◌+◌, ◌*◌, ◌∙◌, ◌-◌, get_or, refl, sym, ap, arith, take, length, true, false}
+use Rattle.std.proofs.Common.{◌+◌, ◌∙◌, ◌-◌, get_or, refl, sym, arith, length, true, false}
 use Rattle.std.proofs.lemmas.Bool.{eqb-true, eqb-false}
-use Rattle.std.specs.Str.Parse.{digits_value}
 use Rattle.dimacs_col.proofs.Numbers.{digits-front}
 use Rattle.channel_plan.proofs.Numbers.{digits-more, great-front, small-empty, small-end, small-other}
 use Rattle.channel_plan.proofs.fields.number.Goals as goal

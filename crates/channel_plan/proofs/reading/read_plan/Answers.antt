@@ -1,13 +1,13 @@
-use Rattle.std.proofs.Common.{◌==◌, ◌≡◌, ◌+◌, ◌++◌, ◌∷◌, [], ◌∙◌, Err, IfOk, None, Ok, Some, List, ap, drop, length, map, rules, suc, subst, sym, tests}
+use Rattle.std.proofs.Common.{◌==◌, ◌≡◌, ◌+◌, ◌++◌, ◌∷◌, ◌∙◌, Err, IfOk, None, Ok, Some, ap, drop, length, map, rules, suc, subst, sym, tests}
 use Rattle.std.specs.List.{slice_split}
 use Rattle.std.specs.Slice.Iter.{split_callee, split_done, split_rest}
 use Rattle.std.proofs.lemmas.Iterator.Splits.{YieldsList-from_slice_split}
 use Rattle.std.proofs.lemmas.List.{length_push, map_push}
 use Rattle.std.proofs.lemmas.Result.{err_from_is_err_and}
-use Rattle.dimacs_col.specs.Lines.{Line, fields_of, line_of, lines_of}
+use Rattle.dimacs_col.specs.Lines.{fields_of, line_of, lines_of}
 use Rattle.dimacs_col.proofs.Whole.{items-at_end, items-at_turn, lines-at_turn, map-twice}
-use Rattle.channel_plan.specs.Reader.{IsSyntaxFault, known}
-use Rattle.channel_plan.specs.Reading.{IsFaultOfReading, known_after, read_at_end, read_from}
+use Rattle.channel_plan.specs.Reader.{known}
+use Rattle.channel_plan.specs.Reading.{known_after, read_at_end, read_from}
 use Rattle.channel_plan.proofs.Readings.{fault-end, fault-line, read-end, read-more, read-wrong}
 use Rattle.channel_plan.proofs.reading.read_plan.Goals as goal
 

@@ -1,4 +1,4 @@
-use Rattle.std.proofs.Common.{◌≡◌, ◌∷◌, ◌∙◌, ap, refl, sym}
+use Rattle.std.proofs.Common.{◌∙◌, ap, refl, sym}
 use Rattle.std.specs.Option.{option_map}
 use Rattle.channel_plan.proofs.Readings.{header-right, header-wrong, known-blank, line-cons, line-none, row-right, row-wrong}
 use Rattle.channel_plan.specs.Reader.{known}

@@ -1,0 +1,57 @@
+-- An empty line behind the lines of a network text says nothing.
+use Rattle.std.proofs.Common.{◌≡◌, ◌↔◌, ◌++◌, ◌∷◌, [], ◌⊎◌, inl, inr, ◌∙◌, ℕ, Option, Some, None, List, append_assoc, ap, refl, subst, sym}
+use Rattle.std.specs.List.{Contains}
+use Rattle.dimacs_col.specs.Lines.{Line}
+use Rattle.dimacs_col.specs.Reading.{AllGood, IsFault, IsFirstFault, IsGraph, edges_of, nodes_of, verdict}
+use Rattle.dimacs_col.specs.declared.fault.ColFault.{ColFault}
+use Rattle.dimacs_col.specs.declared.fault.ColFault.TheVariants.{NoProblem, SecondProblem, EdgeBeforeProblem, BadField, VertexRange, SelfLoop, TooLarge, UnknownLine, Memory}
+use Rattle.dimacs_col.proofs.Lists.{edges_of-same, last-or-before, nodes_of-same}
+use Rattle.dimacs_col.proofs.Verdicts.{verdict-skipped}
+use Rattle.channel_plan.specs.Split.{AreNetworkLines, network_lines}
+
+no-nodes : nodes_of ([] ∷ []) ≡ None
+unfolding nodes_of
+no-nodes = refl
+
+no-edges : edges_of ([] ∷ []) ≡ []
+unfolding edges_of
+no-edges = refl
+
+good-front : (lines : List Line) → AllGood (lines ++ [] ∷ []) → AllGood lines
+good-front lines good before line after e = good before line (after ++ [] ∷ []) (ap (λ ls. ls ++ [] ∷ []) e ∙ append_assoc before (line ∷ after) ([] ∷ []))
+
+pub graph-front : (lines : List Line) (nodes : ℕ) (edges : List (ℕ × ℕ)) → IsGraph (lines ++ [] ∷ []) nodes edges → IsGraph lines nodes edges
+graph-front lines nodes edges is = record {
+  good = good-front lines is.good;
+  nodes_are = sym (nodes_of-same lines [] no-nodes) ∙ is.nodes_are;
+  ascending = is.ascending;
+  edges_are = λ pair. subst (λ es. Contains edges pair ↔ Contains es pair) (edges_of-same lines [] no-edges) (is.edges_are pair);
+}
+
+first-front : (lines : List Line) (fault : ColFault) → IsFirstFault (lines ++ [] ∷ []) fault → IsFirstFault lines fault
+first-front lines fault is = elim (last-or-before lines [] is.before is.line is.after is.place) [
+  | inl p ↦
+      let skipped : verdict is.before is.line ≡ None = ap (verdict is.before) (sym p.1) ∙ verdict-skipped is.before [] refl in
+      let wrong : Some fault ≡ None = sym is.told ∙ skipped in absurd cc
+  | inr m ↦ record { before = is.before; line = is.line; after = m.0; place = m.1; good = is.good; told = is.told }
+]
+
+pub fault-front : (lines : List Line) (fault : ColFault) → IsFault (lines ++ [] ∷ []) fault → IsFault lines fault
+fault-front lines Memory is = tt
+fault-front lines NoProblem is = (good-front lines is.0, sym (nodes_of-same lines [] no-nodes) ∙ is.1)
+fault-front lines (SecondProblem n) is = first-front lines (SecondProblem n) is
+fault-front lines (EdgeBeforeProblem n) is = first-front lines (EdgeBeforeProblem n) is
+fault-front lines (BadField n) is = first-front lines (BadField n) is
+fault-front lines (VertexRange n) is = first-front lines (VertexRange n) is
+fault-front lines (SelfLoop n) is = first-front lines (SelfLoop n) is
+fault-front lines (TooLarge n) is = first-front lines (TooLarge n) is
+fault-front lines (UnknownLine n) is = first-front lines (UnknownLine n) is
+
+-- the same of the lines of a network text
+pub graph-of : (lines network : List Line) (nodes : ℕ) (edges : List (ℕ × ℕ)) → AreNetworkLines lines network → IsGraph network nodes edges → IsGraph (network_lines lines) nodes edges
+graph-of lines network nodes edges (inl same) is = subst (λ ls. IsGraph ls nodes edges) same is
+graph-of lines network nodes edges (inr more) is = graph-front (network_lines lines) nodes edges (subst (λ ls. IsGraph ls nodes edges) more is)
+
+pub fault-of : (lines network : List Line) (fault : ColFault) → AreNetworkLines lines network → IsFault network fault → IsFault (network_lines lines) fault
+fault-of lines network fault (inl same) is = subst (λ ls. IsFault ls fault) same is
+fault-of lines network fault (inr more) is = fault-front (network_lines lines) fault (subst (λ ls. IsFault ls fault) more is)

@@ -1,0 +1,17 @@
+use Rattle.std.proofs.Common.{◌≡◌, ◌∙◌, ap, inl, inr, sym}
+use Rattle.dimacs_col.specs.Lines.{lines_of}
+use Rattle.channel_plan.specs.Reading.{reading_of}
+use Rattle.channel_plan.proofs.Splitting.{last-line, read-empty}
+use Rattle.channel_plan.proofs.split.split_plan.Goals as goal
+
+pub returns-in-Some-clause-network : goal.returns-in-Some-clause-network
+returns-in-Some-clause-network c = inr (ap lines_of c.split_at.ensures.front ∙ c.in-Some.ensures.network)
+
+pub returns-in-Some-clause-plan : goal.returns-in-Some-clause-plan
+returns-in-Some-clause-plan c = ap reading_of (ap lines_of c.split_at.ensures.back ∙ c.in-Some.ensures.plan)
+
+pub returns-in-None-clause-network : goal.returns-in-None-clause-network
+returns-in-None-clause-network c = inl (sym c.in-None.ensures.none)
+
+pub returns-in-None-clause-plan : goal.returns-in-None-clause-plan
+returns-in-None-clause-plan c = ap reading_of last-line ∙ read-empty ∙ ap reading_of (sym c.in-None.ensures.no_plan)
