@@ -1,2 +1,6 @@
 mod Ends
 pub mod Numbering
+pub mod Following
+pub mod ProperPlans
+pub mod Agreed
+pub mod Judging

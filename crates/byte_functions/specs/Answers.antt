@@ -1,7 +1,7 @@
 -- The answers to the bytes of a text.
 use Rattle.std.specs.Prelude.{◌≡◌, ℕ, List}
 use Rattle.std.specs.List.{range_with_len}
-use Rattle.dimacs_col.specs.Lines.{lines_of}
+use Rattle.dimacs_col.specs.Lines.{Line, lines_of}
 use Rattle.dimacs_col.specs.Reading.{IsFault, IsGraph}
 use Rattle.interference.specs.Net.{Net, IsNetwork}
 use Rattle.interference.specs.Making.{IsFaultOf, network_of}
@@ -14,15 +14,20 @@ use Rattle.byte_functions.specs.declared.fault.PlanFault.TheVariants as plan
 abbrev pub network_with : ℕ → List (ℕ × ℕ) → Net
 network_with nodes edges = network_of (range_with_len 1 nodes) edges
 
--- the text is that of a graph, of whose network something holds
+-- the lines are those of a graph, of whose network something holds
+abbrev pub LinesReadAs : List Line → (Net → Type 0) → Type 0
+LinesReadAs lines holds = (nodes : ℕ) × (edges : List (ℕ × ℕ))
+    × IsGraph lines nodes edges × holds (network_with nodes edges)
+
+-- the same of the lines of a text
 abbrev pub ReadsAs : List ℕ → (Net → Type 0) → Type 0
-ReadsAs text holds = (nodes : ℕ) × (edges : List (ℕ × ℕ))
-    × IsGraph (lines_of text) nodes edges × holds (network_with nodes edges)
+ReadsAs text holds = LinesReadAs (lines_of text) holds
 
 -- the fault of a text: that of its reading, or that of the network which was read
 abbrev pub IsFaultOfText : List ℕ → PlanFault → Type 0
 IsFaultOfText text (plan.Col fault) = IsFault (lines_of text) fault
 IsFaultOfText text (plan.Net fault) = ReadsAs text (λ net. IsFaultOf net fault)
+IsFaultOfText text (plan.Check fault) = ⊥
 IsFaultOfText text plan.Memory = Unit {0}
 
 -- the answer is the forests text of the network that the input describes

@@ -3,12 +3,21 @@ use Rattle.std.specs.Prelude.{ℕ, List, [], ◌∷◌, ◌++◌, codes}
 use Rattle.std.specs.Fmt.{decimal}
 use Rattle.dimacs_col.specs.declared.fault.ColFault.TheVariants as col
 use Rattle.interference.specs.declared.fault.NetFault.TheVariants as net
+use Rattle.channel_plan.specs.declared.plan.CheckFault.TheVariants as check
 use Rattle.byte_functions.specs.declared.fault.PlanFault.{PlanFault}
-use Rattle.byte_functions.specs.declared.fault.PlanFault.TheVariants.{Col, Net, Memory}
+use Rattle.byte_functions.specs.declared.fault.PlanFault.TheVariants.{Check, Col, Net, Memory}
 
 -- a code, and the line of the input that has the fault
 abbrev pub at_line : List ℕ → ℕ → List ℕ
 at_line code number = code ++ (codes " line " ++ decimal number)
+
+-- a code, and the vertex that has the fault
+abbrev pub at_vertex : List ℕ → ℕ → List ℕ
+at_vertex code v = code ++ (codes " vertex " ++ decimal v)
+
+-- a code, and the two vertices that have the fault
+abbrev pub at_vertices : List ℕ → ℕ → ℕ → List ℕ
+at_vertices code v w = code ++ (codes " vertices " ++ (decimal v ++ (codes " " ++ decimal w)))
 
 -- the text of a fault, and the status of the program
 abbrev pub fault_text : PlanFault → List ℕ × ℕ
@@ -21,9 +30,16 @@ fault_text (Col (col.SelfLoop n)) = (at_line (codes "F6") n, 1)
 fault_text (Col (col.TooLarge n)) = (at_line (codes "F7") n, 1)
 fault_text (Col (col.UnknownLine n)) = (at_line (codes "F8") n, 1)
 fault_text (Col col.Memory) = (codes "memory", 4)
-fault_text (Net (net.Degree v)) = (codes "N1 vertex " ++ decimal v, 1)
-fault_text (Net (net.SameId v w)) = (codes "N2 vertices " ++ decimal v ++ codes " " ++ decimal w, 1)
+fault_text (Net (net.Degree v)) = (at_vertex (codes "N1") v, 1)
+fault_text (Net (net.SameId v w)) = (at_vertices (codes "N2") v w, 1)
 fault_text (Net net.Memory) = (codes "memory", 4)
+fault_text (Check (check.Missing v)) = (at_vertex (codes "C1") v, 1)
+fault_text (Check (check.Stranger v)) = (at_vertex (codes "C2") v, 1)
+fault_text (Check (check.Twice v)) = (at_vertex (codes "C3") v, 1)
+fault_text (Check (check.Clash v w)) = (at_vertices (codes "C4") v w, 1)
+fault_text (Check (check.TooHigh v)) = (at_vertex (codes "C5") v, 1)
+fault_text (Check (check.Syntax n)) = (at_line (codes "C6") n, 1)
+fault_text (Check check.Memory) = (codes "memory", 4)
 fault_text Memory = (codes "memory", 4)
 
 -- a line of the program's: its name, the text, and LF

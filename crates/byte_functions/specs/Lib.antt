@@ -2,3 +2,4 @@ pub mod Texts
 pub mod Plans
 pub mod Faults
 pub mod Answers
+pub mod Verdicts

@@ -41,7 +41,7 @@ fn network_of_graph(alloc: Global, graph: &ColFile) -> Result<Network, NetFault>
 }
 
 // The network that a text describes.
-fn network_of_text(alloc: Global, input: &[u8]) -> Result<Network, PlanFault>
+pub(crate) fn network_of_text(alloc: Global, input: &[u8]) -> Result<Network, PlanFault>
     ensures ok { IfOk result (λ net. ReadsAs input.now (λ read. IsNetwork read × (net ≡ read))) }
     ensures fault { IfErr result (IsFaultOfText input.now) }
 {

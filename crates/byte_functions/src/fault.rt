@@ -1,8 +1,9 @@
 //! Why a text has no answer.
 
 ghost use Rattle.std.specs.Prelude.{◌≡◌};
-ghost use Rattle.byte_functions.specs.declared.fault.PlanFault.TheVariants.{Col, Net, Memory};
+ghost use Rattle.byte_functions.specs.declared.fault.PlanFault.TheVariants.{Check, Col, Net, Memory};
 
+use channel_plan::CheckFault;
 use dimacs_col::ColFault;
 use interference::{Memory, NetFault};
 
@@ -13,6 +14,8 @@ pub enum PlanFault {
     Col(ColFault),
     /// Its graph is no network.
     Net(NetFault),
+    /// The plan that follows it is refused.
+    Check(CheckFault),
     /// Memory ran out.
     Memory,
 }
@@ -30,6 +33,14 @@ impl From<NetFault> for PlanFault {
 
     fn from(fault: NetFault) -> PlanFault {
         PlanFault::Net(fault)
+    }
+}
+
+impl From<CheckFault> for PlanFault {
+    ghost from_gives = { λ fault result. result ≡ Check fault };
+
+    fn from(fault: CheckFault) -> PlanFault {
+        PlanFault::Check(fault)
     }
 }
 

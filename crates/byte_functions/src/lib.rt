@@ -16,9 +16,12 @@
 mod answer;
 mod fault;
 mod forests_text;
+pub mod laws;
 mod plan_text;
 mod report;
+mod verdict;
 
 pub use answer::{forest_bytes, plain_bytes};
 pub use fault::PlanFault;
 pub use report::{FaultReport, fault_report};
+pub use verdict::check_bytes;

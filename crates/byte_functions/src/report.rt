@@ -1,10 +1,11 @@
 //! The line that reports a fault, and the status that goes with it.
 
 ghost use Rattle.std.specs.Prelude.{◌≡◌, IfOk, codes, string_bytes};
-ghost use Rattle.byte_functions.specs.Faults.{at_line, fault_line, fault_status, line_with};
-ghost use Rattle.byte_functions.specs.declared.fault.PlanFault.TheVariants.{Col, Net};
+ghost use Rattle.byte_functions.specs.Faults.{at_line, at_vertex, at_vertices, fault_line, fault_status, line_with};
+ghost use Rattle.byte_functions.specs.declared.fault.PlanFault.TheVariants.{Check, Col, Net};
 
 use crate::fault::PlanFault;
+use channel_plan::CheckFault;
 use dimacs_col::ColFault;
 use interference::NetFault;
 use std::alloc::{AllocError, Global};
@@ -42,6 +43,22 @@ fn refusal_at_line(alloc: Global, code: &str, number: usize) -> Result<FaultRepo
     Ok(refusal(format!(in alloc; "forestplan: {code} line {number}\n")?))
 }
 
+// `forestplan: CODE vertex V`.
+fn refusal_at_vertex(alloc: Global, code: &str, v: u32) -> Result<FaultReport, AllocError>
+    ensures line { IfOk result (λ report. string_bytes report.line ≡ line_with (at_vertex code.now v)) }
+    ensures status { IfOk result (λ report. report.status ≡ 1) }
+{
+    Ok(refusal(format!(in alloc; "forestplan: {code} vertex {v}\n")?))
+}
+
+// `forestplan: CODE vertices V W`.
+fn refusal_at_vertices(alloc: Global, code: &str, v: u32, w: u32) -> Result<FaultReport, AllocError>
+    ensures line { IfOk result (λ report. string_bytes report.line ≡ line_with (at_vertices code.now v w)) }
+    ensures status { IfOk result (λ report. report.status ≡ 1) }
+{
+    Ok(refusal(format!(in alloc; "forestplan: {code} vertices {v} {w}\n")?))
+}
+
 fn memory_report(alloc: Global) -> Result<FaultReport, AllocError>
     ensures line { IfOk result (λ report. string_bytes report.line ≡ line_with (codes "memory")) }
     ensures status { IfOk result (λ report. report.status ≡ 4) }
@@ -75,11 +92,24 @@ fn report_of_network(alloc: Global, fault: NetFault) -> Result<FaultReport, Allo
     ensures status { IfOk result (λ report. report.status ≡ fault_status (Net fault)) }
 {
     match fault {
-        NetFault::Degree(v) => Ok(refusal(format!(in alloc; "forestplan: N1 vertex {v}\n")?)),
-        NetFault::SameId(v, w) => Ok(refusal(format!(in alloc;
-            "forestplan: N2 vertices {v} {w}\n"
-        )?)),
+        NetFault::Degree(v) => refusal_at_vertex(alloc, "N1", v),
+        NetFault::SameId(v, w) => refusal_at_vertices(alloc, "N2", v, w),
         NetFault::Memory => memory_report(alloc),
+    }
+}
+
+fn report_of_check(alloc: Global, fault: CheckFault) -> Result<FaultReport, AllocError>
+    ensures line { IfOk result (λ report. string_bytes report.line ≡ fault_line (Check fault)) }
+    ensures status { IfOk result (λ report. report.status ≡ fault_status (Check fault)) }
+{
+    match fault {
+        CheckFault::Missing(v) => refusal_at_vertex(alloc, "C1", v),
+        CheckFault::Stranger(v) => refusal_at_vertex(alloc, "C2", v),
+        CheckFault::Twice(v) => refusal_at_vertex(alloc, "C3", v),
+        CheckFault::Clash(v, w) => refusal_at_vertices(alloc, "C4", v, w),
+        CheckFault::TooHigh(v) => refusal_at_vertex(alloc, "C5", v),
+        CheckFault::Syntax(n) => refusal_at_line(alloc, "C6", n),
+        CheckFault::Memory => memory_report(alloc),
     }
 }
 
@@ -94,6 +124,7 @@ pub fn fault_report(alloc: Global, fault: PlanFault) -> Result<FaultReport, Allo
     match fault {
         PlanFault::Col(fault) => report_of_reading(alloc, fault),
         PlanFault::Net(fault) => report_of_network(alloc, fault),
+        PlanFault::Check(fault) => report_of_check(alloc, fault),
         PlanFault::Memory => memory_report(alloc),
     }
 }

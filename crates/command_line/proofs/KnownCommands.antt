@@ -44,7 +44,7 @@ pub entered_known : (stop : Option (Text × List Text)) → is_some (entered (bu
     → is_some (choice_of (entered (built line) stop)) ≡ true
 entered_known None h = h
 entered_known (Some p) h = found (λ x. answers_to p.0 (label_of x)) p.1 (built line).subs
-    ((λ rows. refl), ((λ rows. refl), tt)) h
+    ((λ rows. refl), ((λ rows. refl), ((λ rows. refl), tt))) h
 
 out_of_memory_is_no_help : OutOfMemory ≢ DisplayHelp
 out_of_memory_is_no_help same = cc

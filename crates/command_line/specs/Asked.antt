@@ -9,13 +9,14 @@ use Rattle.command_line.specs.Line.{line}
 use Rattle.command_line.specs.declared.request.Declined.{Declined}
 use Rattle.command_line.specs.declared.request.Declined.TheVariants as declined
 use Rattle.command_line.specs.declared.request.Request.{Request}
-use Rattle.command_line.specs.declared.request.Request.TheVariants.{Forests, Plain}
+use Rattle.command_line.specs.declared.request.Request.TheVariants.{Check, Forests, Plain}
 
 -- what the command of a name asks for, given the values of its options; each command is a line
 abbrev pub named : Text → List Row → Option Request
 named name rows =
     if bytes_eq name (codes "forests") then Some Forests
     else if bytes_eq name (codes "plain") then Some Plain
+    else if bytes_eq name (codes "check") then Some Check
     else None
 
 -- what the command that was found asks for

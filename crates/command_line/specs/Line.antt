@@ -11,11 +11,15 @@ without_commands = record (new_app (codes "forestplan")) {
   };
 }
 
--- the commands, each a line; none has options
-abbrev pub with_commands : App → App
-with_commands program =
+-- the commands that make something of a network, each a line; none has options
+abbrev pub with_network_commands : App → App
+with_network_commands program =
     let with_forests : App = with_subcommand program (new_app (codes "forests")).top in
     with_subcommand with_forests (new_app (codes "plain")).top
+
+-- these, and the one that checks a plan
+abbrev pub with_commands : App → App
+with_commands program = with_subcommand (with_network_commands program) (new_app (codes "check")).top
 
 -- the whole command line
 abbrev pub line : App

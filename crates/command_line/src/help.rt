@@ -84,3 +84,36 @@ prints
   2 3
   3 1",
 };
+
+pub const CHECK: Help = Help {
+    about: "Checks a channel plan of a graph",
+    long_about: "Checks a channel plan of a graph.
+
+A plan is proper if every vertex has one line, no line has another vertex, no
+channel is above the greatest number of neighbours, plus one, and no two
+neighbours share a channel. It does not matter who made the plan.",
+    format: "Input: a graph in the DIMACS format, as `p edge NODES EDGES` and then `e V W`, and
+behind it a plan, a line each:
+  plan                 the first line
+  V CHANNEL            a vertex and its channel, from 1; in any order
+The plan begins at the first line whose first field is `plan`. So the graph has
+to end in a line feed if the plan comes from another program.
+
+Output: `proper G`, where G is the greatest channel, or 0 for no vertices.
+
+Faults of the plan, reported once the graph has none, each as
+`forestplan: C1 vertex 3`; the first that holds, in this order:
+  C6  line N           line N of the plan is neither `plan` nor two numbers
+  C2  vertex V         a line of vertex 0 or of one above NODES
+  C3  vertex V         a second line of a vertex
+  C5  vertex V         a channel above the greatest number of neighbours, plus 1
+  C1  vertex V         a vertex without a line
+  C4  vertices V W     two neighbours that share a channel
+C2, C3 and C5 are looked for line by line. C6 is at line 1 if there is no plan.
+If memory runs out (C7) it is reported as `forestplan: memory`.
+
+Example: a plan of the triangle
+  (cat net.col; forestplan plain < net.col) | forestplan check
+prints
+  proper 3",
+};

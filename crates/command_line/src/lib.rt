@@ -7,6 +7,7 @@
 //! match parse(alloc, &["forestplan", "plain"]) {
 //!     Ok(Request::Plain) => ..,
 //!     Ok(Request::Forests) => ..,
+//!     Ok(Request::Check) => ..,
 //!     Err(Declined::Help(text)) => ..,
 //!     Err(Declined::Refused(text)) => ..,
 //!     Err(Declined::Memory) => ..,

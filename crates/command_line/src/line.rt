@@ -3,7 +3,7 @@
 ghost use Rattle.std.specs.Prelude.{◌≡◌, IfOk, false};
 ghost use Rattle.clap.specs.Words.{app_of, new_app, with_subcommand};
 ghost use Rattle.clap.specs.declared.builder.command.Command.TheViews.{out-Command};
-ghost use Rattle.command_line.specs.Line.{line, with_commands, without_commands};
+ghost use Rattle.command_line.specs.Line.{line, with_commands, with_network_commands, without_commands};
 
 use crate::help;
 use crate::help::Help;
@@ -44,14 +44,25 @@ fn with_command<'a>(command: Command<'a>, sub: Command<'a>) -> Result<Command<'a
     command.subcommand(sub)
 }
 
-// The commands, at most three a helper: the proof search follows no longer chain.
+// The commands that make something of a network. At most three a helper: the proof search follows no longer
+// chain.
+fn with_network_commands<'a>(alloc: Global, program: Command<'a>) -> Result<Command<'a>, AllocError>
+    requires { (out-Command program).has_globals ≡ false }
+    ensures shape { IfOk result (λ c. app_of c ≡ with_network_commands (app_of program.entry)) }
+    ensures local { IfOk result (λ c. (out-Command c).has_globals ≡ false) }
+{
+    let program = with_command(program, command(alloc, "forests", help::FORESTS))?;
+    with_command(program, command(alloc, "plain", help::PLAIN))
+}
+
+// These, and the command that checks a plan.
 fn with_all_commands<'a>(alloc: Global, program: Command<'a>) -> Result<Command<'a>, AllocError>
     requires { (out-Command program).has_globals ≡ false }
     ensures shape { IfOk result (λ c. app_of c ≡ with_commands (app_of program.entry)) }
     ensures local { IfOk result (λ c. (out-Command c).has_globals ≡ false) }
 {
-    let program = with_command(program, command(alloc, "forests", help::FORESTS))?;
-    with_command(program, command(alloc, "plain", help::PLAIN))
+    let program = with_network_commands(alloc, program)?;
+    with_command(program, command(alloc, "check", help::CHECK))
 }
 
 /// The whole command line.

@@ -16,6 +16,8 @@ pub enum Request {
     Forests,
     /// A channel plan of a network, by rounds on one thread.
     Plain,
+    /// The verdict on a channel plan of a network.
+    Check,
 }
 
 /// Why words ask for no command, and what is said of them.
@@ -35,6 +37,7 @@ fn request_named(name: &str, _matches: &ArgMatches<'_>) -> Option<Request>
     match name {
         "forests" => Some(Request::Forests),
         "plain" => Some(Request::Plain),
+        "check" => Some(Request::Check),
         _ => None,
     }
 }

@@ -1,6 +1,7 @@
 -- What was written, and reported, is what is given of an answer, or what declines the words.
 use Rattle.std.proofs.Common.{◌≡◌, ◌⊎◌, ℕ, List, None, Ok, Err, inl, inr, subst, sym}
 use Rattle.command_line.specs.declared.request.Request.{Request}
+use Rattle.command_line.specs.declared.request.Request.TheVariants.{Check, Forests, Plain}
 use Rattle.serving.specs.Answers.{MayAnswer}
 use Rattle.byte_functions.specs.Faults.{fault_line, fault_status}
 use Rattle.command_line.specs.Asked.{request_of}
@@ -15,13 +16,18 @@ pub of-bytes : (output errors : Written) (request : Request) (input bytes text :
 of-bytes output errors request input bytes text status same may puts =
     (Ok bytes, may, subst (λ t. Puts output errors t status) same puts)
 
+memory-may : (request : Request) (input : List ℕ) → MayAnswer request input (Err Memory)
+memory-may Forests input = tt
+memory-may Plain input = tt
+memory-may Check input = tt
+
 -- where there is no memory for a fault's line, the answer is the fault of memory
 pub of-fault : (output errors : Written) (request : Request) (input : List ℕ) (fault : PlanFault) (status : ℕ)
     → MayAnswer request input (Err fault) → output.IsUntouched
     → (IsReported errors (fault_line fault) × (status ≡ fault_status fault)) ⊎ (IsReported errors memory_line × (status ≡ 4))
     → Answers request input output errors status
 of-fault output errors request input fault status may untouched (inl is) = (Err fault, may, (untouched, is.0, is.1))
-of-fault output errors request input fault status may untouched (inr is) = (Err Memory, tt, (untouched, is.0, is.1))
+of-fault output errors request input fault status may untouched (inr is) = (Err Memory, memory-may request input, (untouched, is.0, is.1))
 
 pub declined : (words : List (List ℕ)) (input : Taken) (output errors : Written) (status : ℕ)
     → request_of words ≡ None → Declines words input output errors status → ServesWords words input output errors status
