@@ -20,6 +20,7 @@ from allocations import allocation_rows
 from plain_definition import forests_text, plan_text
 from plain_networks import plain_network_rows
 from refused_memory import refused_memory_rows
+from verdicts import verdict_rows
 
 TOP = os.path.dirname(os.path.dirname(os.path.abspath(__file__)))
 PROGRAM = os.path.join(TOP, "forestplan")
@@ -194,7 +195,8 @@ def help_rows():
     """Each help text whole, as tests/texts/ has it."""
     for words, name in [(["--help"], "help"), (["-h"], "help_short"),
                         (["forests", "--help"], "forests_help"), (["forests", "-h"], "forests_help_short"),
-                        (["plain", "--help"], "plain_help"), (["plain", "-h"], "plain_help_short")]:
+                        (["plain", "--help"], "plain_help"), (["plain", "-h"], "plain_help_short"),
+                        (["check", "--help"], "check_help"), (["check", "-h"], "check_help_short")]:
         with open(os.path.join(TOP, "tests", "texts", name + ".txt"), "rb") as file:
             wanted = file.read()
         expect(f"help by {words}", run(words, b"no network"), 0, wanted, b"")
@@ -203,14 +205,13 @@ def help_rows():
 def refused_words_rows():
     """Each text whole. The first line is the fault, then maybe a tip, the usage of what was named, and where help is."""
     program, forests, plain = "forestplan <COMMAND>", "forestplan forests", "forestplan plain"
-    none = "'forestplan' requires a subcommand but one was not provided|  [subcommands: forests, plain]"
+    none = "'forestplan' requires a subcommand but one was not provided|  [subcommands: forests, plain, check]"
     like_plain = "||  tip: a similar subcommand exists: 'plain'"
     rows = [
         ([], none, program),
         (["nothing"], "unrecognized subcommand 'nothing'", program),
         (["help"], "unrecognized subcommand 'help'", program),
         (["plan"], "unrecognized subcommand 'plan'" + like_plain, program),
-        (["check"], "unrecognized subcommand 'check'", program),
         (["transcript"], "unrecognized subcommand 'transcript'", program),
         (["--version"], "unexpected argument '--version' found", program),
         (["forests", "extra"], "unexpected argument 'extra' found", forests),
@@ -218,6 +219,7 @@ def refused_words_rows():
         (["forests", "--workers", "1"], "unexpected argument '--workers' found", forests),
         (["plain", "extra"], "unexpected argument 'extra' found", plain),
         (["plain", "--turns", "1", "2"], "unexpected argument '--turns' found", plain),
+        (["check", "extra"], "unexpected argument 'extra' found", "forestplan check"),
         (["plain", b"\xff"], "unrecognized subcommand '\N{REPLACEMENT CHARACTER}'", program),
         ([b"\xff"], "unrecognized subcommand '\N{REPLACEMENT CHARACTER}'", program),
     ]
@@ -291,7 +293,7 @@ def main():
             if os.path.isfile(given.second):
                 second_compiler_rows(os.path.abspath(given.second))
         more = plain_network_rows(PROGRAM) + refused_memory_rows(PROGRAM, text(TRIANGLE), text(TRIANGLE_FORESTS))
-        more += allocation_rows(PROGRAM)
+        more += allocation_rows(PROGRAM) + verdict_rows(PROGRAM, os.path.join(TOP, "examples"))
         for name, good, what in more:
             note(name, good, what)
     print(f"{TALLY['passed']} passed, {TALLY['failed']} failed")

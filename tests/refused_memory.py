@@ -26,6 +26,9 @@ def refused_memory_rows(program, network, answer):
         rows = [("the refusing allocator builds", True, "")]
         rows.append(sweep(program, front, ["forests"], network, (0, answer, b"")))
         rows.append(sweep(program, front, ["plain"], network, (0, plan_text(network), b"")))
+        checked = network + plan_text(network)
+        rows.append(sweep(program, front, ["check"], checked, (0, b"proper 3\n", b"")))
+        rows.append(sweep(program, front, ["check"], network, (1, b"", b"forestplan: C6 line 1\n")))
         rows.append(sweep(program, front, ["forests"], b"q\n", (1, b"", b"forestplan: F8 line 1\n")))
         rows.append(sweep(program, front, ["nothing"], b"", None))
         rows.append(sweep(program, front, ["--help"], b"", None))
