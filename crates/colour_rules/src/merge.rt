@@ -78,8 +78,8 @@ impl ColourNode {
         chosen
     }
 
-    // A step of the merging: a forest's first begins with the colour so far, the others hear what was
-    // chosen; and where it is the node's turn it takes the least free colour and tells it.
+    // A step of the merging: the first of a forest begins with the colour so far, the others take in what
+    // was chosen; and at the node's turn it takes the least free colour and sends it.
     pub(crate) fn merge(
         &mut self,
         forest: u16,

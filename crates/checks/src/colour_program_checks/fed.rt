@@ -5,7 +5,7 @@ ghost use Rattle.interference.specs.Net.{IsVertex, degree_of};
 ghost use Rattle.colour_rules.specs.Node.{ports};
 
 use colour_program::{Colouring, Payload};
-use interference::{Memory, Network};
+use interference::{MAX_DEGREE, Memory, Network};
 use node_api::{Inbox, NodeProgram, Outbox, Refused};
 use std::alloc::Global;
 
@@ -25,7 +25,7 @@ pub fn feed(
     payloads: &[Option<Payload>],
 ) -> Result<(Result<(), Refused>, Outbox<Payload>), Memory>
     requires ports { length payloads.now ≡ ports node.old }
-    requires few { length payloads.now ≤ 1023 }
+    requires few { length payloads.now ≤ MAX_DEGREE }
     ensures ports { ports node.new ≡ ports node.old }
 {
     let degree = payloads.len() as u32;
@@ -37,7 +37,7 @@ pub fn feed(
 
 // An inbox of these payloads.
 fn inbox_of(alloc: Global, payloads: &[Option<Payload>]) -> Result<Inbox<Payload>, Memory>
-    requires few { length payloads.now ≤ 1023 }
+    requires few { length payloads.now ≤ MAX_DEGREE }
     ensures ports { IfOk result (λ inbox. length inbox.slots ≡ length payloads.now) }
     ensures rewound { IfOk result (λ inbox. inbox.place ≡ 0) }
 {

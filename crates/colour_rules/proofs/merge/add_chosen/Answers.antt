@@ -1,3 +1,5 @@
+-- The plan: the set so far with the payloads that are still to be read is the set that is wanted (the invariant's
+-- `rest`); a payload that is read moves from the one to the other, and at the end none is left.
 use Rattle.std.proofs.Common.{◌≡◌, ◌-◌, ◌<◌, ℕ, List, refl, ap, sym, ◌∙◌, arith}
 use Rattle.std.specs.Prelude.{Option, Some, IsTrue, false}
 use Rattle.std.specs.Ordering.{nat_cmp}

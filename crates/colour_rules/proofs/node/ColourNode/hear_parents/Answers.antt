@@ -1,3 +1,5 @@
+-- The plan: each payload that is read comes from its port (comes); what was heard and what is still to be heard give
+-- the colours of the parents at every turn of the loop (Hearing.Heard), and at its end all are heard.
 use Rattle.std.proofs.Common.{◌≡◌, ◌<◌, ◌∙◌, List, length, arith, get_or, subst}
 use Rattle.std.specs.Prelude.{Option, IsTrue, false}
 use Rattle.node_api.specs.Boxes.{HasFrom}

@@ -1,3 +1,6 @@
+-- The plan: each port to a parent brought a colour (Working.brought), so every forest is ready to be turned
+-- (Working.ready); then colours and those kept are the definition's (turned), the node is the definition's (worked) and
+-- keeps its invariant (stays), whether or not its children are told.
 use Rattle.std.proofs.Common.{◌≡◌, ◌<◌, ℕ, List, length, ap, sym, ◌∙◌, arith, rules, subst}
 use Rattle.std.specs.Prelude.{None, slice_index_or}
 use Rattle.std.specs.Vec.{with_items}
