@@ -6,6 +6,7 @@ use Rattle.std.specs.Prelude.{
   ◌≤◌,
   List,
   [],
+  ◌∷◌,
   ◌++◌,
   length,
   map,
@@ -33,6 +34,10 @@ sent_of link = link.taken ++ link.held
 -- the oldest wire that it holds was taken
 abbrev pub take_one : {M : Type 0} → Link M → Link M
 take_one link = record { taken = link.taken ++ take 1 link.held; held = drop 1 link.held }
+
+-- a wire was put on it
+abbrev pub put_one : {M : Type 0} → Wire M → Link M → Link M
+put_one wire link = record { taken = link.taken; held = link.held ++ (wire ∷ []) }
 
 -- nothing was put on it
 abbrev pub no_link : {M : Type 0} → Link M
@@ -67,11 +72,15 @@ set_link links v i link = slice_set links (v - 1) (slice_set (slice_index_or lin
 abbrev pub set_link_to : {M : Type 0} → Net → List (List (Link M)) → ℕ → ℕ → Link M → List (List (Link M))
 set_link_to net links v i link = set_link links (neighbour_of net v i) (back_port_of net v i) link
 
+-- a link out of each vertex by each port, on which nothing was put
+abbrev pub empty_links : {M : Type 0} → Net → List (List (Link M))
+empty_links net = map (λ v. replicate (degree_of net v) no_link) (vertices net)
+
 -- The start: each node is at pulse 0 with its first wires in its out-lists, and nothing was put on any link.
 abbrev pub start : {S M E : Type 0} → Program S M E → Net → State S M
 start program net = record {
   nodes = map (λ v. start_node program net v) (vertices net);
-  links = map (λ v. replicate (degree_of net v) no_link) (vertices net);
+  links = empty_links net;
 }
 
 -- the same nodes, each with the last pulse, at some vertices

@@ -1,8 +1,7 @@
 //! All links of a network.
 
-ghost use Rattle.std.specs.Prelude.{◌≡◌, ◌<◌, ◌++◌, ◌∷◌, [], IfOk, OnErr, length, map, replicate, slice_get};
-ghost use Rattle.interference.specs.Net.{degree_of, vertices};
-ghost use Rattle.net_core.specs.State.{HasLink, link_at, no_link, set_link, take_one};
+ghost use Rattle.std.specs.Prelude.{◌≡◌, ◌<◌, IfOk, OnErr, length, replicate, slice_get};
+ghost use Rattle.net_core.specs.State.{HasLink, empty_links, link_at, no_link, put_one, set_link, take_one};
 
 use crate::wires::Wires;
 use alpha_core::Wire;
@@ -40,7 +39,7 @@ fn row<T: Copy>(alloc: Global, degree: u32) -> Result<Vec<Wires<T>>, Memory>
 impl<T: Copy> Links<T> {
     /// The links of a network, on which nothing was put.
     pub(crate) fn new(alloc: Global, net: &Network) -> Result<Links<T>, Memory>
-        ensures links { IfOk result (λ links. links ≡ map (λ v. replicate (degree_of net.now v) no_link) (vertices net.now)) }
+        ensures links { IfOk result (λ links. links ≡ empty_links net.now) }
     {
         let mut rows = Vec::new(alloc);
         for i in 0..net.nodes() {
@@ -69,8 +68,7 @@ impl<T: Copy> Links<T> {
     /// Puts a wire on it. All links stay as they were if memory is refused.
     pub(crate) fn put(&mut self, v: u32, port: u32, wire: Wire<T>) -> Result<(), Memory>
         requires link { HasLink self.old v port }
-        ensures put { IfOk result (λ _. self.new
-            ≡ set_link self.old v port record (link_at self.old v port) { held = (link_at self.old v port).held ++ wire ∷ [] }) }
+        ensures put { IfOk result (λ _. self.new ≡ set_link self.old v port (put_one wire (link_at self.old v port))) }
         ensures refused { OnErr result (self.new ≡ self.old) }
     {
         self.rows[(v - 1) as usize][port as usize].put(wire)?;

@@ -2,8 +2,6 @@
 
 ghost use Rattle.std.specs.Prelude.{◌≡◌};
 ghost use Rattle.net_core.specs.Refusals.{at_index};
-ghost use Rattle.net_core.specs.declared.refused.StepRefused.TheVariants as step_refused;
-ghost use Rattle.net_core.specs.declared.refused.RunRefused.TheVariants as run_refused;
 
 use interference::Memory;
 use thiserror::Error;
@@ -24,7 +22,9 @@ pub enum StepRefused {
 }
 
 impl From<Memory> for StepRefused {
-    ghost from_gives = { λ _ refused. refused ≡ step_refused.Memory };
+    ghost use Rattle.net_core.specs.declared.refused.StepRefused.TheVariants.{Memory};
+
+    ghost from_gives = { λ _ refused. refused ≡ Memory };
 
     fn from(_memory: Memory) -> StepRefused {
         StepRefused::Memory
@@ -47,7 +47,9 @@ pub enum RunRefused {
 }
 
 impl From<Memory> for RunRefused {
-    ghost from_gives = { λ _ refused. refused ≡ run_refused.Memory };
+    ghost use Rattle.net_core.specs.declared.refused.RunRefused.TheVariants.{Memory};
+
+    ghost from_gives = { λ _ refused. refused ≡ Memory };
 
     fn from(_memory: Memory) -> RunRefused {
         RunRefused::Memory
