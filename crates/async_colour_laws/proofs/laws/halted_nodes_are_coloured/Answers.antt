@@ -1,0 +1,5 @@
+use Rattle.async_colour_laws.proofs.Colours.{coloured, runs_coloured}
+use Rattle.async_colour_laws.proofs.laws.halted_nodes_are_coloured.Goals as goal
+
+pub returns : goal.returns
+returns c = record { nodes = λ net ok. coloured net ok; runs = λ net ok. runs_coloured net ok }

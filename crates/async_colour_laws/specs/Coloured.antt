@@ -1,0 +1,37 @@
+-- Nodes of the colouring that have halted, and their colours.
+use Rattle.std.specs.Prelude.{◌≡◌, ◌≢◌, ℕ, ◌≤◌, IsTrue, List, Ok}
+use Rattle.interference.specs.Net.{Net, IsVertex, IsEdge, greatest_degree_of}
+use Rattle.node_api.specs.Program.{Program, last_pulse_on}
+use Rattle.alpha_core.specs.declared.wire.Wire.{Wire}
+use Rattle.alpha_core.specs.View.{Node, is_halted}
+use Rattle.alpha_laws.specs.Simulates.{Simulates}
+use Rattle.colour_rules.specs.declared.payload.Payload.{Payload}
+use Rattle.colour_rules.specs.Node as colour
+use Rattle.colour_rules.specs.Program.{colouring}
+use Rattle.colour_laws.specs.Colours.{colours}
+use Rattle.net_core.specs.declared.event.Event.{Event}
+use Rattle.net_core.specs.State.{State, node_of}
+use Rattle.net_core.specs.Step.{run}
+
+-- every node is at the last pulse
+abbrev pub AllHalted : {S M E : Type 0} → Program S M E → Net → (ℕ → Node S M) → Type 0
+AllHalted program net nodes = (v : ℕ) → IsVertex net v → IsTrue (is_halted (last_pulse_on program net) (nodes v).view)
+
+-- Each node has its colour of the definition; so neighbours differ, and each colour is from 0 to the greatest degree.
+pub record AreColoured (net : Net) (nodes : ℕ → Node colour.Node Payload) : Type 0 where
+  pub exact : (v : ℕ) → IsVertex net v → (nodes v).state.merged ≡ colours net v
+  pub proper : (v w : ℕ) → IsEdge net v w → (nodes v).state.merged ≢ (nodes w).state.merged
+  pub within : (v : ℕ) → IsVertex net v → (nodes v).state.merged ≤ greatest_degree_of net
+
+-- nodes that simulate the synchronous run, and have halted, have these colours, whatever ran them
+abbrev pub HaltedAreColoured : Net → Type 0
+HaltedAreColoured net =
+    (nodes : ℕ → Node colour.Node Payload) (sent taken : ℕ → ℕ → List (Wire Payload))
+    → Simulates colouring net nodes sent taken → AllHalted colouring net nodes → AreColoured net nodes
+
+-- and so do those of every list of events
+abbrev pub HaltedRunsAreColoured : Net → Type 0
+HaltedRunsAreColoured net =
+    (events : List Event) (state : State colour.Node Payload)
+    → run colouring net events ≡ Ok state → AllHalted colouring net (node_of colouring net state)
+    → AreColoured net (node_of colouring net state)

@@ -1,0 +1,24 @@
+-- A small run that meets all premises: two vertices with the identifiers 1 and 2, the edge between them, and the
+-- program that spreads the greatest identifier, with last pulse 1.
+use Rattle.std.specs.Prelude.{◌≡◌, IfOk, List, [], ◌∷◌, ◌++◌, map}
+use Rattle.interference.specs.Net.{Net}
+use Rattle.net_core.specs.declared.event.Event.{Event}
+use Rattle.net_core.specs.declared.event.Event.TheVariants.{Pulse, Put, Take}
+use Rattle.net_core.specs.Step.{run}
+use Rattle.sync_rounds.specs.Spread.{spread}
+
+abbrev pub edge : Net
+edge = record { ids = 1 ∷ 2 ∷ []; ports = (2 ∷ []) ∷ (1 ∷ []) ∷ [] }
+
+-- each node puts a wire, and takes one
+abbrev pub exchange : List Event
+exchange = Put 1 0 ∷ Put 2 0 ∷ Take 1 0 ∷ Take 2 0 ∷ []
+
+-- payloads, acknowledgements and safes of pulse 0; then pulse 1 of both, and the closing marks
+abbrev pub whole_run : List Event
+whole_run = exchange ++ exchange ++ exchange ++ (Pulse 1 ∷ Pulse 2 ∷ exchange)
+
+-- it is accepted, and at its end both nodes are at the last pulse and know 2
+abbrev pub EndsWithTheGreatest : Type 0
+EndsWithTheGreatest = IfOk (run (spread 1) edge whole_run) (λ state.
+    (map (λ node. node.view.pulse) state.nodes ≡ 1 ∷ 1 ∷ []) × (map (λ node. node.state.best) state.nodes ≡ 2 ∷ 2 ∷ []))
