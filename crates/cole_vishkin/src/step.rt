@@ -10,8 +10,8 @@ pub type Identifier = u64;
 /// How many binary digits an identifier has.
 pub const IDENTIFIER_DIGITS: u32 = Identifier::BITS;
 
-/// A node's next colour, from its own colour and that of its parent, which a root has not: twice
-/// the least place in which the two differ, and the node's own digit there. A root's place is 0.
+/// A node's next colour, from its own colour and its parent's: twice the least place in which the
+/// two differ, plus the node's own digit there. A root has no parent, and looks at place 0.
 ///
 /// Places count from 0, the lowest digit. R. Cole and U. Vishkin, Deterministic coin tossing with
 /// applications to optimal parallel list ranking, 1986; on rooted forests A. V. Goldberg, S. A.
@@ -27,7 +27,7 @@ pub fn bit_step(own: Identifier, parent: Option<Identifier>) -> Identifier
     2 * Identifier::from(place) + (own >> place & 1)
 }
 
-/// The least place in which two numbers differ.
+// The least place in which two numbers differ.
 fn first_difference(own: Identifier, parent: Identifier) -> u32
     requires { own ≢ parent }
     ensures is { result ≡ difference own parent }

@@ -23,7 +23,8 @@ least-none test n none =
     elim (cases_order (least test n) n) [
       | inl met ↦ met
       | inr side ↦ elim side [
-        | inl lower ↦ (let found : test (least test n) ≡ true = least-holds test n lower in let fails : test (least test n) ≡ false = none (least test n) lower in absurd (cc))
+        | inl lower ↦ (let found : test (least test n) ≡ true = least-holds test n lower in let fails : test (least test n) ≡ false =
+            none (least test n) lower in absurd (cc))
         | inr higher ↦ absurd (omega (arith, least-within test n))
       ]
     ]

@@ -10,7 +10,7 @@ colour_of c (Some w) = Some (c w)
 abbrev pub at_parent : (ℕ → Option ℕ) → (ℕ → ℕ) → ℕ → Option ℕ
 at_parent parents c v = colour_of c (parents v)
 
--- a colouring is proper where no vertex has the colour of its parent
+-- a colouring is proper if no vertex has the colour of its parent
 abbrev pub IsProper : (ℕ → Option ℕ) → (ℕ → ℕ) → Type 0
 IsProper parents c = (v w : ℕ) → parents v ≡ Some w → c v ≢ c w
 

@@ -1,5 +1,31 @@
 -- What a reader knows after one more edge line, and what is told of one.
-use Rattle.std.proofs.Common.{◌≡◌, ◌<◌, ◌≤◌, ◌++◌, ◌==◌, ℕ, Bool, true, false, cond, Option, Some, None, List, [], ◌∷◌, min, max, refl, sym, ◌∙◌, ap, arith, subst, nat_lt}
+use Rattle.std.proofs.Common.{
+  ◌≡◌,
+  ◌<◌,
+  ◌≤◌,
+  ◌++◌,
+  ◌==◌,
+  ℕ,
+  Bool,
+  true,
+  false,
+  cond,
+  Option,
+  Some,
+  None,
+  List,
+  [],
+  ◌∷◌,
+  min,
+  max,
+  refl,
+  sym,
+  ◌∙◌,
+  ap,
+  arith,
+  subst,
+  nat_lt,
+}
 use Rattle.std.specs.Option.{IfSome}
 use Rattle.std.specs.Set.{is_member, distinct_count}
 use Rattle.std.proofs.lemmas.Bool.{ltb-false}
@@ -21,7 +47,8 @@ edge-nodes : (word : List ℕ) (fields : Line) → kind_of_word word ≡ Edge �
 unfolding nodes_of
 edge-nodes word fields e = rw e refl
 
-edge-edges : (word : List ℕ) (fields : Line) (m n : ℕ) → kind_of_word word ≡ Edge → number_of (field_at fields 0) ≡ Some m → number_of (field_at fields 1) ≡ Some n → edges_of ((word ∷ fields) ∷ []) ≡ (min m n, max m n) ∷ []
+edge-edges : (word : List ℕ) (fields : Line) (m n : ℕ) → kind_of_word word ≡ Edge → number_of (field_at fields 0) ≡ Some m →
+    number_of (field_at fields 1) ≡ Some n → edges_of ((word ∷ fields) ∷ []) ≡ (min m n, max m n) ∷ []
 unfolding edges_of
 edge-edges word fields m n e p q = simp (e, p, q)
 
@@ -37,12 +64,14 @@ pub small-nodes : (o : Option ℕ) (nodes : ℕ) → o ≡ Some nodes → IfSome
 small-nodes None nodes e h = absurd cc
 small-nodes (Some n) nodes e h = let s : n ≡ nodes = cc in omega arith
 
-pub told-range : (before : List Line) (word : List ℕ) (fields : Line) (r : Reader) (nodes v w : ℕ) → IsEdge before word fields r nodes v w → (0 < v → v ≤ nodes → 0 < w → w ≤ nodes → ⊥) → verdict before (word ∷ fields) ≡ Some (VertexRange (number_after before))
+pub told-range : (before : List Line) (word : List ℕ) (fields : Line) (r : Reader) (nodes v w : ℕ) → IsEdge before word fields r nodes v w →
+    (0 < v → v ≤ nodes → 0 < w → w ≤ nodes → ⊥) → verdict before (word ∷ fields) ≡ Some (VertexRange (number_after before))
 told-range before word fields r nodes v w e bad =
     let small = small-nodes r.nodes nodes e.nodes_is e.knows.nodes_fit in
     let a = kept-from (field_at fields 0) v e.first in
     let b = kept-from (field_at fields 1) w e.second in
-    verdict-edge before word fields nodes a.number b.number true (a.number == b.number) (nat_lt MAX_EDGES (edge_count (before ++ (word ∷ fields) ∷ []))) e.kind (sym e.knows.nodes_are ∙ e.nodes_is) a.is b.is (outside-any nodes a.number b.number v w small a.kept_is b.kept_is bad) refl refl
+    verdict-edge before word fields nodes a.number b.number true (a.number == b.number) (nat_lt MAX_EDGES (edge_count (before ++ (word ∷ fields) ∷ [])))
+    e.kind (sym e.knows.nodes_are ∙ e.nodes_is) a.is b.is (outside-any nodes a.number b.number v w small a.kept_is b.kept_is bad) refl refl
 
 -- a pair in range whose ends differ, in the set that the reader then has
 pub record IsPut (before : List Line) (word : List ℕ) (fields : Line) (r : Reader) (nodes v w : ℕ) (edges : List (ℕ × ℕ)) : Type 0 where
@@ -60,7 +89,8 @@ record IsRead (before : List Line) (word : List ℕ) (fields : Line) (v w : ℕ)
   second : number_of (field_at fields 1) ≡ Some w
   pairs : edges_of (before ++ (word ∷ fields) ∷ []) ≡ edges_of before ++ (min v w, max v w) ∷ []
 
-put-read : (before : List Line) (word : List ℕ) (fields : Line) (r : Reader) (nodes v w : ℕ) (edges : List (ℕ × ℕ)) → IsPut before word fields r nodes v w edges → IsRead before word fields v w
+put-read : (before : List Line) (word : List ℕ) (fields : Line) (r : Reader) (nodes v w : ℕ) (edges : List (ℕ × ℕ)) →
+    IsPut before word fields r nodes v w edges → IsRead before word fields v w
 put-read before word fields r nodes v w edges p =
     let small = small-nodes r.nodes nodes p.edge.nodes_is p.edge.knows.nodes_fit in
     let a = kept-from (field_at fields 0) v p.edge.first in
@@ -72,7 +102,8 @@ put-read before word fields r nodes v w edges p =
       pairs = edges_of-push before (word ∷ fields) ∙ ap (λ xs. edges_of before ++ xs) (edge-edges word fields v w p.edge.kind first second);
     }
 
-put-members : (before : List Line) (word : List ℕ) (fields : Line) (r : Reader) (nodes v w : ℕ) (edges : List (ℕ × ℕ)) → IsPut before word fields r nodes v w edges → SameMembers edges (edges_of (before ++ (word ∷ fields) ∷ []))
+put-members : (before : List Line) (word : List ℕ) (fields : Line) (r : Reader) (nodes v w : ℕ) (edges : List (ℕ × ℕ)) →
+    IsPut before word fields r nodes v w edges → SameMembers edges (edges_of (before ++ (word ∷ fields) ∷ []))
 put-members before word fields r nodes v w edges p pair =
     p.members pair
     ∙ members-push r.edges (edges_of before) (min v w, max v w) p.edge.knows.edges_are pair
@@ -86,30 +117,42 @@ pair-fits : (nodes v w : ℕ) → 0 < v → v ≤ nodes → 0 < w → w ≤ node
 pair-fits nodes v w a b c d e = (grind arith, grind arith, grind arith)
 
 -- the pairs are within the limits
-put-fits : (before : List Line) (word : List ℕ) (fields : Line) (r : Reader) (nodes v w : ℕ) (edges : List (ℕ × ℕ)) → IsPut before word fields r nodes v w edges → (pair : ℕ × ℕ) → is_member same_pair (edges_of (before ++ (word ∷ fields) ∷ [])) pair ≡ true → FitsIn r.nodes pair
+put-fits : (before : List Line) (word : List ℕ) (fields : Line) (r : Reader) (nodes v w : ℕ) (edges : List (ℕ × ℕ)) →
+    IsPut before word fields r nodes v w edges → (pair : ℕ × ℕ) → is_member same_pair (edges_of (before ++ (word ∷ fields) ∷ [])) pair ≡ true →
+    FitsIn r.nodes pair
 put-fits before word fields r nodes v w edges p pair h =
-    let known = sym (member-push (edges_of before) (min v w, max v w) pair) ∙ ap (λ xs. is_member same_pair xs pair) (sym (put-read before word fields r nodes v w edges p).pairs) ∙ h in
+    let known = sym (member-push (edges_of before) (min v w, max v w) pair) ∙
+    ap (λ xs. is_member same_pair xs pair) (sym (put-read before word fields r nodes v w edges p).pairs) ∙ h in
     let fits = pair-fits nodes v w p.first_low p.first_high p.second_low p.second_high p.apart in
     either-fits (same_pair (min v w, max v w) pair) (is_member same_pair (edges_of before) pair) (FitsIn r.nodes pair) known
     (λ e. subst (λ o. FitsIn o pair) (sym p.edge.nodes_is) (subst (λ q. FitsIn (Some nodes) q) (same_pair-exact (min v w, max v w) pair e) fits))
     (λ e. p.edge.knows.edges_fit pair e)
 
-put-verdict : (before : List Line) (word : List ℕ) (fields : Line) (r : Reader) (nodes v w : ℕ) (edges : List (ℕ × ℕ)) (large : Bool) → IsPut before word fields r nodes v w edges → nat_lt MAX_EDGES (distinct_count same_pair edges) ≡ large → verdict before (word ∷ fields) ≡ first_of ((large, TooLarge (number_after before)) ∷ [])
+put-verdict : (before : List Line) (word : List ℕ) (fields : Line) (r : Reader) (nodes v w : ℕ) (edges : List (ℕ × ℕ)) (large : Bool) →
+    IsPut before word fields r nodes v w edges → nat_lt MAX_EDGES (distinct_count same_pair edges) ≡ large →
+    verdict before (word ∷ fields) ≡ first_of ((large, TooLarge (number_after before)) ∷ [])
 put-verdict before word fields r nodes v w edges large p e =
     let read = put-read before word fields r nodes v w edges p in
     let count = edge_count-of edges (before ++ (word ∷ fields) ∷ []) (put-members before word fields r nodes v w edges p) in
-    verdict-edge before word fields nodes v w false false large p.edge.kind (sym p.edge.knows.nodes_are ∙ p.edge.nodes_is) read.first read.second (inside nodes v w p.first_low p.first_high p.second_low p.second_high) (differ v w p.apart) (ap (nat_lt MAX_EDGES) (sym count) ∙ e)
+    verdict-edge before word fields nodes v w false false large p.edge.kind (sym p.edge.knows.nodes_are ∙
+    p.edge.nodes_is) read.first read.second (inside nodes v w p.first_low p.first_high p.second_low p.second_high) (differ v w p.apart)
+    (ap (nat_lt MAX_EDGES) (sym count) ∙ e)
 
-pub told-large : (before : List Line) (word : List ℕ) (fields : Line) (r : Reader) (nodes v w : ℕ) (edges : List (ℕ × ℕ)) → IsPut before word fields r nodes v w edges → nat_lt MAX_EDGES (distinct_count same_pair edges) ≡ true → verdict before (word ∷ fields) ≡ Some (TooLarge (number_after before))
+pub told-large : (before : List Line) (word : List ℕ) (fields : Line) (r : Reader) (nodes v w : ℕ) (edges : List (ℕ × ℕ)) →
+    IsPut before word fields r nodes v w edges → nat_lt MAX_EDGES (distinct_count same_pair edges) ≡ true →
+    verdict before (word ∷ fields) ≡ Some (TooLarge (number_after before))
 told-large before word fields r nodes v w edges p h = put-verdict before word fields r nodes v w edges true p h
 
-pub knows-put : (before : List Line) (word : List ℕ) (fields : Line) (r : Reader) (number nodes v w : ℕ) (edges : List (ℕ × ℕ)) → IsPut before word fields r nodes v w edges → nat_lt MAX_EDGES (distinct_count same_pair edges) ≡ false → Knows (before ++ (word ∷ fields) ∷ []) (record { line = number; nodes = r.nodes; edges = edges })
+pub knows-put : (before : List Line) (word : List ℕ) (fields : Line) (r : Reader) (number nodes v w : ℕ) (edges : List (ℕ × ℕ)) →
+    IsPut before word fields r nodes v w edges → nat_lt MAX_EDGES (distinct_count same_pair edges) ≡ false →
+    Knows (before ++ (word ∷ fields) ∷ []) (record { line = number; nodes = r.nodes; edges = edges })
 knows-put before word fields r number nodes v w edges p h =
     let same = put-members before word fields r nodes v w edges p in record {
       good = AllGood-push before (word ∷ fields) p.edge.knows.good (put-verdict before word fields r nodes v w edges false p h);
       nodes_are = p.edge.knows.nodes_are ∙ sym (nodes_of-same before (word ∷ fields) (edge-nodes word fields p.edge.kind));
       nodes_fit = p.edge.knows.nodes_fit;
       edges_are = same;
-      edges_few = ltb-false MAX_EDGES (edge_count (before ++ (word ∷ fields) ∷ [])) (ap (nat_lt MAX_EDGES) (sym (edge_count-of edges (before ++ (word ∷ fields) ∷ []) same)) ∙ h);
+      edges_few = ltb-false MAX_EDGES (edge_count (before ++ (word ∷ fields) ∷ []))
+          (ap (nat_lt MAX_EDGES) (sym (edge_count-of edges (before ++ (word ∷ fields) ∷ []) same)) ∙ h);
       edges_fit = put-fits before word fields r nodes v w edges p;
     }

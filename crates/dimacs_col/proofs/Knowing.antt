@@ -20,7 +20,8 @@ no-edges : (line : Line) → kind_of line ≡ Skipped → edges_of (line ∷ [])
 unfolding edges_of
 no-edges line e = rw e refl
 
-pub knows-skipped : (before : List Line) (line : Line) (r : Reader) (number : ℕ) → kind_of line ≡ Skipped → Knows before r → Knows (before ++ line ∷ []) (record { line = number; nodes = r.nodes; edges = r.edges })
+pub knows-skipped : (before : List Line) (line : Line) (r : Reader) (number : ℕ) → kind_of line ≡ Skipped → Knows before r →
+    Knows (before ++ line ∷ []) (record { line = number; nodes = r.nodes; edges = r.edges })
 knows-skipped before line r number e k = let none = no-edges line e in record {
   good = AllGood-push before line k.good (verdict-skipped before line e);
   nodes_are = k.nodes_are ∙ sym (nodes_of-same before line (no-nodes line e));
@@ -30,7 +31,8 @@ knows-skipped before line r number e k = let none = no-edges line e in record {
   edges_fit = λ pair h. k.edges_fit pair (rw (edges_of-same before line none) at h);
 }
 
-problem-nodes : (word : List ℕ) (fields : Line) (nodes : ℕ) → kind_of_word word ≡ Problem → number_of (field_at fields 1) ≡ Some nodes → nodes_of ((word ∷ fields) ∷ []) ≡ Some nodes
+problem-nodes : (word : List ℕ) (fields : Line) (nodes : ℕ) → kind_of_word word ≡ Problem → number_of (field_at fields 1) ≡ Some nodes →
+    nodes_of ((word ∷ fields) ∷ []) ≡ Some nodes
 unfolding nodes_of
 problem-nodes word fields nodes e n = rw (e, n) refl
 
@@ -38,7 +40,9 @@ problem-edges : (word : List ℕ) (fields : Line) → kind_of_word word ≡ Prob
 unfolding edges_of
 problem-edges word fields e = rw e refl
 
-pub knows-problem : (before : List Line) (word : List ℕ) (fields : Line) (r : Reader) (number nodes : ℕ) → kind_of_word word ≡ Problem → Knows before r → r.nodes ≡ None → number_of (field_at fields 1) ≡ Some nodes → nodes ≤ MAX_NODES → verdict before (word ∷ fields) ≡ None → Knows (before ++ (word ∷ fields) ∷ []) (record { line = number; nodes = Some nodes; edges = r.edges })
+pub knows-problem : (before : List Line) (word : List ℕ) (fields : Line) (r : Reader) (number nodes : ℕ) → kind_of_word word ≡ Problem → Knows before r →
+    r.nodes ≡ None → number_of (field_at fields 1) ≡ Some nodes → nodes ≤ MAX_NODES → verdict before (word ∷ fields) ≡ None →
+    Knows (before ++ (word ∷ fields) ∷ []) (record { line = number; nodes = Some nodes; edges = r.edges })
 knows-problem before word fields r number nodes e k none n small good = let same = problem-edges word fields e in record {
   good = AllGood-push before (word ∷ fields) k.good good;
   nodes_are = sym (nodes_of-push before (word ∷ fields) (Some nodes) (sym k.nodes_are ∙ none) (problem-nodes word fields nodes e n));

@@ -10,7 +10,8 @@ use Rattle.dimacs_col.specs.Bag.{SameMembers}
 use Rattle.dimacs_col.proofs.Members.{count-same, count-ascending}
 
 -- ---- a line in a list that has one more at its end
-pub last-or-before : (xs : List Line) (x : Line) (b : List Line) (l : Line) (a : List Line) → xs ++ x ∷ [] ≡ b ++ l ∷ a → ((xs ≡ b) × (x ≡ l)) ⊎ ((m : List Line) × (xs ≡ b ++ l ∷ m))
+pub last-or-before : (xs : List Line) (x : Line) (b : List Line) (l : Line) (a : List Line) → xs ++ x ∷ [] ≡ b ++ l ∷ a →
+    ((xs ≡ b) × (x ≡ l)) ⊎ ((m : List Line) × (xs ≡ b ++ l ∷ m))
 last-or-before [] x [] l a e = inl (refl, cc)
 last-or-before [] x (y ∷ ys) l a e = let t : [] ≡ ys ++ l ∷ a = cc in absurd (no-empty ys l a t)
   where
@@ -35,12 +36,14 @@ AllGood-push before line good none b l a e =
     ]
 
 -- ---- vertices
-pub nodes_of-push : (before : List Line) (line : Line) (nodes : Option ℕ) → nodes_of before ≡ None → nodes_of (line ∷ []) ≡ nodes → nodes_of (before ++ line ∷ []) ≡ nodes
+pub nodes_of-push : (before : List Line) (line : Line) (nodes : Option ℕ) → nodes_of before ≡ None → nodes_of (line ∷ []) ≡ nodes →
+    nodes_of (before ++ line ∷ []) ≡ nodes
 unfolding nodes_of
 nodes_of-push [] line nodes e h = h
 nodes_of-push (b ∷ bs) line nodes e h = push-by (is_problem_kind (kind_of b)) refl (λ none. nodes_of-push bs line nodes none h)
   where
-    push-by : (t : Bool) → is_problem_kind (kind_of b) ≡ t → (nodes_of bs ≡ None → nodes_of (bs ++ line ∷ []) ≡ nodes) → nodes_of (b ∷ (bs ++ line ∷ [])) ≡ nodes
+    push-by : (t : Bool) → is_problem_kind (kind_of b) ≡ t → (nodes_of bs ≡ None → nodes_of (bs ++ line ∷ []) ≡ nodes) →
+        nodes_of (b ∷ (bs ++ line ∷ [])) ≡ nodes
     push-by true t more = let none : Some (value_at b 2) ≡ None = (rw t at e) in absurd cc
     push-by false t more = let none : nodes_of bs ≡ None = (rw t at e) in rw t (more none)
 
@@ -49,7 +52,8 @@ unfolding nodes_of
 nodes_of-keep [] line nodes e = absurd cc
 nodes_of-keep (b ∷ bs) line nodes e = keep-by (is_problem_kind (kind_of b)) refl (λ some. nodes_of-keep bs line nodes some)
   where
-    keep-by : (t : Bool) → is_problem_kind (kind_of b) ≡ t → (nodes_of bs ≡ Some nodes → nodes_of (bs ++ line ∷ []) ≡ Some nodes) → nodes_of (b ∷ (bs ++ line ∷ [])) ≡ Some nodes
+    keep-by : (t : Bool) → is_problem_kind (kind_of b) ≡ t → (nodes_of bs ≡ Some nodes → nodes_of (bs ++ line ∷ []) ≡ Some nodes) →
+        nodes_of (b ∷ (bs ++ line ∷ [])) ≡ Some nodes
     keep-by true t more = let some : Some (value_at b 2) ≡ Some nodes = (rw t at e) in rw t some
     keep-by false t more = let some : nodes_of bs ≡ Some nodes = (rw t at e) in rw t (more some)
 
@@ -66,7 +70,8 @@ unfolding edges_of
 edges_of-push [] line = refl
 edges_of-push (b ∷ bs) line = push-by (is_edge_kind (kind_of b)) refl (edges_of-push bs line)
   where
-    push-by : (t : Bool) → is_edge_kind (kind_of b) ≡ t → edges_of (bs ++ line ∷ []) ≡ edges_of bs ++ edges_of (line ∷ []) → edges_of (b ∷ (bs ++ line ∷ [])) ≡ edges_of (b ∷ bs) ++ edges_of (line ∷ [])
+    push-by : (t : Bool) → is_edge_kind (kind_of b) ≡ t → edges_of (bs ++ line ∷ []) ≡ edges_of bs ++ edges_of (line ∷ []) →
+        edges_of (b ∷ (bs ++ line ∷ [])) ≡ edges_of (b ∷ bs) ++ edges_of (line ∷ [])
     push-by true t more = simp (t, more)
     push-by false t more = simp (t, more)
 
@@ -82,6 +87,7 @@ pub edge_count-of : (xs : List (ℕ × ℕ)) (lines : List Line) → SameMembers
 unfolding edge_count
 edge_count-of xs lines same = count-same xs (edges_of lines) same
 
-pub edge_count-is : (keys : List (ℕ × ℕ)) (lines : List Line) → IsStrictlySortedBy pair_cmp keys → SameMembers keys (edges_of lines) → length keys ≡ edge_count lines
+pub edge_count-is : (keys : List (ℕ × ℕ)) (lines : List Line) → IsStrictlySortedBy pair_cmp keys → SameMembers keys (edges_of lines) →
+    length keys ≡ edge_count lines
 unfolding edge_count
 edge_count-is keys lines sorted same = count-ascending keys (edges_of lines) sorted same

@@ -1,5 +1,33 @@
 -- Numbers that stop at the greatest `u32`.
-use Rattle.std.proofs.Common.{◌≡◌, ◌<◌, ◌≤◌, ◌+◌, ◌-◌, ◌*◌, ◌&&◌, ◌∙◌, sym, suc, zero, ℕ, Bool, true, false, Some, None, List, [], ◌∷◌, length, drop, get_or, refl, arith, add-one, ap}
+use Rattle.std.proofs.Common.{
+  ◌≡◌,
+  ◌<◌,
+  ◌≤◌,
+  ◌+◌,
+  ◌-◌,
+  ◌*◌,
+  ◌&&◌,
+  ◌∙◌,
+  sym,
+  suc,
+  zero,
+  ℕ,
+  Bool,
+  true,
+  false,
+  Some,
+  None,
+  List,
+  [],
+  ◌∷◌,
+  length,
+  drop,
+  get_or,
+  refl,
+  arith,
+  add-one,
+  ap,
+}
 use Rattle.std.proofs.lemmas.List.{drop_all}
 use Rattle.std.proofs.Math.Seq.{drop-cons}
 use Rattle.std.proofs.lemmas.Bool.{lt-ltb, le-ltb, leb-true, and_parts}
@@ -34,7 +62,8 @@ pub kept_number-some : (field : List ℕ) → 0 < length field → all_ascii_dig
 unfolding number_of
 kept_number-some field some e = rw (lt-ltb 0 (length field) some, e) refl
 
-pub digits-front : (field : List ℕ) (i : ℕ) (b : Bool) → i < length field → is_ascii_digit (get_or field i 0) ≡ b → all_ascii_digits (drop i field) ≡ (b && all_ascii_digits (drop (i + 1) field))
+pub digits-front : (field : List ℕ) (i : ℕ) (b : Bool) → i < length field → is_ascii_digit (get_or field i 0) ≡ b →
+    all_ascii_digits (drop i field) ≡ (b && all_ascii_digits (drop (i + 1) field))
 digits-front field i b h e = rw (add-one, drop-cons field i 0 h, e) refl
 
 pub digit_value-is : (x : ℕ) → 48 ≤ x → x ≤ 57 → digit_value x ≡ x - 48
@@ -43,14 +72,18 @@ digit_value-is x low high = let h : x < 58 = omega arith in rw (le-ltb x 48 low,
 pub digit-range : (x : ℕ) → is_ascii_digit x ≡ true → (48 ≤ x) × (x ≤ 57)
 digit-range x e = let p = and_parts (leb 48 x) (leb x 57) e in (leb-true 48 x p.0, leb-true x 57 p.1)
 
-pub kept-front : (field : List ℕ) (i value digit next : ℕ) → i < length field → is_ascii_digit (get_or field i 0) ≡ true → digit ≡ get_or field i 0 - 48 → next ≡ kept (kept (value * 10) + digit) → kept (digits_value_after 10 value (drop i field)) ≡ kept (digits_value_after 10 next (drop (i + 1) field))
+pub kept-front : (field : List ℕ) (i value digit next : ℕ) → i < length field → is_ascii_digit (get_or field i 0) ≡ true → digit ≡ get_or field i 0 - 48 →
+    next ≡ kept (kept (value * 10) + digit) → kept (digits_value_after 10 value (drop i field)) ≡ kept (digits_value_after 10 next (drop (i + 1) field))
 kept-front field i value digit next h e d n =
     let r = digit-range (get_or field i 0) e in
     let v : digit_value (get_or field i 0) ≡ digit = digit_value-is (get_or field i 0) r.0 r.1 ∙ sym d in
     let same : kept (value * 10 + digit) ≡ kept next = grind (arith, n) in
-    rw (add-one, drop-cons field i 0 h) (kept-after (value * 10 + digit_value (get_or field i 0)) next (drop (suc i) field) (ap (λ x. kept (value * 10 + x)) v ∙ same))
+    rw (add-one, drop-cons field i 0 h) (kept-after (value * 10 + digit_value (get_or field i 0)) next (drop (suc i) field) (ap (λ x. kept (value * 10 + x)) v
+    ∙ same))
 
-pub kept-end : (field : List ℕ) (i value : ℕ) → length field ≤ i → value < 4294967296 → 0 < length field → kept (digits_value_after 10 0 field) ≡ kept (digits_value_after 10 value (drop i field)) → all_ascii_digits field ≡ all_ascii_digits (drop i field) → Some value ≡ kept_number field
+pub kept-end : (field : List ℕ) (i value : ℕ) → length field ≤ i → value < 4294967296 → 0 < length field →
+    kept (digits_value_after 10 0 field) ≡ kept (digits_value_after 10 value (drop i field)) → all_ascii_digits field ≡ all_ascii_digits (drop i field) →
+    Some value ≡ kept_number field
 kept-end field i value h small some e d =
     let all : all_ascii_digits field ≡ true = d ∙ rw (drop_all i field h) refl in
     let v : kept (digits_value_after 10 0 field) ≡ kept value = e ∙ rw (drop_all i field h) refl in

@@ -13,7 +13,17 @@ use Rattle.dimacs_col.specs.Reading.{AllGood, nodes_of, verdict, IsFirstFault, I
 use Rattle.dimacs_col.specs.Pairs.{pair_cmp, same_pair}
 use Rattle.dimacs_col.specs.Bag.{SameMembers}
 use Rattle.dimacs_col.specs.declared.fault.ColFault.{ColFault}
-use Rattle.dimacs_col.specs.declared.fault.ColFault.TheVariants.{NoProblem, SecondProblem, EdgeBeforeProblem, BadField, VertexRange, SelfLoop, TooLarge, UnknownLine, Memory}
+use Rattle.dimacs_col.specs.declared.fault.ColFault.TheVariants.{
+  NoProblem,
+  SecondProblem,
+  EdgeBeforeProblem,
+  BadField,
+  VertexRange,
+  SelfLoop,
+  TooLarge,
+  UnknownLine,
+  Memory,
+}
 use Rattle.dimacs_col.proofs.Members.{pair_total, same_pair-laws, same_pair-exact, members-from_Contains}
 
 -- ---- ascending lists
@@ -44,7 +54,8 @@ above x (y ∷ ys) q all h = elim (first-or q y ys h) [
 not-below : (x y : ℕ × ℕ) → pair_cmp x y ≡ Less → pair_cmp y x ≡ Less → ⊥
 not-below x y f g = let e : Less ≡ ordering_reverse Less = sym f ∙ pair_total.antisymm x y ∙ ap ordering_reverse g in absurd cc
 
-same-heads : (x y : ℕ × ℕ) (xs ys : List (ℕ × ℕ)) → AllByRecursion (λ z. pair_cmp x z ≡ Less) xs → AllByRecursion (λ z. pair_cmp y z ≡ Less) ys → SameMembers (x ∷ xs) (y ∷ ys) → x ≡ y
+same-heads : (x y : ℕ × ℕ) (xs ys : List (ℕ × ℕ)) → AllByRecursion (λ z. pair_cmp x z ≡ Less) xs → AllByRecursion (λ z. pair_cmp y z ≡ Less) ys →
+    SameMembers (x ∷ xs) (y ∷ ys) → x ≡ y
 same-heads x y xs ys f g same = elim (first-or x y ys (sym (same x) ∙ in-front x xs)) [
   | inl is ↦ is
   | inr low ↦ elim (first-or y x xs (same y ∙ in-front y ys)) [
@@ -53,7 +64,8 @@ same-heads x y xs ys f g same = elim (first-or x y ys (sym (same x) ∙ in-front
   ]
 ]
 
-tail-in : (x : ℕ × ℕ) (xs ys : List (ℕ × ℕ)) (q : ℕ × ℕ) → AllByRecursion (λ z. pair_cmp x z ≡ Less) xs → SameMembers (x ∷ xs) (x ∷ ys) → is_member same_pair xs q ≡ true → is_member same_pair ys q ≡ true
+tail-in : (x : ℕ × ℕ) (xs ys : List (ℕ × ℕ)) (q : ℕ × ℕ) → AllByRecursion (λ z. pair_cmp x z ≡ Less) xs → SameMembers (x ∷ xs) (x ∷ ys) →
+    is_member same_pair xs q ≡ true → is_member same_pair ys q ≡ true
 tail-in x xs ys q f same h = elim (first-or q x ys (sym (same q) ∙ behind q x xs h)) [
   | inl is ↦ let low : pair_cmp x x ≡ Less = above x xs x f (subst (λ p. is_member same_pair xs p ≡ true) is h) in absurd (not-below x x low low)
   | inr more ↦ more
@@ -68,7 +80,8 @@ same-list (x ∷ xs) (y ∷ ys) f g same =
     let is : x ≡ y = same-heads x y xs ys f.0 g.0 same in
     let both : SameMembers (x ∷ xs) (x ∷ ys) = subst (λ z. SameMembers (x ∷ xs) (z ∷ ys)) (sym is) same in
     let low : AllByRecursion (λ z. pair_cmp x z ≡ Less) ys = subst (λ p. AllByRecursion (λ z. pair_cmp p z ≡ Less) ys) (sym is) g.0 in
-    let rest : xs ≡ ys = same-list xs ys f.1 g.1 (λ q. both_ways (is_member same_pair xs q) (is_member same_pair ys q) (λ h. tail-in x xs ys q f.0 both h) (λ h. tail-in x ys xs q low (λ p. sym (both p)) h)) in
+    let rest : xs ≡ ys = same-list xs ys f.1 g.1 (λ q. both_ways (is_member same_pair xs q) (is_member same_pair ys q) (λ h. tail-in x xs ys q f.0 both h)
+    (λ h. tail-in x ys xs q low (λ p. sym (both p)) h)) in
     ap (λ zs. x ∷ zs) rest ∙ ap (λ z. z ∷ ys) is
 
 -- ---- graphs
@@ -110,7 +123,8 @@ graph-or_fault lines n edges fault g h = elim (told lines fault h) [
 ]
 
 -- two places in a list
-two-places : (b : List Line) (l : Line) (a : List Line) (c : List Line) (k : Line) (d : List Line) → b ++ l ∷ a ≡ c ++ k ∷ d → ((b ≡ c) × (l ≡ k)) ⊎ (((m : List Line) × (b ≡ c ++ k ∷ m)) ⊎ ((m : List Line) × (c ≡ b ++ l ∷ m)))
+two-places : (b : List Line) (l : Line) (a : List Line) (c : List Line) (k : Line) (d : List Line) → b ++ l ∷ a ≡ c ++ k ∷ d →
+    ((b ≡ c) × (l ≡ k)) ⊎ (((m : List Line) × (b ≡ c ++ k ∷ m)) ⊎ ((m : List Line) × (c ≡ b ++ l ∷ m)))
 two-places [] l a [] k d e = inl (refl, cc)
 two-places [] l a (y ∷ ys) k d e = let h : l ≡ y = cc in inr (inr (ys, cc))
 two-places (x ∷ xs) l a [] k d e = let h : x ≡ k = cc in inr (inl (xs, cc))

@@ -1,5 +1,31 @@
 -- The verdict of a line, from what the reader finds on it.
-use Rattle.std.proofs.Common.{◌≡◌, ◌<◌, ◌≤◌, ◌+◌, ◌++◌, ◌⊎◌, ◌||◌, ◌&&◌, ◌==◌, not, nat_lt, ℕ, Bool, true, false, Option, Some, None, List, [], ◌∷◌, refl, ap, arith, drop}
+use Rattle.std.proofs.Common.{
+  ◌≡◌,
+  ◌<◌,
+  ◌≤◌,
+  ◌+◌,
+  ◌++◌,
+  ◌⊎◌,
+  ◌||◌,
+  ◌&&◌,
+  ◌==◌,
+  not,
+  nat_lt,
+  ℕ,
+  Bool,
+  true,
+  false,
+  Option,
+  Some,
+  None,
+  List,
+  [],
+  ◌∷◌,
+  refl,
+  ap,
+  arith,
+  drop,
+}
 use Rattle.std.proofs.lemmas.Bool.Decides.{nat_tests}
 use Rattle.dimacs_col.specs.declared.limits.TheConstants.{MAX_NODES, MAX_EDGES}
 use Rattle.dimacs_col.specs.Lines.{Line, number_of}
@@ -38,7 +64,13 @@ kept-from field v e = from-by (number_of field) refl
 abbrev pub is_outside : ℕ → ℕ → Bool
 is_outside nodes v = not (nat_lt 0 v && not (nat_lt nodes v))
 
-pub verdict-edge : (before : List Line) (word : List ℕ) (fields : Line) (nodes m n : ℕ) (b1 b2 b3 : Bool) → kind_of_word word ≡ Edge → nodes_of before ≡ Some nodes → number_of (field_at fields 0) ≡ Some m → number_of (field_at fields 1) ≡ Some n → (is_outside nodes m || is_outside nodes n) ≡ b1 → (m == n) ≡ b2 → nat_lt MAX_EDGES (edge_count (before ++ (word ∷ fields) ∷ [])) ≡ b3 → verdict before (word ∷ fields) ≡ first_of ((b1, VertexRange (number_after before)) ∷ (b2, SelfLoop (number_after before)) ∷ (b3, TooLarge (number_after before)) ∷ [])
+pub verdict-edge : (before : List Line) (word : List ℕ) (fields : Line) (nodes m n : ℕ) (b1 b2 b3 : Bool) → kind_of_word word ≡ Edge →
+    nodes_of before ≡ Some nodes → number_of (field_at fields 0) ≡ Some m → number_of (field_at fields 1) ≡ Some n →
+    (is_outside nodes m || is_outside nodes n) ≡ b1 → (m == n) ≡ b2 → nat_lt MAX_EDGES (edge_count (before ++ (word ∷ fields) ∷ [])) ≡ b3 →
+    verdict before (word ∷ fields) ≡ first_of ((b1, VertexRange (number_after before)) ∷ (b2, SelfLoop (number_after before)) ∷ (
+      b3,
+      TooLarge (number_after before),
+    ) ∷ [])
 unfolding verdict
 verdict-edge before word fields nodes m n b1 b2 b3 k o p q e1 e2 e3 = simp (k, o, p, q, e1, e2, e3)
 
@@ -65,7 +97,9 @@ with-first (f ∷ fs) word e = let h : f ≡ word = cc in ap kind_of_word h
 pub field_at-drop : (line : Line) (m n : ℕ) → field_at (drop m line) n ≡ field_at line (m + n)
 field_at-drop line m n = get_or-drop m line n []
 
-pub verdict-problem : (before : List Line) (word : List ℕ) (fields : Line) (m n : ℕ) → kind_of_word word ≡ Problem → nodes_of before ≡ None → is_format (field_at fields 0) ≡ true → number_of (field_at fields 1) ≡ Some m → number_of (field_at fields 2) ≡ Some n → m ≤ MAX_NODES → verdict before (word ∷ fields) ≡ None
+pub verdict-problem : (before : List Line) (word : List ℕ) (fields : Line) (m n : ℕ) → kind_of_word word ≡ Problem → nodes_of before ≡ None →
+    is_format (field_at fields 0) ≡ true → number_of (field_at fields 1) ≡ Some m → number_of (field_at fields 2) ≡ Some n → m ≤ MAX_NODES →
+    verdict before (word ∷ fields) ≡ None
 unfolding verdict
 verdict-problem before word fields m n k o f p q small = simp (k, o, f, p, q, le-ltb MAX_NODES m small)
 
@@ -73,7 +107,8 @@ pub none-from : (o : Option ℕ) → is_some o ≡ false → o ≡ None
 none-from None e = refl
 none-from (Some n) e = absurd cc
 
-pub outside-any : (nodes m n v w : ℕ) → nodes ≤ MAX_NODES → v ≡ kept m → w ≡ kept n → (0 < v → v ≤ nodes → 0 < w → w ≤ nodes → ⊥) → (is_outside nodes m || is_outside nodes n) ≡ true
+pub outside-any : (nodes m n v w : ℕ) → nodes ≤ MAX_NODES → v ≡ kept m → w ≡ kept n → (0 < v → v ≤ nodes → 0 < w → w ≤ nodes → ⊥) →
+    (is_outside nodes m || is_outside nodes n) ≡ true
 outside-any nodes m n v w small a b bad = grind (arith, nat_tests)
 
 pub differ : (m n : ℕ) → (m ≡ n → ⊥) → (m == n) ≡ false

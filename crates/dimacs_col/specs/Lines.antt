@@ -1,5 +1,6 @@
 -- How a text is cut into lines and a line into fields, and which number a field is.
-use Rattle.std.specs.Prelude.{ℕ, Bool, Option, Some, None, List, [], map, filter, length, nat_lt, not, ◌==◌, ◌||◌, if◌then◌else◌, is_none, unwrap_or}
+use Rattle.std.specs.Prelude.{ℕ, Bool, nat_lt, not, ◌==◌, ◌||◌, if◌then◌else◌, List, [], map, filter, length}
+use Rattle.std.specs.Prelude.{Option, Some, None, is_none, unwrap_or}
 use Rattle.std.specs.List.{slice_split, slice_index_or}
 use Rattle.std.specs.Str.{all_ascii_digits}
 use Rattle.std.specs.Str.Lines.{strip_carriage_return}
@@ -16,7 +17,7 @@ is_blank byte = byte == 32 || byte == 9
 abbrev pub is_part : ℕ → Bool
 is_part byte = not (is_blank byte)
 
--- what stands between two blanks side by side is no field
+-- between two blanks side by side there is no field
 abbrev pub is_field : List ℕ → Bool
 is_field part = nat_lt 0 (length part)
 
@@ -31,11 +32,12 @@ line_of bytes = fields_of (strip_carriage_return bytes)
 unfoldable pub lines_of : List ℕ → List Line
 lines_of text = map line_of (slice_split (λ byte. byte == 10) text)
 
--- the number that a field spells, where it is one or more digits
+-- the number that a field spells, if it is one or more digits
 unfoldable pub number_of : List ℕ → Option ℕ
-number_of field = if is_field field then (if all_ascii_digits field then Some (digits_value 10 field) else None) else None
+number_of field =
+    if is_field field then (if all_ascii_digits field then Some (digits_value 10 field) else None) else None
 
--- the field at a place of a line, counted from 0; where it is missing, the empty one, which is no number
+-- the field at a place of a line, counted from 0; if it is missing, the empty one, which is no number
 abbrev pub field_at : Line → ℕ → List ℕ
 field_at line place = slice_index_or line place []
 
@@ -45,6 +47,6 @@ number_at line place = number_of (field_at line place)
 abbrev pub no_number_at : Line → ℕ → Bool
 no_number_at line place = is_none (number_at line place)
 
--- the number at a place where there is one
+-- the number at a place, if there is one
 abbrev pub value_at : Line → ℕ → ℕ
 value_at line place = unwrap_or (number_at line place) 0

@@ -1,5 +1,6 @@
 -- The reading of a text: the verdict of a line after the lines before it, the first fault, and the graph.
-use Rattle.std.specs.Prelude.{ℕ, Bool, true, Option, Some, None, List, [], ◌∷◌, ◌++◌, ◌+◌, ◌≡◌, ◌↔◌, length, min, max, not, nat_lt, ◌==◌, ◌||◌, ◌&&◌, if◌then◌else◌, is_some, unwrap_or, Contains}
+use Rattle.std.specs.Prelude.{◌≡◌, ◌↔◌, ℕ, ◌+◌, min, max, nat_lt, ◌==◌, Bool, true, not, ◌||◌, ◌&&◌, if◌then◌else◌}
+use Rattle.std.specs.Prelude.{Option, Some, None, is_some, unwrap_or, List, [], ◌∷◌, ◌++◌, length, Contains}
 use Rattle.std.specs.List.Sorted.{IsStrictlySortedBy}
 use Rattle.std.specs.Set.{distinct_count}
 use Rattle.dimacs_col.specs.Lines.{Line, field_at, no_number_at, value_at}
@@ -9,7 +10,9 @@ use Rattle.dimacs_col.specs.declared.limits.TheConstants.{MAX_NODES, MAX_EDGES}
 use Rattle.dimacs_col.specs.declared.kind.Kind.{Kind}
 use Rattle.dimacs_col.specs.declared.kind.Kind.TheVariants.{Skipped, Problem, Edge, Unknown}
 use Rattle.dimacs_col.specs.declared.fault.ColFault.{ColFault}
-use Rattle.dimacs_col.specs.declared.fault.ColFault.TheVariants.{NoProblem, SecondProblem, EdgeBeforeProblem, BadField, VertexRange, SelfLoop, TooLarge, UnknownLine, Memory}
+use Rattle.dimacs_col.specs.declared.fault.ColFault.TheVariants.{NoProblem, SecondProblem, EdgeBeforeProblem}
+use Rattle.dimacs_col.specs.declared.fault.ColFault.TheVariants.{BadField, VertexRange, SelfLoop, TooLarge}
+use Rattle.dimacs_col.specs.declared.fault.ColFault.TheVariants.{UnknownLine, Memory}
 
 -- NODES of the first problem line
 unfoldable pub nodes_of : List Line → Option ℕ
@@ -40,7 +43,7 @@ is_vertex before v = nat_lt 0 v && not (nat_lt (unwrap_or (nodes_of before) 0) v
 abbrev pub number_after : List Line → ℕ
 number_after before = length before + 1
 
--- what can be wrong with a line of a kind, in the order in which it is looked for
+-- what can be wrong with a line of a kind, in the order in which it is tested
 abbrev pub faults_of : Kind → List Line → Line → List (Bool × ColFault)
 faults_of Skipped before line = []
 faults_of Problem before line =
@@ -51,7 +54,10 @@ faults_of Problem before line =
 faults_of Edge before line =
     (not (has_problem before), EdgeBeforeProblem (number_after before))
     ∷ (no_number_at line 1 || no_number_at line 2, BadField (number_after before))
-    ∷ (not (is_vertex before (value_at line 1)) || not (is_vertex before (value_at line 2)), VertexRange (number_after before))
+    ∷ (
+      not (is_vertex before (value_at line 1)) || not (is_vertex before (value_at line 2)),
+      VertexRange (number_after before),
+    )
     ∷ (value_at line 1 == value_at line 2, SelfLoop (number_after before))
     ∷ (nat_lt MAX_EDGES (edge_count (before ++ line ∷ [])), TooLarge (number_after before))
     ∷ []
@@ -62,13 +68,14 @@ abbrev pub first_of : List (Bool × ColFault) → Option ColFault
 first_of [] = None
 first_of (row ∷ rows) = if row.0 then Some row.1 else first_of rows
 
--- the verdict of a line after the lines before it: its first fault, or none where it is good
+-- the verdict of a line after the lines before it: its first fault, or none if it is good
 unfoldable pub verdict : List Line → Line → Option ColFault
 verdict before line = first_of (faults_of (kind_of line) before line)
 
 -- every line is good after those before it
 abbrev pub AllGood : List Line → Type 0
-AllGood lines = (before : List Line) (line : Line) (after : List Line) → lines ≡ before ++ line ∷ after → verdict before line ≡ None
+AllGood lines = (before : List Line) (line : Line) (after : List Line) → lines ≡ before ++ line ∷ after →
+    verdict before line ≡ None
 
 -- the fault is that of a line, and the lines before it are good
 pub record IsFirstFault (lines : List Line) (fault : ColFault) : Type 0 where
@@ -79,7 +86,7 @@ pub record IsFirstFault (lines : List Line) (fault : ColFault) : Type 0 where
   pub good : AllGood before
   pub told : verdict before line ≡ Some fault
 
--- the fault that is told of the lines; want of memory says nothing of them
+-- the fault of the lines; `Memory` says nothing of them
 abbrev pub IsFault : List Line → ColFault → Type 0
 IsFault lines Memory = Unit {0}
 IsFault lines NoProblem = AllGood lines × (nodes_of lines ≡ None)

@@ -11,7 +11,7 @@ use Rattle.dimacs_col.specs.declared.reader.Reader.{Reader}
 use Rattle.dimacs_col.specs.declared.fault.ColFault.{ColFault}
 use Rattle.dimacs_col.specs.declared.fault.ColFault.TheVariants.{NoProblem, Memory}
 
--- a number as a reader keeps it: one that is too great for a `u32` is the greatest `u32`
+-- a number as a reader keeps it: one above the greatest `u32` becomes the greatest `u32`
 abbrev pub kept : ℕ → ℕ
 kept n = min n 4294967295
 
@@ -33,7 +33,7 @@ IsVerdict Memory told = Unit {0}
 IsVerdict NoProblem told = ⊥
 IsVerdict fault told = told ≡ Some fault
 
--- after a line the reader knows it too, or its verdict is told
+-- after a line the reader knows that line too, or its verdict is the error
 abbrev pub Judged : List Line → Line → Reader → Result (Unit {0}) ColFault → Type 0
 Judged before line reader (Ok _) = Knows (before ++ line ∷ []) reader
 Judged before line reader (Err fault) = IsVerdict fault (verdict before line)

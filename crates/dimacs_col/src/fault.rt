@@ -1,4 +1,5 @@
-// Why a text is refused.
+//! Why a text is refused.
+
 ghost use Rattle.std.specs.Prelude.{◌≡◌};
 ghost use Rattle.dimacs_col.specs.declared.fault.ColFault.TheVariants.{Memory};
 

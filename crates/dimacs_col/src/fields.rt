@@ -1,8 +1,9 @@
-// The fields of a line that are left, and the numbers in them.
+//! The fields of a line, and the numbers in them.
+
 ghost use Rattle.std.specs.Prelude.{◌≡◌, ◌≤◌, drop, length, slice_get};
 ghost use Rattle.std.specs.List.{prefix_len};
 ghost use Rattle.std.specs.Option.{option_copied};
-ghost use Rattle.dimacs_col.specs.Lines.{fields_of, field_at, is_blank as is_a_blank, is_part};
+ghost use Rattle.dimacs_col.specs.Lines.{fields_of, field_at, is_blank, is_part};
 ghost use Rattle.dimacs_col.specs.State.{kept_number};
 
 use std::marker::Model;
@@ -22,15 +23,16 @@ impl<'a> Model for Fields<'a> {
     ghost view = { λ fields. fields_of fields.rest.now };
 }
 
+// Whether a byte parts fields.
 fn is_blank(byte: u8) -> bool
-    ensures { result ≡ is_a_blank byte }
+    ensures { result ≡ is_blank byte }
 {
     byte == b' ' || byte == b'\t'
 }
 
 // How many blanks a text begins with.
 fn blank_len(text: &[u8]) -> usize
-    ensures value { result ≡ prefix_len is_a_blank text.now }
+    ensures value { result ≡ prefix_len is_blank text.now }
     ensures within { result ≤ length text.now }
 {
     text.iter().take_while(|byte| is_blank(**byte)).count()
@@ -52,7 +54,7 @@ impl<'a> Fields<'a> {
         Fields { rest: line }
     }
 
-    /// Takes the next field; `None` where there is none.
+    /// Takes the next field; `None` if there is none.
     pub fn next(&mut self) -> Option<&'a [u8]>
         ensures first { option_copied result ≡ slice_get self.old 0 }
         ensures rest { self.new ≡ drop 1 self.old }
@@ -63,7 +65,7 @@ impl<'a> Fields<'a> {
         if field.is_empty() { None } else { Some(field) }
     }
 
-    /// Takes the next field as a number; `None` where it is missing or no number.
+    /// Takes the next field as a number; `None` if it is missing or no number.
     pub fn next_number(&mut self) -> Option<u32>
         ensures first { result ≡ kept_number (field_at self.old 0) }
         ensures rest { self.new ≡ drop 1 self.old }
@@ -72,7 +74,8 @@ impl<'a> Fields<'a> {
     }
 }
 
-/// The number that the digits of a field spell, or the greatest `u32` where it is above that.
+/// The number that the digits of a field spell, or the greatest `u32` if it is above that; `None` if
+/// it is no number.
 pub fn number(field: &[u8]) -> Option<u32>
     ensures { result ≡ kept_number field.now }
 {

@@ -1,7 +1,9 @@
-// What the first field of a line says of it.
-ghost use Rattle.std.specs.Prelude.{◌≡◌};
-ghost use Rattle.dimacs_col.specs.Kinds.{kind_of_word, is_format as is_a_format};
+//! The kind of a line, by its first field.
 
+ghost use Rattle.std.specs.Prelude.{◌≡◌};
+ghost use Rattle.dimacs_col.specs.Kinds.{kind_of_word, is_format};
+
+/// What a line is.
 #[derive(Clone, Copy, Debug, PartialEq, Eq)]
 pub enum Kind {
     Skipped,
@@ -11,6 +13,7 @@ pub enum Kind {
 }
 
 impl Kind {
+    /// The kind of a line with this first field.
     #[tactic(auto, unfolding(crate::specs::Kinds::kind_of_word))]
     pub fn of(first: &[u8]) -> Kind
         ensures { result ≡ kind_of_word first.now }
@@ -27,7 +30,7 @@ impl Kind {
 /// Whether a word is a FORMAT of a problem line.
 #[tactic(auto, unfolding(crate::specs::Kinds::is_format))]
 pub fn is_format(word: &[u8]) -> bool
-    ensures { result ≡ is_a_format word.now }
+    ensures { result ≡ is_format word.now }
 {
     matches!(word, b"edge" | b"edges" | b"col")
 }

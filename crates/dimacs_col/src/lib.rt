@@ -1,7 +1,7 @@
 //! Reads a graph in the DIMACS colouring format: its number of vertices and its set of edges, or
 //! the first fault of the text.
 //!
-//! `interference` builds its network from what `read` answers, and `forestplan` reads its input by
+//! `interference` builds its network from what `read` returns, and `forestplan` reads its input with
 //! it.
 //!
 //! ```text
@@ -13,7 +13,8 @@
 //!
 //! reads as `ColFile { nodes: 3, edges: [(1, 2), (2, 3)] }`.
 //!
-//! Limits: 20,000 vertices and 400,000 distinct edges. The text is read from memory as a whole.
+//! Limits: `MAX_NODES` (20,000) vertices and `MAX_EDGES` (400,000) distinct edges. The text is read
+//! from memory as a whole.
 #![tactic(auto)]
 
 mod bag;
@@ -29,6 +30,3 @@ pub use fields::Fields;
 pub use laws::reading_is_one;
 pub use limits::{MAX_EDGES, MAX_NODES};
 pub use reader::{ColFile, read, without_carriage_return};
-
-#[cfg(test)]
-mod tests;

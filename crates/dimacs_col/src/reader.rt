@@ -1,8 +1,10 @@
-// The reader: one step a line, and the file at the end.
-ghost use Rattle.std.specs.Prelude.{◌≡◌, ◌+◌, ◌^◌, ◌<◌, ◌++◌, ◌∷◌, [], List, ℕ, drop, length, min, max, IfOk, IfErr};
+//! The reader: one step a line, and the graph at the end.
+
+ghost use Rattle.std.specs.Prelude.{◌≡◌, ◌+◌, ◌^◌, ◌<◌, ◌++◌, ◌∷◌, [], List, ℕ};
+ghost use Rattle.std.specs.Prelude.{drop, length, min, max, IfOk, IfErr};
 ghost use Rattle.std.specs.Str.Lines.{strip_carriage_return};
 ghost use Rattle.dimacs_col.specs.Lines.{Line, fields_of, lines_of, field_at};
-ghost use Rattle.dimacs_col.specs.Kinds.{kind_of_word, is_format as is_a_format};
+ghost use Rattle.dimacs_col.specs.Kinds.{kind_of_word, is_format};
 ghost use Rattle.dimacs_col.specs.Reading.{number_after, IsFault, IsGraph};
 ghost use Rattle.dimacs_col.specs.Pairs.{IsWithinLimits};
 ghost use Rattle.dimacs_col.specs.State.{Knows, Judged};
@@ -26,14 +28,14 @@ pub struct ColFile {
 struct Reader {
     // The number of the last line, from 1.
     line: usize,
-    // NODES of the problem line, once it came.
+    // NODES of the problem line, if it has been read.
     nodes: Option<u32>,
     edges: EdgeBag,
 }
 
 // Whether the next field is a known FORMAT.
 fn next_is_format(fields: &mut Fields) -> bool
-    ensures first { result ≡ is_a_format (field_at fields.old 0) }
+    ensures first { result ≡ is_format (field_at fields.old 0) }
     ensures rest { fields.new ≡ drop 1 fields.old }
 {
     match fields.next() {
@@ -43,6 +45,7 @@ fn next_is_format(fields: &mut Fields) -> bool
 }
 
 impl Reader {
+    // A reader before the first line.
     fn new(alloc: Global) -> Reader
         ensures knows { Knows [] result }
         ensures line { result.line ≡ 0 }
@@ -54,10 +57,11 @@ impl Reader {
         }
     }
 
-    /// Takes the next line.
+    // Takes the next line.
     fn step(&mut self, alloc: Global, line: &[u8]) -> Result<(), ColFault>
         requires { self.old.line + 1 < 2 ^ 64 }
-        ensures judged { (before : List Line) → Knows before self.old → self.old.line ≡ length before → Judged before (fields_of line.now) self.new result }
+        ensures judged { (before : List Line) → Knows before self.old → self.old.line ≡ length before →
+            Judged before (fields_of line.now) self.new result }
         ensures line { self.new.line ≡ self.old.line + 1 }
     {
         self.line += 1;
@@ -73,9 +77,12 @@ impl Reader {
         }
     }
 
+    // Takes a problem line, whose first field is taken already.
     #[tactic(auto, unfolding(crate::specs::Reading::verdict))]
     fn problem(&mut self, mut fields: Fields) -> Result<(), ColFault>
-        ensures judged { (before : List Line) (word : List ℕ) → Knows before self.old → self.old.line ≡ number_after before → kind_of_word word ≡ Kind.Problem → Judged before (word ∷ fields.entry) self.new result }
+        ensures judged { (before : List Line) (word : List ℕ) → Knows before self.old →
+            self.old.line ≡ number_after before → kind_of_word word ≡ Kind.Problem →
+            Judged before (word ∷ fields.entry) self.new result }
         ensures line { self.new.line ≡ self.old.line }
     {
         if self.nodes.is_some() {
@@ -94,9 +101,12 @@ impl Reader {
         Ok(())
     }
 
+    // Takes an edge line, whose first field is taken already.
     #[tactic(auto, unfolding(crate::specs::Reading::verdict))]
     fn edge(&mut self, alloc: Global, mut fields: Fields) -> Result<(), ColFault>
-        ensures judged { (before : List Line) (word : List ℕ) → Knows before self.old → self.old.line ≡ number_after before → kind_of_word word ≡ Kind.Edge → Judged before (word ∷ fields.entry) self.new result }
+        ensures judged { (before : List Line) (word : List ℕ) → Knows before self.old →
+            self.old.line ≡ number_after before → kind_of_word word ≡ Kind.Edge →
+            Judged before (word ∷ fields.entry) self.new result }
         ensures line { self.new.line ≡ self.old.line }
     {
         let Some(nodes) = self.nodes else {
@@ -118,9 +128,12 @@ impl Reader {
         Ok(())
     }
 
+    // The graph of the lines taken.
     fn finish(self, alloc: Global) -> Result<ColFile, ColFault>
-        ensures ok { (lines : List Line) → Knows lines self → IfOk result (λ file. IsGraph lines file.nodes file.edges.items) }
-        ensures limits { (lines : List Line) → Knows lines self → IfOk result (λ file. IsWithinLimits file.nodes file.edges.items) }
+        ensures ok { (lines : List Line) → Knows lines self →
+            IfOk result (λ file. IsGraph lines file.nodes file.edges.items) }
+        ensures limits { (lines : List Line) → Knows lines self →
+            IfOk result (λ file. IsWithinLimits file.nodes file.edges.items) }
         ensures fault { (lines : List Line) → Knows lines self → IfErr result (IsFault lines) }
     {
         let Some(nodes) = self.nodes else {
@@ -147,13 +160,17 @@ pub fn without_carriage_return(line: &[u8]) -> &[u8]
     line.strip_suffix(b"\r").unwrap_or(line)
 }
 
-/// The graph that a text in the DIMACS colouring format describes, or the first fault of the text.
+/// The graph that a text in the DIMACS colouring format describes.
 ///
 /// The format is that of the second DIMACS implementation challenge (1993): lines `c`, `p FORMAT
 /// NODES EDGES` and `e V W`, the problem line first. EDGES is a number and is compared with
 /// nothing; an edge that comes again, in either direction, counts once; fields past the last one
-/// that is needed are ignored, and so are lines `n`, `d`, `v` and `x`. `Memory` comes only where a
-/// growth was refused, and a refusal leaves nothing behind.
+/// that is needed are ignored, and so are lines `n`, `d`, `v` and `x`. Vertices count from 1.
+///
+/// # Errors
+///
+/// The fault of the first line that has one, or `NoProblem` if all lines are good and none is a
+/// problem line. `Memory` only if a growth is refused. A refusal leaves nothing behind.
 pub fn read(alloc: Global, text: &[u8]) -> Result<ColFile, ColFault>
     ensures ok { IfOk result (λ file. IsGraph (lines_of text.now) file.nodes file.edges.items) }
     ensures limits { IfOk result (λ file. IsWithinLimits file.nodes file.edges.items) }

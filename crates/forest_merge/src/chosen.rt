@@ -1,6 +1,7 @@
 //! The set of colours that neighbours have chosen.
+
 ghost use Rattle.std.specs.Prelude.{◌≡◌, ◌<◌, ℕ, true, false};
-ghost use Rattle.std.specs.FinSet as set;
+ghost use Rattle.std.specs.FinSet.{contains, empty, insert};
 
 use std::marker::Model;
 
@@ -17,14 +18,14 @@ pub struct ChosenSet {
 }
 
 impl Model for ChosenSet {
-    ghost use Rattle.std.specs.FinSet as set;
+    ghost use Rattle.std.specs.FinSet.{FinSet, code};
     ghost use Rattle.std.specs.Ordering.{nat_cmp};
     ghost use Rattle.std.specs.Coded.{coded_ℕ};
     ghost use Rattle.forest_merge.specs.Words.{colours_of};
 
-    ghost Value = { set.FinSet nat_cmp };
+    ghost Value = { FinSet nat_cmp };
 
-    ghost coded = { set.code coded_ℕ };
+    ghost coded = { code coded_ℕ };
 
     // bit b of word w is the colour 64 * w + b
     ghost view = { λ a. colours_of a.words };
@@ -33,7 +34,7 @@ impl Model for ChosenSet {
 impl ChosenSet {
     /// The empty set, with room for the colours 0 to 1,023.
     pub fn new() -> Self
-        ensures empty { result ≡ set.empty }
+        ensures empty { result ≡ empty }
         ensures room { COLOURS ≡ 1024 }
     {
         Self { words: [0; WORDS] }
@@ -48,7 +49,7 @@ impl ChosenSet {
 
     /// Empties the set.
     pub fn clear(&mut self)
-        ensures { self.new ≡ set.empty }
+        ensures { self.new ≡ empty }
     {
         self.words = [0; WORDS];
     }
@@ -56,7 +57,7 @@ impl ChosenSet {
     /// Puts a colour into the set; one that is there already stays.
     pub fn add(&mut self, colour: u16)
         requires { colour < COLOURS }
-        ensures { self.new ≡ set.insert self.old colour }
+        ensures { self.new ≡ insert self.old colour }
     {
         self.words[colour as usize / 64] |= 1 << (colour % 64);
     }
@@ -64,15 +65,15 @@ impl ChosenSet {
     /// Whether a colour is in the set.
     pub fn has(&self, colour: u16) -> bool
         requires { colour < COLOURS }
-        ensures { result ≡ set.contains self.now colour }
+        ensures { result ≡ contains self.now colour }
     {
         self.words[colour as usize / 64] & (1 << (colour % 64)) != 0
     }
 
-    // The least colour that is not in the set: `COLOURS` where the set is full.
+    // The least colour that is not in the set: `COLOURS` if the set is full.
     pub(crate) fn first_free(&self) -> u16
-        ensures free { set.contains self.now result ≡ false }
-        ensures first { (c : ℕ) → c < result → set.contains self.now c ≡ true }
+        ensures free { contains self.now result ≡ false }
+        ensures first { (c : ℕ) → c < result → contains self.now c ≡ true }
     {
         for (i, word) in self.words.iter().enumerate() {
             if *word != u64::MAX {

@@ -25,6 +25,3 @@ mod step;
 pub use chosen::{COLOURS, ChosenSet};
 pub use free::{has_free, least_free};
 pub use step::step_of;
-
-#[cfg(test)]
-mod tests;

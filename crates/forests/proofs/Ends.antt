@@ -31,11 +31,13 @@ down-role net v w f e =
 
 pub to-up : (net : Net) (v w : ℕ) → id_of net v < id_of net w → role_of net v w ≡ Up (number net v w)
 unfolding role_of
-to-up net v w h = let e : nat_lt (id_of net v) (id_of net w) ≡ true = lt-ltb (id_of net v) (id_of net w) h in ap (λ (b : Bool). if b then Up (number net v w) else Down (number net v w)) e
+to-up net v w h = let e : nat_lt (id_of net v) (id_of net w) ≡ true = lt-ltb (id_of net v) (id_of net w) h in
+    ap (λ (b : Bool). if b then Up (number net v w) else Down (number net v w)) e
 
 pub to-down : (net : Net) (v w : ℕ) → id_of net w ≤ id_of net v → role_of net v w ≡ Down (number net v w)
 unfolding role_of
-to-down net v w h = let e : nat_lt (id_of net v) (id_of net w) ≡ false = le-ltb (id_of net v) (id_of net w) h in ap (λ (b : Bool). if b then Up (number net v w) else Down (number net v w)) e
+to-down net v w h = let e : nat_lt (id_of net v) (id_of net w) ≡ false = le-ltb (id_of net v) (id_of net w) h in
+    ap (λ (b : Bool). if b then Up (number net v w) else Down (number net v w)) e
 
 role_if_known : (b : Bool) (x : ℕ) → (if b then Up x else Down x) ≡ Unknown → ⊥
 role_if_known true x e = absurd (cc)
@@ -54,7 +56,8 @@ module _ (net : Net) (ok : IsNetwork net) (v w : ℕ) (vertex : IsVertex net v) 
 
   pub up-parent : (f : ℕ) → (role_of net v w ≡ Up f) ↔ (parent net f v ≡ Some w)
   up-parent f = (
-    λ e. let both : (id_of net v < id_of net w) × (number net v w ≡ f) = up-role net v w f e in ap (λ g. parent net g v) (sym both.1) ∙ number-parent net ok v vertex w has both.0,
+    λ e. let both : (id_of net v < id_of net w) × (number net v w ≡ f) = up-role net v w f e in ap (λ g. parent net g v) (sym both.1) ∙
+        number-parent net ok v vertex w has both.0,
     λ e. to-up net v w (parent-higher net f v w e) ∙ ap (λ g. Up g) (sym (parent-number net ok v vertex f w e)),
   )
 
@@ -63,7 +66,8 @@ module _ (net : Net) (ok : IsNetwork net) (v w : ℕ) (vertex : IsVertex net v) 
     λ e.
         let both : (id_of net w ≤ id_of net v) × (number net v w ≡ f) = down-role net v w f e in
         let ne : id_of net w ≢ id_of net v = ends-apart in
-        ap (λ g. parent net g w) (sym both.1 ∙ number-alike) ∙ number-parent net ok w (neighbour-is_vertex net ok v w vertex has) v (both-ways net ok v w vertex has) (omega (arith, both.0, ne)),
+        ap (λ g. parent net g w) (sym both.1 ∙ number-alike) ∙ number-parent net ok w (neighbour-is_vertex net ok v w vertex has) v
+        (both-ways net ok v w vertex has) (omega (arith, both.0, ne)),
     λ e.
         let above : id_of net w < id_of net v = parent-higher net f w v e in
         to-down net v w (omega arith) ∙ ap (λ g. Down g) (number-alike ∙ sym (parent-number net ok w (neighbour-is_vertex net ok v w vertex has) f v e)),
@@ -77,6 +81,7 @@ module _ (net : Net) (ok : IsNetwork net) (v w : ℕ) (vertex : IsVertex net v) 
           | inl below ↦ parent-below net ok v vertex (number net v w) w (number-parent net ok v vertex w has below)
           | inr above ↦
               let other : IsVertex net w = neighbour-is_vertex net ok v w vertex has in
-              subst (λ (f : ℕ). f < forest_count_of net) (sym number-alike) (parent-below net ok w other (number net w v) v (number-parent net ok w other v (both-ways net ok v w vertex has) above))
+              subst (λ (f : ℕ). f < forest_count_of net) (sym number-alike)
+              (parent-below net ok w other (number net w v) v (number-parent net ok w other v (both-ways net ok v w vertex has) above))
         ]
       ]

@@ -29,27 +29,35 @@ module _ (net : Net) (ok : IsNetwork net) (v w : ℕ) (vertex : IsVertex net v) 
   same-place above =
       let k : ℕ = place_of w (up net v) in
       let low : place_of w (up net v) < length (up net v) = place_of-below w (up net v) (in-up net v w has above) in
-      let apart : AllPairs (λ (x y : ℕ). x ≢ y) (map (id_of net) (up net v)) = keys-apart (id_of net) (up net v) (ascending-apart (id_of net) (up net v) (up-ascends net ok v vertex)) in
-      let at : get_or (map (id_of net) (up net v)) (place_of w (up net v)) 0 ≡ id_of net w = get_or-map (id_of net) (up net v) (place_of w (up net v)) 0 0 low ∙ ap (id_of net) (place_of-is w (up net v) 0 low) in
+      let apart : AllPairs (λ (x y : ℕ). x ≢ y) (map (id_of net) (up net v)) =
+      keys-apart (id_of net) (up net v) (ascending-apart (id_of net) (up net v) (up-ascends net ok v vertex)) in
+      let at : get_or (map (id_of net) (up net v)) (place_of w (up net v)) 0 ≡ id_of net w = get_or-map (id_of net) (up net v) (place_of w (up net v)) 0 0 low
+      ∙ ap (id_of net) (place_of-is w (up net v) 0 low) in
       let long : place_of w (up net v) < length (map (id_of net) (up net v)) = rw (length-map (up net v) (id_of net)) low in
       ap (λ (i : ℕ). place_of i (map (id_of net) (up net v))) (sym at) ∙ place-at (map (id_of net) (up net v)) (place_of w (up net v)) apart long
 
-  same-number : nat_lt (id_of net v) (id_of net w) ≡ true → place_of (id_of net w) (in_order (λ i. i) (filter (nat_lt (id_of net v)) (map (id_of net) (neighbours net v)))) ≡ number net v w
+  same-number : nat_lt (id_of net v) (id_of net w) ≡ true → place_of (id_of net w)
+      (in_order (λ i. i) (filter (nat_lt (id_of net v)) (map (id_of net) (neighbours net v)))) ≡ number net v w
   same-number test = rw test (ap (λ ids. place_of (id_of net w) ids) (ids-above net v) ∙ same-place (ltb-true (id_of net v) (id_of net w) test))
 
-  pub role_by-is : role_by (id_of net v) (map (id_of net) (neighbours net v)) (id_of net w) ≡ (if nat_lt (id_of net v) (id_of net w) then role_of net v w else Unknown)
+  pub role_by-is : role_by (id_of net v) (map (id_of net) (neighbours net v)) (id_of net w)
+      ≡ (if nat_lt (id_of net v) (id_of net w) then role_of net v w else Unknown)
   unfolding role_by role_of
   role_by-is = if-both (nat_lt (id_of net v) (id_of net w)) (number net v w) _ (number net v w) same-number
 
 -- what `number_up` writes at a vertex
-pub roles-are : (net : Net) → IsNetwork net → (v : ℕ) → IsVertex net v → map (role_by (id_of net v) (map (id_of net) (neighbours net v))) (map (id_of net) (neighbours net v)) ≡ map (λ w. if nat_lt (id_of net v) (id_of net w) then role_of net v w else Unknown) (neighbours net v)
+pub roles-are : (net : Net) → IsNetwork net → (v : ℕ) → IsVertex net v →
+    map (role_by (id_of net v) (map (id_of net) (neighbours net v))) (map (id_of net) (neighbours net v))
+    ≡ map (λ w. if nat_lt (id_of net v) (id_of net w) then role_of net v w else Unknown) (neighbours net v)
 roles-are net ok v vertex =
     let own : ℕ = id_of net v in
     let ws : List ℕ = neighbours net v in
     let ids : List ℕ = map (id_of net) ws in
-    same_lists _ _ (length-map ids (role_by own ids) ∙ (length-map ws (id_of net) ∙ sym (length-map ws (λ w. if nat_lt own (id_of net w) then role_of net v w else Unknown))))
+    same_lists _ _ (length-map ids (role_by own ids) ∙ (length-map ws (id_of net) ∙
+    sym (length-map ws (λ w. if nat_lt own (id_of net w) then role_of net v w else Unknown))))
     (λ k d below.
     let long : k < length ids = rw (length-map ids (role_by own ids)) at below in
     let low : k < length ws = rw (length-map ws (id_of net)) at long in
     get_or-map (role_by own ids) ids k 0 d long ∙ (ap (λ (i : ℕ). role_by own ids i) (get_or-map (id_of net) ws k 0 0 low)
-    ∙ (role_by-is net ok v (get_or ws k 0) vertex (Contains-get_or ws k 0 low) ∙ sym (get_or-map (λ w. if nat_lt own (id_of net w) then role_of net v w else Unknown) ws k 0 d low))))
+    ∙ (role_by-is net ok v (get_or ws k 0) vertex (Contains-get_or ws k 0 low) ∙
+    sym (get_or-map (λ w. if nat_lt own (id_of net w) then role_of net v w else Unknown) ws k 0 d low))))

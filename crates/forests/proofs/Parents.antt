@@ -27,7 +27,8 @@ module _ (net : Net) (v w : ℕ) where
 
   from-up : Contains (up net v) w → Contains (higher net v) w
   unfolding up
-  from-up has = Contains-permutation (in_order (id_of net) (higher net v)) (higher net v) w (IsPermutation-sym (higher net v) (in_order (id_of net) (higher net v)) (order-moves (id_of net) (higher net v))) has
+  from-up has = Contains-permutation (in_order (id_of net) (higher net v)) (higher net v) w
+      (IsPermutation-sym (higher net v) (in_order (id_of net) (higher net v)) (order-moves (id_of net) (higher net v))) has
 
   pub up-neighbour : Contains (up net v) w → Contains (neighbours net v) w
   up-neighbour has = Contains-from_filter (λ u. nat_lt (id_of net v) (id_of net u)) (neighbours net v) w (from-up has)
@@ -66,14 +67,22 @@ module _ (net : Net) (ok : IsNetwork net) (v : ℕ) (vertex : IsVertex net v) wh
       let low : place_of w (up net v) < length (up net v) = place_of-below w (up net v) has in
       let test : ℕ → Bool = λ u. nat_lt (id_of net u) (id_of net w) in
       let at : count_by (λ u. nat_lt (id_of net u) (id_of net w)) (up net v) ≡ place_of w (up net v) =
-      subst (λ (z : ℕ). count_by (λ u. nat_lt (id_of net u) (id_of net z)) (up net v) ≡ place_of w (up net v)) (place_of-is w (up net v) 0 low) (rank-at (id_of net) (up net v) (place_of w (up net v)) 0 up-ascends low) in
-      sym at ∙ (count-moved (λ u. nat_lt (id_of net u) (id_of net w)) (higher net v) (in_order (id_of net) (higher net v)) (order-moves (id_of net) (higher net v))
+      subst (λ (z : ℕ). count_by (λ u. nat_lt (id_of net u) (id_of net z)) (up net v) ≡ place_of w (up net v)) (place_of-is w (up net v) 0 low)
+      (rank-at (id_of net) (up net v) (place_of w (up net v)) 0 up-ascends low) in
+      sym at ∙ (count-moved (λ u. nat_lt (id_of net u) (id_of net w)) (higher net v) (in_order (id_of net) (higher net v))
+      (order-moves (id_of net) (higher net v))
       ∙ count-filtered (λ u. nat_lt (id_of net v) (id_of net u)) (λ u. nat_lt (id_of net u) (id_of net w)) (neighbours net v))
 
   pub parent-ranked : (f w : ℕ) → (parent net f v ≡ Some w) ↔ (Contains (neighbours net v) w × (id_of net v < id_of net w) × (rank net v w ≡ f))
   parent-ranked f w = (
-    λ e. let has : Contains (up net v) w = parent-in_up net f v w e in (up-neighbour net v w has, up-higher net v w has, sym (place-rank w has) ∙ parent-place f w e),
-    λ (has, above, is). let member : Contains (up net v) w = in-up net v w has above in ap (λ g. parent net g v) (sym (place-rank w member ∙ is)) ∙ place-parent net v w member,
+    λ e. let has : Contains (up net v) w = parent-in_up net f v w e in (
+      up-neighbour net v w has,
+      up-higher net v w has,
+      sym (place-rank w has) ∙
+          parent-place f w e,
+    ),
+    λ (has, above, is). let member : Contains (up net v) w = in-up net v w has above in ap (λ g. parent net g v) (sym (place-rank w member ∙ is)) ∙
+        place-parent net v w member,
   )
 
   -- ---- the number of an edge

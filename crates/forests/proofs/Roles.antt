@@ -18,10 +18,14 @@ role_if false f role up unknown = unknown refl
 not_both : (b : Bool) → b ≡ true → b ≡ false → ⊥
 not_both b t f = absurd (let e : true ≡ false = sym t ∙ f in cc)
 
-pub role-is : (own : ℕ) (ids : List ℕ) (id : ℕ) (above : List ℕ) (role : Role) → above ≡ in_order (λ i. i) (filter (nat_lt own) ids) → Contains ids id → (Contains above id → role ≡ Up (place_of id above)) → ((Contains above id → ⊥) → role ≡ Unknown) → role ≡ role_by own ids id
+pub role-is : (own : ℕ) (ids : List ℕ) (id : ℕ) (above : List ℕ) (role : Role) → above ≡ in_order (λ i. i) (filter (nat_lt own) ids) → Contains ids id →
+    (Contains above id → role ≡ Up (place_of id above)) → ((Contains above id → ⊥) → role ≡ Unknown) → role ≡ role_by own ids id
 unfolding role_by
 role-is own ids id above role same has up unknown =
     let ordered : List ℕ = in_order (λ i. i) (filter (nat_lt own) ids) in
     role_if (nat_lt own id) (place_of id ordered) role
-    (λ higher. up (subst (λ xs. Contains xs id) (sym same) (Contains-permutation (filter (nat_lt own) ids) ordered id (order-moves (λ i. i) (filter (nat_lt own) ids)) (Contains-filter (nat_lt own) ids id has higher))) ∙ ap (λ xs. Up (place_of id xs)) same)
-    (λ lower. unknown (λ in_it. not_both (nat_lt own id) (passes-from_filter (nat_lt own) ids id (Contains-permutation ordered (filter (nat_lt own) ids) id (IsPermutation-sym (filter (nat_lt own) ids) ordered (order-moves (λ i. i) (filter (nat_lt own) ids))) (subst (λ xs. Contains xs id) same in_it))) lower))
+    (λ higher. up (subst (λ xs. Contains xs id) (sym same) (Contains-permutation (filter (nat_lt own) ids) ordered id
+    (order-moves (λ i. i) (filter (nat_lt own) ids)) (Contains-filter (nat_lt own) ids id has higher))) ∙ ap (λ xs. Up (place_of id xs)) same)
+    (λ lower. unknown (λ in_it. not_both (nat_lt own id) (passes-from_filter (nat_lt own) ids id (Contains-permutation ordered (filter (nat_lt own) ids) id
+    (IsPermutation-sym (filter (nat_lt own) ids) ordered (order-moves (λ i. i) (filter (nat_lt own) ids))) (subst (λ xs. Contains xs id) same in_it)))
+    lower))

@@ -33,20 +33,24 @@ keys-moved key xs ys moved apart =
     let after : IsDistinct nat_eq (map key ys) = IsDistinct-IsPermutation nat_eq flips (map key xs) (map key ys) (IsPermutation-map key xs ys moved) before in
     apart-from_keys key ys (AllPairs-from_IsDistinct Decides-eqb (map key ys) after)
 
-pub sorted-is_in_order : {X : Type 0} (key : X → ℕ) (xs ys : List X) → HasDistinctKeys key xs → IsPermutation xs ys → IsNonDecreasingBy key ys → ys ≡ in_order key xs
+pub sorted-is_in_order : {X : Type 0} (key : X → ℕ) (xs ys : List X) → HasDistinctKeys key xs → IsPermutation xs ys → IsNonDecreasingBy key ys →
+    ys ≡ in_order key xs
 sorted-is_in_order key xs ys apart moved rising =
     let other : HasDistinctKeys key ys = keys-moved key xs ys moved apart in
-    let up : IsAscendingBy key ys = λ i j d l m. let le : key (get_or ys i d) ≤ key (get_or ys j d) = rising i j d (omega arith) m in let ne : key (get_or ys i d) ≢ key (get_or ys j d) = other i j d l m in omega arith in
+    let up : IsAscendingBy key ys = λ i j d l m. let le : key (get_or ys i d) ≤ key (get_or ys j d) = rising i j d (omega arith) m in
+    let ne : key (get_or ys i d) ≢ key (get_or ys j d) = other i j d l m in omega arith in
     ascending-is_in_order key xs ys apart moved up
 
 -- The order of a list that a function made.
-put_if-map : {X Y : Type 0} (f : X → Y) (b : Bool) (x y : X) (more : List Y) (rest ys : List X) → more ≡ map f rest → (if b then f y ∷ more else f x ∷ f y ∷ map f ys) ≡ map f (if b then y ∷ rest else x ∷ y ∷ ys)
+put_if-map : {X Y : Type 0} (f : X → Y) (b : Bool) (x y : X) (more : List Y) (rest ys : List X) → more ≡ map f rest →
+    (if b then f y ∷ more else f x ∷ f y ∷ map f ys) ≡ map f (if b then y ∷ rest else x ∷ y ∷ ys)
 put_if-map f true x y more rest ys e = ap (λ zs. f y ∷ zs) e
 put_if-map f false x y more rest ys e = refl
 
 put-map : {X Y : Type 0} (key : Y → ℕ) (f : X → Y) (x : X) (ys : List X) → put_in_order key (f x) (map f ys) ≡ map f (put_in_order (λ z. key (f z)) x ys)
 put-map key f x [] = refl
-put-map key f x (y ∷ ys) = put_if-map f (nat_lt (key (f y)) (key (f x))) x y (put_in_order key (f x) (map f ys)) (put_in_order (λ z. key (f z)) x ys) ys (put-map key f x ys)
+put-map key f x (y ∷ ys) = put_if-map f (nat_lt (key (f y)) (key (f x))) x y (put_in_order key (f x) (map f ys)) (put_in_order (λ z. key (f z)) x ys) ys
+    (put-map key f x ys)
 
 pub order-map : {X Y : Type 0} (key : Y → ℕ) (f : X → Y) (xs : List X) → in_order key (map f xs) ≡ map f (in_order (λ z. key (f z)) xs)
 order-map key f [] = refl

@@ -74,7 +74,8 @@ triple-from net f v w has =
     let (g, numbered, there) = from-flat_map (forest_edges net) (range_with_len 0 (forest_count_of net)) (f, v, w) has in
     let (u, vertex, is) = from-filter_map (edge_up net g) (vertices net) (f, v, w) there in
     let parts : (g ≡ f) × (u ≡ v) × (parent net g u ≡ Some w) = edge-parts g u f v w (parent net g u) is in
-    let bounds : (1 ≤ u) × (u < 1 + count_of net) = All-contains (λ (x : ℕ). (1 ≤ x) × (x < 1 + count_of net)) (vertices net) u (range-bounds 1 (count_of net)) vertex in (
+    let bounds : (1 ≤ u) × (u < 1 + count_of net) = All-contains (λ (x : ℕ). (1 ≤ x) ×
+    (x < 1 + count_of net)) (vertices net) u (range-bounds 1 (count_of net)) vertex in (
       (omega (arith, parts.1, bounds.0), omega (arith, parts.1, bounds.1)),
       sym (ap (λ (h : ℕ). parent net h v) parts.0) ∙ (sym (ap (λ (x : ℕ). parent net g x) parts.1) ∙ parts.2),
     )
@@ -84,7 +85,8 @@ unfolding triples
 triple-in net ok f v w vertex e =
     let below : f < forest_count_of net = parent-below net ok v vertex f w e in
     in-flat_map (forest_edges net) (range_with_len 0 (forest_count_of net)) f (f, v, w) (Contains-range 0 (forest_count_of net) f (omega arith) (omega arith))
-    (in-filter_map (edge_up net f) (vertices net) v (f, v, w) (Contains-range 1 (count_of net) v vertex.0 (omega (arith, vertex.1))) (ap (option_map (λ (x : ℕ). (f, v, x))) e))
+    (in-filter_map (edge_up net f) (vertices net) v (f, v, w) (Contains-range 1 (count_of net) v vertex.0 (omega (arith, vertex.1)))
+    (ap (option_map (λ (x : ℕ). (f, v, x))) e))
 
 -- ---- that they ascend
 pairs-append : {X : Type 0} (R : X → X → Type 0) (xs ys : List X) → AllPairs R xs → AllPairs R ys → All (λ x. All (R x) ys) xs → AllPairs R (xs ++ ys)
@@ -97,31 +99,38 @@ pairs-append R (x ∷ xs) ys first second across =
 abbrev IsOf : ℕ → ℕ → ℕ × ℕ × ℕ → Type 0
 IsOf f a edge = (edge.0 ≡ f) × (a ≤ edge.1)
 
-put-edge : (f a : ℕ) (o : Option ℕ) (rest : List (ℕ × ℕ × ℕ)) → All (IsOf f (a + 1)) rest → AllPairs IsBefore rest → All (IsOf f a) (cons_option (option_map (λ w. (f, a, w)) o) rest) × AllPairs IsBefore (cons_option (option_map (λ w. (f, a, w)) o) rest)
+put-edge : (f a : ℕ) (o : Option ℕ) (rest : List (ℕ × ℕ × ℕ)) → All (IsOf f (a + 1)) rest → AllPairs IsBefore rest →
+    All (IsOf f a) (cons_option (option_map (λ w. (f, a, w)) o) rest) × AllPairs IsBefore (cons_option (option_map (λ w. (f, a, w)) o) rest)
 put-edge f a None rest later up = (All-weaker (IsOf f (a + 1)) (IsOf f a) (λ e h. (h.0, omega (arith, h.1))) rest later, up)
 put-edge f a (Some w) rest later up =
     let weak : All (IsOf f a) rest = All-weaker (IsOf f (a + 1)) (IsOf f a) (λ e h. (h.0, omega (arith, h.1))) rest later in
     let after : All (IsBefore (f, a, w)) rest = All-weaker (IsOf f (a + 1)) (IsBefore (f, a, w)) (λ e h. inr (sym h.0, omega (arith, h.1))) rest later in
     (All-cons (IsOf f a) (f, a, w) rest (refl, omega arith) weak, AllPairs-cons IsBefore (f, a, w) rest after up)
 
-forest-ascends : (net : Net) (f a n : ℕ) → All (IsOf f a) (filter_map (edge_up net f) (range_with_len a n)) × AllPairs IsBefore (filter_map (edge_up net f) (range_with_len a n))
+forest-ascends : (net : Net) (f a n : ℕ) → All (IsOf f a) (filter_map (edge_up net f) (range_with_len a n)) ×
+    AllPairs IsBefore (filter_map (edge_up net f) (range_with_len a n))
 forest-ascends net f a zero = (λ k d l. absurd (omega arith), λ i j d l m. absurd (omega arith))
 forest-ascends net f a (suc n) =
-    let rest : All (IsOf f (a + 1)) (filter_map (edge_up net f) (range_with_len (a + 1) n)) × AllPairs IsBefore (filter_map (edge_up net f) (range_with_len (a + 1) n)) = forest-ascends net f (a + 1) n in
+    let rest : All (IsOf f (a + 1)) (filter_map (edge_up net f) (range_with_len (a + 1) n)) ×
+    AllPairs IsBefore (filter_map (edge_up net f) (range_with_len (a + 1) n)) = forest-ascends net f (a + 1) n in
     put-edge f a (parent net f a) (filter_map (edge_up net f) (range_with_len (a + 1) n)) rest.0 rest.1
 
 -- the edges of the forests a and on
-forests-ascend : (net : Net) (a n : ℕ) → All (λ e. a ≤ e.0) (flat_map (forest_edges net) (range_with_len a n)) × AllPairs IsBefore (flat_map (forest_edges net) (range_with_len a n))
+forests-ascend : (net : Net) (a n : ℕ) → All (λ e. a ≤ e.0) (flat_map (forest_edges net) (range_with_len a n)) ×
+    AllPairs IsBefore (flat_map (forest_edges net) (range_with_len a n))
 forests-ascend net a zero = (λ k d l. absurd (omega arith), λ i j d l m. absurd (omega arith))
 forests-ascend net a (suc n) =
     let one : All (IsOf a 1) (forest_edges net a) × AllPairs IsBefore (forest_edges net a) = forest-ascends net a 1 (count_of net) in
-    let rest : All (λ e. a + 1 ≤ e.0) (flat_map (forest_edges net) (range_with_len (a + 1) n)) × AllPairs IsBefore (flat_map (forest_edges net) (range_with_len (a + 1) n)) = forests-ascend net (a + 1) n in
+    let rest : All (λ e. a + 1 ≤ e.0) (flat_map (forest_edges net) (range_with_len (a + 1) n)) ×
+    AllPairs IsBefore (flat_map (forest_edges net) (range_with_len (a + 1) n)) = forests-ascend net (a + 1) n in
     let low : All (λ e. a ≤ e.0) (forest_edges net a) = All-weaker (IsOf a 1) (λ e. a ≤ e.0) (λ e h. omega (arith, h.0)) (forest_edges net a) one.0 in
-    let more : All (λ e. a ≤ e.0) (flat_map (forest_edges net) (range_with_len (a + 1) n)) = All-weaker (λ e. a + 1 ≤ e.0) (λ e. a ≤ e.0) (λ e h. omega arith) (flat_map (forest_edges net) (range_with_len (a + 1) n)) rest.0 in (
+    let more : All (λ e. a ≤ e.0) (flat_map (forest_edges net) (range_with_len (a + 1) n)) =
+    All-weaker (λ e. a + 1 ≤ e.0) (λ e. a ≤ e.0) (λ e h. omega arith) (flat_map (forest_edges net) (range_with_len (a + 1) n)) rest.0 in (
       All-append (λ e. a ≤ e.0) (forest_edges net a) (flat_map (forest_edges net) (range_with_len (a + 1) n)) low more,
       pairs-append IsBefore (forest_edges net a) (flat_map (forest_edges net) (range_with_len (a + 1) n)) one.1 rest.1
           (All-weaker (IsOf a 1) (λ x. All (IsBefore x) (flat_map (forest_edges net) (range_with_len (a + 1) n)))
-          (λ x h. All-weaker (λ e. a + 1 ≤ e.0) (IsBefore x) (λ e l. inl (omega (arith, h.0))) (flat_map (forest_edges net) (range_with_len (a + 1) n)) rest.0) (forest_edges net a) one.0),
+          (λ x h. All-weaker (λ e. a + 1 ≤ e.0) (IsBefore x) (λ e l. inl (omega (arith, h.0))) (flat_map (forest_edges net) (range_with_len (a + 1) n))
+          rest.0) (forest_edges net a) one.0),
     )
 
 pub triples-ascend : (net : Net) → AllPairs IsBefore (triples net)

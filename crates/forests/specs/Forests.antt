@@ -16,7 +16,7 @@ higher net v = filter (λ w. nat_lt (id_of net v) (id_of net w)) (neighbours net
 unfoldable pub up : Net → ℕ → List ℕ
 up net v = in_order (id_of net) (higher net v)
 
--- the parent of v in forest f, or none where v is a root there
+-- the parent of v in forest f, or none if v is a root there
 abbrev pub parent : Net → ℕ → ℕ → Option ℕ
 parent net f v = slice_get (up net v) f
 
@@ -24,7 +24,7 @@ parent net f v = slice_get (up net v) f
 abbrev pub number : Net → ℕ → ℕ → ℕ
 number net v w = if nat_lt (id_of net v) (id_of net w) then place_of w (up net v) else place_of v (up net w)
 
--- the edge from v to its parent in forest f, as (forest, child, parent), where it has one
+-- the edge from v to its parent in forest f, as (forest, child, parent), if it has one
 abbrev pub edge_up : Net → ℕ → ℕ → Option (ℕ × ℕ × ℕ)
 edge_up net f v = option_map (λ w. (f, v, w)) (parent net f v)
 
@@ -42,7 +42,7 @@ forest Unknown = None
 forest (Up f) = Some f
 forest (Down f) = Some f
 
--- what the node of identifier own makes of its port to the identifier id, where its ports lead to ids
+-- what the node of identifier own, whose ports lead to ids, makes of its port to the identifier id
 unfoldable pub role_by : ℕ → List ℕ → ℕ → Role
 role_by own ids id = if nat_lt own id then Up (place_of id (in_order (λ i. i) (filter (nat_lt own) ids))) else Unknown
 
@@ -50,9 +50,10 @@ role_by own ids id = if nat_lt own id then Up (place_of id (in_order (λ i. i) (
 unfoldable pub role_of : Net → ℕ → ℕ → Role
 role_of net v w = if nat_lt (id_of net v) (id_of net w) then Up (number net v w) else Down (number net v w)
 
--- how many neighbours of v stand between v and w, by identifier
+-- how many neighbours of v have an identifier between those of v and w
 abbrev pub rank : Net → ℕ → ℕ → ℕ
-rank net v w = count_by (λ u. nat_lt (id_of net v) (id_of net u) && nat_lt (id_of net u) (id_of net w)) (neighbours net v)
+rank net v w =
+    count_by (λ u. nat_lt (id_of net v) (id_of net u) && nat_lt (id_of net u) (id_of net w)) (neighbours net v)
 
 -- an edge comes before another by forest, and in one forest by child
 abbrev pub IsBefore : ℕ × ℕ × ℕ → ℕ × ℕ × ℕ → Type 0

@@ -1,10 +1,11 @@
 //! The forests of a whole network, as triples.
 
-ghost use Rattle.std.specs.Prelude.{◌≡◌, ◌++◌, ◌+◌, ◌<◌, ◌≤◌, [], ◌∷◌, ℕ, IfOk, OnOk, length, map, replicate, slice_index_or};
+ghost use Rattle.std.specs.Prelude.{◌≡◌, ◌++◌, ◌+◌, ◌<◌, ◌≤◌, [], ◌∷◌, ℕ, IfOk, OnOk};
+ghost use Rattle.std.specs.Prelude.{length, map, replicate};
 ghost use Rattle.std.specs.List.{flat_map, range_with_len};
 ghost use Rattle.interference.specs.Net.{IsVertex, forest_count_of};
 ghost use Rattle.forests.specs.Forests.{forest_edges, higher, triples, up};
-ghost use Rattle.forests.specs.Dealing.{edge_at, with_id};
+ghost use Rattle.forests.specs.Dealing.{edge_at, edges_in, edges_of, with_id};
 
 use interference::{MAX_DEGREE, Memory, Network};
 use std::alloc::Global;
@@ -12,7 +13,7 @@ use std::alloc::Global;
 // An edge of a forest: the forest, the child and its parent.
 type Edge = (u16, u32, u32);
 
-// Makes `parents` the neighbours of `v` that have a higher identifier, each behind it, by port.
+// Makes `parents` the neighbours of `v` that have a higher identifier, each with it, by port.
 fn gather_parents(net: &Network, v: u32, parents: &mut Vec<(u64, u32)>) -> Result<(), Memory>
     requires { IsVertex net.now v }
     ensures { OnOk result (parents.new.items ≡ map (with_id net.now) (higher net.now v)) }
@@ -45,7 +46,8 @@ fn deal(v: u32, parents: &[(u64, u32)], forests: &mut [Vec<Edge>]) -> Result<(),
     requires room { length parents.now ≤ length forests.old }
     requires few { length forests.old ≤ MAX_DEGREE }
     ensures same_count { length forests.new ≡ length forests.old }
-    ensures dealt { OnOk result ((f : ℕ) → f < length forests.old → slice_index_or (map (λ edges. edges.items) forests.new) f [] ≡ slice_index_or (map (λ edges. edges.items) forests.old) f [] ++ edge_at f v parents.now) }
+    ensures dealt { OnOk result ((f : ℕ) → f < length forests.old →
+        edges_in forests.new f ≡ edges_in forests.old f ++ edge_at f v parents.now) }
 {
     for (forest, (_, parent)) in parents.iter().enumerate() {
         forests[forest].push((forest as u16, v, *parent))?;
@@ -53,9 +55,9 @@ fn deal(v: u32, parents: &[(u64, u32)], forests: &mut [Vec<Edge>]) -> Result<(),
     Ok(())
 }
 
-// As many empty lists.
+// `count` empty lists, one for each forest.
 fn empty_forests(alloc: Global, count: u32) -> Result<Vec<Vec<Edge>>, Memory>
-    ensures { IfOk result (λ forests. map (λ edges. edges.items) forests.items ≡ replicate count []) }
+    ensures { IfOk result (λ forests. edges_of forests.items ≡ replicate count []) }
 {
     let mut forests = Vec::new(alloc);
     for _forest in 0..count {
@@ -66,7 +68,8 @@ fn empty_forests(alloc: Global, count: u32) -> Result<Vec<Vec<Edge>>, Memory>
 
 // The edges of each forest.
 fn deal_all(alloc: Global, net: &Network) -> Result<Vec<Vec<Edge>>, Memory>
-    ensures { IfOk result (λ forests. map (λ edges. edges.items) forests.items ≡ map (forest_edges net.now) (range_with_len 0 (forest_count_of net.now))) }
+    ensures { IfOk result (λ forests. edges_of forests.items
+        ≡ map (forest_edges net.now) (range_with_len 0 (forest_count_of net.now))) }
 {
     let mut forests = empty_forests(alloc, net.forest_count())?;
     let mut parents = Vec::new(alloc);
@@ -91,12 +94,13 @@ fn join(alloc: Global, forests: &[Vec<Edge>]) -> Result<Vec<Edge>, Memory>
 /// The forests of a network, as triples of the forest, a child and its parent, ascending.
 ///
 /// Forests count from 0 to one less than `net.forest_count()`. The parent of a vertex in forest f is
-/// entry f of its neighbours of higher identifier, which stand by ascending identifier; where it has
-/// no such entry it is a root of the forest, and in no triple as a child (Panconesi and Rizzi, 2001).
+/// entry f of its neighbours of higher identifier, in the order of their identifiers; if there is no
+/// such entry the vertex is a root of the forest, and in no triple as a child (Panconesi and Rizzi,
+/// 2001).
 ///
 /// # Errors
 ///
-/// `Memory` where memory is refused.
+/// `Memory` only if a growth is refused.
 pub fn decompose(alloc: Global, net: &Network) -> Result<Vec<(u16, u32, u32)>, Memory>
     ensures triples { IfOk result (λ edges. edges.items ≡ triples net.now) }
 {

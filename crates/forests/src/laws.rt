@@ -8,7 +8,7 @@ ghost use Rattle.interference.specs.Net.{IsEdge, IsNetwork, IsVertex, Net};
 ghost use Rattle.interference.specs.Net.{forest_count_of, greatest_degree_of, id_of, neighbours};
 ghost use Rattle.forests.specs.Order.{HasDistinctKeys, IsAscendingBy, in_order};
 ghost use Rattle.forests.specs.Forests.{IsBefore, number, parent, rank, role_by, role_of, triples};
-ghost use Rattle.forests.specs.declared.numbering.Role.TheVariants as role;
+ghost use Rattle.forests.specs.declared.numbering.Role.TheVariants.{Down, Unknown, Up};
 
 /// A list in order has the entries of the list; if its keys differ they ascend, and no other list
 /// has both properties.
@@ -57,9 +57,9 @@ pub fn forests_are_counted()
 /// to a child.
 pub fn roles_tell_the_edges()
     ensures up { (net : Net) → IsNetwork net → (f v w : ℕ) → IsEdge net v w →
-        (role_of net v w ≡ role.Up f) ↔ (parent net f v ≡ Some w) }
+        (role_of net v w ≡ Up f) ↔ (parent net f v ≡ Some w) }
     ensures down { (net : Net) → IsNetwork net → (f v w : ℕ) → IsEdge net v w →
-        (role_of net v w ≡ role.Down f) ↔ (parent net f w ≡ Some v) }
+        (role_of net v w ≡ Down f) ↔ (parent net f w ≡ Some v) }
 {}
 
 /// The triples are the edges from a child to its parent, each once, by forest and then by child.
@@ -74,5 +74,5 @@ pub fn triples_are_the_edges()
 pub fn numbering_gives_the_roles_up()
     ensures numbered { (net : Net) → IsNetwork net → (v w : ℕ) → IsEdge net v w →
         role_by (id_of net v) (map (id_of net) (neighbours net v)) (id_of net w)
-        ≡ (if nat_lt (id_of net v) (id_of net w) then role_of net v w else role.Unknown) }
+        ≡ (if nat_lt (id_of net v) (id_of net w) then role_of net v w else Unknown) }
 {}

@@ -16,7 +16,7 @@
 //! let edges = decompose(alloc, &net)?;    // of a triangle: (0, 1, 2), (0, 2, 3), (1, 1, 3)
 //! ```
 //!
-//! Limits: those of a network, so 1,023 ports a node and 1,023 forests.
+//! Limits: those of a network, so at most `MAX_DEGREE` ports a node and as many forests.
 #![tactic(auto)]
 
 mod decomposition;
@@ -25,6 +25,3 @@ mod numbering;
 
 pub use decomposition::decompose;
 pub use numbering::{Role, number_up};
-
-#[cfg(test)]
-mod tests;

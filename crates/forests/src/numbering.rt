@@ -5,14 +5,13 @@ ghost use Rattle.std.specs.List.{All, AllPairs, Contains};
 ghost use Rattle.interference.specs.Net.{place_of};
 ghost use Rattle.forests.specs.Order.{IsAscendingBy, in_order};
 ghost use Rattle.forests.specs.Forests.{forest, role_by};
-ghost use Rattle.forests.specs.declared.numbering.Role.TheVariants as role;
 
 use interference::MAX_DEGREE;
 
 /// What a port is to a node.
 #[derive(Debug, Clone, Copy, PartialEq, Eq)]
 pub enum Role {
-    /// Not known, or not yet.
+    /// Not known yet.
     Unknown,
     /// It leads to the node's parent in this forest.
     Up(u16),
@@ -35,7 +34,7 @@ impl Role {
 // How many ports a node has at most.
 const MAX_PORTS: usize = MAX_DEGREE as usize;
 
-// Writes the identifiers above `own` in front, in their order, and says how many they are.
+// Writes the identifiers above `own` to the front, in their order, and returns how many they are.
 fn gather_higher(own: u64, ids: &[u64], higher: &mut [u64; MAX_PORTS]) -> usize
     requires { length ids.now ≤ MAX_DEGREE }
     ensures few { result ≤ MAX_DEGREE }
@@ -51,7 +50,7 @@ fn gather_higher(own: u64, ids: &[u64], higher: &mut [u64; MAX_PORTS]) -> usize
     count
 }
 
-// Writes the identifiers above `own` in front, ascending, and says how many they are.
+// Writes the identifiers above `own` to the front, ascending, and returns how many they are.
 fn order_higher(own: u64, ids: &[u64], higher: &mut [u64; MAX_PORTS]) -> usize
     requires few { length ids.now ≤ MAX_DEGREE }
     requires distinct { AllPairs (λ x y. x ≢ y) ids.now }
@@ -64,12 +63,12 @@ fn order_higher(own: u64, ids: &[u64], higher: &mut [u64; MAX_PORTS]) -> usize
     count
 }
 
-// The role of the port to the identifier `id`, where `higher` has the higher identifiers in order.
+// The role of the port to the identifier `id`; `higher` has the higher identifiers in order.
 fn role_among(higher: &[u64], id: u64) -> Role
     requires few { length higher.now ≤ MAX_DEGREE }
     requires ascending { IsAscendingBy (λ i. i) higher.now }
-    ensures up { Contains higher.now id → result ≡ role.Up (place_of id higher.now) }
-    ensures unknown { (Contains higher.now id → ⊥) → result ≡ role.Unknown }
+    ensures up { Contains higher.now id → result ≡ Role.Up (place_of id higher.now) }
+    ensures unknown { (Contains higher.now id → ⊥) → result ≡ Role.Unknown }
 {
     match higher.binary_search(&id) {
         Ok(forest) => Role::Up(forest as u16),

@@ -22,7 +22,8 @@ filter-le : (p q : ℕ → Bool) (ws : List ℕ) → ((w : ℕ) → p w ≡ true
 filter-le p q [] h = omega arith
 filter-le p q (w ∷ ws) h = kept-le (p w) (q w) w (filter p ws) (filter q ws) (h w) (filter-le p q ws h)
 
-filter-lt : (p q : ℕ → Bool) (ws : List ℕ) (k : ℕ) → ((w : ℕ) → p w ≡ true → q w ≡ true) → k < length ws → p (get_or ws k 0) ≡ false → q (get_or ws k 0) ≡ true → length (filter p ws) < length (filter q ws)
+filter-lt : (p q : ℕ → Bool) (ws : List ℕ) (k : ℕ) → ((w : ℕ) → p w ≡ true → q w ≡ true) → k < length ws → p (get_or ws k 0) ≡ false →
+    q (get_or ws k 0) ≡ true → length (filter p ws) < length (filter q ws)
 filter-lt p q [] k h below none here = absurd (omega arith)
 filter-lt p q (w ∷ ws) zero h below none here = kept-first (p w) (q w) w (filter p ws) (filter q ws) none here (filter-le p q ws h)
 filter-lt p q (w ∷ ws) (suc k) h below none here = kept-lt (p w) (q w) w (filter p ws) (filter q ws) (h w) (filter-lt p q ws k h (omega arith) none here)
@@ -32,5 +33,6 @@ pub count-le : (p q : ℕ → Bool) (ws : List ℕ) → ((w : ℕ) → p w ≡ t
 count-le p q ws h = rw (← length-filter p ws, ← length-filter q ws) (filter-le p q ws h)
 
 -- and at one entry the other passes alone
-pub count-lt : (p q : ℕ → Bool) (ws : List ℕ) (k : ℕ) → ((w : ℕ) → p w ≡ true → q w ≡ true) → k < length ws → p (get_or ws k 0) ≡ false → q (get_or ws k 0) ≡ true → count_by p ws < count_by q ws
+pub count-lt : (p q : ℕ → Bool) (ws : List ℕ) (k : ℕ) → ((w : ℕ) → p w ≡ true → q w ≡ true) → k < length ws → p (get_or ws k 0) ≡ false →
+    q (get_or ws k 0) ≡ true → count_by p ws < count_by q ws
 count-lt p q ws k h below none here = rw (← length-filter p ws, ← length-filter q ws) (filter-lt p q ws k h below none here)

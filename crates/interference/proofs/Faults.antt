@@ -3,8 +3,8 @@ use Rattle.std.proofs.Common.{All, ◌≡◌, ◌⊎◌, ⊎_elim, ℕ, ◌<◌,
 use Rattle.std.proofs.lemmas.Bool.{cases_lt}
 use Rattle.interference.specs.Net.{IsVertex, degree_of}
 use Rattle.interference.specs.declared.limits.TheConstants.{MAX_DEGREE}
-use Rattle.interference.specs.Making.{EdgesFit, network_of, IsCrowded, IsClash}
-use Rattle.interference.specs.Filling.{AreDegrees, IsFirstCrowded, HasNoTwins, IsFirstTwins}
+use Rattle.interference.specs.Making.{EdgesFit, network_of, IsCrowded, HaveSameId}
+use Rattle.interference.specs.Filling.{AreDegrees, IsFirstCrowded, HasNoSameId, IsFirstSameId}
 use Rattle.interference.proofs.Made.{neighbours-network_of, is_vertex}
 use Rattle.interference.proofs.RowIn.{length-row_in}
 use Rattle.interference.proofs.SameRow.{same_row}
@@ -23,7 +23,13 @@ module _ (ids : List ℕ) (edges : List (ℕ × ℕ)) where
     pub first_crowded : (v : ℕ) → IsFirstCrowded degrees v → IsCrowded (network_of ids edges) v × ((u : ℕ) → IsCrowded (network_of ids edges) u → v ≤ u)
     first_crowded v first =
         let low : 1 ≤ v = ⊎_elim
-        (λ zero. let none : v ≡ 0 = omega arith in absurd (omega (arith, first.1, ap (slice_index degrees) none, are.each 0 (omega arith), degree_in-zero (length ids) edges fit)))
+        (λ zero. let none : v ≡ 0 = omega arith in absurd (omega (
+          arith,
+          first.1,
+          ap (slice_index degrees) none,
+          are.each 0 (omega arith),
+          degree_in-zero (length ids) edges fit,
+        )))
         (λ some. some) (cases_lt v 1) in
         let high : v ≤ length ids = omega (arith, first.0, are.size) in (
           (vertex_from v low high, omega (arith, degree_is v low high, first.1)),
@@ -37,14 +43,14 @@ module _ (ids : List ℕ) (edges : List (ℕ × ℕ)) where
         let vertex = is_vertex ids edges v crowded.0 in
         omega (arith, few v 0 (omega (arith, are.size)), crowded.1, degree_is v vertex.0 vertex.1)
 
-  pub none_clash : HasNoTwins ids (length ids) → (v w : ℕ) → IsClash (network_of ids edges) v w → ⊥
+  pub none_same_id : HasNoSameId ids (length ids) → (v w : ℕ) → HaveSameId (network_of ids edges) v w → ⊥
   unfolding network_of
-  none_clash none v w clash = none v w clash.1.1 (clash.0.0, clash.2, clash.3)
+  none_same_id none v w same = none v w same.1.1 (same.0.0, same.2, same.3)
 
-  pub first_clash : (v w : ℕ) → IsFirstTwins ids (length ids) (v, w) →
-      IsClash (network_of ids edges) v w × ((t u : ℕ) → IsClash (network_of ids edges) t u → (v < t) ⊎ ((v ≡ t) × (w ≤ u)))
+  pub first_pair : (v w : ℕ) → IsFirstSameId ids (length ids) (v, w) →
+      HaveSameId (network_of ids edges) v w × ((t u : ℕ) → HaveSameId (network_of ids edges) t u → (v < t) ⊎ ((v ≡ t) × (w ≤ u)))
   unfolding network_of
-  first_clash v w first = (
+  first_pair v w first = (
     (vertex_from v first.1.0 (omega (arith, first.0, first.1.1)), vertex_from w (omega (arith, first.1.0, first.1.1)) first.0, first.1.1, first.1.2),
-    (λ t u clash. first.2 t u clash.1.1 (clash.0.0, clash.2, clash.3)),
+    (λ t u same. first.2 t u same.1.1 (same.0.0, same.2, same.3)),
   )

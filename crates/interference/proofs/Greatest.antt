@@ -20,7 +20,9 @@ longest-reached [] some = absurd (omega arith)
 longest-reached (row ∷ []) some = (0, omega arith, omega arith)
 longest-reached (row ∷ next ∷ rows) some = choose (cases_lt (length row) (longest (next ∷ rows))) (longest-reached (next ∷ rows) (omega arith))
   where
-    choose : (length row < longest (next ∷ rows)) ⊎ (longest (next ∷ rows) ≤ length row) → (i : ℕ) × (i < length (next ∷ rows)) × (length (get_or (next ∷ rows) i []) ≡ longest (next ∷ rows)) → (i : ℕ) × (i < length (row ∷ next ∷ rows)) × (length (get_or (row ∷ next ∷ rows) i []) ≡ longest (row ∷ next ∷ rows))
+    choose : (length row < longest (next ∷ rows)) ⊎ (longest (next ∷ rows) ≤ length row) → (i : ℕ) × (i < length (next ∷ rows)) ×
+        (length (get_or (next ∷ rows) i []) ≡ longest (next ∷ rows)) → (i : ℕ) × (i < length (row ∷ next ∷ rows)) ×
+        (length (get_or (row ∷ next ∷ rows) i []) ≡ longest (row ∷ next ∷ rows))
     choose (inl later) (i, below, is) = (suc i, omega arith, omega arith)
     choose (inr here) more = (0, omega arith, omega arith)
 
@@ -44,6 +46,7 @@ greatest-reached f v zero some = absurd (omega arith)
 greatest-reached f v (suc zero) some = (v, omega arith, omega arith, omega arith)
 greatest-reached f v (suc (suc n)) some = choose (cases_lt (f v) (greatest_from f (v + 1) (suc n))) (greatest-reached f (v + 1) (suc n) (omega arith))
   where
-    choose : (f v < greatest_from f (v + 1) (suc n)) ⊎ (greatest_from f (v + 1) (suc n) ≤ f v) → (u : ℕ) × (v + 1 ≤ u) × (u < v + 1 + suc n) × (f u ≡ greatest_from f (v + 1) (suc n)) → (u : ℕ) × (v ≤ u) × (u < v + suc (suc n)) × (f u ≡ greatest_from f v (suc (suc n)))
+    choose : (f v < greatest_from f (v + 1) (suc n)) ⊎ (greatest_from f (v + 1) (suc n) ≤ f v) → (u : ℕ) × (v + 1 ≤ u) × (u < v + 1 + suc n) ×
+        (f u ≡ greatest_from f (v + 1) (suc n)) → (u : ℕ) × (v ≤ u) × (u < v + suc (suc n)) × (f u ≡ greatest_from f v (suc (suc n)))
     choose (inl later) (u, low, high, is) = (u, omega arith, omega arith, omega arith)
     choose (inr here) more = (v, omega arith, omega arith, omega arith)

@@ -40,7 +40,8 @@ module _ (n : ℕ) (edges : List (ℕ × ℕ)) (v : ℕ) where
 
   pub bounds-from_joined_to : (w : ℕ) → Contains (joined_to n edges v) w → (1 ≤ w) × (w ≤ n)
   bounds-from_joined_to w h =
-      let both : (1 ≤ w) × (w < 1 + n) = All-contains (λ x. (1 ≤ x) × (x < 1 + n)) (range_with_len 1 n) w (range-bounds 1 n) (Contains-from_filter (joins edges v) (range_with_len 1 n) w h) in
+      let both : (1 ≤ w) × (w < 1 + n) = All-contains (λ x. (1 ≤ x) × (x < 1 + n)) (range_with_len 1 n) w (range-bounds 1 n)
+      (Contains-from_filter (joins edges v) (range_with_len 1 n) w h) in
       (both.0, omega arith)
 
   pub joined_to-ascends : IsStrictlySortedBy nat_cmp (joined_to n edges v)

@@ -1,6 +1,6 @@
 pub mod Ends
 pub mod Counting
-pub mod Twins
+pub mod SameIds
 pub mod Placing
 pub mod Putting
 pub mod RowsLemmas
@@ -20,4 +20,3 @@ pub mod Packing
 pub mod PortsBack
 pub mod MostForests
 pub mod Faults
-pub mod Samples

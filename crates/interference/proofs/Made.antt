@@ -1,4 +1,4 @@
--- What identifiers and a set of edges make is a network, unless a vertex is crowded or two identifiers clash.
+-- What identifiers and a set of edges make is a network, unless a vertex is crowded or two have one identifier.
 use Rattle.std.proofs.Common.{◌≡◌, inl, inr, ℕ, ◌-◌, ◌<◌, ◌≤◌, true, List, [], length, refl, ap, sym, ◌∙◌, arith, subst}
 use Rattle.std.specs.List.{All, Contains}
 use Rattle.std.proofs.lemmas.Bool.{cases_order}
@@ -8,7 +8,7 @@ use Rattle.std.proofs.lemmas.Map.Keys.{below_from_sorted}
 use Rattle.dimacs_col.specs.Pairs.{IsWithinLimits}
 use Rattle.interference.specs.Net.{IsNetwork, IsVertex, id_of, neighbours, degree_of, neighbour_of, back_port_of, id_bound}
 use Rattle.interference.specs.declared.limits.TheConstants.{MAX_DEGREE}
-use Rattle.interference.specs.Making.{joins, joined_to, network_of, IsCrowded, IsClash}
+use Rattle.interference.specs.Making.{joins, joined_to, network_of, IsCrowded, HaveSameId}
 use Rattle.interference.proofs.Members.{place_of-below}
 use Rattle.interference.proofs.Joined.{joins-swap, joins-other, Contains-joined_to, joins-from_joined_to, bounds-from_joined_to, joined_to-ascends}
 
@@ -33,27 +33,33 @@ module _ (ids : List ℕ) (edges : List (ℕ × ℕ)) where
     pub row_is : neighbours (network_of ids edges) v ≡ joined_to (length ids) edges v
     row_is = neighbours-network_of v (is_vertex v vertex).0 (is_vertex v vertex).1
 
-    neighbour-joined : (port : ℕ) → port < degree_of (network_of ids edges) v → Contains (joined_to (length ids) edges v) (neighbour_of (network_of ids edges) v port)
-    neighbour-joined port below = subst (λ (row : List ℕ). Contains row (neighbour_of (network_of ids edges) v port)) row_is (Contains-get_or (neighbours (network_of ids edges) v) port 0 below)
+    neighbour-joined : (port : ℕ) → port < degree_of (network_of ids edges) v →
+        Contains (joined_to (length ids) edges v) (neighbour_of (network_of ids edges) v port)
+    neighbour-joined port below = subst (λ (row : List ℕ). Contains row (neighbour_of (network_of ids edges) v port)) row_is
+        (Contains-get_or (neighbours (network_of ids edges) v) port 0 below)
 
     neighbour-vertex : (port : ℕ) → port < degree_of (network_of ids edges) v → IsVertex (network_of ids edges) (neighbour_of (network_of ids edges) v port)
     unfolding network_of
     neighbour-vertex port below = bounds-from_joined_to (length ids) edges v _ (neighbour-joined port below)
 
-    neighbour-ascends : (i j : ℕ) → i < j → j < degree_of (network_of ids edges) v → neighbour_of (network_of ids edges) v i < neighbour_of (network_of ids edges) v j
+    neighbour-ascends : (i j : ℕ) → i < j → j < degree_of (network_of ids edges) v →
+        neighbour_of (network_of ids edges) v i < neighbour_of (network_of ids edges) v j
     neighbour-ascends i j less below =
         below_from_sorted (neighbours (network_of ids edges) v) i j 0 (rw row_is (joined_to-ascends (length ids) edges v)) less below
 
-    back-port : (port : ℕ) → port < degree_of (network_of ids edges) v → back_port_of (network_of ids edges) v port < degree_of (network_of ids edges) (neighbour_of (network_of ids edges) v port)
+    back-port : (port : ℕ) → port < degree_of (network_of ids edges) v →
+        back_port_of (network_of ids edges) v port < degree_of (network_of ids edges) (neighbour_of (network_of ids edges) v port)
     back-port port below =
         let w : ℕ = neighbour_of (network_of ids edges) v port in
         let joined : joins edges v w ≡ true = joins-from_joined_to (length ids) edges v w (neighbour-joined port below) in
         let far = is_vertex w (neighbour-vertex port below) in
-        let back : Contains (joined_to (length ids) edges w) v = Contains-joined_to (length ids) edges w v (is_vertex v vertex).0 (is_vertex v vertex).1 (joins-swap edges w v ∙ joined) in
+        let back : Contains (joined_to (length ids) edges w) v =
+        Contains-joined_to (length ids) edges w v (is_vertex v vertex).0 (is_vertex v vertex).1 (joins-swap edges w v ∙ joined) in
         place_of-below v (neighbours (network_of ids edges) w) (rw (neighbours-network_of w far.0 far.1) back)
 
-  pub made-network : All (λ x. x < id_bound) ids → IsWithinLimits (length ids) edges → ((v : ℕ) → IsCrowded (network_of ids edges) v → ⊥) → ((v w : ℕ) → IsClash (network_of ids edges) v w → ⊥) → IsNetwork (network_of ids edges)
-  made-network small fits not_crowded no_clash = record {
+  pub made-network : All (λ x. x < id_bound) ids → IsWithinLimits (length ids) edges → ((v : ℕ) → IsCrowded (network_of ids edges) v → ⊥) →
+      ((v w : ℕ) → HaveSameId (network_of ids edges) v w → ⊥) → IsNetwork (network_of ids edges)
+  made-network small fits not_crowded no_same_id = record {
     sizes = length-network_of ∙ ap length (sym ids-network_of);
     count = rw ids-network_of fits.nodes_fit;
     identifiers = λ v vertex. let low = is_vertex v vertex in rw ids-network_of (small (v - 1) 0 (omega arith));
@@ -61,7 +67,8 @@ module _ (ids : List ℕ) (edges : List (ℕ × ℕ)) where
     degrees = λ v vertex. few v vertex;
     vertices = λ v port vertex below. neighbour-vertex v vertex port below;
     ascending = λ v i j vertex less below. neighbour-ascends v vertex i j less below;
-    other = λ v port vertex below. joins-other (length ids) edges v (neighbour_of (network_of ids edges) v port) fits (joins-from_joined_to (length ids) edges v _ (neighbour-joined v vertex port below));
+    other = λ v port vertex below. joins-other (length ids) edges v (neighbour_of (network_of ids edges) v port) fits
+        (joins-from_joined_to (length ids) edges v _ (neighbour-joined v vertex port below));
     symmetric = λ v port vertex below. back-port v vertex port below;
   }
     where
@@ -74,11 +81,12 @@ module _ (ids : List ℕ) (edges : List (ℕ × ℕ)) where
         ]
       ]
 
-      same_vertex : (v w : ℕ) → IsVertex (network_of ids edges) v → IsVertex (network_of ids edges) w → id_of (network_of ids edges) v ≡ id_of (network_of ids edges) w → v ≡ w
+      same_vertex : (v w : ℕ) → IsVertex (network_of ids edges) v → IsVertex (network_of ids edges) w →
+          id_of (network_of ids edges) v ≡ id_of (network_of ids edges) w → v ≡ w
       same_vertex v w a b same = elim (cases_order v w) [
         | inl e ↦ e
         | inr side ↦ elim side [
-          | inl lt ↦ absurd (no_clash v w (a, b, lt, same))
-          | inr gt ↦ absurd (no_clash w v (b, a, gt, sym same))
+          | inl lt ↦ absurd (no_same_id v w (a, b, lt, same))
+          | inr gt ↦ absurd (no_same_id w v (b, a, gt, sym same))
         ]
       ]

@@ -1,5 +1,35 @@
 -- The members of a filtered list and of a range, and the place of a member.
-use Rattle.std.proofs.Common.{◌≡◌, ◌≢◌, ◌⊎◌, inl, inr, ℕ, zero, suc, ◌+◌, ◌<◌, ◌≤◌, ◌==◌, Bool, true, false, cond, if◌then◌else◌, List, [], ◌∷◌, ◌++◌, length, get_or, map, refl, sym, ◌∙◌, arith, ap}
+use Rattle.std.proofs.Common.{
+  ◌≡◌,
+  ◌≢◌,
+  ◌⊎◌,
+  inl,
+  inr,
+  ℕ,
+  zero,
+  suc,
+  ◌+◌,
+  ◌<◌,
+  ◌≤◌,
+  ◌==◌,
+  Bool,
+  true,
+  false,
+  cond,
+  if◌then◌else◌,
+  List,
+  [],
+  ◌∷◌,
+  ◌++◌,
+  length,
+  get_or,
+  map,
+  refl,
+  sym,
+  ◌∙◌,
+  arith,
+  ap,
+}
 use Rattle.std.specs.List.{Contains, All, filter, range_with_len}
 use Rattle.std.specs.List.Sorted.{IsStrictlySortedBy}
 use Rattle.std.specs.Ordering.{nat_cmp}
@@ -76,7 +106,8 @@ place_of-below x [] (k, below, is) = absurd (omega arith)
 place_of-below x (y ∷ ys) (zero, below, is) = grind (arith, nat_tests)
 place_of-below x (y ∷ ys) (suc k, below, is) = let more : place_of x ys < length ys = place_of-below x ys (k, omega arith, is) in grind (arith, nat_tests)
 
-place-case : (b : Bool) (x y place d : ℕ) (ys : List ℕ) → (b ≡ true → y ≡ x) → (place < length ys → get_or ys place d ≡ x) → (if b then 0 else place + 1) < suc (length ys) → get_or (y ∷ ys) (if b then 0 else place + 1) d ≡ x
+place-case : (b : Bool) (x y place d : ℕ) (ys : List ℕ) → (b ≡ true → y ≡ x) → (place < length ys → get_or ys place d ≡ x) →
+    (if b then 0 else place + 1) < suc (length ys) → get_or (y ∷ ys) (if b then 0 else place + 1) d ≡ x
 place-case true x y place d ys met rest h = met refl
 place-case false x y place d ys met rest h = let e : place + 1 ≡ suc place = omega arith in rw e (rest (omega arith))
 

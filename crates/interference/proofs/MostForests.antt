@@ -1,5 +1,29 @@
 -- The forest count of packed lists, one vertex more.
-use Rattle.std.proofs.Common.{All, ◌≡◌, ℕ, zero, suc, ◌+◌, ◌-◌, ◌<◌, ◌≤◌, max, count_by, nat_lt, List, [], length, take, drop, get_or, slice_index, sym, ap, ◌∙◌, arith}
+use Rattle.std.proofs.Common.{
+  All,
+  ◌≡◌,
+  ℕ,
+  zero,
+  suc,
+  ◌+◌,
+  ◌-◌,
+  ◌<◌,
+  ◌≤◌,
+  max,
+  count_by,
+  nat_lt,
+  List,
+  [],
+  length,
+  take,
+  drop,
+  get_or,
+  slice_index,
+  sym,
+  ap,
+  ◌∙◌,
+  arith,
+}
 use Rattle.std.proofs.lemmas.List.Elements.{All-same, All-from_get_or}
 use Rattle.interference.specs.Net.{IsVertex, neighbours, higher_count, greatest_from}
 use Rattle.interference.specs.declared.limits.TheConstants.{MAX_DEGREE}
@@ -41,7 +65,8 @@ module _ (ids starts ports : List ℕ) (p : IsPacked ids starts ports) (i : ℕ)
       (All-from_get_or (λ w. (1 ≤ w) × (w ≤ length ids)) (neighbours (net_from ids starts ports) (i + 1)) 0
       (λ port below. p.network.vertices (i + 1) port is_vertex below))
 
-  pub count_here : count_by (λ w. nat_lt (slice_index ids i) (slice_index ids (w - 1))) (take (slice_index starts (i + 1) - slice_index starts i) (drop (slice_index starts i) ports))
+  pub count_here : count_by (λ w. nat_lt (slice_index ids i) (slice_index ids (w - 1))) (take (slice_index starts (i + 1) - slice_index starts i)
+      (drop (slice_index starts i) ports))
       ≡ higher_count (net_from ids starts ports) (i + 1)
   count_here =
       let back : i ≡ i + 1 - 1 = omega arith in

@@ -6,7 +6,22 @@ use Rattle.std.proofs.lemmas.List.{get_or_default, get_or_past}
 use Rattle.std.proofs.lemmas.List.Elements.{Contains-get_or}
 use Rattle.std.proofs.lemmas.List.Sums.{count_by-le-length}
 use Rattle.std.specs.Prelude.{nat_lt}
-use Rattle.interference.specs.Net.{Net, id_bound, IsNetwork, IsVertex, count_of, id_of, neighbours, degree_of, neighbour_of, port_to, back_port_of, greatest_degree_of, higher_count, forest_count_of}
+use Rattle.interference.specs.Net.{
+  Net,
+  id_bound,
+  IsNetwork,
+  IsVertex,
+  count_of,
+  id_of,
+  neighbours,
+  degree_of,
+  neighbour_of,
+  port_to,
+  back_port_of,
+  greatest_degree_of,
+  higher_count,
+  forest_count_of,
+}
 use Rattle.interference.specs.declared.limits.TheConstants.{MAX_DEGREE}
 use Rattle.interference.proofs.Members.{place_of-below, place_of-is, Contains-place_of}
 use Rattle.interference.proofs.Greatest.{longest-holds, longest-within, longest-reached, greatest-holds, greatest-within, greatest-reached}
@@ -37,7 +52,8 @@ module _ (net : Net) (ok : IsNetwork net) where
   pub port_to-is : (v port : ℕ) → IsVertex net v → port < degree_of net v → port_to net v (neighbour_of net v port) ≡ port
   port_to-is v port vertex below =
       let h : Contains (neighbours net v) (neighbour_of net v port) = Contains-get_or (neighbours net v) port 0 below in
-      same-port v (port_to net v (neighbour_of net v port)) port vertex (port_to-below v (neighbour_of net v port) h) below (at-port_to v (neighbour_of net v port) h)
+      same-port v (port_to net v (neighbour_of net v port)) port vertex (port_to-below v (neighbour_of net v port) h) below
+      (at-port_to v (neighbour_of net v port) h)
 
   -- ---- ports back
   pub at-back_port : (v port : ℕ) → IsVertex net v → port < degree_of net v → neighbour_of net (neighbour_of net v port) (back_port_of net v port) ≡ v
@@ -58,13 +74,15 @@ module _ (net : Net) (ok : IsNetwork net) where
 
   pub neighbour-ids : (v i j : ℕ) → IsVertex net v → i < j → j < degree_of net v → id_of net (neighbour_of net v i) ≢ id_of net (neighbour_of net v j)
   neighbour-ids v i j vertex less below same =
-      let e : neighbour_of net v i ≡ neighbour_of net v j = ok.distinct (neighbour_of net v i) (neighbour_of net v j) (ok.vertices v i vertex (omega arith)) (ok.vertices v j vertex below) same in
+      let e : neighbour_of net v i ≡ neighbour_of net v j = ok.distinct (neighbour_of net v i) (neighbour_of net v j) (ok.vertices v i vertex (omega arith))
+      (ok.vertices v j vertex below) same in
       let lt : neighbour_of net v i < neighbour_of net v j = ok.ascending v i j vertex less below in
       omega arith
 
   pub id-small : (v : ℕ) → id_of net v < id_bound
   id-small v = elim (cases_lt (v - 1) (length net.ids)) [
-    | inl below ↦ let e : v - 1 + 1 - 1 ≡ v - 1 = omega arith in subst (λ (i : ℕ). get_or net.ids i 0 < id_bound) e (ok.identifiers (v - 1 + 1) (omega arith, omega arith))
+    | inl below ↦ let e : v - 1 + 1 - 1 ≡ v - 1 = omega arith in
+        subst (λ (i : ℕ). get_or net.ids i 0 < id_bound) e (ok.identifiers (v - 1 + 1) (omega arith, omega arith))
     | inr past ↦ let e : get_or net.ids (v - 1) 0 ≡ 0 = get_or_past net.ids (v - 1) 0 past in omega (arith, e)
   ]
 

@@ -14,7 +14,8 @@ module _ (ids starts ports : List ℕ) (p : IsPacked ids starts ports) (v : ℕ)
       length-row starts ports (v - 1) (omega (arith, p.sizes)) (rw next (p.within v (omega arith))) (p.within (v - 1) (omega arith)) in
       fact ∙ ap (λ i. get_or starts i 0 - get_or starts (v - 1) 0) next
 
-  pub neighbour_is : (port : ℕ) → port < degree_of (net_from ids starts ports) v → neighbour_of (net_from ids starts ports) v port ≡ get_or ports (get_or starts (v - 1) 0 + port) 0
+  pub neighbour_is : (port : ℕ) → port < degree_of (net_from ids starts ports) v →
+      neighbour_of (net_from ids starts ports) v port ≡ get_or ports (get_or starts (v - 1) 0 + port) 0
   neighbour_is port in_row =
       let next : suc (v - 1) ≡ v = omega arith in
       let below : port < get_or starts v 0 - get_or starts (v - 1) 0 = omega (arith, degree_is) in
@@ -24,39 +25,42 @@ module _ (ids starts ports : List ℕ) (p : IsPacked ids starts ports) (v : ℕ)
   neighbour_in port in_row = omega (arith, degree_is, p.within v (omega arith))
 
 -- the same of a network that is seen as these lists, at what was read of them
-module _ (ids starts ports : List ℕ) (p : IsPacked ids starts ports) (net : Net) (e : net_from ids starts ports ≡ net) (v : ℕ) (is_vertex : IsVertex net v) where
-  pub is_vertex_from : IsVertex (net_from ids starts ports) v
-  is_vertex_from = subst (λ (n : Net). IsVertex n v) (sym e) is_vertex
+module _ (ids starts ports : List ℕ) (p : IsPacked ids starts ports) (net : Net) (e : net_from ids starts ports ≡ net) (v : ℕ) (is_vertex : IsVertex net v)
+  where
+    pub is_vertex_from : IsVertex (net_from ids starts ports) v
+    is_vertex_from = subst (λ (n : Net). IsVertex n v) (sym e) is_vertex
 
-  pub degree_reads : (high low : ℕ) → high ≡ get_or starts v high → low ≡ get_or starts (v - 1) low → high - low ≡ degree_of net v
-  degree_reads high low a b =
-      let in_net : IsVertex (net_from ids starts ports) v = is_vertex_from in
-      let top : high ≡ get_or starts v 0 = get_or_read starts v high (omega (arith, p.sizes)) a 0 in
-      let bottom : low ≡ get_or starts (v - 1) 0 = get_or_read starts (v - 1) low (omega (arith, p.sizes)) b 0 in
-      subst (λ (n : Net). high - low ≡ degree_of n v) e (omega (arith, degree_is ids starts ports p v in_net))
-
-  pub degree-within_limit : degree_of net v ≤ MAX_DEGREE
-  degree-within_limit = subst (λ (n : Net). degree_of n v ≤ MAX_DEGREE) e (p.network.degrees v is_vertex_from)
-
-  module _ (port : ℕ) (in_row : port < degree_of net v) (low : ℕ) (b : low ≡ get_or starts (v - 1) low) where
-    in_row_from : port < degree_of (net_from ids starts ports) v
-    in_row_from = subst (λ (n : Net). port < degree_of n v) (sym e) in_row
-
-    pub neighbour_within : low + port < length ports
-    neighbour_within =
+    pub degree_reads : (high low : ℕ) → high ≡ get_or starts v high → low ≡ get_or starts (v - 1) low → high - low ≡ degree_of net v
+    degree_reads high low a b =
         let in_net : IsVertex (net_from ids starts ports) v = is_vertex_from in
+        let top : high ≡ get_or starts v 0 = get_or_read starts v high (omega (arith, p.sizes)) a 0 in
         let bottom : low ≡ get_or starts (v - 1) 0 = get_or_read starts (v - 1) low (omega (arith, p.sizes)) b 0 in
-        rw bottom (neighbour_in ids starts ports p v in_net port in_row_from)
+        subst (λ (n : Net). high - low ≡ degree_of n v) e (omega (arith, degree_is ids starts ports p v in_net))
 
-    pub neighbour_reads : (x : ℕ) → x ≡ get_or ports (low + port) x → x ≡ neighbour_of net v port
-    neighbour_reads x r =
-        let in_net : IsVertex (net_from ids starts ports) v = is_vertex_from in
-        let bottom : low ≡ get_or starts (v - 1) 0 = get_or_read starts (v - 1) low (omega (arith, p.sizes)) b 0 in
-        let read : x ≡ get_or ports (low + port) 0 = get_or_read ports (low + port) x neighbour_within r 0 in
-        let fact : neighbour_of (net_from ids starts ports) v port ≡ get_or ports (low + port) 0 = rw bottom (neighbour_is ids starts ports p v in_net port in_row_from) in
-        subst (λ (n : Net). x ≡ neighbour_of n v port) e (read ∙ sym fact)
+    pub degree-within_limit : degree_of net v ≤ MAX_DEGREE
+    degree-within_limit = subst (λ (n : Net). degree_of n v ≤ MAX_DEGREE) e (p.network.degrees v is_vertex_from)
 
-    pub neighbour_vertex : (x : ℕ) → x ≡ get_or ports (low + port) x → IsVertex net x
-    neighbour_vertex x r =
-        let at_net : IsVertex net (neighbour_of net v port) = subst (λ (n : Net). IsVertex n (neighbour_of n v port)) e (p.network.vertices v port is_vertex_from in_row_from) in
-        subst (λ (y : ℕ). IsVertex net y) (sym (neighbour_reads x r)) at_net
+    module _ (port : ℕ) (in_row : port < degree_of net v) (low : ℕ) (b : low ≡ get_or starts (v - 1) low) where
+      in_row_from : port < degree_of (net_from ids starts ports) v
+      in_row_from = subst (λ (n : Net). port < degree_of n v) (sym e) in_row
+
+      pub neighbour_within : low + port < length ports
+      neighbour_within =
+          let in_net : IsVertex (net_from ids starts ports) v = is_vertex_from in
+          let bottom : low ≡ get_or starts (v - 1) 0 = get_or_read starts (v - 1) low (omega (arith, p.sizes)) b 0 in
+          rw bottom (neighbour_in ids starts ports p v in_net port in_row_from)
+
+      pub neighbour_reads : (x : ℕ) → x ≡ get_or ports (low + port) x → x ≡ neighbour_of net v port
+      neighbour_reads x r =
+          let in_net : IsVertex (net_from ids starts ports) v = is_vertex_from in
+          let bottom : low ≡ get_or starts (v - 1) 0 = get_or_read starts (v - 1) low (omega (arith, p.sizes)) b 0 in
+          let read : x ≡ get_or ports (low + port) 0 = get_or_read ports (low + port) x neighbour_within r 0 in
+          let fact : neighbour_of (net_from ids starts ports) v port ≡ get_or ports (low + port) 0 =
+          rw bottom (neighbour_is ids starts ports p v in_net port in_row_from) in
+          subst (λ (n : Net). x ≡ neighbour_of n v port) e (read ∙ sym fact)
+
+      pub neighbour_vertex : (x : ℕ) → x ≡ get_or ports (low + port) x → IsVertex net x
+      neighbour_vertex x r =
+          let at_net : IsVertex net (neighbour_of net v port) = subst (λ (n : Net). IsVertex n (neighbour_of n v port)) e
+          (p.network.vertices v port is_vertex_from in_row_from) in
+          subst (λ (y : ℕ). IsVertex net y) (sym (neighbour_reads x r)) at_net

@@ -33,14 +33,14 @@ abbrev pub IsCrowded : Net → ℕ → Type 0
 IsCrowded net v = IsVertex net v × (MAX_DEGREE < degree_of net v)
 
 -- two different vertices, the smaller first, have one identifier
-abbrev pub IsClash : Net → ℕ → ℕ → Type 0
-IsClash net v w = IsVertex net v × IsVertex net w × (v < w) × (id_of net v ≡ id_of net w)
+abbrev pub HaveSameId : Net → ℕ → ℕ → Type 0
+HaveSameId net v w = IsVertex net v × IsVertex net w × (v < w) × (id_of net v ≡ id_of net w)
 
--- what is told of a network that is refused: first the least crowded vertex, then the first clash by (v, w)
+-- why a network is refused: the least crowded vertex; else the first pair (v, w) with one identifier
 abbrev pub IsFaultOf : Net → NetFault → Type 0
 IsFaultOf net (Degree v) = IsCrowded net v × ((u : ℕ) → IsCrowded net u → v ≤ u)
-IsFaultOf net (SameId v w) = ((u : ℕ) → IsCrowded net u → ⊥) × IsClash net v w
-    × ((t u : ℕ) → IsClash net t u → (v < t) ⊎ ((v ≡ t) × (w ≤ u)))
+IsFaultOf net (SameId v w) = ((u : ℕ) → IsCrowded net u → ⊥) × HaveSameId net v w
+    × ((t u : ℕ) → HaveSameId net t u → (v < t) ⊎ ((v ≡ t) × (w ≤ u)))
 IsFaultOf net Memory = Unit {0}
 
 -- what a checked making reports: edges that a network doesn't take, or why theirs is refused

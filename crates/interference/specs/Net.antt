@@ -1,5 +1,6 @@
 -- The network: numbered vertices with identifiers, each with its neighbours, ascending.
-use Rattle.std.specs.Prelude.{◌≡◌, ◌≢◌, ℕ, ◌+◌, ◌-◌, ◌^◌, ◌<◌, ◌≤◌, ◌==◌, if◌then◌else◌, List, [], ◌∷◌, length, slice_index, slice_index_or, max, count_by, nat_lt, zero, suc, Contains}
+use Rattle.std.specs.Prelude.{◌≡◌, ◌≢◌, ℕ, zero, suc, ◌+◌, ◌-◌, ◌^◌, ◌<◌, ◌≤◌, ◌==◌, nat_lt, max, if◌then◌else◌}
+use Rattle.std.specs.Prelude.{List, [], ◌∷◌, length, slice_index, slice_index_or, count_by, Contains}
 use Rattle.std.specs.List.{range_with_len}
 use Rattle.dimacs_col.specs.declared.limits.TheConstants.{MAX_NODES}
 use Rattle.interference.specs.declared.limits.TheConstants.{MAX_DEGREE}
@@ -84,6 +85,8 @@ pub record IsNetwork (net : Net) : Type 0 where
   pub distinct : (v w : ℕ) → IsVertex net v → IsVertex net w → id_of net v ≡ id_of net w → v ≡ w
   pub degrees : (v : ℕ) → IsVertex net v → degree_of net v ≤ MAX_DEGREE
   pub vertices : (v port : ℕ) → IsVertex net v → port < degree_of net v → IsVertex net (neighbour_of net v port)
-  pub ascending : (v i j : ℕ) → IsVertex net v → i < j → j < degree_of net v → neighbour_of net v i < neighbour_of net v j
+  pub ascending : (v i j : ℕ) → IsVertex net v → i < j → j < degree_of net v →
+      neighbour_of net v i < neighbour_of net v j
   pub other : (v port : ℕ) → IsVertex net v → port < degree_of net v → neighbour_of net v port ≢ v
-  pub symmetric : (v port : ℕ) → IsVertex net v → port < degree_of net v → back_port_of net v port < degree_of net (neighbour_of net v port)
+  pub symmetric : (v port : ℕ) → IsVertex net v → port < degree_of net v →
+      back_port_of net v port < degree_of net (neighbour_of net v port)

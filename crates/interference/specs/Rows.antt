@@ -23,4 +23,5 @@ pub record IsPacked (ids starts ports : List ℕ) : Type 0 where
 -- beside each neighbour stands the port that leads back
 pub record HasBacks (starts backs : List ℕ) (net : Net) : Type 0 where
   pub size : (v port : ℕ) → IsVertex net v → port < degree_of net v → slice_index starts (v - 1) + port < length backs
-  pub back : (v port : ℕ) → IsVertex net v → port < degree_of net v → slice_index backs (slice_index starts (v - 1) + port) ≡ back_port_of net v port
+  pub back : (v port : ℕ) → IsVertex net v → port < degree_of net v →
+      slice_index backs (slice_index starts (v - 1) + port) ≡ back_port_of net v port

@@ -1,4 +1,4 @@
-// Whether a list of edges is one that a network takes.
+//! Whether a network takes a list of edges.
 
 ghost use Rattle.std.specs.Prelude.{◌≡◌, ◌↔◌, IsTrue, All, Some};
 ghost use Rattle.std.specs.List.Sorted.{IsStrictlySortedBy};
@@ -16,6 +16,7 @@ pub fn edges_fit(nodes: u32, edges: &[(u32, u32)]) -> bool
     nodes <= MAX_NODES && edges.len() <= MAX_EDGES && all_fit(nodes, edges) && ascend(edges)
 }
 
+// Whether each edge has its smaller vertex first, and both are vertices.
 fn all_fit(nodes: u32, edges: &[(u32, u32)]) -> bool
     ensures { IsTrue result ↔ All (FitsIn (Some nodes)) edges.now }
 {
@@ -27,12 +28,14 @@ fn all_fit(nodes: u32, edges: &[(u32, u32)]) -> bool
     true
 }
 
+// Whether a pair is strictly before another, by first vertex and then by second.
 fn comes_before(low: (u32, u32), high: (u32, u32)) -> bool
     ensures { IsTrue result ↔ (pair_cmp low high ≡ Less) }
 {
     low.0 < high.0 || low.0 == high.0 && low.1 < high.1
 }
 
+// Whether the edges ascend, so that none is there twice.
 fn ascend(edges: &[(u32, u32)]) -> bool
     ensures { IsTrue result ↔ IsStrictlySortedBy pair_cmp edges.now }
 {

@@ -1,12 +1,12 @@
-// Why no network was made.
+//! Why no network was made.
 
 ghost use Rattle.std.specs.Prelude.{◌≡◌};
-ghost use Rattle.interference.specs.declared.fault.NetFault.TheVariants as faults;
+ghost use Rattle.interference.specs.declared.fault.NetFault.TheVariants.{Memory};
 ghost use Rattle.interference.specs.declared.fault.TryFault.TheVariants.{Refused};
 
 use std::alloc::{AllocError, AllocFailed};
 
-/// Memory was refused.
+/// Out of memory: a growth was refused.
 #[derive(Debug, Clone, Copy, PartialEq, Eq)]
 pub struct Memory;
 
@@ -22,19 +22,20 @@ impl<T: Drop> From<AllocFailed<T>> for Memory {
     }
 }
 
-/// Why a network is refused, in the order in which the faults are looked for. Vertices count from 1.
+/// Why a network is refused; a network with several faults is refused for the first in this order.
+/// Vertices count from 1.
 #[derive(Debug, Clone, Copy, PartialEq, Eq)]
 pub enum NetFault {
-    /// N1: the least vertex that has more than 1,023 neighbours.
+    /// N1: the least vertex that has more than `MAX_DEGREE` neighbours.
     Degree(u32),
     /// N2: the first two vertices, the smaller first, that have one identifier.
     SameId(u32, u32),
-    /// N3: memory was refused.
+    /// N3: out of memory.
     Memory,
 }
 
 impl From<Memory> for NetFault {
-    ghost from_gives = { λ _ fault. fault ≡ faults.Memory };
+    ghost from_gives = { λ _ fault. fault ≡ Memory };
 
     fn from(_memory: Memory) -> NetFault {
         NetFault::Memory

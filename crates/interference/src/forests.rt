@@ -1,4 +1,4 @@
-// How many forests a network has.
+//! How many forests a network has.
 
 ghost use Rattle.std.specs.Prelude.{◌≡◌, ◌-◌, ◌≤◌, All, count_by, length, nat_lt, slice_index};
 ghost use Rattle.interference.specs.Net.{forest_count_of};
@@ -19,6 +19,7 @@ pub(crate) fn forest_count(ids: &[u64], starts: &[u32], ports: &[u32]) -> u32
     most
 }
 
+// How many vertices of a row have a higher identifier than `own`.
 fn higher_count(ids: &[u64], own: u64, row: &[u32]) -> u32
     requires vertices { All (λ w. (1 ≤ w) × (w ≤ length ids.now)) row.now }
     requires few { length row.now ≤ MAX_DEGREE }

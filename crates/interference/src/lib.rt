@@ -1,7 +1,7 @@
 //! The interference network: vertices with unique identifiers, and the neighbours of each by port.
 //!
 //! Vertices count from 1 and ports from 0; the ports of a vertex ascend by the neighbour's number.
-//! `forests`, `node_api` and `channel_plan` stand on it. Contracts see a network as the record
+//! `forests`, `node_api` and `channel_plan` use it. Contracts see a network as the record
 //! `Net` of `specs/Net.antt`: the list of identifiers, and for each vertex the list of its
 //! neighbours.
 //!
@@ -10,10 +10,10 @@
 //! net.neighbour(3, 1) // 2, the greater neighbour of vertex 3
 //! ```
 //!
-//! Limits: 20,000 nodes, 400,000 edges, degree 1,023, identifiers below 2^64.
+//! Limits: `MAX_NODES` (20,000) nodes, `MAX_EDGES` (400,000) edges, `MAX_DEGREE` (1,023) neighbours
+//! a node, identifiers below 2^64.
 #![tactic(auto)]
 
-mod clashes;
 mod degrees;
 mod edges;
 mod fault;
@@ -23,12 +23,10 @@ mod limits;
 mod making;
 mod network;
 mod rows;
+mod same_ids;
 
 pub use dimacs_col::{MAX_EDGES, MAX_NODES};
 pub use edges::edges_fit;
 pub use fault::{Memory, NetFault, TryFault};
 pub use limits::MAX_DEGREE;
 pub use network::Network;
-
-#[cfg(test)]
-mod tests;

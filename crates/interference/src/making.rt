@@ -1,28 +1,29 @@
-// The making of a network: the faults in their order, then the packed lists.
+//! The making of a network: the faults in their order, then the packed lists.
 
 ghost use Rattle.std.specs.Prelude.{◌≡◌, ℕ, ◌*◌, IfOk, IfErr, length};
 ghost use Rattle.interference.specs.Net.{IsNetwork};
-ghost use Rattle.interference.specs.Making.{EdgesFit, network_of, IsCrowded, IsClash, IsFaultOf, IsTryFaultOf};
+ghost use Rattle.interference.specs.Making.{EdgesFit, network_of, IsCrowded, HaveSameId, IsFaultOf, IsTryFaultOf};
 ghost use Rattle.interference.specs.Filling.{AreDegrees, AreStarts, IsFilled};
 
-use crate::clashes::first_twins;
 use crate::degrees::{count_ends, first_crowded, greatest, starts_of};
 use crate::edges::edges_fit;
 use crate::fault::{Memory, NetFault, TryFault};
 use crate::forests::forest_count;
 use crate::network::Network;
 use crate::rows::fill;
+use crate::same_ids::first_same_id;
 use dimacs_col::MAX_NODES;
 use std::alloc::Global;
 
 impl Network {
     /// Makes the network in which vertex v has the identifier `ids[v - 1]`, and two vertices are
-    /// neighbours where an edge joins them. The edges are as `edges_fit` asks; there is one
-    /// identifier for each of the `nodes` vertices.
+    /// neighbours if an edge joins them. The edges are as `edges_fit` asks; there is one
+    /// identifier for each of the `nodes` vertices. A refusal leaves nothing behind.
     ///
     /// # Errors
-    /// `Degree(v)` for the least vertex with more than 1,023 neighbours; else `SameId(v, w)` for the
-    /// first two vertices with one identifier; `Memory` where memory was refused.
+    ///
+    /// `Degree(v)` for the least vertex with more than `MAX_DEGREE` neighbours; else `SameId(v, w)`
+    /// for the first two vertices with one identifier; `Memory` only if a growth is refused.
     pub fn new(
         alloc: Global,
         nodes: u32,
@@ -33,14 +34,14 @@ impl Network {
         requires edges { EdgesFit nodes edges.now }
         ensures made { IfOk result (λ net. net ≡ network_of ids.now edges.now) }
         ensures uncrowded { IfOk result (λ net. (v : ℕ) → IsCrowded net v → ⊥) }
-        ensures distinct { IfOk result (λ net. (v w : ℕ) → IsClash net v w → ⊥) }
+        ensures distinct { IfOk result (λ net. (v w : ℕ) → HaveSameId net v w → ⊥) }
         ensures fault { IfErr result (IsFaultOf (network_of ids.now edges.now)) }
     {
         let degrees = degrees_of(alloc, nodes, edges)?;
         if let Some(v) = first_crowded(&degrees) {
             return Err(NetFault::Degree(v));
         }
-        if let Some((v, w)) = first_twins(alloc, ids)? {
+        if let Some((v, w)) = first_same_id(alloc, ids)? {
             return Err(NetFault::SameId(v, w));
         }
         Ok(packed(alloc, nodes, ids, edges, degrees)?)
@@ -50,13 +51,14 @@ impl Network {
     /// it tests `edges_fit` itself.
     ///
     /// # Errors
+    ///
     /// `Edges` if there are more than `MAX_NODES` identifiers or `edges_fit` refuses the edges; else
     /// `Refused` with the fault that `new` returns.
     pub fn try_new(alloc: Global, ids: &[u64], edges: &[(u32, u32)]) -> Result<Network, TryFault>
         ensures made { IfOk result (λ net. net ≡ network_of ids.now edges.now) }
         ensures fit { IfOk result (λ net. EdgesFit (length ids.now) edges.now) }
         ensures uncrowded { IfOk result (λ net. (v : ℕ) → IsCrowded net v → ⊥) }
-        ensures distinct { IfOk result (λ net. (v w : ℕ) → IsClash net v w → ⊥) }
+        ensures distinct { IfOk result (λ net. (v w : ℕ) → HaveSameId net v w → ⊥) }
         ensures fault { IfErr result (IsTryFaultOf ids.now edges.now) }
     {
         if ids.len() > MAX_NODES as usize {
@@ -80,7 +82,7 @@ fn degrees_of(alloc: Global, nodes: u32, edges: &[(u32, u32)]) -> Result<Vec<u32
     Ok(degrees)
 }
 
-// The network, in which no vertex is crowded and all identifiers differ.
+// The network of identifiers and edges that are tested: no vertex is crowded, all identifiers differ.
 fn packed(
     alloc: Global,
     nodes: u32,

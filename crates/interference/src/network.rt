@@ -1,5 +1,8 @@
+//! A network in packed lists, and how it is read.
+
 ghost use Rattle.std.specs.Prelude.{◌≡◌, ◌<◌, ◌≤◌, ◌+◌, ◌-◌, IfOk, length};
-ghost use Rattle.interference.specs.Net.{Net, IsNetwork, IsVertex, count_of, id_of, neighbours, degree_of, neighbour_of, back_port_of, greatest_degree_of, forest_count_of};
+ghost use Rattle.interference.specs.Net.{Net, IsNetwork, IsVertex, count_of, id_of, neighbours, degree_of};
+ghost use Rattle.interference.specs.Net.{neighbour_of, back_port_of, greatest_degree_of, forest_count_of};
 ghost use Rattle.interference.specs.Rows.{IsPacked, HasBacks, net_from};
 
 use crate::fault::Memory;
@@ -139,7 +142,7 @@ impl Network {
     ///
     /// # Errors
     ///
-    /// `Memory` where memory is refused.
+    /// `Memory` only if a growth is refused.
     pub fn copy(&self, alloc: Global) -> Result<Network, Memory>
         ensures { IfOk result (λ net. net ≡ self.now) }
     {
@@ -157,6 +160,3 @@ impl Network {
         })
     }
 }
-
-#[cfg(test)]
-mod tests;

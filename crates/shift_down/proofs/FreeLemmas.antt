@@ -28,7 +28,8 @@ other_of_two-is a b =
     let free : (c : ℕ) × (c < 3) × (c ≢ a) × (c ≢ b) = spare a b in
     let test : (if free.0 == a then false else not (free.0 == b)) ≡ true = to_neither a b free.0 free.2 free.3 in
     let most : other_of_two a b ≤ free.0 = least-at_most (λ c. if c == a then false else not (c == b)) 3 free.0 test in
-    let found : (other_of_two a b ≢ a) × (other_of_two a b ≢ b) = neither a b (other_of_two a b) (least-found (λ c. if c == a then false else not (c == b)) 3 free.0 free.1 test) in
+    let found : (other_of_two a b ≢ a) × (other_of_two a b ≢ b) =
+    neither a b (other_of_two a b) (least-found (λ c. if c == a then false else not (c == b)) 3 free.0 free.1 test) in
     (omega (arith, free.1), found.0, found.1)
 
 pub other-is : (a : ℕ) → (other a ≤ 2) × (other a ≢ a)

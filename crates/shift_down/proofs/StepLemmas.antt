@@ -7,14 +7,16 @@ use Rattle.shift_down.specs.Steps.{other_of_two, free_by, shift_by, drop_by, shi
 use Rattle.shift_down.proofs.FreeLemmas.{other-is, other_of_two-is, free-is}
 
 -- What is so of the colour of every parent is so of the parent's colour, if there is one.
-at_parent-apart : (parents : ℕ → Option ℕ) (c : ℕ → ℕ) → IsProper parents c → (v : ℕ) (p : Option ℕ) → parents v ≡ p → (u : ℕ) → at_parent parents c v ≡ Some u → c v ≢ u
+at_parent-apart : (parents : ℕ → Option ℕ) (c : ℕ → ℕ) → IsProper parents c → (v : ℕ) (p : Option ℕ) → parents v ≡ p → (u : ℕ) →
+    at_parent parents c v ≡ Some u → c v ≢ u
 at_parent-apart parents c proper v None e u h = let gone : at_parent parents c v ≡ None = rw e refl in absurd (cc)
 at_parent-apart parents c proper v (Some w) e u h =
     let there : at_parent parents c v ≡ Some (c w) = rw e refl in
     let same : c w ≡ u = cc in
     λ k. proper v w e (k ∙ sym same)
 
-at_parent-within : (n : ℕ) (parents : ℕ → Option ℕ) (c : ℕ → ℕ) → IsWithin n c → (v : ℕ) (p : Option ℕ) → parents v ≡ p → (u : ℕ) → at_parent parents c v ≡ Some u → u ≤ n
+at_parent-within : (n : ℕ) (parents : ℕ → Option ℕ) (c : ℕ → ℕ) → IsWithin n c → (v : ℕ) (p : Option ℕ) → parents v ≡ p → (u : ℕ) →
+    at_parent parents c v ≡ Some u → u ≤ n
 at_parent-within n parents c within v None e u h = let gone : at_parent parents c v ≡ None = rw e refl in absurd (cc)
 at_parent-within n parents c within v (Some w) e u h =
     let there : at_parent parents c v ≡ Some (c w) = rw e refl in
@@ -59,7 +61,8 @@ pub reduce-without : (x : ℕ) (parents : ℕ → Option ℕ) (c : ℕ → ℕ) 
 reduce-without x parents c low v = drop_by-without x (shift parents c v) (c v) (at_parent parents (shift parents c) v) low
 
 pub reduce-below : (x : ℕ) (parents : ℕ → Option ℕ) (c : ℕ → ℕ) → 3 ≤ x → IsWithin x c → (v : ℕ) → reduce x parents c v < x
-reduce-below x parents c low within v = drop_by-below x (shift parents c v) (c v) (at_parent parents (shift parents c) v) low (shift-within x parents c (omega arith) within v)
+reduce-below x parents c low within v = drop_by-below x (shift parents c v) (c v) (at_parent parents (shift parents c) v) low
+    (shift-within x parents c (omega arith) within v)
 
 -- the three drops
 pub three-proper : (parents : ℕ → Option ℕ) (c : ℕ → ℕ) → IsProper parents c → IsProper parents (three_from parents c)

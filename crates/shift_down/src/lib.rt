@@ -13,6 +13,3 @@ pub mod laws;
 mod step;
 
 pub use step::{drop_class, shift};
-
-#[cfg(test)]
-mod tests;

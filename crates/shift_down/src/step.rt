@@ -20,8 +20,8 @@ pub fn shift(own: u8, parent: Option<u8>) -> u8
     }
 }
 
-/// A node's colour after the drop of colour `x`, 3 to 5: its own where it has another, and else
-/// the least of 0, 1, 2 other than `before`, its colour before the shift, and than its parent's.
+/// A node's colour after the drop of colour `x`, 3 to 5: its own if that is not `x`, and else the
+/// least of 0, 1, 2 other than `before`, its colour before the shift, and than its parent's.
 ///
 /// Colours are 0 to 5, and `own` and `parent` are those after the shift. The source is that of
 /// [`shift`].
@@ -43,16 +43,14 @@ pub fn drop_class(x: u8, own: u8, before: u8, parent: Option<u8>) -> u8
     }
 }
 
-/// The least of 0, 1, 2 other than a colour.
-#[tactic(auto, using(std::proofs::lemmas::Bool::Decides::nat_tests), unfolding(crate::specs::Steps::other, colour_base::specs::Least::least))]
+// The least of 0, 1, 2 other than a colour.
 fn other(colour: u8) -> u8
     ensures { result ≡ other colour }
 {
     if colour == 0 { 1 } else { 0 }
 }
 
-/// The least of 0, 1, 2 other than two colours.
-#[tactic(auto, using(std::proofs::lemmas::Bool::Decides::nat_tests), unfolding(crate::specs::Steps::other_of_two, colour_base::specs::Least::least))]
+// The least of 0, 1, 2 other than two colours.
 fn other_of_two(one: u8, two: u8) -> u8
     ensures { result ≡ other_of_two one two }
 {

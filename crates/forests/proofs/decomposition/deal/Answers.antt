@@ -12,6 +12,8 @@ loop-forest-preserved c =
     let here : i < length c.args.parents.now = omega (arith, c.loop-forest-test.true) in
     let room : i < length lists = omega (arith, c.requires.room) in
     let long : i < length (map edges_of lists) = rw (length-map lists edges_of) room in
-    let is = c.in_ok-push.ensures.items ∙ ap (λ edges. edges ++ (i, c.args.v, parent.1) ∷ []) (sym (get_or-map edges_of lists i c.index-forests-forest.result [] room)) in
+    let is = c.in_ok-push.ensures.items ∙ ap (λ edges. edges ++ (i, c.args.v, parent.1) ∷ [])
+    (sym (get_or-map edges_of lists i c.index-forests-forest.result [] room)) in
     λ f below. ap (λ rows. get_or rows f []) (map-set edges_of lists i c.push.new.self)
-    ∙ dealt-more c.args.v i c.args.parents.now (0, 0) here (map edges_of c.args.forests.now) (map edges_of lists) long c.push.new.self.items is f (c.loop-forest.invariant f below)
+    ∙ dealt-more c.args.v i c.args.parents.now (0, 0) here (map edges_of c.args.forests.now) (map edges_of lists) long c.push.new.self.items is f
+    (c.loop-forest.invariant f below)

@@ -13,7 +13,8 @@ pub deal-requires-clause-room : goal.deal-requires-clause-room
 deal-requires-clause-room c =
     let net = c.args.net.now in
     let v = c.loop-v.v in
-    let parents : length c.deref.result.now ≡ length (up net v) = ap length (c.deref.ensures.value ∙ c.in_ok-order_parents.ensures) ∙ length-map (up net v) (with_id net) in
+    let parents : length c.deref.result.now ≡ length (up net v) = ap length (c.deref.ensures.value ∙ c.in_ok-order_parents.ensures) ∙
+    length-map (up net v) (with_id net) in
     let few : higher_count net v ≤ forest_count_of net = higher_count-le-forests net c.nodes-v-end.ensures.network v (omega arith, omega arith) in
     let rows : length c.deref_mut.result.now ≡ length c.loop-v.forests.items = ap length c.deref_mut.ensures.value in
     omega (arith, parents, length-up net v, few, rows, c.loop-v.invariant.0)

@@ -11,7 +11,8 @@ returns-in-Ok-clause-up c =
     let xs = c.args.higher.now in
     let found = searched xs c.args.id c.binary_search.result c.binary_search.ensures.position (ascending-rises (λ i. i) xs 0 c.requires.ascending) in
     let at = rw c.in-Ok.is at found in
-    let place : place_of c.args.id xs ≡ c.in-Ok.forest = ap (λ x. place_of x xs) (sym at.1) ∙ place-at xs c.in-Ok.forest (ascending-apart (λ i. i) xs c.requires.ascending) at.0 in
+    let place : place_of c.args.id xs ≡ c.in-Ok.forest = ap (λ x. place_of x xs) (sym at.1) ∙
+    place-at xs c.in-Ok.forest (ascending-apart (λ i. i) xs c.requires.ascending) at.0 in
     λ has. ap (λ f. Up f) (sym place)
 
 pub returns-in-Err-clause-up : goal.returns-in-Err-clause-up

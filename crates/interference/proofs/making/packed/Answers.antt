@@ -8,17 +8,21 @@ use Rattle.interference.proofs.making.packed.Goals as goal
 
 pub forest_count-forest_count-requires : goal.forest_count-forest_count-requires
 forest_count-forest_count-requires c =
-    let filled : IsFilled c.args.nodes c.args.edges.now c.starts_of-starts.result.items c.in_ok-ports.ports.items c.in_ok-ports.backs.items = rw (← c.deref-2.ensures.value) c.in_ok-ports.ensures in
-    rw (c.deref-3.ensures.value, c.deref-4.ensures.value) (is_packed c.args.nodes c.args.edges.now _ _ _ filled c.args.ids.now c.requires.ids c.requires.network)
+    let filled : IsFilled c.args.nodes c.args.edges.now c.starts_of-starts.result.items c.in_ok-ports.ports.items c.in_ok-ports.backs.items =
+    rw (← c.deref-2.ensures.value) c.in_ok-ports.ensures in
+    rw (c.deref-3.ensures.value, c.deref-4.ensures.value) (is_packed c.args.nodes c.args.edges.now _ _ _ filled c.args.ids.now c.requires.ids
+    c.requires.network)
 
 pub from_parts-requires-clause-packed : goal.from_parts-requires-clause-packed
 from_parts-requires-clause-packed c =
-    let filled : IsFilled c.args.nodes c.args.edges.now c.starts_of-starts.result.items c.in_ok-ports.ports.items c.in_ok-ports.backs.items = rw (← c.deref-2.ensures.value) c.in_ok-ports.ensures in
+    let filled : IsFilled c.args.nodes c.args.edges.now c.starts_of-starts.result.items c.in_ok-ports.ports.items c.in_ok-ports.backs.items =
+    rw (← c.deref-2.ensures.value) c.in_ok-ports.ensures in
     rw c.in_ok-ids.ensures.items (is_packed c.args.nodes c.args.edges.now _ _ _ filled c.args.ids.now c.requires.ids c.requires.network)
 
 pub from_parts-requires-clause-backs : goal.from_parts-requires-clause-backs
 from_parts-requires-clause-backs c =
-    let filled : IsFilled c.args.nodes c.args.edges.now c.starts_of-starts.result.items c.in_ok-ports.ports.items c.in_ok-ports.backs.items = rw (← c.deref-2.ensures.value) c.in_ok-ports.ensures in
+    let filled : IsFilled c.args.nodes c.args.edges.now c.starts_of-starts.result.items c.in_ok-ports.ports.items c.in_ok-ports.backs.items =
+    rw (← c.deref-2.ensures.value) c.in_ok-ports.ensures in
     rw c.in_ok-ids.ensures.items (has_backs c.args.nodes c.args.edges.now _ _ _ filled c.args.ids.now c.requires.ids)
 
 pub from_parts-requires-clause-greatest : goal.from_parts-requires-clause-greatest
@@ -32,5 +36,6 @@ from_parts-requires-clause-greatest c =
 
 pub returns : goal.returns
 returns c =
-    let filled : IsFilled c.args.nodes c.args.edges.now c.starts_of-starts.result.items c.in_ok-ports.ports.items c.in_ok-ports.backs.items = rw (← c.deref-2.ensures.value) c.in_ok-ports.ensures in
+    let filled : IsFilled c.args.nodes c.args.edges.now c.starts_of-starts.result.items c.in_ok-ports.ports.items c.in_ok-ports.backs.items =
+    rw (← c.deref-2.ensures.value) c.in_ok-ports.ensures in
     c.from_parts.ensures ∙ rw c.in_ok-ids.ensures.items (net_is c.args.nodes c.args.edges.now _ _ _ filled c.args.ids.now c.requires.ids)

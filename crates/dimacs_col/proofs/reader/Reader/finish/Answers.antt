@@ -19,5 +19,6 @@ returns-clause-limits c = λ lines knows.
     let members = λ (pair : ℕ × ℕ). c.in_ok-into_ascending.ensures.members pair ∙ knows.edges_are pair in record {
       nodes_fit = small-nodes c.args.self.nodes c.in-Some.nodes c.in-Some.is knows.nodes_fit;
       edges_few = rw (edge_count-is c.in_ok-into_ascending.field-0.items lines c.in_ok-into_ascending.ensures.ascending members) knows.edges_few;
-      edges_fit = λ pair h. subst (λ o. FitsIn o pair) c.in-Some.is (knows.edges_fit pair (sym (members pair) ∙ member-from_Contains c.in_ok-into_ascending.field-0.items pair h));
+      edges_fit = λ pair h. subst (λ o. FitsIn o pair) c.in-Some.is (knows.edges_fit pair (sym (members pair) ∙
+          member-from_Contains c.in_ok-into_ascending.field-0.items pair h));
     }
