@@ -7,6 +7,8 @@ mod byte_functions_checks;
 #[cfg(test)]
 mod channel_plan_checks;
 #[cfg(test)]
+mod cole_vishkin_checks;
+#[cfg(test)]
 mod colour_program_checks;
 #[cfg(test)]
 mod colour_rules_checks;
@@ -15,13 +17,23 @@ mod command_line_checks;
 #[cfg(test)]
 mod counted;
 #[cfg(test)]
+mod dimacs_col_checks;
+#[cfg(test)]
 mod fake_streams;
+#[cfg(test)]
+mod forest_merge_checks;
+#[cfg(test)]
+mod forests_checks;
+#[cfg(test)]
+mod interference_checks;
 #[cfg(test)]
 mod node_api_checks;
 #[cfg(test)]
 mod number_rows_checks;
 #[cfg(test)]
 mod serving_checks;
+#[cfg(test)]
+mod shift_down_checks;
 #[cfg(test)]
 mod sync_rounds_checks;
 #[cfg(test)]

@@ -1,0 +1,16 @@
+//! Bit steps, worked by hand from the two numbers in binary and the least place in which they differ.
+
+use cole_vishkin::bit_step;
+
+#[test]
+fn the_bit_step_gives_the_worked_values(rt: HostRuntime) {
+    let rows = [
+        (18446744073709551615, Some(9223372036854775807), 127),
+        (6, Some(4), 3),
+        (6, None, 0),
+        (1, Some(3), 2),
+    ];
+    for (own, parent, colour) in rows {
+        assert_eq!(rt; bit_step(own, parent), colour, "at {own}");
+    }
+}

@@ -1,0 +1,195 @@
+//! Texts that are read or refused, and the texts of the faults.
+
+use dimacs_col::{ColFault, read};
+use std::alloc::Global;
+use std::fmt::{self, Write};
+use std::test::Fail;
+
+fn fault(alloc: Global, text: &[u8]) -> Option<ColFault> {
+    read(alloc, text).err()
+}
+
+#[test]
+fn reads_graphs(rt: HostRuntime) -> Result<(), Fail> {
+    let wanted: [(&[u8], u32, &[(u32, u32)]); 7] = [
+        (
+            b"c path\r\np edges 3 99 extra\r\n\r\nn 1 2\r\ne 1 2 7\r\ne 2 1\r\ne 3 2\r\ne 2 3\r\n",
+            3,
+            &[(1, 2), (2, 3)],
+        ),
+        (b"p edge 0 0\n", 0, &[]),
+        (b"p col 2 0\n", 2, &[]),
+        (b"p edge 2 1\ne 01 0002\n", 2, &[(1, 2)]),
+        (b"\t p  edge\t2 1 \r\nc\xff\n  e 2\t1 9 \r", 2, &[(1, 2)]),
+        (
+            b"cp x\nd\nv 1\nx 1 2\np edge 20000 0\ne 20000 1",
+            20000,
+            &[(1, 20000)],
+        ),
+        (
+            b"p edge 4 4\ne 4 1\ne 3 4\ne 1 2\ne 3 2\n",
+            4,
+            &[(1, 2), (1, 4), (2, 3), (3, 4)],
+        ),
+    ];
+    for (text, nodes, edges) in wanted {
+        let file = read(rt.alloc(), text)?;
+        assert_eq!(rt; file.nodes, nodes);
+        assert_eq!(rt; file.edges.as_slice(), edges);
+    }
+    Ok(())
+}
+
+#[test]
+fn reports_the_first_fault(rt: HostRuntime) {
+    use ColFault::{
+        BadField, EdgeBeforeProblem, NoProblem, SecondProblem, SelfLoop, TooLarge, UnknownLine,
+        VertexRange,
+    };
+    let wanted: [(&[u8], ColFault); 26] = [
+        (b"", NoProblem),
+        (b"c x\n", NoProblem),
+        (b"p edge 2 1\ne 1 1\n", SelfLoop(2)),
+        (b"e 1 2\np edge 2 1\n", EdgeBeforeProblem(1)),
+        (b"e x\np edge 2 1\n", EdgeBeforeProblem(1)),
+        (b"p edge 2 1\np x\n", SecondProblem(2)),
+        (b"p edge 3\n", BadField(1)),
+        (b"p graph 3 1\n", BadField(1)),
+        (b"p edge 20001 0\n", TooLarge(1)),
+        (b"p edge 20001 x\n", BadField(1)),
+        (b"q 1\n", UnknownLine(1)),
+        (b"i 1 2\n", UnknownLine(1)),
+        (b"b 1 2\n", UnknownLine(1)),
+        (b"p edge 2 1\ne 0 1\n", VertexRange(2)),
+        (b"p edge 2 1\ne 1 3\n", VertexRange(2)),
+        (b"p edge 2 1\ne 5 5\n", VertexRange(2)),
+        (b"p edge 2 1\ne 1\n", BadField(2)),
+        (b"p edge 2 1\ne 1 x\n", BadField(2)),
+        (b"p edge 2 1\ne 0 x\n", BadField(2)),
+        (b"p edge 2 1\ne 1 -2\n", BadField(2)),
+        (b"p edge 2 1\ne 1 1\nq\n", SelfLoop(2)),
+        (b"p edge 99999999999999999999999999 x", BadField(1)),
+        (b"p edge 99999999999999999999999999 0", TooLarge(1)),
+        (
+            b"p edge 2 1\ne 340282366920938463463374607431768211457 1\n",
+            VertexRange(2),
+        ),
+        (b"p edge 2 1\ne 1 2\r\r\n", BadField(2)),
+        (b"p edge 2 1\n\xff 1\n", UnknownLine(2)),
+    ];
+    for (text, first) in wanted {
+        assert_eq!(rt; fault(rt.alloc(), text), Some(first));
+    }
+}
+
+#[test]
+fn reads_each_beginning(rt: HostRuntime) {
+    let text = b"p edge 3 3\ne 1 2\ne 1 3\ne 2 3\n";
+    for k in 0..text.len() + 1 {
+        let wanted = match k {
+            0 => Some(ColFault::NoProblem),
+            1..10 => Some(ColFault::BadField(1)),
+            12..16 => Some(ColFault::BadField(2)),
+            18..22 => Some(ColFault::BadField(3)),
+            24..28 => Some(ColFault::BadField(4)),
+            _ => None,
+        };
+        assert_eq!(rt; fault(rt.alloc(), &text[..k]), wanted, "at {k}");
+    }
+}
+
+#[test]
+fn each_fault_has_its_text(rt: HostRuntime) -> Result<(), Fail> {
+    let wanted = [
+        (ColFault::NoProblem, "F1: no problem line"),
+        (
+            ColFault::SecondProblem(2),
+            "F2 line 2: a second problem line",
+        ),
+        (
+            ColFault::EdgeBeforeProblem(3),
+            "F3 line 3: an edge before the problem line",
+        ),
+        (
+            ColFault::BadField(4),
+            "F4 line 4: a field is missing, not a number or an unknown format",
+        ),
+        (
+            ColFault::VertexRange(5),
+            "F5 line 5: a vertex is 0 or above the number of vertices",
+        ),
+        (
+            ColFault::SelfLoop(6),
+            "F6 line 6: an edge from a vertex to itself",
+        ),
+        (
+            ColFault::TooLarge(7),
+            "F7 line 7: more vertices or edges than the limits allow",
+        ),
+        (
+            ColFault::UnknownLine(8),
+            "F8 line 8: the first field is unknown",
+        ),
+        (ColFault::Memory, "F9: out of memory"),
+    ];
+    for (fault, text) in wanted {
+        let mut written = String::new(rt.alloc());
+        write!(written, "{fault}")?;
+        assert_eq!(rt; written.as_str(), text);
+    }
+    Ok(())
+}
+
+// The first pairs of 895 vertices, by their greater vertex.
+fn pairs(alloc: Global, count: usize) -> Result<Vec<(u32, u32)>, Fail> {
+    let mut pairs = Vec::new(alloc);
+    for w in 1..=895 {
+        for v in 1..w {
+            if pairs.len() < count {
+                pairs.push((v, w))?;
+            }
+        }
+    }
+    Ok(pairs)
+}
+
+fn write_edges(text: &mut String, pairs: &[(u32, u32)], from: usize, count: usize) -> fmt::Result {
+    for (v, w) in pairs.iter().skip(from).take(count) {
+        write!(text, "e {w} {v}\n")?;
+    }
+    Ok(())
+}
+
+// Edges that come again don't count, wherever they stand.
+#[test]
+fn reads_as_many_distinct_edges_as_the_limit(rt: HostRuntime) -> Result<(), Fail> {
+    let pairs = pairs(rt.alloc(), 400_001)?;
+    let wanted: [(&[(usize, usize)], Result<usize, ColFault>); 4] = [
+        (&[(0, 400_000)], Ok(400_000)),
+        (&[(0, 400_001)], Err(ColFault::TooLarge(400_002))),
+        (
+            &[(0, 250_000), (0, 250_000), (250_000, 150_000), (0, 1)],
+            Ok(400_000),
+        ),
+        (
+            &[
+                (0, 250_000),
+                (0, 250_000),
+                (250_000, 150_000),
+                (0, 1),
+                (400_000, 1),
+            ],
+            Err(ColFault::TooLarge(650_003)),
+        ),
+    ];
+    for (runs, expected) in wanted {
+        let mut text = String::new(rt.alloc());
+        write!(text, "p edge 895 0\n")?;
+        for (from, count) in runs {
+            write_edges(&mut text, pairs.as_slice(), *from, *count)?;
+        }
+        let length = read(rt.alloc(), text.as_bytes()).map(|file| file.edges.len());
+        assert_eq!(rt; length, expected);
+    }
+    Ok(())
+}

@@ -1,0 +1,164 @@
+//! Networks that are made, read and copied, and networks that are refused.
+
+use interference::{NetFault, Network, TryFault, edges_fit};
+use std::alloc::Global;
+use std::test::Fail;
+
+// Each port of a network in turn: its vertex, the neighbour there, and the port back.
+fn ports_of(alloc: Global, net: &Network) -> Result<Vec<(u32, u32, u32)>, Fail> {
+    let mut all = Vec::new(alloc);
+    for v in 1..net.nodes() + 1 {
+        for port in 0..net.degree(v) {
+            all.push((v, net.neighbour(v, port), net.back_port(v, port)))?;
+        }
+    }
+    Ok(all)
+}
+
+// The identifiers of a network, and its neighbours in turn.
+fn lists_of(alloc: Global, net: &Network) -> Result<(Vec<u64>, Vec<u32>), Fail> {
+    let mut ids = Vec::new(alloc);
+    let mut neighbours = Vec::new(alloc);
+    for v in 1..net.nodes() + 1 {
+        ids.push(net.id(v))?;
+        neighbours.extend_from_slice(net.neighbours(v))?;
+    }
+    Ok((ids, neighbours))
+}
+
+// A network and its worked reading.
+#[derive(Clone, Copy)]
+struct Row {
+    ids: &'static [u64],
+    edges: &'static [(u32, u32)],
+    greatest_degree: u32,
+    forest_count: u32,
+    // Each port: its vertex, the neighbour there, and the port back.
+    ports: &'static [(u32, u32, u32)],
+}
+
+// The original is dropped before the copy is read.
+#[test]
+fn networks_and_their_copies_read_as_worked(rt: HostRuntime) -> Result<(), Fail> {
+    let rows = [
+        Row {
+            ids: &[7, 9, 8],
+            edges: &[(1, 2), (1, 3), (2, 3)],
+            greatest_degree: 2,
+            forest_count: 2,
+            ports: &[
+                (1, 2, 0),
+                (1, 3, 0),
+                (2, 1, 0),
+                (2, 3, 1),
+                (3, 1, 1),
+                (3, 2, 1),
+            ],
+        },
+        Row {
+            ids: &[20, 10, 30],
+            edges: &[(1, 2), (2, 3)],
+            greatest_degree: 2,
+            forest_count: 2,
+            ports: &[(1, 2, 0), (2, 1, 0), (2, 3, 0), (3, 2, 1)],
+        },
+        Row {
+            ids: &[1, 2, 3, 4],
+            edges: &[(1, 3), (2, 3), (2, 4)],
+            greatest_degree: 2,
+            forest_count: 2,
+            ports: &[
+                (1, 3, 0),
+                (2, 3, 1),
+                (2, 4, 0),
+                (3, 1, 0),
+                (3, 2, 0),
+                (4, 2, 1),
+            ],
+        },
+        Row {
+            ids: &[2, 1],
+            edges: &[],
+            greatest_degree: 0,
+            forest_count: 0,
+            ports: &[],
+        },
+        Row {
+            ids: &[],
+            edges: &[],
+            greatest_degree: 0,
+            forest_count: 0,
+            ports: &[],
+        },
+    ];
+    for row in rows {
+        let net = Network::try_new(rt.alloc(), row.ids, row.edges)?;
+        assert_eq!(rt; net.greatest_degree(), row.greatest_degree);
+        assert_eq!(rt; net.forest_count(), row.forest_count);
+        assert_eq!(rt; ports_of(rt.alloc(), &net)?.as_slice(), row.ports);
+        let read = lists_of(rt.alloc(), &net)?;
+        assert_eq!(rt; read.0.as_slice(), row.ids);
+        let copy = net.copy(rt.alloc())?;
+        drop(net);
+        assert_eq!(rt; ports_of(rt.alloc(), &copy)?.as_slice(), row.ports);
+        assert_eq!(rt; lists_of(rt.alloc(), &copy)?, read);
+    }
+    Ok(())
+}
+
+// Identifiers 1 to `nodes`, and the edges from vertex 1 to all others.
+fn star(alloc: Global, nodes: u32) -> Result<(Vec<u64>, Vec<(u32, u32)>), Fail> {
+    let mut ids = Vec::new(alloc);
+    let mut edges = Vec::new(alloc);
+    for v in 1..nodes {
+        ids.push(u64::from(v))?;
+        edges.push((1, v + 1))?;
+    }
+    ids.push(u64::from(nodes))?;
+    Ok((ids, edges))
+}
+
+#[test]
+fn networks_are_refused_for_their_first_fault(rt: HostRuntime) -> Result<(), Fail> {
+    let rows: [(&[u64], &[(u32, u32)], TryFault); 11] = [
+        (&[1, 2, 3], &[(0, 1)], TryFault::Edges),
+        (&[1, 2, 3], &[(1, 1)], TryFault::Edges),
+        (&[1, 2, 3], &[(2, 1)], TryFault::Edges),
+        (&[1, 2, 3], &[(2, 4)], TryFault::Edges),
+        (&[1, 2, 3], &[(1, 2), (1, 2)], TryFault::Edges),
+        (&[1, 2, 3], &[(1, 3), (1, 2)], TryFault::Edges),
+        (&[1, 2, 3], &[(2, 3), (1, 2)], TryFault::Edges),
+        (&[5, 5], &[], TryFault::Refused(NetFault::SameId(1, 2))),
+        (
+            &[3, 7, 7, 3],
+            &[],
+            TryFault::Refused(NetFault::SameId(1, 4)),
+        ),
+        (
+            &[1, 7, 7, 7],
+            &[],
+            TryFault::Refused(NetFault::SameId(2, 3)),
+        ),
+        (
+            &[9, 4, 6, 4, 6],
+            &[],
+            TryFault::Refused(NetFault::SameId(2, 4)),
+        ),
+    ];
+    for (ids, edges, fault) in rows {
+        assert_eq!(rt; Network::try_new(rt.alloc(), ids, edges).err(), Some(fault));
+    }
+    assert!(rt; edges_fit(20_000, &[]));
+    assert!(rt; !edges_fit(20_001, &[]));
+    let (ids, edges) = star(rt.alloc(), 1024)?;
+    assert_eq!(rt;
+        Network::try_new(rt.alloc(), &ids, &edges)?.greatest_degree(),
+        1023
+    );
+    let (ids, edges) = star(rt.alloc(), 1025)?;
+    assert_eq!(rt;
+        Network::try_new(rt.alloc(), &ids, &edges).err(),
+        Some(TryFault::Refused(NetFault::Degree(1)))
+    );
+    Ok(())
+}
