@@ -1,10 +1,13 @@
 -- An empty line behind the lines of a network text says nothing.
-use Rattle.std.proofs.Common.{◌≡◌, ◌↔◌, ◌++◌, ◌∷◌, [], ◌⊎◌, inl, inr, ◌∙◌, ℕ, Option, Some, None, List, append_assoc, ap, refl, subst, sym}
+use Rattle.std.proofs.Common.{◌≡◌, ◌↔◌, ◌++◌, ◌∷◌, [], inl, inr, ◌∙◌, ℕ, Some, None, List, append_assoc}
+use Rattle.std.proofs.Common.{ap, refl, subst, sym}
 use Rattle.std.specs.List.{Contains}
 use Rattle.dimacs_col.specs.Lines.{Line}
 use Rattle.dimacs_col.specs.Reading.{AllGood, IsFault, IsFirstFault, IsGraph, edges_of, nodes_of, verdict}
 use Rattle.dimacs_col.specs.declared.fault.ColFault.{ColFault}
-use Rattle.dimacs_col.specs.declared.fault.ColFault.TheVariants.{NoProblem, SecondProblem, EdgeBeforeProblem, BadField, VertexRange, SelfLoop, TooLarge, UnknownLine, Memory}
+use Rattle.dimacs_col.specs.declared.fault.ColFault.TheVariants.{NoProblem, SecondProblem, EdgeBeforeProblem}
+use Rattle.dimacs_col.specs.declared.fault.ColFault.TheVariants.{BadField, VertexRange, SelfLoop, TooLarge}
+use Rattle.dimacs_col.specs.declared.fault.ColFault.TheVariants.{UnknownLine, Memory}
 use Rattle.dimacs_col.proofs.Lists.{edges_of-same, last-or-before, nodes_of-same}
 use Rattle.dimacs_col.proofs.Verdicts.{verdict-skipped}
 use Rattle.channel_plan.specs.Split.{AreNetworkLines, network_lines}
@@ -48,7 +51,8 @@ fault-front lines (TooLarge n) is = first-front lines (TooLarge n) is
 fault-front lines (UnknownLine n) is = first-front lines (UnknownLine n) is
 
 -- the same of the lines of a network text
-pub graph-of : (lines network : List Line) (nodes : ℕ) (edges : List (ℕ × ℕ)) → AreNetworkLines lines network → IsGraph network nodes edges → IsGraph (network_lines lines) nodes edges
+pub graph-of : (lines network : List Line) (nodes : ℕ) (edges : List (ℕ × ℕ)) → AreNetworkLines lines network → IsGraph network nodes edges →
+    IsGraph (network_lines lines) nodes edges
 graph-of lines network nodes edges (inl same) is = subst (λ ls. IsGraph ls nodes edges) same is
 graph-of lines network nodes edges (inr more) is = graph-front (network_lines lines) nodes edges (subst (λ ls. IsGraph ls nodes edges) more is)
 

@@ -1,5 +1,6 @@
 -- How many rows a vertex has, and the channel that they give it.
-use Rattle.std.proofs.Common.{◌≡◌, ◌≤◌, ◌+◌, ◌++◌, ◌∷◌, [], ◌⊎◌, inl, inr, ◌==◌, ◌∙◌, ℕ, zero, suc, Bool, true, false, Some, None, List, arith, ap, ap₂, cond, count_by, is_some, refl}
+use Rattle.std.proofs.Common.{◌≡◌, ◌≤◌, ◌+◌, ◌++◌, ◌∷◌, [], ◌⊎◌, inl, inr, ◌==◌, ◌∙◌, ℕ, zero, suc, Bool, true, false}
+use Rattle.std.proofs.Common.{Some, None, List, arith, ap, ap₂, cond, count_by, is_some, refl}
 use Rattle.std.proofs.lemmas.Bool.{eqb-true}
 use Rattle.std.proofs.lemmas.List.Elements.{Contains-append_right}
 use Rattle.std.proofs.lemmas.List.Recursion.{is_count_by}
@@ -26,7 +27,8 @@ pub count-append : (before rows : List Row) (v : ℕ) → row_count (before ++ r
 count-append [] rows v = omega arith
 count-append (first ∷ before) rows v = one-more (first.0 == v) refl (count-append before rows v)
   where
-    one-more : (b : Bool) → (first.0 == v) ≡ b → row_count (before ++ rows) v ≡ row_count before v + row_count rows v → row_count (first ∷ before ++ rows) v ≡ row_count (first ∷ before) v + row_count rows v
+    one-more : (b : Bool) → (first.0 == v) ≡ b → row_count (before ++ rows) v ≡ row_count before v + row_count rows v →
+        row_count (first ∷ before ++ rows) v ≡ row_count (first ∷ before) v + row_count rows v
     one-more true e more = rw e (omega (arith, more))
     one-more false e more = rw e more
 
@@ -35,7 +37,8 @@ pub count-some : (rows : List Row) (v : ℕ) → is_some (channel_of rows v) ≡
 count-some [] v e = absurd cc
 count-some (first ∷ rows) v e = some-by (first.0 == v) refl e (count-some rows v)
   where
-    some-by : (b : Bool) → (first.0 == v) ≡ b → is_some (channel_of (first ∷ rows) v) ≡ true → (is_some (channel_of rows v) ≡ true → 1 ≤ row_count rows v) → 1 ≤ row_count (first ∷ rows) v
+    some-by : (b : Bool) → (first.0 == v) ≡ b → is_some (channel_of (first ∷ rows) v) ≡ true → (is_some (channel_of rows v) ≡ true → 1 ≤ row_count rows v) →
+        1 ≤ row_count (first ∷ rows) v
     some-by true t e more = rw t (omega arith)
     some-by false t e more = rw t (more (rw t at e))
 
@@ -43,7 +46,8 @@ pub some-count : (rows : List Row) (v : ℕ) → 1 ≤ row_count rows v → is_s
 some-count [] v e = absurd (omega arith)
 some-count (first ∷ rows) v e = some-by (first.0 == v) refl e (some-count rows v)
   where
-    some-by : (b : Bool) → (first.0 == v) ≡ b → 1 ≤ row_count (first ∷ rows) v → (1 ≤ row_count rows v → is_some (channel_of rows v) ≡ true) → is_some (channel_of (first ∷ rows) v) ≡ true
+    some-by : (b : Bool) → (first.0 == v) ≡ b → 1 ≤ row_count (first ∷ rows) v → (1 ≤ row_count rows v → is_some (channel_of rows v) ≡ true) →
+        is_some (channel_of (first ∷ rows) v) ≡ true
     some-by true t e more = rw t refl
     some-by false t e more = rw t (more (rw t at e))
 
@@ -51,7 +55,8 @@ pub none-count : (rows : List Row) (v : ℕ) → row_count rows v ≡ 0 → chan
 none-count [] v e = refl
 none-count (first ∷ rows) v e = none-by (first.0 == v) refl e (none-count rows v)
   where
-    none-by : (b : Bool) → (first.0 == v) ≡ b → row_count (first ∷ rows) v ≡ 0 → (row_count rows v ≡ 0 → channel_of rows v ≡ None) → channel_of (first ∷ rows) v ≡ None
+    none-by : (b : Bool) → (first.0 == v) ≡ b → row_count (first ∷ rows) v ≡ 0 → (row_count rows v ≡ 0 → channel_of rows v ≡ None) →
+        channel_of (first ∷ rows) v ≡ None
     none-by true t e more = let z : 1 + row_count rows v ≡ 0 = (rw t at e) in absurd (omega arith)
     none-by false t e more = rw t (more (rw t at e))
 
@@ -75,7 +80,8 @@ channel-contains (first ∷ rows) v channel h few = elim (contains-cases first r
   | inr more ↦ channel-by (first.0 == v) refl few (contains-count rows v channel more) (channel-contains rows v channel more)
 ]
   where
-    channel-by : (b : Bool) → (first.0 == v) ≡ b → row_count (first ∷ rows) v ≤ 1 → 1 ≤ row_count rows v → (row_count rows v ≤ 1 → channel_of rows v ≡ Some channel) → channel_of (first ∷ rows) v ≡ Some channel
+    channel-by : (b : Bool) → (first.0 == v) ≡ b → row_count (first ∷ rows) v ≤ 1 → 1 ≤ row_count rows v →
+        (row_count rows v ≤ 1 → channel_of rows v ≡ Some channel) → channel_of (first ∷ rows) v ≡ Some channel
     channel-by true e few some more = let two : 1 + row_count rows v ≤ 1 = (rw e at few) in absurd (omega arith)
     channel-by false e few some more = rw e (more (rw e at few))
 
@@ -83,7 +89,8 @@ pub contains-channel : (rows : List Row) (v channel : ℕ) → channel_of rows v
 contains-channel [] v channel e = absurd cc
 contains-channel (first ∷ rows) v channel e = contains-by (first.0 == v) refl e (contains-channel rows v channel)
   where
-    contains-by : (b : Bool) → (first.0 == v) ≡ b → channel_of (first ∷ rows) v ≡ Some channel → (channel_of rows v ≡ Some channel → Contains rows (v, channel)) → Contains (first ∷ rows) (v, channel)
+    contains-by : (b : Bool) → (first.0 == v) ≡ b → channel_of (first ∷ rows) v ≡ Some channel →
+        (channel_of rows v ≡ Some channel → Contains rows (v, channel)) → Contains (first ∷ rows) (v, channel)
     contains-by true t e more =
         let some : Some first.1 ≡ Some channel = (rw t at e) in
         let same : first.1 ≡ channel = cc in

@@ -10,3 +10,4 @@ pub mod Parts
 pub mod Splitting
 pub mod Blank
 pub mod Written
+pub mod Texts

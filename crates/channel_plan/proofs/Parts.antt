@@ -1,8 +1,9 @@
 -- A text, cut at its line feeds: where a part begins, and the parts before it and from it on.
-use Rattle.std.proofs.Common.{◌≡◌, ◌<◌, ◌≤◌, ◌+◌, ◌-◌, ◌++◌, ◌∷◌, [], ◌==◌, ◌∙◌, ℕ, suc, Bool, true, false, List, All, arith, ap, append_assoc, drop, get_or, length, map, refl, subst, sym, take}
+use Rattle.std.proofs.Common.{◌≡◌, ◌<◌, ◌≤◌, ◌+◌, ◌++◌, ◌∷◌, [], ◌==◌, ◌∙◌, ℕ, suc, Bool, true, false, List, All}
+use Rattle.std.proofs.Common.{arith, ap, append_assoc, drop, get_or, length, map, refl, subst, sym, take}
 use Rattle.std.proofs.Math.Seq.{drop-append-add, drop-cons, take-append-add}
 use Rattle.std.proofs.lemmas.Bool.{eqb-true}
-use Rattle.std.proofs.lemmas.List.{length-append, length-drop, take-append-drop}
+use Rattle.std.proofs.lemmas.List.{length-append, take-append-drop}
 use Rattle.std.proofs.lemmas.List.Elements.{All-cons, All-nil}
 use Rattle.std.proofs.lemmas.List.Splits.{slice_split_at}
 use Rattle.std.specs.List.{onto_first, slice_split}
@@ -20,7 +21,12 @@ closed (part ∷ parts) = (part ++ 10 ∷ []) ++ closed parts
 
 pub closed-push : (parts : List (List ℕ)) (part : List ℕ) → length (closed (parts ++ part ∷ [])) ≡ length (closed parts) + (length part + 1)
 closed-push [] part = omega (arith, length-append (part ++ 10 ∷ []) [], length-append part (10 ∷ []))
-closed-push (first ∷ parts) part = omega (arith, closed-push parts part, length-append (first ++ 10 ∷ []) (closed (parts ++ part ∷ [])), length-append (first ++ 10 ∷ []) (closed parts))
+closed-push (first ∷ parts) part = omega (
+  arith,
+  closed-push parts part,
+  length-append (first ++ 10 ∷ []) (closed (parts ++ part ∷ [])),
+  length-append (first ++ 10 ∷ []) (closed parts),
+)
 
 -- a text of two parts or more: the first, a line feed, and the text of the others
 record IsFirst (text first : List ℕ) (others : List (List ℕ)) : Type 0 where
@@ -41,14 +47,16 @@ first-part : (text first second : List ℕ) (others : List (List ℕ)) → parts
 first-part [] first second others e = absurd cc
 first-part (x ∷ xs) first second others e = part-by (is_feed x) refl (λ q s. first-part xs q second others s)
   where
-    part-on : (all : List (List ℕ)) → is_feed x ≡ false → parts_of xs ≡ all → onto_first x all ≡ first ∷ second ∷ others → ((q : List ℕ) → parts_of xs ≡ q ∷ second ∷ others → IsFirst xs q (second ∷ others)) → IsFirst (x ∷ xs) first (second ∷ others)
+    part-on : (all : List (List ℕ)) → is_feed x ≡ false → parts_of xs ≡ all → onto_first x all ≡ first ∷ second ∷ others →
+        ((q : List ℕ) → parts_of xs ≡ q ∷ second ∷ others → IsFirst xs q (second ∷ others)) → IsFirst (x ∷ xs) first (second ∷ others)
     part-on [] t s o more = absurd cc
     part-on (q ∷ qs) t s o more =
         let head : x ∷ q ≡ first = cc in
         let tail : qs ≡ second ∷ others = cc in
         first-cons x xs q first (second ∷ others) t head (more q (s ∙ ap (λ ps. q ∷ ps) tail))
 
-    part-by : (b : Bool) → is_feed x ≡ b → ((q : List ℕ) → parts_of xs ≡ q ∷ second ∷ others → IsFirst xs q (second ∷ others)) → IsFirst (x ∷ xs) first (second ∷ others)
+    part-by : (b : Bool) → is_feed x ≡ b → ((q : List ℕ) → parts_of xs ≡ q ∷ second ∷ others → IsFirst xs q (second ∷ others)) →
+        IsFirst (x ∷ xs) first (second ∷ others)
     part-by true t more =
         let parts : [] ∷ parts_of xs ≡ first ∷ second ∷ others = (rw t at e) in
         let none : [] ≡ first = cc in
@@ -66,7 +74,8 @@ first-length : (text first : List ℕ) (others : List (List ℕ)) → parts_of t
 first-length [] first others e = let none : [] ≡ first = cc in omega (arith, ap length none)
 first-length (x ∷ xs) first others e = length-by (is_feed x) refl (λ q qs s. first-length xs q qs s)
   where
-    length-on : (all : List (List ℕ)) → parts_of xs ≡ all → onto_first x all ≡ first ∷ others → ((q : List ℕ) (qs : List (List ℕ)) → parts_of xs ≡ q ∷ qs → length q ≤ length xs) → length first ≤ length (x ∷ xs)
+    length-on : (all : List (List ℕ)) → parts_of xs ≡ all → onto_first x all ≡ first ∷ others → ((q : List ℕ) (qs : List (List ℕ)) → parts_of xs ≡ q ∷ qs →
+        length q ≤ length xs) → length first ≤ length (x ∷ xs)
     length-on [] s o more = let one : x ∷ [] ≡ first = cc in omega (arith, ap length one)
     length-on (q ∷ qs) s o more = let head : x ∷ q ≡ first = cc in omega (arith, ap length head, more q qs s)
 
@@ -82,11 +91,13 @@ pub record IsCut (text : List ℕ) (before : List (List ℕ)) (part : List ℕ) 
   pub front : parts_of (take (length (closed before)) text) ≡ before ++ [] ∷ []
   pub back : parts_of (drop (length (closed before)) text) ≡ part ∷ after
 
-some-part : (before : List (List ℕ)) (part : List ℕ) (after : List (List ℕ)) → (first : List ℕ) × (others : List (List ℕ)) × (before ++ part ∷ after ≡ first ∷ others)
+some-part : (before : List (List ℕ)) (part : List ℕ) (after : List (List ℕ)) → (first : List ℕ) × (others : List (List ℕ)) ×
+    (before ++ part ∷ after ≡ first ∷ others)
 some-part [] part after = (part, after, refl)
 some-part (first ∷ before) part after = (first, before ++ part ∷ after, refl)
 
-pub text-cut : (text : List ℕ) (before : List (List ℕ)) (part : List ℕ) (after : List (List ℕ)) → parts_of text ≡ before ++ part ∷ after → IsCut text before part after
+pub text-cut : (text : List ℕ) (before : List (List ℕ)) (part : List ℕ) (after : List (List ℕ)) → parts_of text ≡ before ++ part ∷ after →
+    IsCut text before part after
 text-cut text [] part after e = record { within = omega (arith, first-length text part after e); front = refl; back = e }
 text-cut text (first ∷ before) part after e =
     let some = some-part before part after in
@@ -96,16 +107,20 @@ text-cut text (first ∷ before) part after e =
     let text_is : text ≡ front ++ is.rest = is.text_is ∙ sym (append_assoc first (10 ∷ []) is.rest) in
     let size : length (closed (first ∷ before)) ≡ length front + length (closed before) = length-append front (closed before) in
     let all : length text ≡ length front + length is.rest = ap length text_is ∙ length-append front is.rest in
-    let taken : take (length (closed (first ∷ before))) text ≡ front ++ take (length (closed before)) is.rest = ap (λ k. take k text) size ∙ ap (λ t. take (length front + length (closed before)) t) text_is ∙ take-append-add front is.rest (length (closed before)) in
-    let dropped : drop (length (closed (first ∷ before))) text ≡ drop (length (closed before)) is.rest = ap (λ k. drop k text) size ∙ ap (λ t. drop (length front + length (closed before)) t) text_is ∙ drop-append-add front is.rest (length (closed before)) in
+    let taken : take (length (closed (first ∷ before))) text ≡ front ++ take (length (closed before)) is.rest = ap (λ k. take k text) size ∙
+    ap (λ t. take (length front + length (closed before)) t) text_is ∙ take-append-add front is.rest (length (closed before)) in
+    let dropped : drop (length (closed (first ∷ before))) text ≡ drop (length (closed before)) is.rest = ap (λ k. drop k text) size ∙
+    ap (λ t. drop (length front + length (closed before)) t) text_is ∙ drop-append-add front is.rest (length (closed before)) in
     record {
       within = omega (arith, size, all, cut.within);
-      front = ap parts_of (taken ∙ append_assoc first (10 ∷ []) (take (length (closed before)) is.rest)) ∙ slice_split_at is_feed first 10 (take (length (closed before)) is.rest) is.plain refl ∙ ap (λ ps. first ∷ ps) cut.front;
+      front = ap parts_of (taken ∙ append_assoc first (10 ∷ []) (take (length (closed before)) is.rest)) ∙
+          slice_split_at is_feed first 10 (take (length (closed before)) is.rest) is.plain refl ∙ ap (λ ps. first ∷ ps) cut.front;
       back = ap parts_of dropped ∙ cut.back;
     }
 
 -- the parts round the one at k
-pub parts-around : {A : Type 0} (v : A → List ℕ) (all : List (List ℕ)) (xs : List A) (x : A) → (map v xs ≡ take (length xs) all) × (length xs < length all) × (v x ≡ get_or all (length xs) (v x)) → all ≡ map v xs ++ v x ∷ drop (suc (length xs)) all
+pub parts-around : {A : Type 0} (v : A → List ℕ) (all : List (List ℕ)) (xs : List A) (x : A) → (map v xs ≡ take (length xs) all) × (length xs < length all) ×
+    (v x ≡ get_or all (length xs) (v x)) → all ≡ map v xs ++ v x ∷ drop (suc (length xs)) all
 parts-around v all xs x h =
     sym (take-append-drop (length xs) all)
     ∙ ap (λ rest. take (length xs) all ++ rest) (drop-cons all (length xs) (v x) h.1 ∙ ap (λ p. p ∷ drop (suc (length xs)) all) (sym h.2))

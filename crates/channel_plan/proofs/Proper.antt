@@ -1,20 +1,25 @@
 -- A plan without a fault is proper, and a proper plan has no fault.
 -- Without a fault each row is good after those before it, so a vertex has at most one row; none is missing,
 -- so it has one; and no two neighbours have one channel in the table, which is the channel of their rows.
-use Rattle.std.proofs.Common.{◌≡◌, ◌<◌, ◌≤◌, ◌+◌, ◌-◌, ◌++◌, ◌∷◌, [], inl, inr, ◌==◌, ◌&&◌, ◌∙◌, ℕ, Bool, true, false, Option, Some, None, List, All, arith, ap, append_assoc, cond, get_or, if◌then◌else◌, is_none, is_some, nat_lt, not, refl, subst, sym}
+use Rattle.std.proofs.Common.{◌≡◌, ◌<◌, ◌≤◌, ◌+◌, ◌-◌, ◌++◌, ◌∷◌, [], inl, inr, ◌==◌, ◌&&◌, ◌∙◌, ℕ, Bool, true, false}
+use Rattle.std.proofs.Common.{Option, Some, None, List, All, arith, ap, append_assoc, cond, get_or, if◌then◌else◌}
+use Rattle.std.proofs.Common.{is_none, is_some, nat_lt, not, refl, subst, sym}
 use Rattle.std.proofs.lemmas.Bool.{cases_order, eqb-true, lt-ltb, ltb-false}
 use Rattle.std.proofs.lemmas.Bool.Decides.{nat_tests}
-use Rattle.std.proofs.lemmas.List.Elements.{All-contains, All-from_recursion, Contains-append_right, Contains-get_or, recursion_from_All}
+use Rattle.std.proofs.lemmas.List.Elements.{All-contains, All-from_recursion, Contains-append_right, Contains-get_or}
+use Rattle.std.proofs.lemmas.List.Elements.{recursion_from_All}
 use Rattle.std.proofs.lemmas.List.FromFn.{get_or-range_with_len, length-range_with_len}
 use Rattle.std.specs.List.{AllByRecursion, Contains, find}
 use Rattle.std.specs.Option.{option_map, option_or}
 use Rattle.interference.specs.Net.{IsNetwork, IsVertex, Net, count_of, neighbours, vertices}
 use Rattle.interference.proofs.Neighbours.{both-ways, neighbour-is_vertex, port-of}
-use Rattle.channel_plan.specs.Checked.{Channels, IsProper, channel_of, clash_among, clash_at, clashes, fault_of, first_missing, is_vertex, most_channel, row_fault, rows_fault, same_channel}
+use Rattle.channel_plan.specs.Checked.{Channels, IsProper, channel_of, clash_among, clash_at, clashes, fault_of}
+use Rattle.channel_plan.specs.Checked.{first_missing, is_vertex, most_channel, row_fault, rows_fault, same_channel}
 use Rattle.channel_plan.specs.Reading.{Row}
 use Rattle.channel_plan.specs.declared.plan.CheckFault.{CheckFault}
 use Rattle.channel_plan.specs.declared.plan.CheckFault.TheVariants.{Clash, Missing}
-use Rattle.channel_plan.proofs.Counts.{channel-contains, contains-channel, count-append, count-some, counted, none-count, row_count, some-count}
+use Rattle.channel_plan.proofs.Counts.{channel-contains, contains-channel, count-append, count-some, counted}
+use Rattle.channel_plan.proofs.Counts.{none-count, row_count, some-count}
 use Rattle.channel_plan.proofs.Tables.{channel-push, none-from, or-nothing, row-good}
 
 -- ---- what is none
@@ -30,7 +35,8 @@ find-none : (p : ℕ → Bool) (xs : List ℕ) → find p xs ≡ None → AllByR
 find-none p [] e = tt
 find-none p (x ∷ xs) e = none-by (p x) refl e (find-none p xs)
   where
-    none-by : (b : Bool) → p x ≡ b → find p (x ∷ xs) ≡ None → (find p xs ≡ None → AllByRecursion (λ y. p y ≡ false) xs) → AllByRecursion (λ y. p y ≡ false) (x ∷ xs)
+    none-by : (b : Bool) → p x ≡ b → find p (x ∷ xs) ≡ None → (find p xs ≡ None → AllByRecursion (λ y. p y ≡ false) xs) →
+        AllByRecursion (λ y. p y ≡ false) (x ∷ xs)
     none-by true t e more = let s : Some x ≡ None = (rw t at e) in absurd cc
     none-by false t e more = (t, more (rw t at e))
 
@@ -40,7 +46,8 @@ none-find p (x ∷ xs) all = rw all.0 (none-find p xs all.1)
 
 clash-none : (net : Net) (channels : Channels) (vs : List ℕ) → clash_among net channels vs ≡ None → AllByRecursion (λ v. clash_at net channels v ≡ None) vs
 clash-none net channels [] e = tt
-clash-none net channels (v ∷ vs) e = let both = or-none-both (clash_at net channels v) (clash_among net channels vs) e in (both.0, clash-none net channels vs both.1)
+clash-none net channels (v ∷ vs) e = let both = or-none-both (clash_at net channels v) (clash_among net channels vs) e in
+    (both.0, clash-none net channels vs both.1)
 
 none-clash : (net : Net) (channels : Channels) (vs : List ℕ) → AllByRecursion (λ v. clash_at net channels v ≡ None) vs → clash_among net channels vs ≡ None
 none-clash net channels [] all = refl
@@ -60,7 +67,8 @@ vertices-are net = λ k d below.
     (omega (arith, is), omega (arith, is, size, below))
 
 -- ---- from no fault
-three : (a b d : Bool) (x y z : CheckFault) → (if not a then Some x else (if b then Some y else (if d then Some z else None))) ≡ None → (a ≡ true) × (b ≡ false) × (d ≡ false)
+three : (a b d : Bool) (x y z : CheckFault) → (if not a then Some x else (if b then Some y else (if d then Some z else None))) ≡ None → (a ≡ true) ×
+    (b ≡ false) × (d ≡ false)
 three true false false x y z e = (refl, refl, refl)
 three true false true x y z e = absurd cc
 three true true d x y z e = absurd cc
@@ -84,11 +92,14 @@ row-none net before row e =
       within = ltb-false (most_channel net) row.1 p.2;
     }
 
-rows-cons : (net : Net) (before : List Row) (row : Row) (rows : List Row) → rows_fault net before (row ∷ rows) ≡ None → IsGood net before row × (rows_fault net (before ++ row ∷ []) rows ≡ None)
+rows-cons : (net : Net) (before : List Row) (row : Row) (rows : List Row) → rows_fault net before (row ∷ rows) ≡ None → IsGood net before row ×
+    (rows_fault net (before ++ row ∷ []) rows ≡ None)
 unfolding rows_fault
-rows-cons net before row rows e = let both = or-none-both (row_fault net before row) (rows_fault net (before ++ row ∷ []) rows) e in (row-none net before row both.0, both.1)
+rows-cons net before row rows e = let both = or-none-both (row_fault net before row) (rows_fault net (before ++ row ∷ []) rows) e in
+    (row-none net before row both.0, both.1)
 
-each-within : (net : Net) (before rows : List Row) → rows_fault net before rows ≡ None → AllByRecursion (λ (row : Row). IsVertex net row.0 × (row.1 ≤ most_channel net)) rows
+each-within : (net : Net) (before rows : List Row) → rows_fault net before rows ≡ None →
+    AllByRecursion (λ (row : Row). IsVertex net row.0 × (row.1 ≤ most_channel net)) rows
 each-within net before [] e = tt
 each-within net before (row ∷ rows) e = let p = rows-cons net before row rows e in ((p.0.vertex, p.0.within), each-within net (before ++ row ∷ []) rows p.1)
 
@@ -97,20 +108,24 @@ or-some None x = refl
 or-some (Some y) x = refl
 
 -- after a row of its own a vertex has no other; before it has one at most
-one-at-most : (net : Net) (before rows : List Row) (v : ℕ) → rows_fault net before rows ≡ None → (is_some (channel_of before v) ≡ true → row_count rows v ≡ 0) × (row_count rows v ≤ 1)
+one-at-most : (net : Net) (before rows : List Row) (v : ℕ) → rows_fault net before rows ≡ None → (is_some (channel_of before v) ≡ true → row_count rows v ≡ 0)
+    × (row_count rows v ≤ 1)
 one-at-most net before [] v e = (λ h. refl, omega arith)
 one-at-most net before (row ∷ rows) v e =
     let p = rows-cons net before row rows e in
     most-by (row.0 == v) refl p.0.free (one-at-most net (before ++ row ∷ []) rows v p.1)
   where
-    most-by : (b : Bool) → (row.0 == v) ≡ b → channel_of before row.0 ≡ None → (is_some (channel_of (before ++ row ∷ []) v) ≡ true → row_count rows v ≡ 0) × (row_count rows v ≤ 1) → (is_some (channel_of before v) ≡ true → row_count (row ∷ rows) v ≡ 0) × (row_count (row ∷ rows) v ≤ 1)
+    most-by : (b : Bool) → (row.0 == v) ≡ b → channel_of before row.0 ≡ None → (is_some (channel_of (before ++ row ∷ []) v) ≡ true → row_count rows v ≡ 0) ×
+        (row_count rows v ≤ 1) → (is_some (channel_of before v) ≡ true → row_count (row ∷ rows) v ≡ 0) × (row_count (row ∷ rows) v ≤ 1)
     most-by true t free more =
         let same : row.0 ≡ v = eqb-true row.0 v t in
-        let pushed : channel_of (before ++ row ∷ []) v ≡ option_or (channel_of before v) (Some row.1) = channel-push before row v ∙ ap (λ b. option_or (channel_of before v) (cond b (Some row.1) None)) t in
+        let pushed : channel_of (before ++ row ∷ []) v ≡ option_or (channel_of before v) (Some row.1) = channel-push before row v ∙
+        ap (λ b. option_or (channel_of before v) (cond b (Some row.1) None)) t in
         let none : row_count rows v ≡ 0 = more.0 (ap is_some pushed ∙ or-some (channel_of before v) row.1) in
         (λ h. let n : false ≡ true = sym (ap is_some (sym (ap (channel_of before) same) ∙ free)) ∙ h in absurd cc, rw t (omega (arith, none)))
     most-by false t free more =
-        let pushed : channel_of (before ++ row ∷ []) v ≡ option_or (channel_of before v) None = channel-push before row v ∙ ap (λ b. option_or (channel_of before v) (cond b (Some row.1) None)) t in
+        let pushed : channel_of (before ++ row ∷ []) v ≡ option_or (channel_of before v) None = channel-push before row v ∙
+        ap (λ b. option_or (channel_of before v) (cond b (Some row.1) None)) t in
         (λ h. rw t (more.0 (ap is_some (pushed ∙ or-nothing (channel_of before v)) ∙ h)), rw t more.1)
 
 same-number : (channel : ℕ) → (channel == channel) ≡ true
@@ -127,11 +142,14 @@ not-own : (net : Net) → IsNetwork net → (v w : ℕ) → IsVertex net v → C
 not-own net is v w hv hw same = let (port, below, at) = port-of net is v w hw in is.other v port hv below (at ∙ sym same)
 
 -- the channels of two neighbours differ where there is no clash
-no-clash : (net : Net) (channels : Channels) (v w channel : ℕ) → clash_among net channels (vertices net) ≡ None → IsVertex net v → Contains (neighbours net v) w → v < w → channels v ≡ Some channel → channels w ≡ Some channel → ⊥
+no-clash : (net : Net) (channels : Channels) (v w channel : ℕ) → clash_among net channels (vertices net) ≡ None → IsVertex net v →
+    Contains (neighbours net v) w → v < w → channels v ≡ Some channel → channels w ≡ Some channel → ⊥
 no-clash net channels v w channel e hv hw below ev ew =
-    let at_v : clash_at net channels v ≡ None = All-contains (λ u. clash_at net channels u ≡ None) (vertices net) v (All-from_recursion (λ u. clash_at net channels u ≡ None) (vertices net) (clash-none net channels (vertices net) e)) (vertex-in net v hv) in
+    let at_v : clash_at net channels v ≡ None = All-contains (λ u. clash_at net channels u ≡ None) (vertices net) v
+    (All-from_recursion (λ u. clash_at net channels u ≡ None) (vertices net) (clash-none net channels (vertices net) e)) (vertex-in net v hv) in
     let none = find-none (clashes channels v) (neighbours net v) (map-none (λ (u : ℕ). (v, u)) (find (clashes channels v) (neighbours net v)) at_v) in
-    let no : clashes channels v w ≡ false = All-contains (λ u. clashes channels v u ≡ false) (neighbours net v) w (All-from_recursion (λ u. clashes channels v u ≡ false) (neighbours net v) none) hw in
+    let no : clashes channels v w ≡ false = All-contains (λ u. clashes channels v u ≡ false) (neighbours net v) w
+    (All-from_recursion (λ u. clashes channels v u ≡ false) (neighbours net v) none) hw in
     let yes : clashes channels v w ≡ true = rw (lt-ltb v w below, ev, ew) (same-number channel) in
     let wrong : true ≡ false = sym yes ∙ no in absurd cc
 
@@ -141,18 +159,22 @@ proper-from net rows is e =
     let first = or-none-both (rows_fault net [] rows) _ e in
     let second = or-none-both (option_map Missing (first_missing net (channel_of rows))) _ first.1 in
     let none_missing = find-none (λ v. is_none (channel_of rows v)) (vertices net) (map-none Missing (first_missing net (channel_of rows)) second.0) in
-    let none_clash : clash_among net (channel_of rows) (vertices net) ≡ None = map-none (λ (pair : ℕ × ℕ). Clash pair.0 pair.1) (clash_among net (channel_of rows) (vertices net)) second.1 in
+    let none_clash : clash_among net (channel_of rows) (vertices net) ≡ None =
+    map-none (λ (pair : ℕ × ℕ). Clash pair.0 pair.1) (clash_among net (channel_of rows) (vertices net)) second.1 in
     let within = All-from_recursion (λ (row : Row). IsVertex net row.0 × (row.1 ≤ most_channel net)) rows (each-within net [] rows first.0) in
     let most : (v : ℕ) → row_count rows v ≤ 1 = λ v. (one-at-most net [] rows v first.0).1 in
-    let known : (v channel : ℕ) → Contains rows (v, channel) → channel_of rows v ≡ Some channel = λ v channel h. channel-contains rows v channel h (most v) in record {
-      one_row = λ v h. sym (counted rows v) ∙ one-from rows v (most v) (All-contains (λ u. is_none (channel_of rows u) ≡ false) (vertices net) v (All-from_recursion (λ u. is_none (channel_of rows u) ≡ false) (vertices net) none_missing) (vertex-in net v h));
+    let known : (v channel : ℕ) → Contains rows (v, channel) → channel_of rows v ≡ Some channel = λ v channel h. channel-contains rows v channel h (most v) in
+    record {
+      one_row = λ v h. sym (counted rows v) ∙ one-from rows v (most v) (All-contains (λ u. is_none (channel_of rows u) ≡ false) (vertices net) v
+          (All-from_recursion (λ u. is_none (channel_of rows u) ≡ false) (vertices net) none_missing) (vertex-in net v h));
       no_stranger = λ row h. (All-contains (λ (r : Row). IsVertex net r.0 × (r.1 ≤ most_channel net)) rows row within h).0;
       within = λ row h. (All-contains (λ (r : Row). IsVertex net r.0 × (r.1 ≤ most_channel net)) rows row within h).1;
       differ = λ v w channel edge cv cw. elim (cases_order v w) [
         | inl same ↦ not-own net is v w edge.0 edge.1 same
         | inr other ↦ elim other [
           | inl below ↦ no-clash net (channel_of rows) v w channel none_clash edge.0 edge.1 below (known v channel cv) (known w channel cw)
-          | inr above ↦ no-clash net (channel_of rows) w v channel none_clash (neighbour-is_vertex net is v w edge.0 edge.1) (both-ways net is v w edge.0 edge.1) above (known w channel cw) (known v channel cv)
+          | inr above ↦ no-clash net (channel_of rows) w v channel none_clash (neighbour-is_vertex net is v w edge.0 edge.1)
+              (both-ways net is v w edge.0 edge.1) above (known w channel cw) (known v channel cv)
         ]
       ];
     }
@@ -164,7 +186,8 @@ rows-right net before [] is = refl
 rows-right net before (row ∷ rows) is =
     let here : Contains (before ++ row ∷ rows) row = Contains-append_right before (row ∷ rows) row (0, omega arith, refl) in
     let vertex = is.no_stranger row here in
-    let one : row_count before row.0 + row_count (row ∷ rows) row.0 ≡ 1 = sym (count-append before (row ∷ rows) row.0) ∙ counted (before ++ row ∷ rows) row.0 ∙ is.one_row row.0 vertex in
+    let one : row_count before row.0 + row_count (row ∷ rows) row.0 ≡ 1 = sym (count-append before (row ∷ rows) row.0) ∙
+    counted (before ++ row ∷ rows) row.0 ∙ is.one_row row.0 vertex in
     let own : row_count (row ∷ rows) row.0 ≡ 1 + row_count rows row.0 = rw (same-number row.0) refl in
     let free = none-count before row.0 (omega (arith, one, own)) in
     let good = row-good net before row vertex (ap is_some free) (is.within row here) in
@@ -181,7 +204,8 @@ and-false : (b : Bool) → (b && false) ≡ false
 and-false true = refl
 and-false false = refl
 
-no-channel : (net : Net) (rows : List Row) → IsProper net rows → (v w : ℕ) → IsVertex net v → Contains (neighbours net v) w → clashes (channel_of rows) v w ≡ false
+no-channel : (net : Net) (rows : List Row) → IsProper net rows → (v w : ℕ) → IsVertex net v → Contains (neighbours net v) w →
+    clashes (channel_of rows) v w ≡ false
 no-channel net rows is v w hv hw = no-by (same_channel (channel_of rows v) (channel_of rows w)) refl
   where
     no-by : (b : Bool) → same_channel (channel_of rows v) (channel_of rows w) ≡ b → clashes (channel_of rows) v w ≡ false
@@ -196,10 +220,14 @@ has-channel net rows is v h = let one : row_count rows v ≡ 1 = counted rows v 
 pub fault-from : (net : Net) (rows : List Row) → IsProper net rows → fault_of net rows ≡ None
 unfolding fault_of
 fault-from net rows is =
-    let none_missing = none-find (λ v. is_none (channel_of rows v)) (vertices net) (recursion_from_All (λ v. is_none (channel_of rows v) ≡ false) (vertices net) (λ k d below. has-channel net rows is _ (vertices-are net k d below))) in
+    let none_missing = none-find (λ v. is_none (channel_of rows v)) (vertices net) (recursion_from_All (λ v. is_none (channel_of rows v) ≡ false)
+    (vertices net) (λ k d below. has-channel net rows is _ (vertices-are net k d below))) in
     let at_each : All (λ v. clash_at net (channel_of rows) v ≡ None) (vertices net) = λ k d below.
     let v = get_or (vertices net) k d in
-    let none = none-find (clashes (channel_of rows) v) (neighbours net v) (recursion_from_All (λ w. clashes (channel_of rows) v w ≡ false) (neighbours net v) (λ i e within. no-channel net rows is v (get_or (neighbours net v) i e) (vertices-are net k d below) (Contains-get_or (neighbours net v) i e within))) in
+    let none = none-find (clashes (channel_of rows) v) (neighbours net v) (recursion_from_All (λ w. clashes (channel_of rows) v w ≡ false) (neighbours net v)
+    (λ i e within. no-channel net rows is v (get_or (neighbours net v) i e) (vertices-are net k d below) (Contains-get_or (neighbours net v) i e within)))
+    in
     ap (option_map (λ (w : ℕ). (v, w))) none in
-    let none_clash = none-clash net (channel_of rows) (vertices net) (recursion_from_All (λ v. clash_at net (channel_of rows) v ≡ None) (vertices net) at_each) in
+    let none_clash = none-clash net (channel_of rows) (vertices net) (recursion_from_All (λ v. clash_at net (channel_of rows) v ≡ None) (vertices net)
+    at_each) in
     rw (rows-right net [] rows is, none_missing, none_clash) refl

@@ -1,5 +1,6 @@
 -- The lines before a plan text, and those from it on, after one more line.
-use Rattle.std.proofs.Common.{◌≡◌, ◌++◌, ◌∷◌, [], ◌∙◌, ℕ, Bool, true, false, Err, List, append_assoc, append-nil, ap, refl, sym}
+use Rattle.std.proofs.Common.{◌≡◌, ◌++◌, ◌∷◌, [], ◌∙◌, true, false, List, append_assoc, append-nil, ap}
+use Rattle.std.proofs.Common.{refl, sym}
 use Rattle.dimacs_col.specs.Lines.{Line, fields_of, line_of, lines_of}
 use Rattle.channel_plan.specs.Reading.{known_after, read_from, reading_of}
 use Rattle.channel_plan.specs.Split.{begins_plan, network_lines, plan_lines}
@@ -36,7 +37,8 @@ before-push before line e is = record {
   plan = λ rest. ap plan_lines (append_assoc before (line ∷ []) rest) ∙ is.plan (line ∷ rest) ∙ plan-one line rest e;
 }
 
-pub before-plan : (before : List Line) (line : Line) (rest : List Line) → begins_plan line ≡ true → AreBefore before → (network_lines (before ++ line ∷ rest) ≡ before) × (plan_lines (before ++ line ∷ rest) ≡ line ∷ rest)
+pub before-plan : (before : List Line) (line : Line) (rest : List Line) → begins_plan line ≡ true → AreBefore before →
+    (network_lines (before ++ line ∷ rest) ≡ before) × (plan_lines (before ++ line ∷ rest) ≡ line ∷ rest)
 before-plan before line rest e is =
     (is.network (line ∷ rest) ∙ ap (λ ls. before ++ ls) (network-plan line rest e) ∙ append-nil before, is.plan (line ∷ rest) ∙ plan-plan line rest e)
 

@@ -1,21 +1,29 @@
 -- The table of the rows so far, and what is wrong with the next row.
-use Rattle.std.proofs.Common.{◌≡◌, ◌≢◌, ◌<◌, ◌≤◌, ◌+◌, ◌-◌, ◌++◌, ◌∷◌, [], ◌⊎◌, ◌==◌, ◌∙◌, ℕ, Bool, true, false, Option, Some, None, List, arith, ap, get_or, if◌then◌else◌, is_some, length, refl, set, sym, replicate, take, drop}
+use Rattle.std.proofs.Common.{◌≡◌, ◌≢◌, ◌<◌, ◌≤◌, ◌+◌, ◌-◌, ◌++◌, ◌∷◌, [], ◌⊎◌, ◌==◌, ◌∙◌, ℕ, Bool, true, false}
+use Rattle.std.proofs.Common.{Option, Some, None, List, arith, ap, get_or, if◌then◌else◌, is_some, length, refl, set}
+use Rattle.std.proofs.Common.{sym, replicate, take, drop}
 use Rattle.std.proofs.lemmas.Bool.{le-ltb, lt-ltb, eqb-true, eqb-false}
 use Rattle.std.proofs.lemmas.Bool.Decides.{nat_tests}
-use Rattle.std.proofs.lemmas.List.{at_drop_all, at_drop_more, get_or-replicate, get_or-set_other, get_or-set_same, length-replicate, length-set, take_more}
+use Rattle.std.proofs.lemmas.List.{at_drop_all, at_drop_more, get_or-replicate, get_or-set_other, get_or-set_same}
+use Rattle.std.proofs.lemmas.List.{length-replicate, length-set, take_more}
 use Rattle.std.specs.Option.{option_or}
 use Rattle.interference.specs.Net.{Net, IsVertex, count_of}
-use Rattle.channel_plan.specs.Checked.{IsFaultOfRow, IsTable, channel_of, is_vertex, looked, most_channel, row_fault, rows_fault}
+use Rattle.channel_plan.specs.Checked.{IsFaultOfRow, IsTable, channel_of, is_vertex, looked, most_channel, row_fault}
+use Rattle.channel_plan.specs.Checked.{rows_fault}
 use Rattle.channel_plan.specs.Reading.{Row}
 use Rattle.channel_plan.specs.declared.plan.CheckFault.{CheckFault}
-use Rattle.channel_plan.specs.declared.plan.CheckFault.TheVariants.{Clash, Memory, Missing, Stranger, Syntax, TooHigh, Twice}
+use Rattle.channel_plan.specs.declared.plan.CheckFault.TheVariants.{Clash, Memory, Missing, Stranger, Syntax, TooHigh}
+use Rattle.channel_plan.specs.declared.plan.CheckFault.TheVariants.{Twice}
 
-channel-cons : (first row : Row) (rows : List Row) (w : ℕ) (b : Bool) → (first.0 == w) ≡ b → channel_of (rows ++ row ∷ []) w ≡ option_or (channel_of rows w) (if row.0 == w then Some row.1 else None) → channel_of (first ∷ rows ++ row ∷ []) w ≡ option_or (channel_of (first ∷ rows) w) (if row.0 == w then Some row.1 else None)
+channel-cons : (first row : Row) (rows : List Row) (w : ℕ) (b : Bool) → (first.0 == w) ≡ b →
+    channel_of (rows ++ row ∷ []) w ≡ option_or (channel_of rows w) (if row.0 == w then Some row.1 else None) →
+    channel_of (first ∷ rows ++ row ∷ []) w ≡ option_or (channel_of (first ∷ rows) w) (if row.0 == w then Some row.1 else None)
 channel-cons first row rows w true e more = rw e refl
 channel-cons first row rows w false e more = rw e more
 
 -- the channels of one row more
-pub channel-push : (rows : List Row) (row : Row) (w : ℕ) → channel_of (rows ++ row ∷ []) w ≡ option_or (channel_of rows w) (if row.0 == w then Some row.1 else None)
+pub channel-push : (rows : List Row) (row : Row) (w : ℕ) → channel_of (rows ++ row ∷ []) w
+    ≡ option_or (channel_of rows w) (if row.0 == w then Some row.1 else None)
 channel-push [] row w = refl
 channel-push (first ∷ rows) row w = channel-cons first row rows w (first.0 == w) refl (channel-push rows row w)
 
@@ -27,15 +35,18 @@ row-stranger net before row h = let e : is_vertex net row.0 ≡ false = grind (a
 vertex-is : (net : Net) (v : ℕ) → IsVertex net v → is_vertex net v ≡ true
 vertex-is net v h = grind (arith, nat_tests)
 
-pub row-twice : (net : Net) (before : List Row) (row : Row) → IsVertex net row.0 → is_some (channel_of before row.0) ≡ true → row_fault net before row ≡ Some (Twice row.0)
+pub row-twice : (net : Net) (before : List Row) (row : Row) → IsVertex net row.0 → is_some (channel_of before row.0) ≡ true →
+    row_fault net before row ≡ Some (Twice row.0)
 unfolding row_fault
 row-twice net before row h e = rw (vertex-is net row.0 h, e) refl
 
-pub row-high : (net : Net) (before : List Row) (row : Row) → IsVertex net row.0 → is_some (channel_of before row.0) ≡ false → most_channel net < row.1 → row_fault net before row ≡ Some (TooHigh row.0)
+pub row-high : (net : Net) (before : List Row) (row : Row) → IsVertex net row.0 → is_some (channel_of before row.0) ≡ false → most_channel net < row.1 →
+    row_fault net before row ≡ Some (TooHigh row.0)
 unfolding row_fault
 row-high net before row h e high = rw (vertex-is net row.0 h, e, lt-ltb (most_channel net) row.1 high) refl
 
-pub row-good : (net : Net) (before : List Row) (row : Row) → IsVertex net row.0 → is_some (channel_of before row.0) ≡ false → row.1 ≤ most_channel net → row_fault net before row ≡ None
+pub row-good : (net : Net) (before : List Row) (row : Row) → IsVertex net row.0 → is_some (channel_of before row.0) ≡ false → row.1 ≤ most_channel net →
+    row_fault net before row ≡ None
 unfolding row_fault
 row-good net before row h e low = rw (vertex-is net row.0 h, e, le-ltb (most_channel net) row.1 low) refl
 
@@ -54,7 +65,8 @@ pub or-nothing : (o : Option ℕ) → option_or o None ≡ o
 or-nothing None = refl
 or-nothing (Some x) = refl
 
-pub table-put : (net : Net) (before : List Row) (v channel : ℕ) (table : List (Option ℕ)) → IsTable net before table → IsVertex net v → is_some (looked table v) ≡ false → IsTable net (before ++ (v, channel) ∷ []) (set table (v - 1) (Some channel))
+pub table-put : (net : Net) (before : List Row) (v channel : ℕ) (table : List (Option ℕ)) → IsTable net before table → IsVertex net v →
+    is_some (looked table v) ≡ false → IsTable net (before ++ (v, channel) ∷ []) (set table (v - 1) (Some channel))
 table-put net before v channel table is here none = record {
   size = length-set table (v - 1) (Some channel) ∙ is.size;
   each = λ w h. put-at w h (v == w) refl;
@@ -65,7 +77,8 @@ table-put net before v channel table is here none = record {
         let same : v ≡ w = eqb-true v w e in
         let free : channel_of before w ≡ None = sym (is.each w h) ∙ ap (looked table) (sym same) ∙ none-from (looked table v) none in
         let place : w - 1 ≡ v - 1 = ap (λ x. x - 1) (sym same) in
-        ap (λ i. get_or (set table (v - 1) (Some channel)) i None) place ∙ get_or-set_same table (v - 1) (Some channel) None (omega (arith, here.0, here.1, is.size))
+        ap (λ i. get_or (set table (v - 1) (Some channel)) i None) place ∙
+        get_or-set_same table (v - 1) (Some channel) None (omega (arith, here.0, here.1, is.size))
         ∙ sym (channel-push before (v, channel) w ∙ rw (free, e) refl)
     put-at w h false e =
         let apart : w - 1 ≢ v - 1 = (let ne = eqb-false v w e in omega (arith, ne, here.0, h.0)) in
@@ -74,7 +87,9 @@ table-put net before v channel table is here none = record {
 
 -- ---- all rows
 -- the fault of the rows that are left, where the next one has or has none
-pub rows-more : (net : Net) (rows : List Row) (i : ℕ) (row : Row) (fault : Option CheckFault) → i < length rows → row ≡ get_or rows i row → row_fault net (take i rows) row ≡ fault → rows_fault net (take i rows) (drop i rows) ≡ option_or fault (rows_fault net (take (i + 1) rows) (drop (i + 1) rows))
+pub rows-more : (net : Net) (rows : List Row) (i : ℕ) (row : Row) (fault : Option CheckFault) → i < length rows → row ≡ get_or rows i row →
+    row_fault net (take i rows) row ≡ fault → rows_fault net (take i rows) (drop i rows)
+    ≡ option_or fault (rows_fault net (take (i + 1) rows) (drop (i + 1) rows))
 unfolding rows_fault
 rows-more net rows i row fault below is e =
     at_drop_more (rows_fault net (take i rows)) rows i row below

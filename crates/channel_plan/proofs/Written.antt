@@ -1,9 +1,12 @@
 -- The plan of some colours is read as its rows: each row is a line of two numbers.
-use Rattle.std.proofs.Common.{◌≡◌, ◌<◌, ◌≤◌, ◌+◌, ◌-◌, ◌*◌, ◌^◌, ◌++◌, ◌∷◌, [], ◌==◌, ◌∙◌, ℕ, suc, Bool, true, false, Option, Some, None, Ok, List, All, arith, ap, append_assoc, append-nil, codes, cond, get_or, length, map, nat_lt, refl, rules, sym, take}
+use Rattle.std.proofs.Common.{◌≡◌, ◌<◌, ◌≤◌, ◌+◌, ◌-◌, ◌*◌, ◌^◌, ◌++◌, ◌∷◌, [], ◌==◌, ◌∙◌, ℕ, true, false}
+use Rattle.std.proofs.Common.{Some, None, Ok, List, All, arith, ap, append_assoc, append-nil, codes, cond}
+use Rattle.std.proofs.Common.{get_or, length, map, refl, rules, sym, take}
 use Rattle.std.proofs.lemmas.Bool.{lt-ltb, ne_eqb}
 use Rattle.std.proofs.lemmas.Fmt.{decimal_is_IsNumeral, decimal_nonempty, digits_decimal}
 use Rattle.std.proofs.lemmas.List.{length-append}
-use Rattle.std.proofs.lemmas.List.Elements.{All-append, All-cons, All-from_recursion, All-get_or, All-head, All-nil, All-tail, All-weaker}
+use Rattle.std.proofs.lemmas.List.Elements.{All-append, All-cons, All-from_recursion, All-get_or, All-head, All-nil}
+use Rattle.std.proofs.lemmas.List.Elements.{All-tail, All-weaker}
 use Rattle.std.proofs.lemmas.List.Splits.{slice_split_at, slice_split_none}
 use Rattle.std.proofs.lemmas.Str.Parse.{IsNumeralModel, numerals_by_fold, tells_all_ascii_digits}
 use Rattle.std.specs.Fmt.{decimal}
@@ -11,10 +14,10 @@ use Rattle.std.specs.List.{filter, slice_split}
 use Rattle.std.specs.Str.{all_ascii_digits}
 use Rattle.std.specs.Str.Lines.{strip_carriage_return}
 use Rattle.std.specs.Str.Parse.{digits_value}
-use Rattle.number_rows.specs.Row.{row}
-use Rattle.dimacs_col.specs.Lines.{Line, fields_of, is_blank, is_field, line_of, lines_of, number_of}
+use Rattle.dimacs_col.specs.Lines.{Line, fields_of, is_blank, is_field, line_of, lines_of}
 use Rattle.channel_plan.specs.PlanText.{plan_of, rows_from}
-use Rattle.channel_plan.specs.Reading.{Row, is_header, known_after, read_from, reading_of, row_of, row_with, rows_of, small_number}
+use Rattle.channel_plan.specs.Reading.{Row, known_after, read_from, reading_of, row_of, row_with, rows_of}
+use Rattle.channel_plan.specs.Reading.{small_number}
 use Rattle.channel_plan.proofs.Numbers.{small-digits}
 use Rattle.channel_plan.proofs.Readings.{read-one, then_read}
 
@@ -76,7 +79,8 @@ pub pair-line : (v channel : ℕ) → v < 2 ^ 64 → channel < 2 ^ 64 → line_o
 unfolding fields_of
 pair-line v channel hv hc =
     ap fields_of (pair-kept v channel hv hc)
-    ∙ ap (filter is_field) (slice_split_at is_blank (decimal v) 32 (decimal channel) (no-blank v hv) refl ∙ ap (λ ps. decimal v ∷ ps) (slice_split_none is_blank (decimal channel) (no-blank channel hc)))
+    ∙ ap (filter is_field) (slice_split_at is_blank (decimal v) 32 (decimal channel) (no-blank v hv) refl ∙
+    ap (λ ps. decimal v ∷ ps) (slice_split_none is_blank (decimal channel) (no-blank channel hc)))
     ∙ rw (lt-ltb 0 (length (decimal v)) (decimal_nonempty v hv), lt-ltb 0 (length (decimal channel)) (decimal_nonempty channel hc)) refl
 
 -- ---- the lines of rows
@@ -84,7 +88,8 @@ abbrev row_lines : ℕ → List ℕ → List Line
 row_lines v [] = [] ∷ []
 row_lines v (colour ∷ colours) = (decimal v ∷ decimal (colour + 1) ∷ []) ∷ row_lines (v + 1) colours
 
-rows-lines : (v : ℕ) (colours : List ℕ) → v + length colours ≤ 2 ^ 32 → All (λ colour. colour + 1 < 2 ^ 32) colours → lines_of (rows_from v colours) ≡ row_lines v colours
+rows-lines : (v : ℕ) (colours : List ℕ) → v + length colours ≤ 2 ^ 32 → All (λ colour. colour + 1 < 2 ^ 32) colours →
+    lines_of (rows_from v colours) ≡ row_lines v colours
 unfolding lines_of fields_of
 rows-lines v [] few small = refl
 rows-lines v (colour ∷ colours) few small =
@@ -107,17 +112,21 @@ read-end : (n : ℕ) (before : List Row) → read_from n (Some before) ([] ∷ [
 unfolding read_from known_after
 read-end n before = refl
 
-read-row : (n v channel : ℕ) (before : List Row) (line : Line) (lines : List Line) (w : List ℕ) (ws : Line) → line ≡ w ∷ ws → row_of line ≡ Some (v, channel) → read_from n (Some before) (line ∷ lines) ≡ read_from (n + 1) (Some (before ++ (v, channel) ∷ [])) lines
+read-row : (n v channel : ℕ) (before : List Row) (line : Line) (lines : List Line) (w : List ℕ) (ws : Line) → line ≡ w ∷ ws →
+    row_of line ≡ Some (v, channel) → read_from n (Some before) (line ∷ lines) ≡ read_from (n + 1) (Some (before ++ (v, channel) ∷ [])) lines
 unfolding known_after
 read-row n v channel before line lines w ws cons is =
-    let known : known_after (Some before) line ≡ Some (Some (before ++ (v, channel) ∷ [])) = (let h : row_of (w ∷ ws) ≡ Some (v, channel) = ap row_of (sym cons) ∙ is in ap (known_after (Some before)) cons ∙ rw h refl) in
+    let known : known_after (Some before) line ≡ Some (Some (before ++ (v, channel) ∷ [])) =
+    (let h : row_of (w ∷ ws) ≡ Some (v, channel) = ap row_of (sym cons) ∙ is in ap (known_after (Some before)) cons ∙ rw h refl) in
     read-one n (Some before) line lines ∙ ap (then_read n lines) known
 
-read-rows : (n v : ℕ) (before : List Row) (colours : List ℕ) → v + length colours ≤ 2 ^ 32 → All (λ colour. colour + 1 < 2 ^ 32) colours → read_from n (Some before) (row_lines v colours) ≡ Ok (before ++ rows_of v colours)
+read-rows : (n v : ℕ) (before : List Row) (colours : List ℕ) → v + length colours ≤ 2 ^ 32 → All (λ colour. colour + 1 < 2 ^ 32) colours →
+    read_from n (Some before) (row_lines v colours) ≡ Ok (before ++ rows_of v colours)
 read-rows n v before [] few small = read-end n before ∙ ap Ok (sym (append-nil before))
 read-rows n v before (colour ∷ colours) few small =
     let c_small = All-head (λ c. c + 1 < 2 ^ 32) colour colours small in
-    read-row n v (colour + 1) before (decimal v ∷ decimal (colour + 1) ∷ []) (row_lines (v + 1) colours) (decimal v) (decimal (colour + 1) ∷ []) refl (row-is v colour (omega arith) c_small)
+    read-row n v (colour + 1) before (decimal v ∷ decimal (colour + 1) ∷ []) (row_lines (v + 1) colours) (decimal v) (decimal (colour + 1) ∷ []) refl
+    (row-is v colour (omega arith) c_small)
     ∙ read-rows (n + 1) (v + 1) (before ++ (v, colour + 1) ∷ []) colours (omega arith) (All-tail (λ c. c + 1 < 2 ^ 32) colour colours small)
     ∙ ap Ok (append_assoc before ((v, colour + 1) ∷ []) (rows_of (v + 1) colours))
 
@@ -125,13 +134,15 @@ read-rows n v before (colour ∷ colours) few small =
 pub plan-lines : (colours : List ℕ) → lines_of (plan_of colours) ≡ (codes "plan" ∷ []) ∷ lines_of (rows_from 1 colours)
 unfolding lines_of fields_of
 plan-lines colours =
-    ap (map line_of) (slice_split_at (λ byte. byte == 10) (codes "plan") 10 (rows_from 1 colours) (All-from_recursion (λ x. (x == 10) ≡ false) (codes "plan") (refl, (refl, (refl, (refl, tt))))) refl)
+    ap (map line_of) (slice_split_at (λ byte. byte == 10) (codes "plan") 10 (rows_from 1 colours) (All-from_recursion (λ x. (x == 10) ≡ false) (codes "plan")
+    (refl, (refl, (refl, (refl, tt))))) refl)
 
 read-plan : (lines : List Line) → read_from 1 None ((codes "plan" ∷ []) ∷ lines) ≡ read_from 2 (Some []) lines
 unfolding read_from known_after
 read-plan lines = refl
 
-pub written-read : (colours : List ℕ) → 1 + length colours ≤ 2 ^ 32 → All (λ colour. colour + 1 < 2 ^ 32) colours → reading_of (lines_of (plan_of colours)) ≡ Ok (rows_of 1 colours)
+pub written-read : (colours : List ℕ) → 1 + length colours ≤ 2 ^ 32 → All (λ colour. colour + 1 < 2 ^ 32) colours →
+    reading_of (lines_of (plan_of colours)) ≡ Ok (rows_of 1 colours)
 written-read colours few small =
     ap reading_of (plan-lines colours ∙ ap (λ ls. (codes "plan" ∷ []) ∷ ls) (rows-lines 1 colours few small))
     ∙ read-plan (row_lines 1 colours) ∙ read-rows 2 1 [] colours few small

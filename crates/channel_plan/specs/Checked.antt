@@ -1,5 +1,7 @@
 -- What is right and what is wrong with the rows of a plan, for a network.
-use Rattle.std.specs.Prelude.{◌≡◌, ◌≤◌, ◌+◌, ◌-◌, ℕ, Bool, false, Option, Some, None, List, [], ◌∷◌, ◌++◌, ◌==◌, ◌&&◌, if◌then◌else◌, Contains, count_by, fold, is_none, is_some, length, map, max, nat_lt, not, option_map, slice_index_or}
+use Rattle.std.specs.Prelude.{◌≡◌, ◌≤◌, ◌+◌, ◌-◌, ℕ, Bool, false, Option, Some, None, List, [], ◌∷◌, ◌++◌, ◌==◌, ◌&&◌}
+use Rattle.std.specs.Prelude.{if◌then◌else◌, Contains, count_by, fold, is_none, is_some, length, map, max, nat_lt}
+use Rattle.std.specs.Prelude.{not, option_map, slice_index_or}
 use Rattle.std.specs.List.{find}
 use Rattle.std.specs.Option.{option_or}
 use Rattle.interference.specs.Net.{Net, IsEdge, IsVertex, count_of, greatest_degree_of, neighbours, vertices}
@@ -96,3 +98,13 @@ looked table v = slice_index_or table (v - 1) None
 pub record IsTable (net : Net) (rows : List Row) (table : List (Option ℕ)) : Type 0 where
   pub size : length table ≡ count_of net
   pub each : (v : ℕ) → IsVertex net v → looked table v ≡ channel_of rows v
+
+-- whatever rows the old table has, one more row is right behind them, and the new table has it too
+abbrev pub TakesRow : Net → Row → List (Option ℕ) → List (Option ℕ) → Type 0
+TakesRow net row old new = (before : List Row) → IsTable net before old
+    → (row_fault net before row ≡ None) × IsTable net (before ++ row ∷ []) new
+
+-- whatever rows the table has, this is the fault of one more row behind them
+abbrev pub RefusesRow : Net → Row → List (Option ℕ) → CheckFault → Type 0
+RefusesRow net row table fault = (before : List Row) → IsTable net before table
+    → IsFaultOfRow (row_fault net before row) fault

@@ -1,5 +1,6 @@
 -- The reading of a plan text: the line `plan`, and then a row a line.
-use Rattle.std.specs.Prelude.{ℕ, ◌+◌, ◌^◌, ◌≡◌, Bool, false, Option, Some, None, Result, Ok, Err, List, [], ◌∷◌, ◌++◌, ◌==◌, if◌then◌else◌, codes, filter, length, map, nat_lt, option_and_then, option_map}
+use Rattle.std.specs.Prelude.{ℕ, ◌+◌, ◌^◌, ◌≡◌, Bool, false, true, Option, Some, None, Result, Ok, Err, List, [], ◌∷◌}
+use Rattle.std.specs.Prelude.{◌++◌, ◌==◌, if◌then◌else◌, codes, filter, map, nat_lt, option_and_then, option_map}
 use Rattle.std.specs.Str.{bytes_eq}
 use Rattle.dimacs_col.specs.Lines.{Line, number_of}
 use Rattle.channel_plan.specs.declared.plan.CheckFault.{CheckFault}
@@ -46,14 +47,16 @@ read_at_end (Some rows) = Ok rows
 -- the lines from line n on, after what is known: all rows, or the number of the first wrong line
 unfoldable pub read_from : ℕ → Option (List Row) → List Line → Result (List Row) ℕ
 read_from n known [] = read_at_end known
-read_from n known (line ∷ lines) = elim (known_after known line) [ None ↦ Err n | Some next ↦ read_from (n + 1) next lines ]
+read_from n known (line ∷ lines) =
+    elim (known_after known line) [ None ↦ Err n | Some next ↦ read_from (n + 1) next lines ]
 
 -- the rows of a plan text, or the number of its first wrong line
 abbrev pub reading_of : List Line → Result (List Row) ℕ
 reading_of lines = read_from 1 None lines
 
 abbrev pub has_fields : Line → Bool
-has_fields line = nat_lt 0 (length line)
+has_fields [] = false
+has_fields (word ∷ words) = true
 
 -- the lines that have fields are the line `plan` and then these rows
 pub record IsPlanText (lines : List Line) (rows : List Row) : Type 0 where

@@ -1,9 +1,10 @@
 //! The check of a plan.
 
-ghost use Rattle.std.specs.Prelude.{◌≡◌, ◌++◌, ◌∷◌, [], IfOk, IfErr, List, None, length};
+ghost use Rattle.std.specs.Prelude.{◌≡◌, [], IfOk, IfErr, None, length};
 ghost use Rattle.interference.specs.Net.{IsVertex, count_of};
-ghost use Rattle.channel_plan.specs.Checked.{IsFaultOfPlan, IsFaultOfRow, IsProper, IsTable, clash_at, first_clash, first_missing, greatest_channel, looked, row_fault, rows_fault, same_channel};
-ghost use Rattle.channel_plan.specs.Reading.{Row};
+ghost use Rattle.channel_plan.specs.Checked.{IsFaultOfPlan, IsFaultOfRow, IsProper, IsTable, RefusesRow, TakesRow};
+ghost use Rattle.channel_plan.specs.Checked.{clash_at, first_clash, first_missing, greatest_channel, looked};
+ghost use Rattle.channel_plan.specs.Checked.{rows_fault, same_channel};
 
 use crate::laws::plans_without_a_fault_are_proper;
 use crate::plan::{CheckFault, Plan};
@@ -13,8 +14,8 @@ use std::alloc::Global;
 // Puts the channel of a row into the table.
 fn put_row(net: &Network, table: &mut [Option<u32>], row: (u32, u32)) -> Result<(), CheckFault>
     requires size { length table.old ≡ count_of net.now }
-    ensures ok { IfOk result (λ _. (before : List Row) → IsTable net.now before table.old → (row_fault net.now before row ≡ None) × IsTable net.now (before ++ row ∷ []) table.new) }
-    ensures fault { IfErr result (λ fault. (before : List Row) → IsTable net.now before table.old → IsFaultOfRow (row_fault net.now before row) fault) }
+    ensures ok { IfOk result (λ _. TakesRow net.now row table.old table.new) }
+    ensures fault { IfErr result (RefusesRow net.now row table.old) }
 {
     net.is_network();
     let (v, channel) = row;

@@ -1,7 +1,7 @@
 //! The fields of a line of a plan text.
 
 ghost use Rattle.std.specs.Prelude.{◌≡◌, ◌∷◌, List, ℕ};
-ghost use Rattle.channel_plan.specs.Reading.{is_header as is_a_header, row_of, small_number};
+ghost use Rattle.channel_plan.specs.Reading.{is_header, row_of, small_number};
 
 use dimacs_col::Fields;
 
@@ -26,7 +26,7 @@ fn number(field: &[u8]) -> Option<u32>
 
 /// Whether a line, whose first field was taken, is `plan` alone.
 pub(crate) fn is_header(first: &[u8], mut others: Fields) -> bool
-    ensures { result ≡ is_a_header (first.now ∷ others.entry) }
+    ensures { result ≡ is_header (first.now ∷ others.entry) }
 {
     first == b"plan".as_slice() && others.next().is_none()
 }

@@ -1,7 +1,7 @@
 //! A plan that was read, and why a plan is refused.
 
 ghost use Rattle.std.specs.Prelude.{◌≡◌};
-ghost use Rattle.channel_plan.specs.declared.plan.CheckFault.TheVariants as faults;
+ghost use Rattle.channel_plan.specs.declared.plan.CheckFault.TheVariants.{Memory};
 
 use std::alloc::{AllocError, AllocFailed};
 use thiserror::Error;
@@ -32,7 +32,7 @@ pub enum CheckFault {
 }
 
 impl From<AllocError> for CheckFault {
-    ghost from_gives = { λ _ fault. fault ≡ faults.Memory };
+    ghost from_gives = { λ _ fault. fault ≡ Memory };
 
     fn from(_error: AllocError) -> CheckFault {
         CheckFault::Memory
@@ -40,7 +40,7 @@ impl From<AllocError> for CheckFault {
 }
 
 impl<T: Drop> From<AllocFailed<T>> for CheckFault {
-    ghost from_gives = { λ _ fault. fault ≡ faults.Memory };
+    ghost from_gives = { λ _ fault. fault ≡ Memory };
 
     fn from(_error: AllocFailed<T>) -> CheckFault {
         CheckFault::Memory

@@ -34,7 +34,8 @@ impl Reader {
         requires { self.old.line + 1 < 2 ^ 64 }
         ensures line { self.new.line ≡ self.old.line + 1 }
         ensures ok { IfOk result (λ _. known_after (known self.old) fields.entry ≡ Some (known self.new)) }
-        ensures fault { IfErr result (IsSyntaxFault (known_after (known self.old) fields.entry ≡ None) (self.old.line + 1)) }
+        ensures fault { IfErr result (IsSyntaxFault (known_after (known self.old) fields.entry ≡ None)
+            (self.old.line + 1)) }
     {
         self.line += 1;
         let Some(first) = fields.next() else {

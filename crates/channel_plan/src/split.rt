@@ -2,14 +2,14 @@
 
 ghost use Rattle.std.specs.Prelude.{◌≡◌, ◌≤◌, ◌++◌, ◌∷◌, [], IfNone, IfSome, drop, length, take};
 ghost use Rattle.dimacs_col.specs.Lines.{line_of, lines_of};
-ghost use Rattle.channel_plan.specs.Split.{AreNetworkLines, begins_plan as begins_a_plan, network_lines, plan_lines};
+ghost use Rattle.channel_plan.specs.Split.{AreNetworkLines, begins_plan, network_lines, plan_lines};
 ghost use Rattle.channel_plan.specs.Reading.{reading_of};
 
 use dimacs_col::{Fields, without_carriage_return};
 
 // Whether the first field of a line is `plan`.
 fn begins_plan(line: &[u8]) -> bool
-    ensures { result ≡ begins_a_plan (line_of line.now) }
+    ensures { result ≡ begins_plan (line_of line.now) }
 {
     match Fields::of(without_carriage_return(line)).next() {
         Some(word) => word == b"plan".as_slice(),
@@ -22,7 +22,8 @@ fn plan_start(input: &[u8]) -> Option<usize>
     ensures within { IfSome result (λ start. start ≤ length input.now) }
     ensures none { IfNone result (network_lines (lines_of input.now) ≡ lines_of input.now) }
     ensures no_plan { IfNone result (plan_lines (lines_of input.now) ≡ []) }
-    ensures network { IfSome result (λ start. lines_of (take start input.now) ≡ network_lines (lines_of input.now) ++ [] ∷ []) }
+    ensures network { IfSome result (λ start. lines_of (take start input.now)
+        ≡ network_lines (lines_of input.now) ++ [] ∷ []) }
     ensures plan { IfSome result (λ start. lines_of (drop start input.now) ≡ plan_lines (lines_of input.now)) }
 {
     let mut start = 0;

@@ -9,13 +9,15 @@ pub returns-in-Some : goal.returns-in-Some
 returns-in-Some c =
     let below : c.loop-i.i < count_of c.args.net.now = omega arith in
     let left = clash_among c.args.net.now (looked c.args.table.now) (drop (c.loop-i.i + 1) (vertices c.args.net.now)) in
-    sym (c.loop-i.invariant ∙ clash-more c.args.net.now (looked c.args.table.now) c.loop-i.i below ∙ ap (λ found. option_or found left) (sym c.clash_of.ensures ∙ c.in-Some.is))
+    sym (c.loop-i.invariant ∙ clash-more c.args.net.now (looked c.args.table.now) c.loop-i.i below ∙
+    ap (λ found. option_or found left) (sym c.clash_of.ensures ∙ c.in-Some.is))
 
 pub loop-i-preserved : goal.loop-i-preserved
 loop-i-preserved c =
     let below : c.loop-i.i < count_of c.args.net.now = omega arith in
     let left = clash_among c.args.net.now (looked c.args.table.now) (drop (c.loop-i.i + 1) (vertices c.args.net.now)) in
-    c.loop-i.invariant ∙ clash-more c.args.net.now (looked c.args.table.now) c.loop-i.i below ∙ ap (λ found. option_or found left) (sym c.clash_of.ensures ∙ c.in_default.is)
+    c.loop-i.invariant ∙ clash-more c.args.net.now (looked c.args.table.now) c.loop-i.i below ∙ ap (λ found. option_or found left) (sym c.clash_of.ensures ∙
+    c.in_default.is)
 
 pub returns : goal.returns
 returns c =

@@ -8,13 +8,15 @@ use Rattle.channel_plan.proofs.checking.missing.Goals as goal
 pub returns-then-is_none : goal.returns-then-is_none
 returns-then-is_none c =
     let below : c.loop-i.i < count_of c.args.net.now = omega arith in
-    let here : is_none (looked c.args.table.now (c.loop-i.i + 1)) ≡ true = look-next c.args.table.now c.loop-i.i ∙ ap not c.is_none.ensures ∙ ap (λ b. not (not b)) c.if-is_none.true in
+    let here : is_none (looked c.args.table.now (c.loop-i.i + 1)) ≡ true = look-next c.args.table.now c.loop-i.i ∙ ap not c.is_none.ensures ∙
+    ap (λ b. not (not b)) c.if-is_none.true in
     sym (c.loop-i.invariant ∙ missing-more c.args.net.now (looked c.args.table.now) c.loop-i.i true below here)
 
 pub loop-i-preserved : goal.loop-i-preserved
 loop-i-preserved c =
     let below : c.loop-i.i < count_of c.args.net.now = omega arith in
-    let here : is_none (looked c.args.table.now (c.loop-i.i + 1)) ≡ false = look-next c.args.table.now c.loop-i.i ∙ ap not c.is_none.ensures ∙ ap (λ b. not (not b)) c.if-is_none.false in
+    let here : is_none (looked c.args.table.now (c.loop-i.i + 1)) ≡ false = look-next c.args.table.now c.loop-i.i ∙ ap not c.is_none.ensures ∙
+    ap (λ b. not (not b)) c.if-is_none.false in
     c.loop-i.invariant ∙ missing-more c.args.net.now (looked c.args.table.now) c.loop-i.i false below here
 
 pub returns : goal.returns

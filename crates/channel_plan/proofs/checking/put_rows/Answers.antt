@@ -31,4 +31,5 @@ loop-row-preserved c =
     }
 
 pub returns-clause-good : goal.returns-clause-good
-returns-clause-good c = c.loop-row.invariant.left ∙ rows-end c.args.net.now (take c.loop-row.row-index c.args.rows.now) c.args.rows.now c.loop-row.row-index c.loop-row-test.false
+returns-clause-good c = c.loop-row.invariant.left ∙ rows-end c.args.net.now (take c.loop-row.row-index c.args.rows.now) c.args.rows.now c.loop-row.row-index
+    c.loop-row-test.false

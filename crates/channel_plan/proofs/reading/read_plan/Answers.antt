@@ -1,4 +1,5 @@
-use Rattle.std.proofs.Common.{◌==◌, ◌≡◌, ◌+◌, ◌++◌, ◌∷◌, ◌∙◌, Err, IfOk, None, Ok, Some, ap, drop, length, map, rules, suc, subst, sym, tests}
+use Rattle.std.proofs.Common.{◌==◌, ◌≡◌, ◌+◌, ◌++◌, ◌∷◌, ◌∙◌, Err, IfOk, None, Ok, Some, ap, drop, length, map, rules}
+use Rattle.std.proofs.Common.{suc, subst, sym, tests}
 use Rattle.std.specs.List.{slice_split}
 use Rattle.std.specs.Slice.Iter.{split_callee, split_done, split_rest}
 use Rattle.std.proofs.lemmas.Iterator.Splits.{YieldsList-from_slice_split}
@@ -16,25 +17,34 @@ unfolding lines_of
 returns-in_err-step-clause-fault c =
     let gives = c.into_iter-line-iterator.ensures.into_iter_gives in
     let parts = slice_split (λ byte. byte == 10) c.args.text.now in
-    let here = items-at_turn {all = parts} c.loop-line.yielded c.loop-line.line-iterator c.loop-line.yielded_by c.next.result c.next.new.self c.in-Some.line c.in-Some.is c.next.ensures.steps
-    (YieldsList-from_slice_split _ (λ byte. byte == 10) c.args.text.now (ap split_rest gives ∙ c.split-line-items.ensures.rest) (ap split_done gives ∙ c.split-line-items.ensures.done) (ap split_callee gives ∙ c.split-line-items.ensures.closure) (λ x r q k. search (rules, tests))) in
-    let place : lines_of c.args.text.now ≡ map (λ x. line_of x.now) c.loop-line.yielded ++ line_of c.in-Some.line.now ∷ map line_of (drop (suc (length c.loop-line.yielded)) parts) = lines-at_turn (λ x. x.now) parts c.loop-line.yielded c.in-Some.line here in
+    let here = items-at_turn {all = parts} c.loop-line.yielded c.loop-line.line-iterator c.loop-line.yielded_by c.next.result c.next.new.self c.in-Some.line
+    c.in-Some.is c.next.ensures.steps
+    (YieldsList-from_slice_split _ (λ byte. byte == 10) c.args.text.now (ap split_rest gives ∙ c.split-line-items.ensures.rest) (ap split_done gives ∙
+    c.split-line-items.ensures.done) (ap split_callee gives ∙ c.split-line-items.ensures.closure) (λ x r q k. search (rules, tests))) in
+    let place : lines_of c.args.text.now ≡ map (λ x. line_of x.now) c.loop-line.yielded
+    ++ line_of c.in-Some.line.now ∷ map line_of (drop (suc (length c.loop-line.yielded)) parts) =
+    lines-at_turn (λ x. x.now) parts c.loop-line.yielded c.in-Some.line here in
     let fields : fields_of c.without_carriage_return.result.now ≡ line_of c.in-Some.line.now = ap fields_of c.without_carriage_return.ensures in
     let p = err_from_is_err_and c.from_residual.result c.from_residual.ensures.1 in
-    rw (p.1, p.2) (fault-line (lines_of c.args.text.now) (c.loop-line.reader.line + 1) (known_after (known c.loop-line.reader) c.of.result ≡ None) c.in_err-step.field-0.0
-    (λ wrong. ap (read_from 1 None) place ∙ read-wrong (map (λ x. line_of x.now) c.loop-line.yielded) (c.loop-line.reader.line + 1) (known c.loop-line.reader) (line_of c.in-Some.line.now) c.loop-line.invariant.knows (ap (known_after (known c.loop-line.reader)) (sym (c.of.ensures ∙ fields)) ∙ wrong) (map line_of (drop (suc (length c.loop-line.yielded)) parts)))
+    rw (p.1, p.2) (fault-line (lines_of c.args.text.now) (c.loop-line.reader.line + 1) (known_after (known c.loop-line.reader) c.of.result ≡ None)
+    c.in_err-step.field-0.0
+    (λ wrong. ap (read_from 1 None) place ∙ read-wrong (map (λ x. line_of x.now) c.loop-line.yielded) (c.loop-line.reader.line + 1) (known c.loop-line.reader)
+    (line_of c.in-Some.line.now) c.loop-line.invariant.knows (ap (known_after (known c.loop-line.reader)) (sym (c.of.ensures ∙ fields)) ∙
+    wrong) (map line_of (drop (suc (length c.loop-line.yielded)) parts)))
     c.in_err-step.ensures.fault)
 
 pub loop-line-preserved : goal.loop-line-preserved
 loop-line-preserved c =
     let fields : c.of.result ≡ line_of c.in-Some.line.now = c.of.ensures ∙ ap fields_of c.without_carriage_return.ensures in
     let before = map (λ x. line_of x.now) c.loop-line.yielded in
-    let step : known_after (known c.loop-line.reader) (line_of c.in-Some.line.now) ≡ Some (known c.step.new.self) = ap (known_after (known c.loop-line.reader)) (sym fields) ∙ c.in_ok-step.ensures.ok in
+    let step : known_after (known c.loop-line.reader) (line_of c.in-Some.line.now) ≡ Some (known c.step.new.self) =
+    ap (known_after (known c.loop-line.reader)) (sym fields) ∙ c.in_ok-step.ensures.ok in
     record {
       steps = search rules;
       knows = λ rest.
           ap (λ lines. read_from 1 None (lines ++ rest)) (map_push (λ x. line_of x.now) c.loop-line.yielded c.in-Some.line)
-          ∙ read-more before (c.loop-line.reader.line + 1) (known c.loop-line.reader) (known c.step.new.self) (line_of c.in-Some.line.now) c.loop-line.invariant.knows step rest
+          ∙ read-more before (c.loop-line.reader.line + 1) (known c.loop-line.reader) (known c.step.new.self) (line_of c.in-Some.line.now)
+          c.loop-line.invariant.knows step rest
           ∙ ap (λ n. read_from (n + 1) (known c.step.new.self) rest) (sym c.in_ok-step.ensures.line);
       line = c.in_ok-step.ensures.line ∙ ap (λ n. n + 1) c.loop-line.invariant.line ∙ sym (length_push c.loop-line.yielded c.in-Some.line);
     }
@@ -44,9 +54,13 @@ unfolding lines_of
 returns-clause-ok c =
     let gives = c.into_iter-line-iterator.ensures.into_iter_gives in
     let all = items-at_end c.loop-line.yielded c.loop-line.line-iterator c.loop-line.yielded_by c.next.result c.next.new.self c.in-None.is c.next.ensures.steps
-    (YieldsList-from_slice_split _ (λ byte. byte == 10) c.args.text.now (ap split_rest gives ∙ c.split-line-items.ensures.rest) (ap split_done gives ∙ c.split-line-items.ensures.done) (ap split_callee gives ∙ c.split-line-items.ensures.closure) (λ x r q k. search (rules, tests))) in
-    let same : map (λ x. line_of x.now) c.loop-line.yielded ≡ lines_of c.args.text.now = sym (map-twice line_of (λ x. x.now) c.loop-line.yielded) ∙ ap (map line_of) all in
-    let end : read_from 1 None (lines_of c.args.text.now) ≡ read_at_end (known c.loop-line.reader) = read-end (lines_of c.args.text.now) (map (λ x. line_of x.now) c.loop-line.yielded) (c.loop-line.reader.line + 1) (known c.loop-line.reader) same c.loop-line.invariant.knows in
+    (YieldsList-from_slice_split _ (λ byte. byte == 10) c.args.text.now (ap split_rest gives ∙ c.split-line-items.ensures.rest) (ap split_done gives ∙
+    c.split-line-items.ensures.done) (ap split_callee gives ∙ c.split-line-items.ensures.closure) (λ x r q k. search (rules, tests))) in
+    let same : map (λ x. line_of x.now) c.loop-line.yielded ≡ lines_of c.args.text.now = sym (map-twice line_of (λ x. x.now) c.loop-line.yielded) ∙
+    ap (map line_of) all in
+    let end : read_from 1 None (lines_of c.args.text.now) ≡ read_at_end (known c.loop-line.reader) =
+    read-end (lines_of c.args.text.now) (map (λ x. line_of x.now) c.loop-line.yielded) (c.loop-line.reader.line + 1) (known c.loop-line.reader) same
+    c.loop-line.invariant.knows in
     subst (λ r. IfOk c.finish.result (λ plan. r ≡ Ok plan.rows.items)) (sym end) c.finish.ensures.ok
 
 pub returns-clause-fault : goal.returns-clause-fault
@@ -54,7 +68,11 @@ unfolding lines_of
 returns-clause-fault c =
     let gives = c.into_iter-line-iterator.ensures.into_iter_gives in
     let all = items-at_end c.loop-line.yielded c.loop-line.line-iterator c.loop-line.yielded_by c.next.result c.next.new.self c.in-None.is c.next.ensures.steps
-    (YieldsList-from_slice_split _ (λ byte. byte == 10) c.args.text.now (ap split_rest gives ∙ c.split-line-items.ensures.rest) (ap split_done gives ∙ c.split-line-items.ensures.done) (ap split_callee gives ∙ c.split-line-items.ensures.closure) (λ x r q k. search (rules, tests))) in
-    let same : map (λ x. line_of x.now) c.loop-line.yielded ≡ lines_of c.args.text.now = sym (map-twice line_of (λ x. x.now) c.loop-line.yielded) ∙ ap (map line_of) all in
-    let end : read_from 1 None (lines_of c.args.text.now) ≡ read_at_end (known c.loop-line.reader) = read-end (lines_of c.args.text.now) (map (λ x. line_of x.now) c.loop-line.yielded) (c.loop-line.reader.line + 1) (known c.loop-line.reader) same c.loop-line.invariant.knows in
+    (YieldsList-from_slice_split _ (λ byte. byte == 10) c.args.text.now (ap split_rest gives ∙ c.split-line-items.ensures.rest) (ap split_done gives ∙
+    c.split-line-items.ensures.done) (ap split_callee gives ∙ c.split-line-items.ensures.closure) (λ x r q k. search (rules, tests))) in
+    let same : map (λ x. line_of x.now) c.loop-line.yielded ≡ lines_of c.args.text.now = sym (map-twice line_of (λ x. x.now) c.loop-line.yielded) ∙
+    ap (map line_of) all in
+    let end : read_from 1 None (lines_of c.args.text.now) ≡ read_at_end (known c.loop-line.reader) =
+    read-end (lines_of c.args.text.now) (map (λ x. line_of x.now) c.loop-line.yielded) (c.loop-line.reader.line + 1) (known c.loop-line.reader) same
+    c.loop-line.invariant.knows in
     fault-end (lines_of c.args.text.now) 1 (read_at_end (known c.loop-line.reader) ≡ Err 1) c.finish.result (λ wrong. end ∙ wrong) c.finish.ensures.fault

@@ -1,4 +1,4 @@
-use Rattle.std.proofs.Common.{◌≡◌, ◌∙◌, ap, inl, inr, sym}
+use Rattle.std.proofs.Common.{◌∙◌, ap, inl, inr, sym}
 use Rattle.dimacs_col.specs.Lines.{lines_of}
 use Rattle.channel_plan.specs.Reading.{reading_of}
 use Rattle.channel_plan.proofs.Splitting.{last-line, read-empty}
