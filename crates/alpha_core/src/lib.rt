@@ -8,6 +8,23 @@
 //! `specs/Table.antt`. What the synchronous run sends over a link is `stream` of `specs/Streams.antt`, and
 //! `Legal` lists of wires are those that begin it.
 //!
+//! `alpha_laws` proves what such nodes keep of their links, `net_core` plays a network of them event by
+//! event, and `link_rule` and `link_queue` carry their wires.
+//!
+//! ```text
+//! let mut node: AlphaNode<Colouring> = AlphaNode::start(alloc, &net, v)?;
+//! while let Some(wire) = node.front(port) {
+//!     ..                                       // the wire is put on the link of this port
+//!     node.put_done(port);
+//! }
+//! if node.can_take() {
+//!     node.on_wire(port, wire)?;               // a wire that came from the link of this port
+//! }
+//! if node.can_pulse() {
+//!     node.pulse()?;
+//! }
+//! ```
+//!
 //! Limits: degree 1,023, four wires in an out-list.
 #![tactic(auto)]
 
