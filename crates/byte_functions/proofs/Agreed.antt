@@ -1,16 +1,15 @@
 -- The plan of `plain`, behind its network, is proper, and has no fault.
-use Rattle.std.proofs.Common.{◌≡◌, ◌++◌, ◌∷◌, [], ◌⊎◌, inl, inr, ◌∙◌, ℕ, Some, None, Ok, Err, Result, Option, List, append-nil, arith, ap, codes, map, refl, subst, sym}
+use Rattle.std.proofs.Common.{◌≡◌, ◌++◌, ◌∷◌, [], inl, inr, ◌∙◌, ℕ, Some, None, Ok, Err, List, append-nil, arith, ap, codes, map, refl}
+use Rattle.std.proofs.Common.{subst, sym}
 use Rattle.dimacs_col.specs.Lines.{Line, lines_of}
-use Rattle.dimacs_col.specs.Reading.{IsFault, IsGraph}
-use Rattle.dimacs_col.specs.declared.fault.ColFault.{ColFault}
-use Rattle.dimacs_col.specs.declared.fault.ColFault.TheVariants as col
+use Rattle.dimacs_col.specs.Reading.{IsGraph}
 use Rattle.dimacs_col.proofs.Unique.{graph-or_fault, one-edges, one-nodes}
 use Rattle.interference.specs.Making.{IsFaultOf}
 use Rattle.interference.specs.Net.{IsNetwork, Net, vertices}
 use Rattle.interference.specs.declared.fault.NetFault.{NetFault}
 use Rattle.interference.specs.declared.fault.NetFault.TheVariants as net_fault
 use Rattle.channel_plan.specs.Checked.{IsFaultOfPlan, IsProper, fault_of, greatest_channel}
-use Rattle.channel_plan.specs.PlanText.{plan_of, rows_from}
+use Rattle.channel_plan.specs.PlanText.{rows_from}
 use Rattle.channel_plan.specs.Reading.{IsFaultOfReading, Row, reading_of, rows_of}
 use Rattle.channel_plan.specs.Split.{network_lines, plan_lines}
 use Rattle.channel_plan.specs.declared.plan.CheckFault.{CheckFault}
@@ -19,9 +18,8 @@ use Rattle.channel_plan.proofs.Blank.{graph-front}
 use Rattle.channel_plan.proofs.Proper.{fault-from}
 use Rattle.channel_plan.proofs.Splitting.{before-plan, last-line}
 use Rattle.channel_plan.proofs.Written.{plan-lines, written-read}
-use Rattle.byte_functions.specs.Answers.{IsPlainAnswer, LinesReadAs, network_with}
+use Rattle.byte_functions.specs.Answers.{IsPlainAnswer, network_with}
 use Rattle.byte_functions.specs.Faults.{fault_status}
-use Rattle.byte_functions.specs.Plans.{IsChannelPlan}
 use Rattle.byte_functions.specs.Verdicts.{IsCheckAnswer, IsFaultOfCheck, IsFaultOfPlanText, verdict_text}
 use Rattle.byte_functions.specs.declared.fault.PlanFault.{PlanFault}
 use Rattle.byte_functions.specs.declared.fault.PlanFault.TheVariants as plan
@@ -43,10 +41,12 @@ agreed input answer (nodes, edges, graph, (ok, is, plan)) =
     let net = network_with nodes edges in
     let lines = lines_of input in
     let colours = map plan.colour (vertices net) in
-    let ended : lines_of (input ++ 10 ∷ []) ≡ lines ++ [] ∷ [] = ap lines_of (sym (append-nil (input ++ 10 ∷ []))) ∙ lines-of-both input [] ∙ ap (λ ls. lines ++ ls) last-line in
+    let ended : lines_of (input ++ 10 ∷ []) ≡ lines ++ [] ∷ [] = ap lines_of (sym (append-nil (input ++ 10 ∷ []))) ∙ lines-of-both input [] ∙
+    ap (λ ls. lines ++ ls) last-line in
     let front : IsGraph lines nodes edges = graph-front lines nodes edges (subst (λ ls. IsGraph ls nodes edges) ended graph) in
     let plan_is : lines_of answer ≡ (codes "plan" ∷ []) ∷ lines_of (rows_from 1 colours) = ap lines_of plan.rows ∙ plan-lines colours in
-    let both : lines_of ((input ++ 10 ∷ []) ++ answer) ≡ lines ++ (codes "plan" ∷ []) ∷ lines_of (rows_from 1 colours) = lines-of-both input answer ∙ ap (λ ls. lines ++ ls) plan_is in
+    let both : lines_of ((input ++ 10 ∷ []) ++ answer) ≡ lines ++ (codes "plan" ∷ []) ∷ lines_of (rows_from 1 colours) = lines-of-both input answer ∙
+    ap (λ ls. lines ++ ls) plan_is in
     let cut = before-plan lines (codes "plan" ∷ []) (lines_of (rows_from 1 colours)) refl (good-before lines front.good) in
     let channels : AreChannels net plan.colour = record { differ = plan.differ; within = plan.within } in
     record {
@@ -55,11 +55,13 @@ agreed input answer (nodes, edges, graph, (ok, is, plan)) =
       rows = rows_of 1 colours;
       graph = subst (λ ls. IsGraph ls nodes edges) (sym (ap network_lines both ∙ cut.0)) front;
       network = ok;
-      read = ap reading_of (ap plan_lines both ∙ cut.1 ∙ sym (plan-lines colours)) ∙ written-read colours (few-vertices net plan.colour ok) (small-colours net plan.colour ok channels);
+      read = ap reading_of (ap plan_lines both ∙ cut.1 ∙ sym (plan-lines colours)) ∙
+          written-read colours (few-vertices net plan.colour ok) (small-colours net plan.colour ok channels);
       proper = proper-rows net plan.colour ok channels;
     }
 
-pub agreed-proper : (input answer : List ℕ) → IsPlainAnswer (input ++ 10 ∷ []) answer → (greatest : ℕ) × IsCheckAnswer ((input ++ 10 ∷ []) ++ answer) (verdict_text greatest)
+pub agreed-proper : (input answer : List ℕ) → IsPlainAnswer (input ++ 10 ∷ []) answer → (greatest : ℕ) ×
+    IsCheckAnswer ((input ++ 10 ∷ []) ++ answer) (verdict_text greatest)
 agreed-proper input answer is = let a = agreed input answer is in
     (greatest_channel a.rows, (a.nodes, a.edges, a.graph, (a.network, (a.rows, (a.read, a.proper), refl))))
 
@@ -69,7 +71,8 @@ network-fault net (net_fault.Degree v) ok is = absurd (let few = ok.degrees v is
 network-fault net (net_fault.SameId v w) ok is = absurd (let same = ok.distinct v w is.1.0 is.1.1 is.1.3 in omega (arith, same, is.1.2))
 network-fault net net_fault.Memory ok is = refl
 
-reading-fault : (lines : List Line) (rows : List Row) (fault : CheckFault) → reading_of lines ≡ Ok rows → IsFaultOfReading lines fault → fault_status (plan.Check fault) ≡ 4
+reading-fault : (lines : List Line) (rows : List Row) (fault : CheckFault) → reading_of lines ≡ Ok rows → IsFaultOfReading lines fault →
+    fault_status (plan.Check fault) ≡ 4
 reading-fault lines rows check.Memory read is = refl
 reading-fault lines rows (check.Syntax n) read is = let wrong : Ok rows ≡ Err n = sym read ∙ is in absurd cc
 reading-fault lines rows (check.Missing v) read is = absurd is
@@ -90,7 +93,8 @@ plan-fault net rows (check.Twice v) proper is = absurd (no-fault net rows (check
 plan-fault net rows (check.Clash v w) proper is = absurd (no-fault net rows (check.Clash v w) proper is)
 plan-fault net rows (check.TooHigh v) proper is = absurd (no-fault net rows (check.TooHigh v) proper is)
 
-text-fault : (net : Net) (lines : List Line) (rows : List Row) (fault : CheckFault) → reading_of lines ≡ Ok rows → IsProper net rows → IsFaultOfPlanText net lines fault → fault_status (plan.Check fault) ≡ 4
+text-fault : (net : Net) (lines : List Line) (rows : List Row) (fault : CheckFault) → reading_of lines ≡ Ok rows → IsProper net rows →
+    IsFaultOfPlanText net lines fault → fault_status (plan.Check fault) ≡ 4
 text-fault net lines rows fault read proper (inl is) = reading-fault lines rows fault read is
 text-fault net lines rows fault read proper (inr (others, also, is)) =
     let both : Ok rows ≡ Ok others = sym read ∙ also in
@@ -98,17 +102,22 @@ text-fault net lines rows fault read proper (inr (others, also, is)) =
     plan-fault net rows fault proper (subst (λ rs. IsFaultOfPlan net rs fault) (sym same) is)
 
 -- two readings of lines are one
-same-net : (lines : List Line) (m n : ℕ) (edges others : List (ℕ × ℕ)) → IsGraph lines m edges → IsGraph lines n others → network_with n others ≡ network_with m edges
-same-net lines m n edges others is also = ap (λ k. network_with k others) (sym (one-nodes lines m n edges others is also)) ∙ ap (network_with m) (sym (one-edges lines m n edges others is also))
+same-net : (lines : List Line) (m n : ℕ) (edges others : List (ℕ × ℕ)) → IsGraph lines m edges → IsGraph lines n others →
+    network_with n others ≡ network_with m edges
+same-net lines m n edges others is also = ap (λ k. network_with k others) (sym (one-nodes lines m n edges others is also)) ∙
+    ap (network_with m) (sym (one-edges lines m n edges others is also))
 
 agreed-fault : (both : List ℕ) (fault : PlanFault) → IsAgreed both → IsFaultOfCheck both fault → fault_status fault ≡ 4
 agreed-fault both (plan.Col fault) a is = ap (λ f. fault_status (plan.Col f)) (graph-or_fault (network_lines (lines_of both)) a.nodes a.edges fault a.graph is)
 agreed-fault both (plan.Net fault) a (n, others, graph, is) =
-    network-fault (network_with a.nodes a.edges) fault a.network (subst (λ net. IsFaultOf net fault) (same-net (network_lines (lines_of both)) a.nodes n a.edges others a.graph graph) is)
+    network-fault (network_with a.nodes a.edges) fault a.network
+    (subst (λ net. IsFaultOf net fault) (same-net (network_lines (lines_of both)) a.nodes n a.edges others a.graph graph) is)
 agreed-fault both (plan.Check fault) a (n, others, graph, (ok, is)) =
     text-fault (network_with a.nodes a.edges) (plan_lines (lines_of both)) a.rows fault a.read a.proper
-    (subst (λ net. IsFaultOfPlanText net (plan_lines (lines_of both)) fault) (same-net (network_lines (lines_of both)) a.nodes n a.edges others a.graph graph) is)
+    (subst (λ net. IsFaultOfPlanText net (plan_lines (lines_of both)) fault) (same-net (network_lines (lines_of both)) a.nodes n a.edges others a.graph graph)
+    is)
 agreed-fault both plan.Memory a is = refl
 
-pub agreed-memory : (input answer : List ℕ) (fault : PlanFault) → IsPlainAnswer (input ++ 10 ∷ []) answer → IsFaultOfCheck ((input ++ 10 ∷ []) ++ answer) fault → fault_status fault ≡ 4
+pub agreed-memory : (input answer : List ℕ) (fault : PlanFault) → IsPlainAnswer (input ++ 10 ∷ []) answer →
+    IsFaultOfCheck ((input ++ 10 ∷ []) ++ answer) fault → fault_status fault ≡ 4
 agreed-memory input answer fault is wrong = agreed-fault ((input ++ 10 ∷ []) ++ answer) fault (agreed input answer is) wrong

@@ -1,11 +1,10 @@
 -- A network text that ends in a line feed, and a plan text behind it: their lines.
 -- The lines of both are the network's and then the plan's. A good line never begins with `plan`, which is
 -- no kind of line, so the plan text begins where the plan does.
-use Rattle.std.proofs.Common.{◌≡◌, ◌++◌, ◌∷◌, [], ◌==◌, ◌∙◌, ℕ, Bool, true, false, Some, None, Option, List, append_assoc, ap, codes, map, refl, sym}
+use Rattle.std.proofs.Common.{◌≡◌, ◌++◌, ◌∷◌, [], ◌==◌, ◌∙◌, ℕ, Bool, true, false, Some, None, List, append_assoc, ap, codes, map, refl, sym}
 use Rattle.std.proofs.lemmas.List.{map-append}
 use Rattle.std.proofs.lemmas.Slice.Eq.{bytes_eq-Decides}
-use Rattle.std.specs.List.{AllByRecursion, onto_first, slice_split}
-use Rattle.std.specs.Str.{bytes_eq}
+use Rattle.std.specs.List.{slice_split}
 use Rattle.dimacs_col.specs.Kinds.{kind_of, kind_of_word}
 use Rattle.dimacs_col.specs.Lines.{Line, line_of, lines_of}
 use Rattle.dimacs_col.specs.Reading.{AllGood, number_after, verdict}
@@ -27,11 +26,13 @@ first-of : (text : List ℕ) → (first : List ℕ) × (others : List (List ℕ)
 first-of [] = ([], [], refl)
 first-of (x ∷ xs) = first-by (is_feed x) refl (first-of xs)
   where
-    first-by : (b : Bool) → is_feed x ≡ b → (first : List ℕ) × (others : List (List ℕ)) × (parts_of xs ≡ first ∷ others) → (first : List ℕ) × (others : List (List ℕ)) × (parts_of (x ∷ xs) ≡ first ∷ others)
+    first-by : (b : Bool) → is_feed x ≡ b → (first : List ℕ) × (others : List (List ℕ)) × (parts_of xs ≡ first ∷ others) → (first : List ℕ) ×
+        (others : List (List ℕ)) × (parts_of (x ∷ xs) ≡ first ∷ others)
     first-by true e more = ([], parts_of xs, rw e refl)
     first-by false e more = (x ∷ more.0, more.1, rw (e, more.2) refl)
 
-parts-cons : (x : ℕ) (xs end : List ℕ) → parts_of ((xs ++ 10 ∷ []) ++ end) ≡ parts_of xs ++ parts_of end → (b : Bool) → is_feed x ≡ b → parts_of (((x ∷ xs) ++ 10 ∷ []) ++ end) ≡ parts_of (x ∷ xs) ++ parts_of end
+parts-cons : (x : ℕ) (xs end : List ℕ) → parts_of ((xs ++ 10 ∷ []) ++ end) ≡ parts_of xs ++ parts_of end → (b : Bool) → is_feed x ≡ b →
+    parts_of (((x ∷ xs) ++ 10 ∷ []) ++ end) ≡ parts_of (x ∷ xs) ++ parts_of end
 parts-cons x xs end more true e = rw (e, more) refl
 parts-cons x xs end more false e = let first = first-of xs in rw (e, more, first.2) refl
 
@@ -62,7 +63,8 @@ good-line before line good = good-by (begins_plan line) refl
 good-rest : (lines before rest : List Line) → AllGood lines → lines ≡ before ++ rest → AreBefore rest
 good-rest lines before [] good e = before-none
 good-rest lines before (line ∷ rest) good e =
-    before-cons line rest (good-line before line (good before line rest e)) (good-rest lines (before ++ line ∷ []) rest good (e ∙ sym (append_assoc before (line ∷ []) rest)))
+    before-cons line rest (good-line before line (good before line rest e)) (good-rest lines (before ++ line ∷ []) rest good (e ∙
+    sym (append_assoc before (line ∷ []) rest)))
 
 pub good-before : (lines : List Line) → AllGood lines → AreBefore lines
 good-before lines good = good-rest lines [] lines good refl

@@ -1,13 +1,14 @@
 -- The rows of a channel plan are proper: each vertex has the row of its colour plus one, and no other.
-use Rattle.std.proofs.Common.{◌≡◌, ◌≢◌, ◌<◌, ◌≤◌, ◌+◌, ◌-◌, ◌^◌, ◌++◌, ◌∷◌, [], ◌==◌, ◌∙◌, ℕ, zero, suc, Bool, true, false, List, All, arith, ap, get_or, length, map, refl, subst, sym}
+use Rattle.std.proofs.Common.{◌≡◌, ◌≢◌, ◌<◌, ◌≤◌, ◌+◌, ◌^◌, ◌∷◌, ◌==◌, ◌∙◌, ℕ, zero, suc, Bool, true, false, All, arith, ap, get_or}
+use Rattle.std.proofs.Common.{length, map, refl, subst, sym}
 use Rattle.std.proofs.lemmas.Bool.{eqb-true, eqb-false, ne_eqb}
 use Rattle.std.proofs.lemmas.List.{length-map}
 use Rattle.std.proofs.lemmas.List.Elements.{All-map}
 use Rattle.std.proofs.lemmas.List.FromFn.{get_or-map-range_with_len, length-map-range_with_len, length-range_with_len}
 use Rattle.std.specs.List.{Contains, range_with_len}
 use Rattle.interference.specs.Net.{IsEdge, IsNetwork, IsVertex, Net, count_of, greatest_degree_of, vertices}
-use Rattle.interference.proofs.Neighbours.{greatest_degree-within, neighbour-is_vertex}
-use Rattle.channel_plan.specs.Checked.{IsProper, most_channel}
+use Rattle.interference.proofs.Neighbours.{greatest_degree-within}
+use Rattle.channel_plan.specs.Checked.{IsProper}
 use Rattle.channel_plan.specs.Reading.{Row, rows_of}
 use Rattle.channel_plan.proofs.Counts.{counted, row_count}
 use Rattle.channel_plan.proofs.Proper.{vertices-are}
@@ -29,7 +30,8 @@ one-among : (colour : ℕ → ℕ) (a n v : ℕ) → a ≤ v → v < a + n → r
 one-among colour a zero v low high = absurd (omega arith)
 one-among colour a (suc n) v low high = one-by (a == v) refl (λ l h. one-among colour (a + 1) n v l h)
   where
-    one-by : (b : Bool) → (a == v) ≡ b → (a + 1 ≤ v → v < a + 1 + n → row_count (map (row_at colour) (range_with_len (a + 1) n)) v ≡ 1) → row_count (map (row_at colour) (range_with_len a (suc n))) v ≡ 1
+    one-by : (b : Bool) → (a == v) ≡ b → (a + 1 ≤ v → v < a + 1 + n → row_count (map (row_at colour) (range_with_len (a + 1) n)) v ≡ 1) →
+        row_count (map (row_at colour) (range_with_len a (suc n))) v ≡ 1
     one-by true e more = let same = eqb-true a v e in rw e (ap (λ k. 1 + k) (none-above colour (a + 1) n v (omega (arith, same))))
     one-by false e more = let apart = eqb-false a v e in rw e (more (omega (arith, apart)) (omega arith))
 

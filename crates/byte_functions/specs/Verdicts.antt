@@ -24,7 +24,8 @@ IsProperPlan net lines rows = (reading_of lines ≡ Ok rows) × IsProper net row
 -- the answer is `proper G` for the plan of the network that stands before it, G being its greatest channel
 abbrev pub IsCheckAnswer : List ℕ → List ℕ → Type 0
 IsCheckAnswer input answer = LinesReadAs (network_lines (lines_of input)) (λ net. IsNetwork net
-    × ((rows : List Row) × IsProperPlan net (plan_lines (lines_of input)) rows × (answer ≡ verdict_text (greatest_channel rows))))
+    × ((rows : List Row) × IsProperPlan net (plan_lines (lines_of input)) rows
+    × (answer ≡ verdict_text (greatest_channel rows))))
 
 -- the fault of a plan text for a network: of its reading, or of the rows that were read
 abbrev pub IsFaultOfPlanText : Net → List Line → CheckFault → Type 0

@@ -9,6 +9,8 @@ ghost use Rattle.byte_functions.specs.declared.fault.PlanFault.{PlanFault};
 /// A network text that ends in a line feed, followed by the plan that `plain_bytes` gives for it, is an
 /// input that `check_bytes` calls proper; no fault but that of memory is possible.
 pub fn plain_plans_are_proper()
-    ensures proper { (input answer : List ℕ) → IsPlainAnswer (input ++ 10 ∷ []) answer → (greatest : ℕ) × IsCheckAnswer ((input ++ 10 ∷ []) ++ answer) (verdict_text greatest) }
-    ensures only_memory { (input answer : List ℕ) (fault : PlanFault) → IsPlainAnswer (input ++ 10 ∷ []) answer → IsFaultOfCheck ((input ++ 10 ∷ []) ++ answer) fault → fault_status fault ≡ 4 }
+    ensures proper { (input answer : List ℕ) → IsPlainAnswer (input ++ 10 ∷ []) answer
+        → (greatest : ℕ) × IsCheckAnswer ((input ++ 10 ∷ []) ++ answer) (verdict_text greatest) }
+    ensures only_memory { (input answer : List ℕ) (fault : PlanFault) → IsPlainAnswer (input ++ 10 ∷ []) answer
+        → IsFaultOfCheck ((input ++ 10 ∷ []) ++ answer) fault → fault_status fault ≡ 4 }
 {}
