@@ -9,7 +9,7 @@ use Rattle.net_core.specs.declared.refused.RunRefused.{RunRefused}
 use Rattle.net_core.specs.Refusals.{at_index}
 use Rattle.net_core.specs.State.{State, start}
 use Rattle.net_core.specs.Step.{step, go_on, run_from, run}
-use Rattle.net_core.specs.Events.{Steps, IsRunFrom, StopsFrom, RunsExactly}
+use Rattle.net_core.specs.Events.{Steps, StepsExactly, IsRunFrom, StopsFrom, RunsExactly}
 use Rattle.net_core.proofs.NetKept.{NetKept}
 use Rattle.net_core.proofs.KeptSteps.{Good, step_good}
 use Rattle.net_core.proofs.KeptRuns.{start_good}
@@ -49,6 +49,19 @@ module _ {S M E : Type 0} (program : Program S M E) (net : Net) where
       ∙ ap (λ r. Err r) (sym stop.index)
 
 module _ {S M E : Type 0} {program : Program S M E} {net : Net} (ok : IsNetwork net) (runs : Runs program net) where
+  -- a step in a state that is kept
+  pub steps-exactly : (state : State S M) → NetKept program net state → (event : Event) → StepsExactly program net state event
+  steps-exactly state kept event = record {
+    leads = λ next. (
+      λ is. let P : Result (State S M) StepRefused → Type 0 = λ r. Stepped program net state event r in subst P is (stepped ok runs kept event),
+      λ s. steps-step program net state event next s,
+    );
+    refuses = λ refused. (
+      λ is. let P : Result (State S M) StepRefused → Type 0 = λ r. Stepped program net state event r in subst P is (stepped ok runs kept event),
+      λ why. why-step program net state event refused why,
+    );
+  }
+
   comes-on : (k : ℕ) (state : State S M) (event : Event) (events : List Event) (next : State S M) → Steps program net state event next
       → (r : Result (State S M) RunRefused) → Comes program net (suc k) next events r → Comes program net k state (event ∷ events) r
   comes-on k state event events next s (Ok last) rest = (next, s, rest)

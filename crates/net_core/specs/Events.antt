@@ -12,7 +12,7 @@ use Rattle.net_core.specs.declared.refused.StepRefused.TheVariants.{NotReady, No
 use Rattle.net_core.specs.declared.refused.RunRefused.{RunRefused}
 use Rattle.net_core.specs.Refusals.{at_index}
 use Rattle.net_core.specs.State.{State, start, node_of, link_at, link_to, sent_of, set_node, set_link, set_link_to}
-use Rattle.net_core.specs.Step.{run}
+use Rattle.net_core.specs.Step.{run, step}
 
 -- the vertex and the port that an event names are there
 abbrev pub Exists : Net → Event → Type 0
@@ -91,6 +91,13 @@ abbrev pub Steps : {S M E : Type 0} → Program S M E → Net → State S M → 
 Steps program net state (Pulse v) next = Pulses program net state v next
 Steps program net state (Put v i) next = Puts program net state v i next
 Steps program net state (Take v i) next = Takes program net state v i next
+
+-- `step` leads exactly where the event does, and refuses exactly an event that isn't possible, and why.
+pub record StepsExactly {S M E : Type 0} (program : Program S M E) (net : Net) (state : State S M) (event : Event)
+    : Type 0 where
+  pub leads : (next : State S M) → (step program net state event ≡ Ok next) ↔ Steps program net state event next
+  pub refuses : (refused : StepRefused) → (step program net state event ≡ Err refused)
+      ↔ WhyNot program net state event refused
 
 -- A run from a state: each event is possible where it stands, and leads to where the next one stands.
 abbrev pub IsRunFrom : {S M E : Type 0} → Program S M E → Net → State S M → List Event → State S M → Type 0

@@ -5,8 +5,8 @@ use Rattle.node_api.specs.Program.{Program}
 use Rattle.net_core.specs.declared.event.Event.{Event}
 use Rattle.net_core.specs.State.{State}
 use Rattle.net_core.specs.Step.{run}
-use Rattle.net_core.specs.Events.{RunsExactly}
-use Rattle.net_core.specs.Simulation.{IsSimulation}
+use Rattle.net_core.specs.Events.{RunsExactly, StepsExactly}
+use Rattle.net_core.specs.Simulation.{IsReached, IsSimulation}
 
 -- whatever events come, in the state that they reach the nodes simulate the synchronous run
 abbrev pub RunsSimulate : {S M E : Type 0} → Program S M E → Net → Type 0
@@ -16,3 +16,8 @@ RunsSimulate {S} {M} program net =
 -- every list of events is accepted or refused exactly
 abbrev pub RunsAreExact : {S M E : Type 0} → Program S M E → Net → Type 0
 RunsAreExact program net = (events : List Event) → RunsExactly program net events
+
+-- in every state that is reached, each event is made or refused exactly
+abbrev pub StepsAreExact : {S M E : Type 0} → Program S M E → Net → Type 0
+StepsAreExact {S} {M} program net =
+    (state : State S M) → IsReached program net state → (event : Event) → StepsExactly program net state event

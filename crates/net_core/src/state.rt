@@ -2,7 +2,8 @@
 
 ghost use Rattle.std.specs.Prelude.{◌≡◌, ◌<◌, IfOk, length};
 ghost use Rattle.interference.specs.Net.{IsVertex, degree_of, vertices};
-ghost use Rattle.net_core.specs.Simulation.{IsSimulation};
+ghost use Rattle.node_api.specs.Program.{last_pulse_on};
+ghost use Rattle.net_core.specs.Simulation.{IsReached, IsSimulation};
 ghost use Rattle.net_core.specs.State.{link_at, node_of, start, started_nodes};
 
 use crate::links::Links;
@@ -65,8 +66,10 @@ impl<P: NodeProgram> NetState<P> {
         Ok(NetState { net, nodes, links })
     }
 
-    /// Gives callers what holds of every state that is reached: the nodes simulate the synchronous run.
+    /// Gives callers what holds of every `NetState`: some list of events reaches its state, and there the nodes
+    /// simulate the synchronous run.
     pub fn is_simulation(&self)
+        ensures reached { IsReached P.program self.now.net self.now.state }
         ensures simulates { IsSimulation P.program self.now.net self.now.state }
     {
         self.net.is_network();
@@ -84,6 +87,7 @@ impl<P: NodeProgram> NetState<P> {
     pub fn node(&self, v: u32) -> &AlphaNode<P>
         requires vertex { IsVertex self.now.net v }
         ensures node { result.now.node ≡ node_of P.program self.now.net self.now.state v }
+        ensures last { result.now.last ≡ last_pulse_on P.program self.now.net }
     {
         self.net.is_network();
         &self.nodes[(v - 1) as usize]

@@ -1,7 +1,8 @@
 use Rattle.std.proofs.Common.{sym, ap, ◌∙◌, arith, subst}
 use Rattle.interference.specs.Net.{IsVertex}
+use Rattle.node_api.specs.Program.{last_pulse_on}
 use Rattle.net_core.specs.State.{node_of}
-use Rattle.net_core.proofs.Held.{in_nodes, node_is}
+use Rattle.net_core.proofs.Held.{in_nodes, last_is, node_is}
 use Rattle.net_core.proofs.state.NetState.node.Goals as goal
 
 pub index-requires : goal.index-requires
@@ -19,4 +20,6 @@ returns g c =
     record {
       node = node_is m.program m.laws a.net c.is_network.ensures a.nodes.items a.links c.self.invariant c.args.v vertex c.index.result.now c.index.ensures
           ∙ ap (λ s. node_of m.program s.net s.state c.args.v) c.self.view_is;
+      last = last_is m.program m.laws a.net c.is_network.ensures a.nodes.items a.links c.self.invariant c.args.v vertex c.index.result.now c.index.ensures
+          ∙ ap (λ s. last_pulse_on m.program s.net) c.self.view_is;
     }
