@@ -1,6 +1,7 @@
 //! The answers to a text by the byte functions alone, and the report of each fault.
 
-use byte_functions::{PlanFault, fault_report, forest_bytes, plain_bytes};
+use byte_functions::{PlanFault, check_bytes, fault_report, forest_bytes, plain_bytes};
+use channel_plan::CheckFault;
 use dimacs_col::ColFault;
 use interference::NetFault;
 use std::test::Fail;
@@ -56,12 +57,55 @@ fn reports_each_fault(rt: HostRuntime) -> Result<(), Fail> {
         (PlanFault::Net(NetFault::Degree(1)), "N1 vertex 1", 1),
         (PlanFault::Net(NetFault::SameId(1, 2)), "N2 vertices 1 2", 1),
         (PlanFault::Net(NetFault::Memory), "memory", 4),
+        (PlanFault::Check(CheckFault::Missing(3)), "C1 vertex 3", 1),
+        (PlanFault::Check(CheckFault::Stranger(0)), "C2 vertex 0", 1),
+        (PlanFault::Check(CheckFault::Twice(1)), "C3 vertex 1", 1),
+        (
+            PlanFault::Check(CheckFault::Clash(1, 3)),
+            "C4 vertices 1 3",
+            1,
+        ),
+        (PlanFault::Check(CheckFault::TooHigh(3)), "C5 vertex 3", 1),
+        (PlanFault::Check(CheckFault::Syntax(4)), "C6 line 4", 1),
+        (PlanFault::Check(CheckFault::Memory), "memory", 4),
         (PlanFault::Memory, "memory", 4),
     ] {
         let report = fault_report(rt.alloc(), fault)?;
         let wanted = format!(in rt.alloc(); "forestplan: {line}\n")?;
         assert!(rt; report.line.as_bytes() == wanted.as_bytes(), "{line}");
         assert_eq!(rt; report.status, status, "{line}");
+    }
+    Ok(())
+}
+
+// Plans of the triangle, and what is said of each.
+#[test]
+fn checks_plans(rt: HostRuntime) -> Result<(), Fail> {
+    let alloc = rt.alloc();
+    for (plan, fault) in [
+        ("plan\n1 2\n2 3\n3 1\n", None),
+        ("plan\n1 2\n2 3\n3 2\n", Some(CheckFault::Clash(1, 3))),
+        ("plan\n1 2\n2 3\n3 4\n", Some(CheckFault::TooHigh(3))),
+        ("plan\n1 2\n2 3\n3 0\n", Some(CheckFault::Syntax(4))),
+        ("plan\n1 2\n2 3\n0 9\n", Some(CheckFault::Stranger(0))),
+        ("plan\n1 2\n1 9\n3 1\n", Some(CheckFault::Twice(1))),
+        ("plan\n1 2\n2 3\n", Some(CheckFault::Missing(3))),
+        ("", Some(CheckFault::Syntax(1))),
+    ] {
+        let mut input = Vec::from_slice(alloc, b"p edge 3 3\ne 1 2\ne 1 3\ne 2 3\n")?;
+        input.extend_from_slice(plan.as_bytes())?;
+        match check_bytes(alloc, &input) {
+            Ok(text) => {
+                assert!(rt; text.as_slice() == b"proper 3\n".as_slice(), "{plan}");
+                assert!(rt; fault.is_none(), "{plan}");
+            }
+            Err(told) => {
+                assert!(rt;
+                    fault.is_some_and(|fault| told == PlanFault::Check(fault)),
+                    "{plan}"
+                );
+            }
+        }
     }
     Ok(())
 }

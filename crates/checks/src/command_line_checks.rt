@@ -6,7 +6,11 @@ use std::test::Fail;
 
 #[test]
 fn knows_the_commands(rt: HostRuntime) -> Result<(), Fail> {
-    for (word, wanted) in [("forests", Request::Forests), ("plain", Request::Plain)] {
+    for (word, wanted) in [
+        ("forests", Request::Forests),
+        ("plain", Request::Plain),
+        ("check", Request::Check),
+    ] {
         assert!(rt;
             parse(rt.alloc(), &["forestplan", word]).is_ok_and(|request| request == wanted),
             "{word}"
