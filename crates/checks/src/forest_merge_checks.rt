@@ -55,6 +55,7 @@ fn the_least_free_colour_is_chosen(rt: HostRuntime) {
         }
     }
     assert!(rt; !has_free(&chosen, 129));
+    assert!(rt; has_free(&chosen, 130));
     assert_eq!(rt; least_free(&chosen, 130), 130);
 }
 

@@ -27,6 +27,14 @@ mod forests_checks;
 #[cfg(test)]
 mod interference_checks;
 #[cfg(test)]
+mod link_alone;
+#[cfg(test)]
+mod link_queue_checks;
+#[cfg(test)]
+mod link_threads;
+#[cfg(test)]
+mod net_core_checks;
+#[cfg(test)]
 mod node_api_checks;
 #[cfg(test)]
 mod number_rows_checks;

@@ -38,7 +38,8 @@ module _ {T : Type 0} where
     pub all_put : (view met.pass).put ≡ put
     pub in_order : put ≡ taken ++ held_of met
 
-  -- at a moment of the call the link held nothing
+  -- What an end knows of the moment at which the queue was empty: what it took is legal. That there was such a moment
+  -- is the queue's own promise.
   abbrev pub WasEmpty : (LinkName → List (Wire T) → Type 0) → Option LinkName → List (Wire T) → Type 0
   WasEmpty legal name taken = Held 0 (MayFollow legal name taken)
 
@@ -64,7 +65,8 @@ module _ {P T : Type 0} where
     pub named : take_name end ≡ Some name
     pub taken : taken_list end ≡ []
 
-  -- at a moment of the call the link held as many wires as it can, the last of those put
+  -- What an end knows of the moment at which the queue was full: the last of the wires that it put were on it, as many
+  -- as it can hold. That there was such a moment is the queue's own promise.
   abbrev pub WasFull : Link P T → List (Wire T) → Type 0
   WasFull link put = Held (link_capacity link) (AreLastOf put)
 
