@@ -1,5 +1,6 @@
 -- What is kept of a link is a legal list.
-use Rattle.std.proofs.Common.{◌≡◌, ℕ, suc, ◌<◌, Bool, true, false, List, [], ◌∷◌, ◌++◌, Option, Some, None, refl, sym, ap, ◌∙◌, append_assoc, append-nil, arith, subst, ⊎_elim}
+use Rattle.std.proofs.Common.{◌≡◌, ℕ, suc, ◌<◌, Bool, true, false, List, [], ◌∷◌, ◌++◌, Option, Some, None, refl, sym, ap, ◌∙◌, append_assoc, append-nil}
+use Rattle.std.proofs.Common.{arith, subst, ⊎_elim}
 use Rattle.std.specs.Prelude.{is_some, nat_eq}
 use Rattle.std.proofs.lemmas.Bool.{cases_eq, cases_Bool, eqb-true}
 use Rattle.alpha_core.specs.declared.wire.Wire.{Wire}

@@ -53,8 +53,8 @@ pub record Simulates {S M E : Type 0} (program : Program S M E) (net : Net) (nod
   -- And none after it: nothing is put on a link after Close.
   pub none_after_close : (v i : ℕ) → IsVertex net v → i < degree_of net v
       → (before after : List (Wire M)) → sent v i ≡ before ++ (Close ∷ after) → after ≡ []
-  -- Each pulse that a node completed had exactly that round's synchronous inbox: by port, the payloads of q that it took
-  -- are the inbox of q + 1.
+  -- Each pulse that a node completed had exactly that round's synchronous inbox: by port, the payloads of q that it
+  -- took are the inbox of q + 1.
   pub exact_inboxes : (v q : ℕ) → IsVertex net v → q < (nodes v).view.pulse →
       heard_at net (taken v) v q ≡ inbox_at program net (suc q) v
   -- And so will the next one: the inbox of a pulse that a node can make is the synchronous one.

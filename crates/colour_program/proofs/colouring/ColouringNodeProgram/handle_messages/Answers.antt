@@ -16,5 +16,6 @@ returns-then-not-has_next-clause-answer c =
     subst (λ (place : ℕ). HasFrom slots place → ⊥) c.requires.rewound (λ some. let e : IsTrue false = c.if-not-has_next.ensures.more.1 some in (cc)) in
     let empty : slots ≡ nothing (ports node) = nothing-came slots quiet ∙ ap (λ (n : ℕ). nothing n) c.requires.inbox in
     let stays : next node c.args.pulse (nothing (ports node)) ≡ Ok (node, nothing (ports node)) =
-    subst (λ (n : Node). next n c.args.pulse (nothing (ports n)) ≡ Ok (n, nothing (ports n))) c.self.view_is (c.self.invariant.1 c.args.pulse covered.0 covered.1) in
+    subst (λ (n : Node). next n c.args.pulse (nothing (ports n)) ≡ Ok (n, nothing (ports n))) c.self.view_is
+    (c.self.invariant.1 c.args.pulse covered.0 covered.1) in
     ap (next node c.args.pulse) empty ∙ (stays ∙ ap (λ (out : List (Option Payload)). Ok (node, out)) (sym c.requires.out))

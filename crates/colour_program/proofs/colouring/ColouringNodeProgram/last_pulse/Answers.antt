@@ -26,8 +26,10 @@ overflow_mul-result c = let small : c.greatest_degree.result ≤ MAX_DEGREE = lo
 
 pub overflow_mul-result-2 : goal.overflow_mul-result-2
 overflow_mul-result-2 c =
-    let small : c.forest_count.result * (3 * (c.greatest_degree.result + 1)) < 2 ^ 31 = fits (goal.at.overflow_mul-result-2 c).After-greatest_degree in search rules
+    let small : c.forest_count.result * (3 * (c.greatest_degree.result + 1)) < 2 ^ 31 = fits (goal.at.overflow_mul-result-2 c).After-greatest_degree in
+    search rules
 
 pub overflow_add-result-2 : goal.overflow_add-result-2
 overflow_add-result-2 c =
-    let small : c.forest_count.result * (3 * (c.greatest_degree.result + 1)) < 2 ^ 31 = fits (goal.at.overflow_add-result-2 c).After-greatest_degree in search rules
+    let small : c.forest_count.result * (3 * (c.greatest_degree.result + 1)) < 2 ^ 31 = fits (goal.at.overflow_add-result-2 c).After-greatest_degree in
+    search rules
