@@ -21,12 +21,12 @@ output. A fault of the input is one line on standard error, a refused command
 line is several, and standard output then stays empty. If a write fails,
 standard output holds a beginning of the answer.",
     format: "Input: a graph in the DIMACS format, a line each
-  p edge NODES EDGES   first: the number of vertices (EDGES is not looked at)
+  p edge NODES EDGES   before any e line: the number of vertices; any number
   e V W                an edge between two different vertices from 1 to NODES
 Skipped are empty lines and those whose first field begins with c, or is one of
 n, d, v and x.
 
-Faults of the input, each reported as `forestplan: F6 line 2`:
+Faults of the input, reported as `forestplan: F6 line 2`, F1 without a line:
   F1  no p line                    F5  a vertex is 0 or above NODES
   F2  a second p line              F6  an edge from a vertex to itself
   F3  an e line before the p line  F7  above 20000 vertices or 400000 edges
@@ -96,14 +96,14 @@ neighbours share a channel. It does not matter who made the plan.",
 behind it a plan, a line each:
   plan                 the first line
   V CHANNEL            a vertex and its channel, from 1; in any order
-The plan begins at the first line whose first field is `plan`. So the graph has
-to end in a line feed if the plan comes from another program.
+The plan begins at the first line whose first field is `plan`. So where two texts
+are joined, as by cat, the graph has to end in a line feed.
 
 Output: `proper G`, where G is the greatest channel, or 0 for no vertices.
 
 Faults of the plan, reported once the graph has none, each as
 `forestplan: C1 vertex 3`; the first that holds, in this order:
-  C6  line N           line N of the plan is neither `plan` nor two numbers
+  C6  line N           line 1 isn't `plan` alone, or a later one not V CHANNEL
   C2  vertex V         a line of vertex 0 or of one above NODES
   C3  vertex V         a second line of a vertex
   C5  vertex V         a channel above the greatest number of neighbours, plus 1
