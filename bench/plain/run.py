@@ -55,11 +55,11 @@ def timed(programs, path, turns):
     seconds, written = {name: [] for name in programs}, set()
     for _ in range(turns):
         for name, (program, environment) in programs.items():
-            done = once(program, ["plain"], path, environment, LIMIT)
-            if done is None:
+            taken, _, answer = once(program, ["plain"], path, environment, LIMIT)
+            if answer is None:
                 sys.exit(f"{program} takes more than {LIMIT:.0f} s on {path}")
-            seconds[name].append(done[0])
-            written.add(done[1:3])
+            seconds[name].append(taken)
+            written.add(answer)
     return seconds, written
 
 
