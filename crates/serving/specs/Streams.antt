@@ -1,8 +1,8 @@
 -- What a contract knows of a stream before and after a call.
 use Rattle.std.specs.Prelude.{◌≡◌, ◌⊎◌, ℕ, List, Option}
 use Rattle.std.specs.Io.KnownBytes.{Appends}
-use Rattle.whole_streams.specs.Counts.{CountsOn, HasGrown}
-use Rattle.whole_streams.specs.Streams.{AppendsBeginning, IsUnended}
+use Rattle.whole_streams.specs.Counts.{CountsOn, FallsByAtMost, HasGrown}
+use Rattle.whole_streams.specs.Streams.{AppendsBeginning, IsUnended, read_limit}
 
 -- a writer: what was written to it, and its faults
 pub record Written : Type 1 where
@@ -46,6 +46,10 @@ reading remaining faults reads old new = record {
 abbrev pub HasFailed : Taken → Type 0
 HasFailed input = HasGrown input.faults_before input.faults_after
     ⊎ IsUnended input.before input.after input.reads_before input.reads_after
+
+-- the reader was read at most read_limit times
+abbrev pub IsReadInTime : Taken → Type 0
+IsReadInTime input = FallsByAtMost input.reads_before read_limit input.reads_after
 
 -- no read failed
 abbrev pub HasNotFailed : Taken → Type 0
