@@ -35,7 +35,7 @@ impl ColourNode {
         out: &mut Outbox<Payload>,
     ) -> Result<IdlePulses, Refused>
         requires room { HasRoom self.old scratch.old }
-        requires rewound { inbox.old.place ≡ 0 }
+        requires rewound { inbox.old.cursor ≡ 0 }
         requires inbox { length inbox.old.slots ≡ ports self.old }
         requires out { out.old ≡ nothing (ports self.old) }
         ensures answer { Matches result (next self.old pulse inbox.old.slots) (self.new, out.new) }

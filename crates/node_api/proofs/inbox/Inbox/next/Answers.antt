@@ -10,13 +10,13 @@ use Rattle.node_api.proofs.inbox.Inbox.next.Goals as goal
 pub index-requires : goal.index-requires
 index-requires g c =
     let a = c.self.inside in
-    let more = more_seen a.degree a.read a.place a.pairs.items c.self.invariant.2 c.args.self.now c.self.view_is c.requires.more in
+    let more = more_seen a.degree a.read a.cursor a.pairs.items c.self.invariant.2 c.args.self.now c.self.view_is c.requires.more in
     omega (arith, more, a.pairs.ok.0)
 
 pub overflow_add-self-2 : goal.overflow_add-self-2
 overflow_add-self-2 g c =
     let a = c.self.inside in
-    let more = more_seen a.degree a.read a.place a.pairs.items c.self.invariant.2 c.args.self.now c.self.view_is c.requires.more in
+    let more = more_seen a.degree a.read a.cursor a.pairs.items c.self.invariant.2 c.args.self.now c.self.view_is c.requires.more in
     omega (
       arith,
       c.self.invariant.0,
@@ -27,22 +27,22 @@ overflow_add-self-2 g c =
 pub invariant_of-self : goal.invariant_of-self
 invariant_of-self g c =
     let a = c.self.inside in
-    let more = more_seen a.degree a.read a.place a.pairs.items c.self.invariant.2 c.args.self.now c.self.view_is c.requires.more in (
+    let more = more_seen a.degree a.read a.cursor a.pairs.items c.self.invariant.2 c.args.self.now c.self.view_is c.requires.more in (
       c.self.invariant.0,
       c.self.invariant.1,
-      is_read-next a.degree a.read a.place (ports_of a.pairs.items) c.self.invariant.2 c.index.result.now.0
+      is_read-next a.degree a.read a.cursor (ports_of a.pairs.items) c.self.invariant.2 c.index.result.now.0
           (omega (arith, more, length-ports_of a.pairs.items)) (port_of-entry a.pairs.items a.read c.index.result.now more c.index.ensures),
     )
 
 pub returns : goal.returns
 returns g c =
     let a = c.self.inside in
-    let more = more_seen a.degree a.read a.place a.pairs.items c.self.invariant.2 c.args.self.now c.self.view_is c.requires.more in
+    let more = more_seen a.degree a.read a.cursor a.pairs.items c.self.invariant.2 c.args.self.now c.self.view_is c.requires.more in
     record {
       reads = subst (λ (mail : Mail g.row.T.Denot). Reads mail c.index.result.now.1 (record {
         slots = slots_of a.degree a.pairs.items;
-        place =
+        cursor =
             c.index.result.now.0 + 1;
-      })) c.self.view_is (reads_pair a.degree a.read a.place a.pairs.items c.self.invariant.2 c.index.result.now more
+      })) c.self.view_is (reads_pair a.degree a.read a.cursor a.pairs.items c.self.invariant.2 c.index.result.now more
           c.index.ensures);
     }
