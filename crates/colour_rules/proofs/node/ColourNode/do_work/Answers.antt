@@ -62,7 +62,7 @@ pub returns-in-Orient-clause-room : goal.returns-in-Orient-clause-room
 returns-in-Orient-clause-room c =
     let at = (goal.at.returns-in-Orient-clause-room c).After-deref in
     room-done c.args.self.now c.orient.new.self c.args.phase c.args.inbox.now.slots c.orient.new.out c.args.scratch.now c.args.scratch.now
-        c.requires.accepted.size
+    c.requires.accepted.size
     (oriented-is c.args.self.now c.orient.new.self c.args.phase (take c.args.count c.deref.result.now) c.args.inbox.now.slots c.orient.new.out c.in-Orient.is
     (came at) (hellos at) c.orient.ensures.node c.orient.ensures.out)
     refl refl c.requires.room
