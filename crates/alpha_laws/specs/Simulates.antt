@@ -37,7 +37,8 @@ IsComplete last sends answers ws = (data_of ws ≡ stream sends last) × (acks_o
 
 -- a complete list of the link from v to w
 abbrev pub IsCompleteOn : {S M E : Type 0} → Program S M E → Net → ℕ → ℕ → List (Wire M) → Type 0
-IsCompleteOn program net v w ws = IsComplete (last_pulse_on program net) (sends program net v w) (sends program net w v) ws
+IsCompleteOn program net v w ws =
+    IsComplete (last_pulse_on program net) (sends program net v w) (sends program net w v) ws
 
 -- The nodes simulate the synchronous run of their program. `sent` and `taken` are the lists that each node has put on
 -- its links and taken from them, by port.

@@ -10,7 +10,8 @@ use Rattle.node_api.specs.Pairs.{IsRead}
 -- the entry at i is i at least, so there are at most as many ports as the degree
 at_least : (degree read cursor : ℕ) (ports : List ℕ) → IsRead degree read cursor ports → (i : ℕ) → i < length ports → i ≤ slice_index ports i
 at_least degree read cursor ports h zero below = omega arith
-at_least degree read cursor ports h (suc i) below = omega (arith, at_least degree read cursor ports h i (omega arith), h.ascending i (suc i) (omega arith) below)
+at_least degree read cursor ports h (suc i) below =
+    omega (arith, at_least degree read cursor ports h i (omega arith), h.ascending i (suc i) (omega arith) below)
 
 pub length-read : (degree read cursor : ℕ) (ports : List ℕ) → IsRead degree read cursor ports → length ports ≤ degree
 length-read degree read cursor [] h = omega arith

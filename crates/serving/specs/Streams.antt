@@ -2,7 +2,8 @@
 use Rattle.std.specs.Prelude.{◌≡◌, ◌⊎◌, ℕ, List, Option}
 use Rattle.std.specs.Io.KnownBytes.{Appends}
 use Rattle.whole_streams.specs.Counts.{CountsOn, FallsByAtMost, HasGrown}
-use Rattle.whole_streams.specs.Streams.{AppendsBeginning, IsUnended, read_limit}
+use Rattle.whole_streams.specs.declared.source.TheConstants.{READ_LIMIT}
+use Rattle.whole_streams.specs.Streams.{AppendsBeginning, IsUnended}
 
 -- a writer: what was written to it, and its faults
 pub record Written : Type 1 where
@@ -47,9 +48,9 @@ abbrev pub HasFailed : Taken → Type 0
 HasFailed input = HasGrown input.faults_before input.faults_after
     ⊎ IsUnended input.before input.after input.reads_before input.reads_after
 
--- the reader was read at most read_limit times
+-- the reader was read at most READ_LIMIT times
 abbrev pub IsReadInTime : Taken → Type 0
-IsReadInTime input = FallsByAtMost input.reads_before read_limit input.reads_after
+IsReadInTime input = FallsByAtMost input.reads_before READ_LIMIT input.reads_after
 
 -- no read failed
 abbrev pub HasNotFailed : Taken → Type 0

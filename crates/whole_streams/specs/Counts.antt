@@ -1,5 +1,6 @@
 -- Numbers that a stream may know of itself. Of an unknown one nothing is said.
-use Rattle.std.specs.Prelude.{◌≡◌, ◌<◌, ◌≤◌, ◌+◌, ◌-◌, ◌==◌, ℕ, Option, Some, None, Result, MatchResult, ⊤, if◌then◌else◌}
+use Rattle.std.specs.Prelude.{◌≡◌, ◌<◌, ◌≤◌, ◌+◌, ◌-◌, ◌==◌, ℕ, Option, Some, None, Result, MatchResult, ⊤}
+use Rattle.std.specs.Prelude.{if◌then◌else◌}
 
 -- a number that is known grows by n
 abbrev pub CountsOn : Option ℕ → ℕ → Option ℕ → Type 0
