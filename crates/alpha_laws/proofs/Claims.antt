@@ -27,7 +27,7 @@ use Rattle.std.specs.Prelude.{IsOk}
 use Rattle.node_api.specs.Run.{inbox_at}
 use Rattle.alpha_core.specs.declared.wire.Wire.TheVariants.{Close}
 use Rattle.alpha_core.proofs.Wires.{begins_from}
-use Rattle.alpha_laws.specs.Simulates.{heard_at, IsComplete}
+use Rattle.alpha_laws.specs.Simulates.{heard_at, IsCompleteOn}
 use Rattle.alpha_laws.proofs.Listed.{contains_cons, safe_below}
 use Rattle.alpha_laws.proofs.PortClaims.{port_fits}
 use Rattle.alpha_laws.proofs.Heard.{passed_at, heard}
@@ -67,7 +67,7 @@ module _ {S M E : Type 0} {program : Program S M E} {net : Net} (ok : IsNetwork 
   two_at v i vertex lt = omega (arith, two_in_flight ok kept v i vertex lt runs, length-append (held v i) (port_at (nodes v).view i).out)
 
   complete : (v i : ℕ) (vertex : IsVertex net v) (lt : i < degree_of net v) → Contains (taken v i) Close →
-      IsComplete program net (neighbour_of net v i) v (taken v i)
+      IsCompleteOn program net (neighbour_of net v i) v (taken v i)
   complete v i vertex lt has =
       let at = parts (taken v i) Close has in
       let all = (taken_is_legal v i vertex lt).close at.0 at.1 at.2 in (all.1, all.2)

@@ -41,7 +41,8 @@ use Rattle.alpha_core.specs.Alpha.{turns, entry, enters, enter_all, entering, st
 use Rattle.alpha_core.specs.Program.{sends}
 use Rattle.alpha_laws.proofs.Runs.{Runs}
 use Rattle.alpha_laws.proofs.NodeKept.{kept_out, inside, settles_kept, settles_speaks, settles_pulse}
-use Rattle.alpha_laws.proofs.PortFlags.{safe_at, enter_all-length, enter_all-at}
+use Rattle.alpha_core.proofs.PortLists.{enter_all-length, enter_all-at}
+use Rattle.alpha_laws.proofs.PortFlags.{safe_at}
 use Rattle.alpha_laws.proofs.Passed.{at-passed}
 use Rattle.alpha_laws.proofs.Emits.{starts, pulses_on}
 use Rattle.alpha_laws.specs.Position.{start_at}

@@ -55,6 +55,10 @@ safe_way p port q b e = ap (λ c. if c then record port { safe = true } else rec
 
 module _ {M : Type 0} {last : ℕ} {own other : ℕ → Option M} {p : ℕ} {said : Bool} {port : Port M} {taken : List (Wire M)} (sent : List (Wire M))
     (kept : Kept last own other p said port (sent ++ port.out) taken) where
+  early_free : (q : ℕ) (b : Bool) → q ≡ p + 1 + bit b → q ≤ suc p → b ≡ false
+  early_free q true e le = absurd (omega arith)
+  early_free q false e le = refl
+
   -- the port after a wire that is due
   pub takes_kept : (w : Wire M) → is_due last p said port w ≡ true → Allows other last (taken_to p port) w →
       Kept last own other p said (takes p port w) (sent ++ (takes p port w).out) (taken ++ (w ∷ []))
@@ -80,10 +84,6 @@ module _ {M : Type 0} {last : ℕ} {own other : ℕ → Option M} {p : ℕ} {sai
     where
       early_pulse : (q : ℕ) (b : Bool) → q ≡ p + 1 + bit b → q ≤ suc p → q ≡ suc p
       early_pulse q b e le = omega arith
-
-      early_free : (q : ℕ) (b : Bool) → q ≡ p + 1 + bit b → q ≤ suc p → b ≡ false
-      early_free q true e le = absurd (omega arith)
-      early_free q false e le = refl
   takes_kept (Ack q) due allowed =
       let three = and_parts (not port.closed && nat_eq q p) port.waits due in
       let is : q ≡ p = eqb-true q p (and_parts (not port.closed) (nat_eq q p) three.0).1 in
@@ -102,8 +102,4 @@ module _ {M : Type 0} {last : ℕ} {own other : ℕ → Option M} {p : ℕ} {sai
       (safe_way p port q true (sym (eq-eqb q p (let none : port.early_safe ≡ false = no_early_safe kept fresh in allowed.1 ∙
       rw none (rw fresh (omega arith)))))) (takes_safe kept q allowed fresh))
       (cases_Bool port.safe)
-    where
-      early_free : (q : ℕ) (b : Bool) → q ≡ p + 1 + bit b → q ≤ suc p → b ≡ false
-      early_free q true e le = absurd (omega arith)
-      early_free q false e le = refl
   takes_kept Close due allowed = takes_close kept allowed

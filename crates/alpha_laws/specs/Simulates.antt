@@ -8,10 +8,10 @@ use Rattle.node_api.specs.Run.{inbox_at}
 use Rattle.alpha_core.specs.declared.wire.Wire.{Wire}
 use Rattle.alpha_core.specs.declared.wire.Wire.TheVariants.{Safe, Close}
 use Rattle.alpha_core.specs.Wires.{data_of, acks_of, payload_at}
-use Rattle.alpha_core.specs.Streams.{Begins, sent_pulses}
+use Rattle.alpha_core.specs.Streams.{Begins, sent_pulses, stream}
 use Rattle.alpha_core.specs.View.{Node, port_at, inbox_of, can_take, can_pulse}
 use Rattle.alpha_core.specs.Alpha.{reaction, pulse}
-use Rattle.alpha_core.specs.Program.{sends, stream_of}
+use Rattle.alpha_core.specs.Program.{sends}
 use Rattle.alpha_laws.specs.Fits.{NodeFits}
 
 -- what was taken from the link out of v by port i, at its other end
@@ -30,12 +30,15 @@ emitted_at node sent i = sent i ++ (port_at node.view i).out
 abbrev pub heard_at : {M : Type 0} → Net → (ℕ → List (Wire M)) → ℕ → ℕ → List (Option M)
 heard_at net taken v q = map (λ i. payload_at q (taken i)) (range_with_len 0 (degree_of net v))
 
--- a complete list of the link from v to w: without acknowledgements it is the whole stream, and each payload that comes
--- the other way is acknowledged
-abbrev pub IsComplete : {S M E : Type 0} → Program S M E → Net → ℕ → ℕ → List (Wire M) → Type 0
-IsComplete program net v w ws =
-    (data_of ws ≡ stream_of program net v w) × (acks_of ws
-    ≡ sent_pulses (sends program net w v) (last_pulse_on program net))
+-- a complete list: without acknowledgements it is the whole stream, and each payload that comes the other way is
+-- acknowledged
+abbrev pub IsComplete : {M : Type 0} → ℕ → (ℕ → Option M) → (ℕ → Option M) → List (Wire M) → Type 0
+IsComplete last sends answers ws = (data_of ws ≡ stream sends last) × (acks_of ws ≡ sent_pulses answers last)
+
+-- a complete list of the link from v to w
+abbrev pub IsCompleteOn : {S M E : Type 0} → Program S M E → Net → ℕ → ℕ → List (Wire M) → Type 0
+IsCompleteOn program net v w ws =
+    IsComplete (last_pulse_on program net) (sends program net v w) (sends program net w v) ws
 
 -- The nodes simulate the synchronous run of their program. `sent` and `taken` are the lists that each node has put on
 -- its links and taken from them, by port.
@@ -49,7 +52,7 @@ pub record Simulates {S M E : Type 0} (program : Program S M E) (net : Net) (nod
       Begins (taken_over net taken v i) (sent v i)
   -- All before the closing mark: a node that has taken Close from a link has taken a complete list.
   pub all_before_close : (v i : ℕ) → IsVertex net v → i < degree_of net v → Contains (taken v i) Close
-      → IsComplete program net (neighbour_of net v i) v (taken v i)
+      → IsCompleteOn program net (neighbour_of net v i) v (taken v i)
   -- And none after it: nothing is put on a link after Close.
   pub none_after_close : (v i : ℕ) → IsVertex net v → i < degree_of net v
       → (before after : List (Wire M)) → sent v i ≡ before ++ (Close ∷ after) → after ≡ []

@@ -1,12 +1,13 @@
 -- A text, cut at its line feeds: where a part begins, and the parts before it and from it on.
 use Rattle.std.proofs.Common.{◌≡◌, ◌<◌, ◌≤◌, ◌+◌, ◌++◌, ◌∷◌, [], ◌==◌, ◌∙◌, ℕ, suc, Bool, true, false, List, All}
-use Rattle.std.proofs.Common.{arith, ap, append_assoc, drop, get_or, length, map, refl, subst, sym, take}
+use Rattle.std.proofs.Common.{arith, ap, append-nil, append_assoc, inl, inr, drop, get_or, length, map, refl, subst, sym, take}
 use Rattle.std.proofs.Math.Seq.{drop-append-add, drop-cons, take-append-add}
 use Rattle.std.proofs.lemmas.Bool.{eqb-true}
 use Rattle.std.proofs.lemmas.List.{length-append, take-append-drop}
 use Rattle.std.proofs.lemmas.List.Elements.{All-cons, All-nil}
 use Rattle.std.proofs.lemmas.List.Splits.{slice_split_at}
 use Rattle.std.specs.List.{onto_first, slice_split}
+use Rattle.channel_plan.specs.Split.{EndsLine}
 
 abbrev pub is_feed : ℕ → Bool
 is_feed byte = byte == 10
@@ -90,6 +91,12 @@ pub record IsCut (text : List ℕ) (before : List (List ℕ)) (part : List ℕ) 
   pub within : length (closed before) + length part ≤ length text
   pub front : parts_of (take (length (closed before)) text) ≡ before ++ [] ∷ []
   pub back : parts_of (drop (length (closed before)) text) ≡ part ∷ after
+  pub ends : EndsLine (take (length (closed before)) text)
+
+ends-behind : (first rest : List ℕ) → EndsLine rest → EndsLine ((first ++ 10 ∷ []) ++ rest)
+ends-behind first rest (inl none) = inr (first, ap (λ t. (first ++ 10 ∷ []) ++ t) none ∙ append-nil (first ++ 10 ∷ []))
+ends-behind first rest (inr (before, is)) =
+    inr ((first ++ 10 ∷ []) ++ before, ap (λ t. (first ++ 10 ∷ []) ++ t) is ∙ sym (append_assoc (first ++ 10 ∷ []) before (10 ∷ [])))
 
 some-part : (before : List (List ℕ)) (part : List ℕ) (after : List (List ℕ)) → (first : List ℕ) × (others : List (List ℕ)) ×
     (before ++ part ∷ after ≡ first ∷ others)
@@ -98,7 +105,7 @@ some-part (first ∷ before) part after = (first, before ++ part ∷ after, refl
 
 pub text-cut : (text : List ℕ) (before : List (List ℕ)) (part : List ℕ) (after : List (List ℕ)) → parts_of text ≡ before ++ part ∷ after →
     IsCut text before part after
-text-cut text [] part after e = record { within = omega (arith, first-length text part after e); front = refl; back = e }
+text-cut text [] part after e = record { within = omega (arith, first-length text part after e); front = refl; back = e; ends = inl refl }
 text-cut text (first ∷ before) part after e =
     let some = some-part before part after in
     let is = first-part text first some.0 some.1 (e ∙ ap (λ ps. first ∷ ps) some.2) in
@@ -116,6 +123,7 @@ text-cut text (first ∷ before) part after e =
       front = ap parts_of (taken ∙ append_assoc first (10 ∷ []) (take (length (closed before)) is.rest)) ∙
           slice_split_at is_feed first 10 (take (length (closed before)) is.rest) is.plain refl ∙ ap (λ ps. first ∷ ps) cut.front;
       back = ap parts_of dropped ∙ cut.back;
+      ends = subst EndsLine (sym taken) (ends-behind first (take (length (closed before)) is.rest) cut.ends);
     }
 
 -- the parts round the one at k

@@ -1,6 +1,7 @@
 -- The lines before a plan text, and those from it on, after one more line.
 use Rattle.std.proofs.Common.{◌≡◌, ◌++◌, ◌∷◌, [], ◌∙◌, true, false, List, append_assoc, append-nil, ap}
-use Rattle.std.proofs.Common.{refl, sym}
+use Rattle.std.proofs.Common.{All, Bool, if◌then◌else◌, refl, subst, sym}
+use Rattle.std.proofs.lemmas.List.Elements.{All-append, All-cons, All-nil}
 use Rattle.dimacs_col.specs.Lines.{Line, fields_of, line_of, lines_of}
 use Rattle.channel_plan.specs.Reading.{known_after, read_from, reading_of}
 use Rattle.channel_plan.specs.Split.{begins_plan, network_lines, plan_lines}
@@ -55,6 +56,24 @@ before-end before is = (
   ap network_lines (sym (append-nil before)) ∙ is.network [] ∙ ap (λ ls. before ++ ls) nothing-left ∙ append-nil before,
   ap plan_lines (sym (append-nil before)) ∙ is.plan [] ∙ no-plan-left,
 )
+
+-- the lines before a plan text are none of one
+abbrev IsPlain : Line → Type 0
+IsPlain line = begins_plan line ≡ false
+
+pub front-all : (lines : List Line) → All IsPlain (network_lines lines)
+unfolding network_lines
+front-all [] = All-nil IsPlain
+front-all (line ∷ lines) = front-by (begins_plan line) refl (front-all lines)
+  where
+    front-by : (b : Bool) → begins_plan line ≡ b → All IsPlain (network_lines lines) → All IsPlain (if b then [] else line ∷ network_lines lines)
+    front-by true e more = All-nil IsPlain
+    front-by false e more = All-cons IsPlain line (network_lines lines) e more
+
+pub front-text : (lines text : List Line) → text ≡ network_lines lines ++ [] ∷ [] → All IsPlain text
+front-text lines text is =
+    let plain : begins_plan [] ≡ false = refl in
+    subst (All IsPlain) (sym is) (All-append IsPlain (network_lines lines) ([] ∷ []) (front-all lines) (All-cons IsPlain [] [] plain (All-nil IsPlain)))
 
 -- an empty text has one line, without a field
 pub empty-line : line_of [] ≡ []

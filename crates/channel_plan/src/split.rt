@@ -2,7 +2,7 @@
 
 ghost use Rattle.std.specs.Prelude.{◌≡◌, ◌≤◌, ◌++◌, ◌∷◌, [], IfNone, IfSome, drop, length, take};
 ghost use Rattle.dimacs_col.specs.Lines.{line_of, lines_of};
-ghost use Rattle.channel_plan.specs.Split.{AreNetworkLines, begins_plan, network_lines, plan_lines};
+ghost use Rattle.channel_plan.specs.Split.{AreNetworkLines, IsSplit, begins_plan, network_lines, plan_lines};
 ghost use Rattle.channel_plan.specs.Reading.{reading_of};
 
 use dimacs_col::{Fields, without_carriage_return};
@@ -25,6 +25,7 @@ fn plan_start(input: &[u8]) -> Option<usize>
     ensures network { IfSome result (λ start. lines_of (take start input.now)
         ≡ network_lines (lines_of input.now) ++ [] ∷ []) }
     ensures plan { IfSome result (λ start. lines_of (drop start input.now) ≡ plan_lines (lines_of input.now)) }
+    ensures text { IfSome result (λ start. IsSplit input.now (take start input.now) (drop start input.now)) }
 {
     let mut start = 0;
     for line in input.split(|byte| *byte == b'\n') {
@@ -37,8 +38,9 @@ fn plan_start(input: &[u8]) -> Option<usize>
 }
 
 /// A network text and the plan text that follows it, which begins at the first line whose first field is
-/// `plan`; where there is none it is empty.
+/// `plan`; if there is none it is empty. Together they are the whole input.
 pub fn split_plan(input: &[u8]) -> (&[u8], &[u8])
+    ensures text { IsSplit input.now result.0.now result.1.now }
     ensures network { AreNetworkLines (lines_of input.now) (lines_of result.0.now) }
     ensures plan { reading_of (lines_of result.1.now) ≡ reading_of (plan_lines (lines_of input.now)) }
 {

@@ -1,6 +1,6 @@
 //! Texts that are read or refused, and the texts of the faults.
 
-use dimacs_col::{ColFault, read};
+use dimacs_col::{ColFault, MAX_NODES, read};
 use std::alloc::Global;
 use std::fmt::{self, Write};
 use std::test::Fail;
@@ -23,8 +23,8 @@ fn reads_graphs(rt: HostRuntime) -> Result<(), Fail> {
         (b"\t p  edge\t2 1 \r\nc\xff\n  e 2\t1 9 \r", 2, &[(1, 2)]),
         (
             b"cp x\nd\nv 1\nx 1 2\np edge 20000 0\ne 20000 1",
-            20000,
-            &[(1, 20000)],
+            MAX_NODES,
+            &[(1, MAX_NODES)],
         ),
         (
             b"p edge 4 4\ne 4 1\ne 3 4\ne 1 2\ne 3 2\n",

@@ -2,10 +2,13 @@
 
 use forest_merge::{COLOURS, ChosenSet, has_free, least_free, step_of};
 
+// The greatest colour.
+const GREATEST: u16 = COLOURS - 1;
+
 #[test]
 fn a_set_has_what_was_added(rt: HostRuntime) {
     let mut chosen = ChosenSet::new();
-    for colour in [0, 1, 63, 64, 127, 128, 1023] {
+    for colour in [0, 1, 63, 64, 127, 128, GREATEST] {
         assert!(rt; !chosen.has(colour), "{colour} before");
         chosen.add(colour);
         assert!(rt; chosen.has(colour), "{colour} after");
@@ -15,7 +18,7 @@ fn a_set_has_what_was_added(rt: HostRuntime) {
     }
     assert!(rt; chosen.copy().has(127));
     chosen.clear();
-    for colour in [0, 63, 64, 1023] {
+    for colour in [0, 63, 64, GREATEST] {
         assert!(rt; !chosen.has(colour), "{colour} after clear");
     }
 }
@@ -32,8 +35,8 @@ fn the_least_free_colour_is_chosen(rt: HostRuntime) {
         (64, 63, None),
         (127, 127, Some(127)),
         (128, 127, None),
-        (1023, 1023, Some(1023)),
-        (1024, 1023, None),
+        (GREATEST, GREATEST, Some(GREATEST)),
+        (COLOURS, GREATEST, None),
     ] {
         assert!(rt; end <= COLOURS);
         let mut chosen = ChosenSet::new();
@@ -67,8 +70,8 @@ fn steps_are_counted(rt: HostRuntime) {
         (9, 2, (1, 0, 0)),
         (17, 2, (1, 2, 2)),
         (5, 0, (1, 2, 0)),
-        (3071, 1023, (0, 2, 1023)),
-        (3072, 1023, (1, 0, 0)),
+        (3071, GREATEST, (0, 2, GREATEST)),
+        (3072, GREATEST, (1, 0, 0)),
     ] {
         assert_eq!(rt; step_of(t, delta), step, "step {t}, delta {delta}");
     }

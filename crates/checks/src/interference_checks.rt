@@ -1,6 +1,6 @@
 //! Networks that are made, read and copied, and networks that are refused.
 
-use interference::{NetFault, Network, TryFault, edges_fit};
+use interference::{MAX_DEGREE, NetFault, Network, TryFault, edges_fit};
 use std::alloc::Global;
 use std::test::Fail;
 
@@ -37,61 +37,63 @@ struct Row {
     ports: &'static [(u32, u32, u32)],
 }
 
+// Networks, and what each reads as.
+const WORKED: [Row; 5] = [
+    Row {
+        ids: &[7, 9, 8],
+        edges: &[(1, 2), (1, 3), (2, 3)],
+        greatest_degree: 2,
+        forest_count: 2,
+        ports: &[
+            (1, 2, 0),
+            (1, 3, 0),
+            (2, 1, 0),
+            (2, 3, 1),
+            (3, 1, 1),
+            (3, 2, 1),
+        ],
+    },
+    Row {
+        ids: &[20, 10, 30],
+        edges: &[(1, 2), (2, 3)],
+        greatest_degree: 2,
+        forest_count: 2,
+        ports: &[(1, 2, 0), (2, 1, 0), (2, 3, 0), (3, 2, 1)],
+    },
+    Row {
+        ids: &[1, 2, 3, 4],
+        edges: &[(1, 3), (2, 3), (2, 4)],
+        greatest_degree: 2,
+        forest_count: 2,
+        ports: &[
+            (1, 3, 0),
+            (2, 3, 1),
+            (2, 4, 0),
+            (3, 1, 0),
+            (3, 2, 0),
+            (4, 2, 1),
+        ],
+    },
+    Row {
+        ids: &[2, 1],
+        edges: &[],
+        greatest_degree: 0,
+        forest_count: 0,
+        ports: &[],
+    },
+    Row {
+        ids: &[],
+        edges: &[],
+        greatest_degree: 0,
+        forest_count: 0,
+        ports: &[],
+    },
+];
+
 // The original is dropped before the copy is read.
 #[test]
 fn networks_and_their_copies_read_as_worked(rt: HostRuntime) -> Result<(), Fail> {
-    let rows = [
-        Row {
-            ids: &[7, 9, 8],
-            edges: &[(1, 2), (1, 3), (2, 3)],
-            greatest_degree: 2,
-            forest_count: 2,
-            ports: &[
-                (1, 2, 0),
-                (1, 3, 0),
-                (2, 1, 0),
-                (2, 3, 1),
-                (3, 1, 1),
-                (3, 2, 1),
-            ],
-        },
-        Row {
-            ids: &[20, 10, 30],
-            edges: &[(1, 2), (2, 3)],
-            greatest_degree: 2,
-            forest_count: 2,
-            ports: &[(1, 2, 0), (2, 1, 0), (2, 3, 0), (3, 2, 1)],
-        },
-        Row {
-            ids: &[1, 2, 3, 4],
-            edges: &[(1, 3), (2, 3), (2, 4)],
-            greatest_degree: 2,
-            forest_count: 2,
-            ports: &[
-                (1, 3, 0),
-                (2, 3, 1),
-                (2, 4, 0),
-                (3, 1, 0),
-                (3, 2, 0),
-                (4, 2, 1),
-            ],
-        },
-        Row {
-            ids: &[2, 1],
-            edges: &[],
-            greatest_degree: 0,
-            forest_count: 0,
-            ports: &[],
-        },
-        Row {
-            ids: &[],
-            edges: &[],
-            greatest_degree: 0,
-            forest_count: 0,
-            ports: &[],
-        },
-    ];
-    for row in rows {
+    for row in WORKED {
         let net = Network::try_new(rt.alloc(), row.ids, row.edges)?;
         assert_eq!(rt; net.greatest_degree(), row.greatest_degree);
         assert_eq!(rt; net.forest_count(), row.forest_count);
@@ -153,7 +155,7 @@ fn networks_are_refused_for_their_first_fault(rt: HostRuntime) -> Result<(), Fai
     let (ids, edges) = star(rt.alloc(), 1024)?;
     assert_eq!(rt;
         Network::try_new(rt.alloc(), &ids, &edges)?.greatest_degree(),
-        1023
+        MAX_DEGREE
     );
     let (ids, edges) = star(rt.alloc(), 1025)?;
     assert_eq!(rt;

@@ -44,8 +44,8 @@ none-unless None h = refl
 none-unless (Some x) h = absurd (h refl)
 
 -- where nothing is left to be read, nothing stands at the ports that are left
-pub none-past : (slots : List (Option Payload)) (place : ℕ) → (HasFrom slots place → ⊥) → (k : ℕ) → place ≤ k → k < length slots → at_port slots k ≡ None
-none-past slots place end k low h = none-unless (at_port slots k) (λ some. end (k, low, h, some))
+pub none-past : (slots : List (Option Payload)) (cursor : ℕ) → (HasFrom slots cursor → ⊥) → (k : ℕ) → cursor ≤ k → k < length slots → at_port slots k ≡ None
+none-past slots cursor end k low h = none-unless (at_port slots k) (λ some. end (k, low, h, some))
 
 not_up : (f : ℕ) (role : Role) → ((g : ℕ) → role ≡ Up g → ⊥) → is_up f role ≡ false
 not_up f Unknown h = refl
@@ -66,8 +66,8 @@ module _ (roles : List Role) (slots : List (Option Payload)) where
   HaveColours = (port f : ℕ) → port < length roles → get_or roles port Unknown ≡ Up f → (c : ℕ) × (at_port slots port ≡ Some (Colour c))
 
   -- What was heard and what is still to be heard give the colours of the parents.
-  pub record Heard (place : ℕ) (above : List (Option ℕ)) : Type 0 where
-    pub rest : (f : ℕ) → f < length above → option_or (get_or above f None) (from_parent f (drop place roles) (drop place slots)) ≡ from_parent f roles slots
+  pub record Heard (cursor : ℕ) (above : List (Option ℕ)) : Type 0 where
+    pub rest : (f : ℕ) → f < length above → option_or (get_or above f None) (from_parent f (drop cursor roles) (drop cursor slots)) ≡ from_parent f roles slots
 
   at_port-next : (f k : ℕ) → length slots ≡ length roles → k < length roles →
       from_parent f (drop k roles) (drop k slots) ≡ (if is_up f (get_or roles k Unknown) then colour_in (at_port slots k) else from_parent f
@@ -98,16 +98,16 @@ module _ (roles : List Role) (slots : List (Option Payload)) where
       ∙ ap (λ (k : ℕ). from_parent f (drop k roles) (drop k slots)) (let e : i + 1 + gap ≡ i + suc gap = omega arith in e))
 
   -- where nothing is left to be read, the colours of the parents have been heard
-  pub heard-all : (place : ℕ) (above : List (Option ℕ)) → Heard place above → HaveColours → length slots ≡ length roles → (HasFrom slots place → ⊥) →
+  pub heard-all : (cursor : ℕ) (above : List (Option ℕ)) → Heard cursor above → HaveColours → length slots ≡ length roles → (HasFrom slots cursor → ⊥) →
       (f : ℕ) → f < length above → get_or above f None ≡ from_parent f roles slots
-  heard-all place above heard colours ports end f h =
-      let over : from_parent f (drop place roles) (drop place slots) ≡ None =
-      elim (dec_lt place (length roles)) [
+  heard-all cursor above heard colours ports end f h =
+      let over : from_parent f (drop cursor roles) (drop cursor slots) ≡ None =
+      elim (dec_lt cursor (length roles)) [
         | yes below ↦
-            skips (length roles - place) f place colours ports (omega arith) (λ k low high. none-past slots place end k low (omega arith))
-            ∙ ap (λ (rs : List Role). from_parent f rs (drop (place + (length roles - place)) slots))
-            (drop_all (place + (length roles - place)) roles (omega arith))
-        | no other ↦ ap (λ (rs : List Role). from_parent f rs (drop place slots)) (drop_all place roles (omega arith))
+            skips (length roles - cursor) f cursor colours ports (omega arith) (λ k low high. none-past slots cursor end k low (omega arith))
+            ∙ ap (λ (rs : List Role). from_parent f rs (drop (cursor + (length roles - cursor)) slots))
+            (drop_all (cursor + (length roles - cursor)) roles (omega arith))
+        | no other ↦ ap (λ (rs : List Role). from_parent f rs (drop cursor slots)) (drop_all cursor roles (omega arith))
       ] in
       sym (or-none (get_or above f None)) ∙ (ap (option_or (get_or above f None)) (sym over) ∙ heard.rest f h)
 
@@ -115,7 +115,7 @@ module _ (roles : List Role) (slots : List (Option Payload)) where
   pub record Comes (mail new : Mail Payload) (payload : Payload) (k : ℕ) (role : Role) : Type 0 where
     pub same : mail.slots ≡ slots
     pub reads : Reads mail payload new
-    pub at : k + 1 ≡ new.place
+    pub at : k + 1 ≡ new.cursor
     pub is : role ≡ get_or roles k role
 
   module _ {mail new : Mail Payload} {payload : Payload} {k : ℕ} {role : Role} (comes : Comes mail new payload k role) (colours : HaveColours)
@@ -129,21 +129,21 @@ module _ (roles : List Role) (slots : List (Option Payload)) where
     slot : at_port slots k ≡ Some payload
     slot = ap (λ (s : List (Option Payload)). at_port s k) (sym comes.same) ∙ comes.reads.here k comes.at
 
-    reaches : (f : ℕ) → from_parent f (drop mail.place roles) (drop mail.place slots) ≡ from_parent f (drop k roles) (drop k slots)
+    reaches : (f : ℕ) → from_parent f (drop mail.cursor roles) (drop mail.cursor slots) ≡ from_parent f (drop k roles) (drop k slots)
     reaches f =
-        let there : mail.place + (k - mail.place) ≡ k = omega (arith, comes.at, comes.reads.later) in
+        let there : mail.cursor + (k - mail.cursor) ≡ k = omega (arith, comes.at, comes.reads.later) in
         let inside : k < length roles = here in
-        skips (k - mail.place) f mail.place colours ports (omega (arith, comes.at, comes.reads.later))
+        skips (k - mail.cursor) f mail.cursor colours ports (omega (arith, comes.at, comes.reads.later))
         (λ j low high. ap (λ (s : List (Option Payload)). at_port s j) (sym comes.same) ∙
         comes.reads.first j low (omega (arith, comes.at, comes.reads.later)))
         ∙ ap (λ (j : ℕ). from_parent f (drop j roles) (drop j slots)) there
 
-    past : (f : ℕ) → is_up f (get_or roles k Unknown) ≡ false → from_parent f (drop mail.place roles) (drop mail.place slots)
-        ≡ from_parent f (drop new.place roles) (drop new.place slots)
+    past : (f : ℕ) → is_up f (get_or roles k Unknown) ≡ false → from_parent f (drop mail.cursor roles) (drop mail.cursor slots)
+        ≡ from_parent f (drop new.cursor roles) (drop new.cursor slots)
     past f e = reaches f ∙ (passes f k ports here e ∙ ap (λ (j : ℕ). from_parent f (drop j roles) (drop j slots)) comes.at)
 
     -- a payload from a port that leads to no parent
-    pub heard-other : (above : List (Option ℕ)) → Heard mail.place above → ((g : ℕ) → role ≡ Up g → ⊥) → Heard new.place above
+    pub heard-other : (above : List (Option ℕ)) → Heard mail.cursor above → ((g : ℕ) → role ≡ Up g → ⊥) → Heard new.cursor above
     heard-other above heard other =
         record {
           rest = λ f h. ap (option_or (get_or above f None)) (sym (past f (not_up f (get_or roles k Unknown) (λ g up. other g (known ∙ up))))) ∙
@@ -151,8 +151,8 @@ module _ (roles : List Role) (slots : List (Option Payload)) where
         }
 
     -- a colour of a parent, which is kept where it is the first
-    pub heard-parent : (above : List (Option ℕ)) (g : ℕ) → Heard mail.place above → role ≡ Up g →
-        Heard new.place (slice_set above g (option_or (get_or above g None) (colour_in (Some payload))))
+    pub heard-parent : (above : List (Option ℕ)) (g : ℕ) → Heard mail.cursor above → role ≡ Up g →
+        Heard new.cursor (slice_set above g (option_or (get_or above g None) (colour_in (Some payload))))
     heard-parent above g heard leads =
         let up : get_or roles k Unknown ≡ Up g = sym known ∙ leads in
         let came = colours k g here up in
@@ -167,14 +167,14 @@ module _ (roles : List Role) (slots : List (Option Payload)) where
                 | inl e ↦
                     let inside : g < length above = omega arith in
                     let is_up_here : is_up g (get_or roles k Unknown) ≡ true = ap (is_up g) up ∙ (let t : (g == g) ≡ true = grind (arith, nat_tests) in t) in
-                    let rest : Option ℕ = from_parent g (drop new.place roles) (drop new.place slots) in
+                    let rest : Option ℕ = from_parent g (drop new.cursor roles) (drop new.cursor slots) in
                     rw e
                     (ap (λ (x : Option ℕ). option_or x rest) (get_or-set_same above g first None inside ∙ is_first)
                     ∙ (or-twice (get_or above g None) rest c
                     ∙ (ap (option_or (get_or above g None)) (sym (reaches g ∙ stops g k c ports here is_up_here came.1)) ∙ heard.rest g inside)))
                 | inr other ↦
                     let down : is_up f (get_or roles k Unknown) ≡ false = ap (is_up f) up ∙ (let t : (f == g) ≡ false = grind (arith, nat_tests) in t) in
-                    ap (λ (x : Option ℕ). option_or x (from_parent f (drop new.place roles) (drop new.place slots)))
+                    ap (λ (x : Option ℕ). option_or x (from_parent f (drop new.cursor roles) (drop new.cursor slots)))
                     (get_or-set_other above g f first None other)
                     ∙ (ap (option_or (get_or above f None)) (sym (past f down)) ∙ heard.rest f (omega arith))
               ];

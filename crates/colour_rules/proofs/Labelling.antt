@@ -15,11 +15,11 @@ use Rattle.colour_rules.specs.Program.{labelled, all_labelled}
 use Rattle.colour_rules.proofs.Hearing.{none-past}
 use Rattle.colour_rules.proofs.KeptPorts.{length-labelled}
 
--- The payloads of the ports before place have been taken in, the others not yet.
-pub record Labelled (old : List Role) (slots : List (Option Payload)) (place : ℕ) (now : List Role) : Type 0 where
+-- The payloads of the ports before the cursor have been taken in, the others not yet.
+pub record Labelled (old : List Role) (slots : List (Option Payload)) (cursor : ℕ) (now : List Role) : Type 0 where
   pub size : length now ≡ length old
-  pub before : (k : ℕ) → k < place → get_or now k Unknown ≡ labelled (get_or old k Unknown) (at_port slots k)
-  pub after : (k : ℕ) → place ≤ k → get_or now k Unknown ≡ get_or old k Unknown
+  pub before : (k : ℕ) → k < cursor → get_or now k Unknown ≡ labelled (get_or old k Unknown) (at_port slots k)
+  pub after : (k : ℕ) → cursor ≤ k → get_or now k Unknown ≡ get_or old k Unknown
 
 -- a port that brought nothing stays
 by_nothing : (role : Role) → labelled role None ≡ role
@@ -32,12 +32,12 @@ stays role slot none = sym (ap (labelled role) none ∙ by_nothing role)
 
 module _ (old : List Role) (slots : List (Option Payload)) (now : List Role) where
   -- one payload more is taken in
-  pub labelled-read : (mail new : Mail Payload) (payload : Payload) (k : ℕ) (role : Role) → Labelled old slots mail.place now → mail.slots ≡ slots →
-      length slots ≡ length old → Reads mail payload new → k + 1 ≡ new.place → role ≡ get_or now k role →
-      Labelled old slots new.place (slice_set now k (labelled role (Some payload)))
+  pub labelled-read : (mail new : Mail Payload) (payload : Payload) (k : ℕ) (role : Role) → Labelled old slots mail.cursor now → mail.slots ≡ slots →
+      length slots ≡ length old → Reads mail payload new → k + 1 ≡ new.cursor → role ≡ get_or now k role →
+      Labelled old slots new.cursor (slice_set now k (labelled role (Some payload)))
   labelled-read mail new payload k role l same ports reads at read =
       let here : k < length now = omega (arith, reads.later, reads.within, l.size, ap (λ (s : List (Option Payload)). length s) same) in
-      let from : mail.place ≤ k = omega (arith, reads.later) in
+      let from : mail.cursor ≤ k = omega (arith, reads.later) in
       let slot : at_port slots k ≡ Some payload = ap (λ (s : List (Option Payload)). at_port s k) (sym same) ∙ reads.here k at in
       let was : role ≡ get_or old k Unknown = get_or_read now k role here read Unknown ∙ l.after k from in
       record {
@@ -48,7 +48,7 @@ module _ (old : List Role) (slots : List (Option Payload)) (now : List Role) whe
                   (ap (λ (r : Role). labelled r (Some payload)) was ∙ ap (labelled (get_or old k Unknown)) (sym slot)))
               | inr other ↦
                   get_or-set_other now k j _ Unknown other
-                  ∙ elim (dec_lt j mail.place) [
+                  ∙ elim (dec_lt j mail.cursor) [
                     | yes read ↦ l.before j read
                     | no later ↦
                         let none : at_port slots j ≡ None = ap (λ (s : List (Option Payload)). at_port s j) (sym same) ∙
@@ -67,14 +67,14 @@ at_labelled (role ∷ roles) (slot ∷ slots) zero e h = refl
 at_labelled (role ∷ roles) (slot ∷ slots) (suc k) e h = at_labelled roles slots k (omega arith) (omega arith)
 
 -- where nothing is left to be read, every port has been labelled
-pub labelled-all : (old : List Role) (slots : List (Option Payload)) (place : ℕ) (now : List Role) → Labelled old slots place now →
-    length slots ≡ length old → (HasFrom slots place → ⊥) → now ≡ all_labelled old slots
-labelled-all old slots place now l ports end =
+pub labelled-all : (old : List Role) (slots : List (Option Payload)) (cursor : ℕ) (now : List Role) → Labelled old slots cursor now →
+    length slots ≡ length old → (HasFrom slots cursor → ⊥) → now ≡ all_labelled old slots
+labelled-all old slots cursor now l ports end =
     ext_get_or Unknown now (all_labelled old slots) (l.size ∙ sym (length-labelled old slots ports))
     (λ k h.
-    elim (dec_lt k place) [
+    elim (dec_lt k cursor) [
       | yes read ↦ l.before k read
-      | no later ↦ l.after k (omega arith) ∙ stays (get_or old k Unknown) (at_port slots k) (none-past slots place end k (omega arith) (omega (arith, l.size)))
+      | no later ↦ l.after k (omega arith) ∙ stays (get_or old k Unknown) (at_port slots k) (none-past slots cursor end k (omega arith) (omega (arith, l.size)))
     ]
     ∙ sym (at_labelled old slots k ports (omega (arith, l.size))))
 

@@ -30,12 +30,12 @@ with_chosen-fold set port (Some (Label f) ∷ slots) = with_chosen-fold set (por
 with_chosen-fold set port (Some (Colour c) ∷ slots) = with_chosen-fold set (port + 1) slots
 
 -- what is read next stands in the slots
-pub read-is : (old : Mail Payload) (payload : Payload) (new : Mail Payload) → Reads old payload new → at_port old.slots (new.place - 1) ≡ Some payload
-read-is old payload new r = r.here (new.place - 1) (omega (arith, r.later))
+pub read-is : (old : Mail Payload) (payload : Payload) (new : Mail Payload) → Reads old payload new → at_port old.slots (new.cursor - 1) ≡ Some payload
+read-is old payload new r = r.here (new.cursor - 1) (omega (arith, r.later))
 
 -- and less is left to be read
 pub read-less : (old : Mail Payload) (payload : Payload) (new : Mail Payload) → Reads old payload new →
-    length new.slots - new.place < length old.slots - old.place
+    length new.slots - new.cursor < length old.slots - old.cursor
 read-less old payload new r = let same : length new.slots ≡ length old.slots = ap length r.same in omega (arith, r.later, r.within)
 
 -- Reading on from a port: the next payload, at this port, and nothing at those between.
@@ -46,7 +46,7 @@ pub record Next (slots : List (Option Payload)) (from port : ℕ) (payload : Pay
   pub here : at_port slots port ≡ Some payload
 
 pub next-is : (slots : List (Option Payload)) (from port : ℕ) (old : Mail Payload) (payload : Payload) (new : Mail Payload) → old.slots ≡ slots →
-    from ≡ old.place → port + 1 ≡ new.place → Reads old payload new → Next slots from port payload
+    from ≡ old.cursor → port + 1 ≡ new.cursor → Reads old payload new → Next slots from port payload
 next-is slots from port old payload new same start end r =
     let n : length old.slots ≡ length slots = ap length same in
     record {
@@ -61,8 +61,8 @@ none_unless : (x : Option Payload) → (IsSome x → ⊥) → x ≡ None
 none_unless None h = refl
 none_unless (Some x) h = absurd (h refl)
 
-pub none-left : (slots : List (Option Payload)) (from : ℕ) (mail : Mail Payload) → mail.slots ≡ slots → from ≡ mail.place →
-    (HasFrom mail.slots mail.place → ⊥) → (q : ℕ) → from ≤ q → q < length slots → at_port slots q ≡ None
+pub none-left : (slots : List (Option Payload)) (from : ℕ) (mail : Mail Payload) → mail.slots ≡ slots → from ≡ mail.cursor →
+    (HasFrom mail.slots mail.cursor → ⊥) → (q : ℕ) → from ≤ q → q < length slots → at_port slots q ≡ None
 none-left slots from mail same start none q low high =
     let n : length mail.slots ≡ length slots = ap length same in
     ap (λ (s : List (Option Payload)). at_port s q) (sym same) ∙ none_unless (at_port mail.slots q) (λ some. none (q, omega arith, omega arith, some))

@@ -1,5 +1,5 @@
 -- The scratch lists fit a node after a pulse as before it.
-use Rattle.std.proofs.Common.{◌≡◌, ℕ, List, length, refl, ap, sym, ◌∙◌}
+use Rattle.std.proofs.Common.{◌≡◌, List, length, refl, ap, sym, ◌∙◌}
 use Rattle.std.specs.Prelude.{Option}
 use Rattle.node_api.specs.Program.{Sizes}
 use Rattle.colour_rules.specs.declared.payload.Payload.{Payload}

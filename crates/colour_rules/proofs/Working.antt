@@ -1,8 +1,8 @@
 -- Where nothing is refused, the colours of the forests are ready to be turned.
 use Rattle.std.proofs.Common.{◌≡◌, ◌≢◌, ℕ, zero, suc, ◌<◌, ◌==◌, Bool, true, false, List, [], ◌∷◌, length, refl, ap, sym, ◌∙◌, arith, get_or, subst}
-use Rattle.std.specs.Prelude.{if◌then◌else◌, ◌||◌, map, IfSome, Option, Some, None, slice_index}
+use Rattle.std.specs.Prelude.{if◌then◌else◌, ◌||◌, IfSome, Option, Some, None, slice_index}
 use Rattle.std.proofs.lemmas.Bool.Decides.{nat_tests}
-use Rattle.std.specs.List.{list_any, range_with_len}
+use Rattle.std.specs.List.{list_any}
 use Rattle.std.proofs.lemmas.List.FromFn.{get_or-map-range_with_len, length-map-range_with_len}
 use Rattle.node_api.specs.Boxes.{at_port}
 use Rattle.forests.specs.declared.numbering.Role.{Role}
@@ -15,7 +15,7 @@ use Rattle.colour_rules.specs.declared.payload.Payload.TheVariants.{Hello, Label
 use Rattle.colour_rules.specs.Node.{Node, AreBelow, IsReduction, ports}
 use Rattle.colour_rules.specs.declared.rules.TheConstants.{COLOUR_RANGE}
 use Rattle.colour_rules.specs.Table.{is_above}
-use Rattle.colour_rules.specs.Refusals.{first_refusal, own_rule, port_rule}
+use Rattle.colour_rules.specs.Refusals.{IsAccepted, own_rule, port_rule}
 use Rattle.colour_rules.specs.Program.{IsReady, colour_in, from_parent, is_up, kept, next_kept}
 use Rattle.colour_rules.proofs.Accepted.{fine_at}
 use Rattle.colour_rules.proofs.Phases.{low-colour}
@@ -71,49 +71,48 @@ none-of test [] none i h = absurd (omega arith)
 none-of test (c ∷ cs) none zero h = (neither-or (test c) (list_any test cs) none).0
 none-of test (c ∷ cs) none (suc i) h = none-of test cs (neither-or (test c) (list_any test cs) none).1 i (omega arith)
 
-module _ (node : Node) (reduction : Reduction) (slots : List (Option Payload)) (real : IsReduction reduction) (own : own_rule node (Work reduction) slots
-    ≡ None) where
+module _ (node : Node) (reduction : Reduction) (slots : List (Option Payload)) (accepted : IsAccepted node (Work reduction) slots) where
   -- the node's own colours are 0 to 5 if they are shifted or dropped
   own-low : ((k : ℕ) → reduction ≡ Step k → ⊥) → (f : ℕ) → f < length node.colours → slice_index node.colours f < 6
-  own-low other f h = low-colour reduction (slice_index node.colours f) real other (none-of (is_above reduction) node.colours (none reduction own other) f h)
+  own-low other f h = low-colour reduction (slice_index node.colours f) accepted.real other
+      (none-of (is_above reduction) node.colours (none reduction accepted.by_node other) f h)
     where
       none : (r : Reduction) → own_rule node (Work r) slots ≡ None → ((k : ℕ) → r ≡ Step k → ⊥) → list_any (is_above r) node.colours ≡ false
       none (Step k) e other = absurd (other k refl)
       none (Shift x) e other = own-if (list_any (is_above (Shift x)) node.colours) COLOUR_RANGE e
       none (Drop x) e other = own-if (list_any (is_above (Drop x)) node.colours) COLOUR_RANGE e
 
-  module _ (size : length slots ≡ ports node) (accepted : first_refusal node (Work reduction) slots ≡ None) where
-    -- each port to a parent brought a colour
-    pub brought : (port f : ℕ) → port < ports node → get_or node.roles port Unknown ≡ Up f → BringsColour node reduction f (at_port slots port)
-    brought port f h up =
-        let fine = fine_at node (Work reduction) 0 [] node.roles slots size accepted port h in
-        brings node fine.0 reduction f (at_port slots port) (subst (λ (role : Role). port_rule node fine.0 (Work reduction) role (at_port slots port) ≡ None)
-        up fine.1)
+  -- each port to a parent brought a colour
+  pub brought : (port f : ℕ) → port < ports node → get_or node.roles port Unknown ≡ Up f → BringsColour node reduction f (at_port slots port)
+  brought port f h up =
+      let fine = fine_at node (Work reduction) 0 [] node.roles slots accepted.size accepted.by_ports port h in
+      brings node fine.0 reduction f (at_port slots port) (subst (λ (role : Role). port_rule node fine.0 (Work reduction) role (at_port slots port) ≡ None)
+      up fine.1)
 
-    parent-apart : (f : ℕ) → from_parent f node.roles slots ≢ Some (slice_index node.colours f)
-    parent-apart f =
-        parent-has (λ x. x ≢ Some (slice_index node.colours f)) f node.roles slots (λ e. absurd (cc))
-        (λ k h up e. let b = brought k f h up in b.3 (let same : Some b.0 ≡ Some (slice_index node.colours f) = sym (ap colour_in b.1) ∙ e in cc))
+  parent-apart : (f : ℕ) → from_parent f node.roles slots ≢ Some (slice_index node.colours f)
+  parent-apart f =
+      parent-has (λ x. x ≢ Some (slice_index node.colours f)) f node.roles slots (λ e. absurd (cc))
+      (λ k h up e. let b = brought k f h up in b.3 (let same : Some b.0 ≡ Some (slice_index node.colours f) = sym (ap colour_in b.1) ∙ e in cc))
 
-    parent-low : ((k : ℕ) → reduction ≡ Step k → ⊥) → (f : ℕ) → IfSome (from_parent f node.roles slots) (λ c. c < 6)
-    parent-low other f =
-        parent-has (λ x. IfSome x (λ c. c < 6)) f node.roles slots tt
-        (λ k h up.
-        let b = brought k f h up in
-        subst (λ (s : Option Payload). IfSome (colour_in s) (λ c. c < 6)) (sym b.1) (low-colour reduction b.0 real other b.2))
+  parent-low : ((k : ℕ) → reduction ≡ Step k → ⊥) → (f : ℕ) → IfSome (from_parent f node.roles slots) (λ c. c < 6)
+  parent-low other f =
+      parent-has (λ x. IfSome x (λ c. c < 6)) f node.roles slots tt
+      (λ k h up.
+      let b = brought k f h up in
+      subst (λ (s : Option Payload). IfSome (colour_in s) (λ c. c < 6)) (sym b.1) (low-colour reduction b.0 accepted.real other b.2))
 
-    -- what a turn asks for
-    pub ready : AreBelow 6 node.before → length node.before ≡ length node.colours → (f : ℕ) → f < length node.colours →
-        IsReady reduction (slice_index node.colours f) (slice_index node.before f) (from_parent f node.roles slots)
-    ready low as_many f h = of_reduction reduction real (parent-apart f) (λ other. own-low other f h) (low f (omega arith)) (λ other. parent-low other f)
-      where
-        of_reduction : (r : Reduction) → IsReduction r → from_parent f node.roles slots ≢ Some (slice_index node.colours f) →
-            (((k : ℕ) → r ≡ Step k → ⊥) → slice_index node.colours f < 6) → slice_index node.before f < 6 →
-            (((k : ℕ) → r ≡ Step k → ⊥) → IfSome (from_parent f node.roles slots) (λ c. c < 6)) →
-            IsReady r (slice_index node.colours f) (slice_index node.before f) (from_parent f node.roles slots)
-        of_reduction (Step k) is apart own before parent = apart
-        of_reduction (Shift x) is apart own before parent = (apart, own (λ k e. absurd (cc)), before, parent (λ k e. absurd (cc)))
-        of_reduction (Drop x) is apart own before parent = (apart, own (λ k e. absurd (cc)), before, parent (λ k e. absurd (cc)), is.0, is.1)
+  -- what a turn asks for
+  pub ready : AreBelow 6 node.before → length node.before ≡ length node.colours → (f : ℕ) → f < length node.colours →
+      IsReady reduction (slice_index node.colours f) (slice_index node.before f) (from_parent f node.roles slots)
+  ready low as_many f h = of_reduction reduction accepted.real (parent-apart f) (λ other. own-low other f h) (low f (omega arith)) (λ other. parent-low other f)
+    where
+      of_reduction : (r : Reduction) → IsReduction r → from_parent f node.roles slots ≢ Some (slice_index node.colours f) →
+          (((k : ℕ) → r ≡ Step k → ⊥) → slice_index node.colours f < 6) → slice_index node.before f < 6 →
+          (((k : ℕ) → r ≡ Step k → ⊥) → IfSome (from_parent f node.roles slots) (λ c. c < 6)) →
+          IsReady r (slice_index node.colours f) (slice_index node.before f) (from_parent f node.roles slots)
+      of_reduction (Step k) is apart own before parent = apart
+      of_reduction (Shift x) is apart own before parent = (apart, own (λ k e. absurd (cc)), before, parent (λ k e. absurd (cc)))
+      of_reduction (Drop x) is apart own before parent = (apart, own (λ k e. absurd (cc)), before, parent (λ k e. absurd (cc)), is.0, is.1)
 
   kept-low : (r : Reduction) (own before : ℕ) → (((k : ℕ) → r ≡ Step k → ⊥) → own < 6) → before < 6 → kept r own before < 6
   kept-low (Step k) own before low small = small

@@ -1,19 +1,18 @@
 -- What a node refuses: the first broken rule, by ascending port and then its own.
 use Rattle.std.specs.Prelude.{◌≡◌, ℕ, suc, ◌<◌, ◌≤◌, true, false, List, [], ◌∷◌, ◌++◌, Option, Some, None}
-use Rattle.std.specs.Prelude.{if◌then◌else◌, nat_lt, count_by, slice_index_or, drop}
+use Rattle.std.specs.Prelude.{if◌then◌else◌, nat_lt, count_by, slice_index_or, drop, length, take}
 use Rattle.std.specs.List.{list_any}
 use Rattle.std.specs.Option.{option_or}
-use Rattle.node_api.specs.Boxes.{at_port}
 use Rattle.node_api.specs.declared.program.Refused.{Refused}
 use Rattle.forests.specs.declared.numbering.Role.{Role}
 use Rattle.forests.specs.declared.numbering.Role.TheVariants.{Unknown}
-use Rattle.colour_rules.specs.declared.phase.Reduction.TheVariants.{Step, Shift, Drop}
+use Rattle.colour_rules.specs.declared.phase.Reduction.TheVariants.{Shift, Drop}
 use Rattle.colour_rules.specs.declared.phase.Phase.{Phase}
 use Rattle.colour_rules.specs.declared.phase.Phase.TheVariants.{Orient, Work, Merge}
 use Rattle.colour_rules.specs.declared.payload.Payload.{Payload}
 use Rattle.colour_rules.specs.declared.payload.Payload.TheVariants.{Hello}
 use Rattle.colour_rules.specs.declared.rules.TheConstants.{FOREST_RANGE, COLOUR_RANGE, MISSING}
-use Rattle.colour_rules.specs.Node.{Node}
+use Rattle.colour_rules.specs.Node.{IsPhase, Node, ports}
 use Rattle.colour_rules.specs.Table.{cell, is_due, is_above, value_rule}
 use Rattle.colour_rules.specs.Choice.{gathered, chooses, free_for}
 
@@ -90,3 +89,15 @@ without_port None = None
 -- the first refusal, by ascending port and then the node's own
 abbrev pub refusal : Node → Phase → List (Option Payload) → Option Refused
 refusal node phase inbox = option_or (first_refusal node phase inbox) (without_port (own_rule node phase inbox))
+
+-- A phase that there is, and a slot for each port, which neither a port nor the node itself refuses.
+pub record IsAccepted (node : Node) (phase : Phase) (slots : List (Option Payload)) : Type 0 where
+  pub real : IsPhase node.sizes phase
+  pub size : length slots ≡ ports node
+  pub by_ports : first_refusal node phase slots ≡ None
+  pub by_node : own_rule node phase slots ≡ None
+
+-- The first numbers of a list, `count` of them, are the identifiers that came.
+pub record BeginsWithIds (ids : List ℕ) (count : ℕ) (slots : List (Option Payload)) : Type 0 where
+  pub within : count ≤ length ids
+  pub front : take count ids ≡ ids_in slots

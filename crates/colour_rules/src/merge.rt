@@ -3,7 +3,7 @@ ghost use Rattle.std.specs.Prelude.{◌≡◌, ◌<◌, ◌≤◌, ℕ, Some, No
 ghost use Rattle.node_api.specs.Boxes.{at_port, nothing, unread};
 ghost use Rattle.colour_rules.specs.declared.payload.Payload.TheVariants.{Chosen};
 ghost use Rattle.colour_rules.specs.declared.phase.Phase.TheVariants.{Merge};
-ghost use Rattle.colour_rules.specs.Node.{ports, steps};
+ghost use Rattle.colour_rules.specs.Node.{IsPhase, ports, steps};
 ghost use Rattle.colour_rules.specs.Choice.{ChosenWithin, chooses, free_for, gathered, with_chosen};
 ghost use Rattle.colour_rules.specs.Refusals.{own_rule};
 ghost use Rattle.colour_rules.specs.Program.{done};
@@ -87,8 +87,7 @@ impl ColourNode {
         inbox: &mut Inbox<Payload>,
         out: &mut Outbox<Payload>,
     )
-        requires forest { forest < self.old.sizes.forests }
-        requires step { step < steps self.old.sizes }
+        requires real { IsPhase self.old.sizes (Merge forest step) }
         requires unread { inbox.old ≡ unread inbox.old.slots }
         requires ports { length inbox.old.slots ≡ ports self.old }
         requires out { out.old ≡ nothing (ports self.old) }

@@ -140,14 +140,14 @@ impl ColourNode {
         earlier: &[u64],
         inbox: &mut Inbox<Payload>,
     ) -> Result<Payload, Refused>
-        requires more { HasFrom inbox.old.slots inbox.old.place }
-        requires from { from ≡ inbox.old.place }
+        requires more { HasFrom inbox.old.slots inbox.old.cursor }
+        requires from { from ≡ inbox.old.cursor }
         requires ports { length inbox.old.slots ≡ ports self.now }
         requires looked { Looked self.now phase inbox.old.slots from earlier.now }
         ensures slots { inbox.new.slots ≡ inbox.old.slots }
-        ensures later { (inbox.old.place < inbox.new.place) × (inbox.new.place ≤ ports self.now) }
+        ensures later { (inbox.old.cursor < inbox.new.cursor) × (inbox.new.cursor ≤ ports self.now) }
         ensures answer { MatchResult result
-            (λ payload. Looked self.now phase inbox.old.slots inbox.new.place (and_id earlier.now (Some payload)))
+            (λ payload. Looked self.now phase inbox.old.slots inbox.new.cursor (and_id earlier.now (Some payload)))
             (λ refused. first_refusal self.now phase inbox.old.slots ≡ Some refused) }
     {
         let payload = inbox.next();

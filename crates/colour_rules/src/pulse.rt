@@ -5,7 +5,7 @@ ghost use Rattle.node_api.specs.Boxes.{nothing, unread};
 ghost use Rattle.node_api.specs.Program.{Matches};
 ghost use Rattle.colour_rules.specs.Idle.{IsIdle};
 ghost use Rattle.colour_rules.specs.Node.{IsPhase, ports};
-ghost use Rattle.colour_rules.specs.Refusals.{first_refusal, ids_in, own_rule, without_port};
+ghost use Rattle.colour_rules.specs.Refusals.{BeginsWithIds, IsAccepted, first_refusal, ids_in, own_rule, without_port};
 ghost use Rattle.colour_rules.specs.Program.{done, next};
 ghost use Rattle.colour_rules.specs.Room.{HasRoom};
 ghost use Rattle.colour_rules.specs.Table.{is_above};
@@ -35,7 +35,7 @@ impl ColourNode {
         out: &mut Outbox<Payload>,
     ) -> Result<IdlePulses, Refused>
         requires room { HasRoom self.old scratch.old }
-        requires rewound { inbox.old.place ≡ 0 }
+        requires rewound { inbox.old.cursor ≡ 0 }
         requires inbox { length inbox.old.slots ≡ ports self.old }
         requires out { out.old ≡ nothing (ports self.old) }
         ensures answer { Matches result (next self.old pulse inbox.old.slots) (self.new, out.new) }
@@ -62,15 +62,11 @@ impl ColourNode {
         inbox: &mut Inbox<Payload>,
         out: &mut Outbox<Payload>,
     )
-        requires real { IsPhase self.old.sizes phase }
+        requires accepted { IsAccepted self.old phase inbox.old.slots }
         requires room { HasRoom self.old scratch.old }
         requires unread { inbox.old ≡ unread inbox.old.slots }
-        requires inbox { length inbox.old.slots ≡ ports self.old }
         requires out { out.old ≡ nothing (ports self.old) }
-        requires came { take count scratch.old.identifiers.items ≡ ids_in inbox.old.slots }
-        requires count { count ≤ length scratch.old.identifiers.items }
-        requires accepted { first_refusal self.old phase inbox.old.slots ≡ None }
-        requires own { own_rule self.old phase inbox.old.slots ≡ None }
+        requires came { BeginsWithIds scratch.old.identifiers.items count inbox.old.slots }
         ensures node { (self.new, out.new) ≡ done self.old phase inbox.old.slots }
         ensures slots { inbox.new.slots ≡ inbox.old.slots }
         ensures room { HasRoom self.new scratch.new }

@@ -5,8 +5,8 @@ ghost use Rattle.std.specs.List.{All, AllPairs};
 ghost use Rattle.forests.specs.Forests.{role_by};
 ghost use Rattle.node_api.specs.Boxes.{nothing, unread};
 ghost use Rattle.colour_rules.specs.declared.phase.Phase.TheVariants.{Seed, Work};
-ghost use Rattle.colour_rules.specs.Node.{IsReduction, ports};
-ghost use Rattle.colour_rules.specs.Refusals.{first_refusal, own_rule};
+ghost use Rattle.colour_rules.specs.Node.{ports};
+ghost use Rattle.colour_rules.specs.Refusals.{IsAccepted};
 ghost use Rattle.colour_rules.specs.Program.{AreReady, HaveColours, IsReady, LabelsBelow};
 ghost use Rattle.colour_rules.specs.Program.{all_labelled, colour_in, done, from_parent, labelled};
 ghost use Rattle.colour_rules.specs.Program.{kept_all, tells_label, turned, turned_all, with_roles};
@@ -73,13 +73,10 @@ impl ColourNode {
         inbox: &mut Inbox<Payload>,
         out: &mut Outbox<Payload>,
     )
-        requires real { IsReduction reduction }
+        requires accepted { IsAccepted self.old (Work reduction) inbox.old.slots }
         requires unread { inbox.old ≡ unread inbox.old.slots }
-        requires ports { length inbox.old.slots ≡ ports self.old }
         requires room { length parent_colours.old ≡ self.old.sizes.forests }
         requires out { out.old ≡ nothing (ports self.old) }
-        requires accepted { first_refusal self.old (Work reduction) inbox.old.slots ≡ None }
-        requires own { own_rule self.old (Work reduction) inbox.old.slots ≡ None }
         ensures node { (self.new, out.new) ≡ done self.old (Work reduction) inbox.old.slots }
         ensures slots { inbox.new.slots ≡ inbox.old.slots }
         ensures room { length parent_colours.new ≡ length parent_colours.old }

@@ -4,7 +4,7 @@ use Rattle.std.specs.Iterator.{Yields}
 use Rattle.std.proofs.lemmas.Iterator.{YieldsList}
 use Rattle.std.proofs.lemmas.Iterator.Consumers.{YieldsList-end, YieldsList-turn, YieldsList-so_far}
 use Rattle.dimacs_col.specs.Lines.{Line, line_of}
-use Rattle.dimacs_col.specs.Reading.{AllGood, IsFault, verdict}
+use Rattle.dimacs_col.specs.Reading.{AllGood, IsFault, IsFirstFault, verdict}
 use Rattle.dimacs_col.specs.State.{IsVerdict}
 use Rattle.dimacs_col.specs.declared.fault.ColFault.{ColFault}
 use Rattle.dimacs_col.specs.declared.fault.ColFault.TheVariants.{
@@ -34,71 +34,22 @@ around f [] n x h e = absurd (omega arith)
 around f (y ∷ ys) zero x h e = let is : x ≡ y = e in rw is refl
 around f (y ∷ ys) (suc n) x h e = ap (λ zs. f y ∷ zs) (around f ys n x (omega arith) e)
 
+first-fault : (lines before : List Line) (line : Line) (after : List Line) (fault : ColFault) → lines ≡ before ++ line ∷ after → AllGood before →
+    verdict before line ≡ Some fault → IsFirstFault lines fault
+first-fault lines before line after fault place good told =
+    record { before = before; line = line; after = after; place = place; good = good; told = told }
+
 pub fault-told : (lines before : List Line) (line : Line) (after : List Line) (fault : ColFault) → lines ≡ before ++ line ∷ after → AllGood before →
     IsVerdict fault (verdict before line) → IsFault lines fault
 fault-told lines before line after Memory place good told = tt
 fault-told lines before line after NoProblem place good told = absurd told
-fault-told lines before line after (SecondProblem n) place good told = record {
-  before = before;
-  line = line;
-  after = after;
-  place = place;
-  good = good;
-  told = told;
-}
-fault-told lines before line after (EdgeBeforeProblem n) place good told = record {
-  before = before;
-  line = line;
-  after = after;
-  place = place;
-  good = good;
-  told = told;
-}
-fault-told lines before line after (BadField n) place good told = record {
-  before = before;
-  line = line;
-  after = after;
-  place = place;
-  good = good;
-  told =
-      told;
-}
-fault-told lines before line after (VertexRange n) place good told = record {
-  before = before;
-  line = line;
-  after = after;
-  place = place;
-  good = good;
-  told =
-      told;
-}
-fault-told lines before line after (SelfLoop n) place good told = record {
-  before = before;
-  line = line;
-  after = after;
-  place = place;
-  good = good;
-  told =
-      told;
-}
-fault-told lines before line after (TooLarge n) place good told = record {
-  before = before;
-  line = line;
-  after = after;
-  place = place;
-  good = good;
-  told =
-      told;
-}
-fault-told lines before line after (UnknownLine n) place good told = record {
-  before = before;
-  line = line;
-  after = after;
-  place = place;
-  good = good;
-  told =
-      told;
-}
+fault-told lines before line after (SecondProblem n) place good told = first-fault lines before line after (SecondProblem n) place good told
+fault-told lines before line after (EdgeBeforeProblem n) place good told = first-fault lines before line after (EdgeBeforeProblem n) place good told
+fault-told lines before line after (BadField n) place good told = first-fault lines before line after (BadField n) place good told
+fault-told lines before line after (VertexRange n) place good told = first-fault lines before line after (VertexRange n) place good told
+fault-told lines before line after (SelfLoop n) place good told = first-fault lines before line after (SelfLoop n) place good told
+fault-told lines before line after (TooLarge n) place good told = first-fault lines before line after (TooLarge n) place good told
+fault-told lines before line after (UnknownLine n) place good told = first-fault lines before line after (UnknownLine n) place good told
 
 -- `YieldsList-end` and its kin, with the road last
 pub items-at_end : {S A B : Type 0} {steps : S → Option A → S → Type 0} {v : A → B} {s : S} {all : List B} (xs : List A) (t : S) (y : Yields steps s xs t)

@@ -13,7 +13,7 @@ use Rattle.alpha_laws.specs.Position.{Position, move, moves, start_at, Allows, F
 use Rattle.alpha_laws.proofs.Cursor.{moves-append, follows-front, follows-rest, follows-more, payloads_to-grows}
 use Rattle.alpha_laws.proofs.Listed.{pulses_below}
 use Rattle.link_rule.specs.Order.{MayFollow, IsInOrder}
-use Rattle.link_rule.specs.Legal.{IsComplete}
+use Rattle.alpha_laws.specs.Simulates.{IsComplete}
 use Rattle.link_rule.proofs.Orders.{contains_nil, contains_one, contains_snoc}
 
 -- after n safes

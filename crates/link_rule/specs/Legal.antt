@@ -2,8 +2,6 @@
 use Rattle.std.specs.Prelude.{◌≡◌, ℕ, List, Option, Some}
 use Rattle.interference.specs.Net.{Net, neighbour_of}
 use Rattle.alpha_core.specs.declared.wire.Wire.{Wire}
-use Rattle.alpha_core.specs.Wires.{data_of, acks_of}
-use Rattle.alpha_core.specs.Streams.{stream, sent_pulses}
 use Rattle.alpha_core.specs.Program.{IsLegal}
 use Rattle.node_api.specs.Program.{Program}
 use Rattle.link_rule.specs.declared.name.LinkName.{LinkName}
@@ -19,10 +17,6 @@ target_of name = neighbour_of name.network name.vertex name.port
 -- a legal list of the link of that name, in the synchronous run of a program
 abbrev pub IsLegalOn : {S M E : Type 0} → Program S M E → LinkName → List (Wire M) → Type 0
 IsLegalOn program name wires = IsLegal program name.network name.vertex (target_of name) wires
-
--- the wires are the whole stream and every acknowledgement that is due
-abbrev pub IsComplete : {M : Type 0} → ℕ → (ℕ → Option M) → (ℕ → Option M) → List (Wire M) → Type 0
-IsComplete last sends answers wires = (data_of wires ≡ stream sends last) × (acks_of wires ≡ sent_pulses answers last)
 
 -- the wires are legal on the link of that name, if there is a name
 abbrev pub LegalFor : {M : Type 0} → (LinkName → List (Wire M) → Type 0) → Option LinkName → List (Wire M) → Type 0

@@ -4,15 +4,9 @@
 ghost use Rattle.std.specs.Prelude.{◌≡◌, ◌++◌, [], ◌∷◌, ℕ, List, Option, Contains};
 ghost use Rattle.alpha_core.specs.declared.wire.Wire.{Wire};
 ghost use Rattle.alpha_core.specs.Streams.{Legal};
+ghost use Rattle.alpha_laws.specs.Simulates.{IsComplete};
 ghost use Rattle.link_rule.specs.Order.{IsInOrder};
-ghost use Rattle.link_rule.specs.Legal.{IsComplete};
 ghost use Rattle.link_rule.specs.Progress.{WasFed, at_start};
-
-/// A beginning of a legal list is legal.
-pub fn beginnings_of_legal_lists_are_legal<M>()
-    ensures { (last : ℕ) (sends answers : ℕ → Option M) (front rest : List (Wire M))
-        → Legal last sends answers (front ++ rest) → Legal last sends answers front }
-{}
 
 /// Every legal list is in order.
 pub fn legal_lists_are_in_order<M>()

@@ -8,15 +8,16 @@ use Prim.{yes, no}
 use Rattle.node_api.specs.Pairs.{IsRead}
 
 -- the entry at i is i at least, so there are at most as many ports as the degree
-at_least : (degree read place : ℕ) (ports : List ℕ) → IsRead degree read place ports → (i : ℕ) → i < length ports → i ≤ slice_index ports i
-at_least degree read place ports h zero below = omega arith
-at_least degree read place ports h (suc i) below = omega (arith, at_least degree read place ports h i (omega arith), h.ascending i (suc i) (omega arith) below)
+at_least : (degree read cursor : ℕ) (ports : List ℕ) → IsRead degree read cursor ports → (i : ℕ) → i < length ports → i ≤ slice_index ports i
+at_least degree read cursor ports h zero below = omega arith
+at_least degree read cursor ports h (suc i) below =
+    omega (arith, at_least degree read cursor ports h i (omega arith), h.ascending i (suc i) (omega arith) below)
 
-pub length-read : (degree read place : ℕ) (ports : List ℕ) → IsRead degree read place ports → length ports ≤ degree
-length-read degree read place [] h = omega arith
-length-read degree read place (port ∷ ports) h =
+pub length-read : (degree read cursor : ℕ) (ports : List ℕ) → IsRead degree read cursor ports → length ports ≤ degree
+length-read degree read cursor [] h = omega arith
+length-read degree read cursor (port ∷ ports) h =
     let last : length ports < length (port ∷ ports) = omega arith in
-    omega (arith, at_least degree read place (port ∷ ports) h (length ports) last, h.below (length ports) last)
+    omega (arith, at_least degree read cursor (port ∷ ports) h (length ports) last, h.below (length ports) last)
 
 -- a port goes where those before it are less and the others greater
 pub record IsRank (ports : List ℕ) (rank port : ℕ) : Type 0 where
@@ -39,13 +40,13 @@ module _ (ports : List ℕ) (rank port : ℕ) (fits : rank ≤ length ports) whe
 pub side : (k rank : ℕ) → (k < rank) ⊎ ((k ≡ rank) ⊎ (rank < k))
 side k rank = elim (dec_lt k rank) [ yes low ↦ inl low | no above ↦ elim (dec_lt rank k) [ yes high ↦ inr (inr high) | no same ↦ inr (inl (omega arith)) ] ]
 
--- Ports before the place of reading count as read; so the port that is put does where it is one of them.
+-- Ports before the cursor count as read; so the port that is put does where it is one of them.
 abbrev pub Moves : ℕ → ℕ → ℕ → ℕ → Type 0
-Moves port place read now = ((port < place) × (now ≡ read + 1)) ⊎ ((place ≤ port) × (now ≡ read))
+Moves port cursor read now = ((port < cursor) × (now ≡ read + 1)) ⊎ ((cursor ≤ port) × (now ≡ read))
 
 -- In each part the entry at k is an old one, before or after the rank, or the port that was put.
-module _ (degree read place : ℕ) (ports : List ℕ) (h : IsRead degree read place ports) (rank port now : ℕ) (fits : rank ≤ length ports)
-    (small : port < degree) (at : IsRank ports rank port) (moves : Moves port place read now) where
+module _ (degree read cursor : ℕ) (ports : List ℕ) (h : IsRead degree read cursor ports) (rank port now : ℕ) (fits : rank ≤ length ports)
+    (small : port < degree) (at : IsRank ports rank port) (moves : Moves port cursor read now) where
   put_ascending : (i j : ℕ) → i < j → j < length ports + 1 → slice_index (insert ports rank port) i < slice_index (insert ports rank port) j
   put_ascending i j less below =
       elim (side j rank) [
@@ -83,22 +84,22 @@ module _ (degree read place : ℕ) (ports : List ℕ) (h : IsRead degree read pl
         | inr (inr high) ↦ omega (arith, entry_high ports rank port fits i high, h.below (i - 1) (omega arith))
       ]
 
-  -- the rank is on the same side of what was read as the port is of the place
-  rank_early : port < place → rank ≤ read
+  -- the rank is on the same side of what was read as the port is of the cursor
+  rank_early : port < cursor → rank ≤ read
   rank_early early = elim (dec_lt read rank) [
     | yes late ↦ absurd (let a = at.low read late in let b = h.after read (omega arith) (omega arith) in
         omega arith)
     | no other ↦ omega arith
   ]
 
-  rank_late : place ≤ port → read ≤ rank
+  rank_late : cursor ≤ port → read ≤ rank
   rank_late late = elim (dec_lt rank read) [
     | yes early ↦ absurd (let a = at.high rank (omega arith) (omega (arith, h.counted)) in let b =
         h.before rank early in omega arith)
     | no other ↦ omega arith
   ]
 
-  put_before : (i : ℕ) → i < now → slice_index (insert ports rank port) i < place
+  put_before : (i : ℕ) → i < now → slice_index (insert ports rank port) i < cursor
   put_before i below =
       elim moves [
         | inl (early, is_now) ↦
@@ -113,7 +114,7 @@ module _ (degree read place : ℕ) (ports : List ℕ) (h : IsRead degree read pl
             omega (arith, entry_low ports rank port fits i (omega arith), h.before i (omega arith))
       ]
 
-  put_after : (i : ℕ) → now ≤ i → i < length ports + 1 → place ≤ slice_index (insert ports rank port) i
+  put_after : (i : ℕ) → now ≤ i → i < length ports + 1 → cursor ≤ slice_index (insert ports rank port) i
   put_after i from below =
       elim moves [
         | inl (early, is_now) ↦
@@ -128,7 +129,7 @@ module _ (degree read place : ℕ) (ports : List ℕ) (h : IsRead degree read pl
             ]
       ]
 
-  pub is_read-put : IsRead degree now place (insert ports rank port)
+  pub is_read-put : IsRead degree now cursor (insert ports rank port)
   is_read-put =
       let size = length-insert ports rank port fits in
       record {
@@ -141,9 +142,9 @@ module _ (degree read place : ℕ) (ports : List ℕ) (h : IsRead degree read pl
       }
 
 -- one pair more has been read
-pub is_read-next : (degree read place : ℕ) (ports : List ℕ) → IsRead degree read place ports → (port : ℕ) → read < length ports →
+pub is_read-next : (degree read cursor : ℕ) (ports : List ℕ) → IsRead degree read cursor ports → (port : ℕ) → read < length ports →
     slice_index ports read ≡ port → IsRead degree (read + 1) (port + 1) ports
-is_read-next degree read place ports h port more here = record {
+is_read-next degree read cursor ports h port more here = record {
   ascending = h.ascending;
   below = h.below;
   counted = omega arith;
@@ -158,8 +159,8 @@ is_read-next degree read place ports h port more here = record {
 }
 
 -- nothing has been read
-pub is_read-rewind : (degree read place : ℕ) (ports : List ℕ) → IsRead degree read place ports → IsRead degree 0 0 ports
-is_read-rewind degree read place ports h = record {
+pub is_read-rewind : (degree read cursor : ℕ) (ports : List ℕ) → IsRead degree read cursor ports → IsRead degree 0 0 ports
+is_read-rewind degree read cursor ports h = record {
   ascending = h.ascending;
   below = h.below;
   counted = omega arith;

@@ -23,8 +23,8 @@ others_more pairs rank port pair some fits is_pair high others i from below =
     ]
 
 -- Where all pairs before the rank, and none from it on, have a port before this one.
-module _ {M : Type 0} (degree read place : ℕ) (pairs seen : List (ℕ × M)) (h : IsRead degree read place (ports_of pairs)) (same : seen ≡ pairs)
-    (mail : Mail M) (view : record { slots = slots_of degree pairs; place = place } ≡ mail) (port rank : ℕ) (inside : port < length mail.slots)
+module _ {M : Type 0} (degree read cursor : ℕ) (pairs seen : List (ℕ × M)) (h : IsRead degree read cursor (ports_of pairs)) (same : seen ≡ pairs)
+    (mail : Mail M) (view : record { slots = slots_of degree pairs; cursor = cursor } ≡ mail) (port rank : ℕ) (inside : port < length mail.slots)
     (within : rank ≤ length seen) (before : 0 < rank → slice_index (ports_of seen) (rank - 1) < port) (others : (i : ℕ) → rank ≤ i → i < length seen →
     port ≤ slice_index (ports_of seen) i) where
   size : length (ports_of pairs) ≡ length pairs
@@ -79,7 +79,7 @@ module _ {M : Type 0} (degree read place : ℕ) (pairs seen : List (ℕ × M)) (
     λ empty. let differs : pair.0 ≢ port = λ here. taken_here pair more is_pair here empty in grind (arith, nat_tests),
   )
 
-  -- a port that is empty goes to its rank, in a place that is left
+  -- a port that is empty goes to its rank, in a cursor that is left
   module _ (empty : at_port mail.slots port ≡ None) (x : M) where
     free : payload_at pairs port ≡ None
     free = sym entry_is ∙ empty
@@ -91,8 +91,8 @@ module _ {M : Type 0} (degree read place : ℕ) (pairs seen : List (ℕ × M)) (
           omega (arith, high i from (omega (arith, size)), differ);
     }
 
-    pub put_reads : (now : ℕ) → Moves port place read now → IsRead degree now place (ports_of (insert pairs rank (port, x)))
-    put_reads now moves = rw (ports_of-insert pairs rank (port, x)) (is_read-put degree read place (ports_of pairs) h rank port now (omega (
+    pub put_reads : (now : ℕ) → Moves port cursor read now → IsRead degree now cursor (ports_of (insert pairs rank (port, x)))
+    put_reads now moves = rw (ports_of-insert pairs rank (port, x)) (is_read-put degree read cursor (ports_of pairs) h rank port now (omega (
       arith,
       size,
       fits,
@@ -103,10 +103,10 @@ module _ {M : Type 0} (degree read place : ℕ) (pairs seen : List (ℕ × M)) (
 
     pub put_fits : length pairs < degree
     put_fits =
-        let room : length (insert (ports_of pairs) rank port) ≤ degree = elim (dec_lt port place) [
-          | yes early ↦ length-read degree (read + 1) place (insert (ports_of pairs) rank port) (is_read-put degree read place (ports_of pairs) h rank port
+        let room : length (insert (ports_of pairs) rank port) ≤ degree = elim (dec_lt port cursor) [
+          | yes early ↦ length-read degree (read + 1) cursor (insert (ports_of pairs) rank port) (is_read-put degree read cursor (ports_of pairs) h rank port
               (read + 1) (omega (arith, size, fits)) small at (inl (early, refl)))
-          | no late ↦ length-read degree read place (insert (ports_of pairs) rank port) (is_read-put degree read place (ports_of pairs) h rank port read
+          | no late ↦ length-read degree read cursor (insert (ports_of pairs) rank port) (is_read-put degree read cursor (ports_of pairs) h rank port read
               (omega (arith, size, fits)) small at (inr (omega arith, refl)))
         ] in
         omega (arith, room, size, length-insert (ports_of pairs) rank port (omega (arith, size, fits)))

@@ -24,35 +24,35 @@ module _ {M B : Type 0} (f : B → ℕ → M → B) where
       ∙ ap (λ (k : ℕ). fold_slots f b k (drop k slots)) (let e : i + 1 + gap ≡ i + suc gap = omega arith in e))
 
   -- what is read is the next to be taken in, and then the rest
-  pub fold_rest-read : (old : Mail M) (x : M) (new : Mail M) (b : B) → Reads old x new → fold_rest f b old ≡ fold_rest f (f b (new.place - 1) x) new
+  pub fold_rest-read : (old : Mail M) (x : M) (new : Mail M) (b : B) → Reads old x new → fold_rest f b old ≡ fold_rest f (f b (new.cursor - 1) x) new
   fold_rest-read old x new b r =
-      let last : ℕ = new.place - 1 in
-      let there : old.place + (last - old.place) ≡ last = omega (arith, r.later) in
-      let next : last + 1 ≡ new.place = omega (arith, r.later) in
-      skips (last - old.place) old.slots old.place b (omega (arith, r.later, r.within)) (λ port low high. r.first port low (omega (arith, r.later)))
+      let last : ℕ = new.cursor - 1 in
+      let there : old.cursor + (last - old.cursor) ≡ last = omega (arith, r.later) in
+      let next : last + 1 ≡ new.cursor = omega (arith, r.later) in
+      skips (last - old.cursor) old.slots old.cursor b (omega (arith, r.later, r.within)) (λ port low high. r.first port low (omega (arith, r.later)))
       ∙ (ap (λ (k : ℕ). fold_slots f b k (drop k old.slots)) there
       ∙ (slot_some old.slots last b x (omega (arith, r.later, r.within)) (r.here last next)
       ∙ (ap (λ (k : ℕ). fold_slots f (f b last x) k (drop k old.slots)) next
-      ∙ ap (λ (slots : List (Option M)). fold_slots f (f b last x) new.place (drop new.place slots)) (sym r.same))))
+      ∙ ap (λ (slots : List (Option M)). fold_slots f (f b last x) new.cursor (drop new.cursor slots)) (sym r.same))))
 
   none_unless : (x : Option M) → (IsSome x → ⊥) → x ≡ None
   none_unless None h = refl
   none_unless (Some x) h = absurd (h refl)
 
   -- where nothing is left to be read, nothing is taken in
-  pub fold_rest-end : (mail : Mail M) (b : B) → (HasFrom mail.slots mail.place → ⊥) → fold_rest f b mail ≡ b
+  pub fold_rest-end : (mail : Mail M) (b : B) → (HasFrom mail.slots mail.cursor → ⊥) → fold_rest f b mail ≡ b
   fold_rest-end mail b h =
       let slots = mail.slots in
-      let place = mail.place in
-      elim (dec_lt place (length slots)) [
+      let cursor = mail.cursor in
+      elim (dec_lt cursor (length slots)) [
         | yes below ↦
-            skips (length slots - place) slots place b (omega arith) (λ port low high. none_unless (at_port slots port) (λ some. h (
+            skips (length slots - cursor) slots cursor b (omega arith) (λ port low high. none_unless (at_port slots port) (λ some. h (
               port,
               low,
               omega arith,
               some,
             )))
-            ∙ ap (λ (rest : List (Option M)). fold_slots f b (place + (length slots - place)) rest)
-            (drop_all (place + (length slots - place)) slots (omega arith))
-        | no other ↦ ap (λ (rest : List (Option M)). fold_slots f b place rest) (drop_all place slots (omega arith))
+            ∙ ap (λ (rest : List (Option M)). fold_slots f b (cursor + (length slots - cursor)) rest)
+            (drop_all (cursor + (length slots - cursor)) slots (omega arith))
+        | no other ↦ ap (λ (rest : List (Option M)). fold_slots f b cursor rest) (drop_all cursor slots (omega arith))
       ]

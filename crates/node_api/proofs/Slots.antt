@@ -58,13 +58,13 @@ slots_of-put n pairs rank port x fits small empty =
       | inr (inr high) ↦ other (omega arith)
     ])
 
--- an inbox of which the first `read` pairs lie before the place of reading
-module _ {M : Type 0} (degree read place : ℕ) (pairs : List (ℕ × M)) (h : IsRead degree read place (ports_of pairs)) where
+-- an inbox of which the first `read` pairs lie before the cursor
+module _ {M : Type 0} (degree read cursor : ℕ) (pairs : List (ℕ × M)) (h : IsRead degree read cursor (ports_of pairs)) where
   size : length (ports_of pairs) ≡ length pairs
   size = length-ports_of pairs
 
   -- it has more to be read exactly where it has more pairs
-  more_ahead : read < length pairs → HasFrom (slots_of degree pairs) place
+  more_ahead : read < length pairs → HasFrom (slots_of degree pairs) cursor
   more_ahead more =
       let port : ℕ = slice_index (ports_of pairs) read in
       let small : port < degree = h.below read (omega (arith, size)) in
@@ -75,7 +75,7 @@ module _ {M : Type 0} (degree read place : ℕ) (pairs : List (ℕ × M)) (h : I
         some_unless (at_port (slots_of degree pairs) port) (λ e. found (sym (at_port-slots_of degree pairs port small) ∙ e)),
       )
 
-  more_pairs : HasFrom (slots_of degree pairs) place → read < length pairs
+  more_pairs : HasFrom (slots_of degree pairs) cursor → read < length pairs
   more_pairs (port, from, below, some) =
       elim (dec_lt read (length pairs)) [
         | yes more ↦ more
@@ -85,13 +85,13 @@ module _ {M : Type 0} (degree read place : ℕ) (pairs : List (ℕ × M)) (h : I
             ∙ payload_at-none pairs port (λ i within. omega (arith, h.before i (omega arith)))))
       ]
 
-  -- so of an inbox that is seen with these slots and this place
-  pub more_seen : (mail : Mail M) → record { slots = slots_of degree pairs; place = place } ≡ mail → HasFrom mail.slots mail.place → read < length pairs
-  more_seen mail view more = more_pairs (subst (λ (m : Mail M). HasFrom m.slots m.place) (sym view) more)
+  -- so of an inbox that is seen with these slots and this cursor
+  pub more_seen : (mail : Mail M) → record { slots = slots_of degree pairs; cursor = cursor } ≡ mail → HasFrom mail.slots mail.cursor → read < length pairs
+  more_seen mail view more = more_pairs (subst (λ (m : Mail M). HasFrom m.slots m.cursor) (sym view) more)
 
   -- the first pair that has not been read is the next payload
   pub reads_pair : (pair : ℕ × M) → read < length pairs → pair ≡ get_or pairs read pair →
-      Reads (record { slots = slots_of degree pairs; place = place }) pair.1 (record { slots = slots_of degree pairs; place = pair.0 + 1 })
+      Reads (record { slots = slots_of degree pairs; cursor = cursor }) pair.1 (record { slots = slots_of degree pairs; cursor = pair.0 + 1 })
   reads_pair pair more is_pair =
       let port : slice_index (ports_of pairs) read ≡ pair.0 = port_of-entry pairs read pair more is_pair in
       let small = h.below read (omega (arith, size)) in
@@ -117,7 +117,7 @@ module _ {M : Type 0} (degree read place : ℕ) (pairs : List (ℕ × M)) (h : I
             ]);
       }
 
-  pub has_more_by : (n : ℕ) → n ≡ length pairs → IsTrue (nat_lt read n) ↔ HasFrom (slots_of degree pairs) place
+  pub has_more_by : (n : ℕ) → n ≡ length pairs → IsTrue (nat_lt read n) ↔ HasFrom (slots_of degree pairs) cursor
   has_more_by n e = (
     λ less. more_ahead (let l : nat_lt read n ≡ true = less in grind (arith, nat_tests)),
     λ from. let more = more_pairs from in

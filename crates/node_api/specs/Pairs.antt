@@ -16,11 +16,11 @@ payload_at (pair ∷ pairs) port = if pair.0 == port then Some pair.1 else paylo
 abbrev pub slots_of : {M : Type 0} → ℕ → List (ℕ × M) → List (Option M)
 slots_of n pairs = map (payload_at pairs) (range_with_len 0 n)
 
--- Ports ascend below the degree; the first `read` of them lie before the place of reading, the others don't.
-pub record IsRead (degree read place : ℕ) (ports : List ℕ) : Type 0 where
+-- Ports ascend below the degree; the first `read` of them lie before the cursor, the others don't.
+pub record IsRead (degree read cursor : ℕ) (ports : List ℕ) : Type 0 where
   pub ascending : (i j : ℕ) → i < j → j < length ports → slice_index ports i < slice_index ports j
   pub below : (i : ℕ) → i < length ports → slice_index ports i < degree
   pub counted : read ≤ length ports
-  pub before : (i : ℕ) → i < read → slice_index ports i < place
-  pub after : (i : ℕ) → read ≤ i → i < length ports → place ≤ slice_index ports i
-  pub within : place ≤ degree
+  pub before : (i : ℕ) → i < read → slice_index ports i < cursor
+  pub after : (i : ℕ) → read ≤ i → i < length ports → cursor ≤ slice_index ports i
+  pub within : cursor ≤ degree

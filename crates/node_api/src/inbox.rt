@@ -18,9 +18,9 @@ pub struct Inbox<T> {
     // Ports and payloads, ascending by port, in room that `new` reserved.
     pairs: Vec<(u32, T)>,
     degree: u32,
-    // How many pairs have been read: those before `place`.
+    // How many pairs have been read: those before `cursor`.
     read: usize,
-    place: u32,
+    cursor: u32,
 }
 
 impl<T> Model for Inbox<T> {
@@ -31,10 +31,10 @@ impl<T> Model for Inbox<T> {
 
     ghost Value = { Mail T };
 
-    ghost view = { λ a. record { slots = slots_of a.degree a.pairs.items; place = a.place } };
+    ghost view = { λ a. record { slots = slots_of a.degree a.pairs.items; cursor = a.cursor } };
 
     ghost invariant = { λ a. (a.degree ≤ MAX_DEGREE) × (a.degree ≤ vec_capacity a.pairs)
-        × IsRead a.degree a.read a.place (ports_of a.pairs.items) };
+        × IsRead a.degree a.read a.cursor (ports_of a.pairs.items) };
 }
 
 // How many pairs have a port before this one. Ports mostly come in ascending order, so the search
@@ -80,7 +80,7 @@ impl<T: Copy> Inbox<T> {
             pairs,
             degree,
             read: 0,
-            place: 0,
+            cursor: 0,
         })
     }
 
@@ -93,16 +93,16 @@ impl<T: Copy> Inbox<T> {
         rank == self.pairs.len() || self.pairs[rank].0 != port
     }
 
-    /// Puts a payload at a port that is empty (`is_empty`). The place of reading stays.
+    /// Puts a payload at a port that is empty (`is_empty`). The cursor stays.
     pub fn put(&mut self, port: u32, payload: T)
         requires port { port < length self.old.slots }
         requires empty { at_port self.old.slots port ≡ Option.None }
         ensures slots { self.new.slots ≡ slice_set self.old.slots port (Option.Some payload) }
-        ensures place { self.new.place ≡ self.old.place }
+        ensures cursor { self.new.cursor ≡ self.old.cursor }
     {
         let rank = rank(&self.pairs, port);
         put_pair(&mut self.pairs, rank, (port, payload));
-        if port < self.place {
+        if port < self.cursor {
             self.read += 1;
         }
     }
@@ -112,7 +112,7 @@ impl<T: Copy> Inbox<T> {
         ensures unread { self.new ≡ unread self.old.slots }
     {
         self.read = 0;
-        self.place = 0;
+        self.cursor = 0;
     }
 
     /// Empties the inbox, and begins reading again.
@@ -120,7 +120,7 @@ impl<T: Copy> Inbox<T> {
         ensures empty { self.new ≡ unread (nothing (length self.old.slots)) }
     {
         // An inbox to which nothing came isn't written to.
-        if !self.pairs.is_empty() || self.place != 0 {
+        if !self.pairs.is_empty() || self.cursor != 0 {
             self.empty();
         }
     }
@@ -130,32 +130,32 @@ impl<T: Copy> Inbox<T> {
     {
         self.pairs.clear();
         self.read = 0;
-        self.place = 0;
+        self.cursor = 0;
     }
 
     /// Whether a payload is still to be read.
     pub fn has_next(&self) -> bool
-        ensures more { IsTrue result ↔ HasFrom self.now.slots self.now.place }
+        ensures more { IsTrue result ↔ HasFrom self.now.slots self.now.cursor }
     {
         self.read < self.pairs.len()
     }
 
     /// Reads the next payload by ascending port; there is one (`has_next`).
     pub fn next(&mut self) -> T
-        requires more { HasFrom self.old.slots self.old.place }
+        requires more { HasFrom self.old.slots self.old.cursor }
         ensures reads { Reads self.old result self.new }
     {
         let (port, payload) = self.pairs[self.read];
         self.read += 1;
-        self.place = port + 1;
+        self.cursor = port + 1;
         payload
     }
 
     /// The port of the payload that `next` read last. `next` was called since the last rewind.
     pub fn sender(&self) -> u32
-        requires read { 0 < self.now.place }
-        ensures port { result + 1 ≡ self.now.place }
+        requires read { 0 < self.now.cursor }
+        ensures port { result + 1 ≡ self.now.cursor }
     {
-        self.place - 1
+        self.cursor - 1
     }
 }

@@ -74,7 +74,7 @@ pub trait NodeProgram: Sized + Drop + Send {
         inbox: &mut Inbox<Self::Payload>,
         out: &mut Outbox<Self::Payload>,
     ) -> Result<(), Refused>
-        requires rewound { inbox.old.place ≡ 0 }
+        requires rewound { inbox.old.cursor ≡ 0 }
         requires inbox { length inbox.old.slots ≡ program.ports self.old }
         requires out { out.old ≡ nothing (program.ports self.old) }
         ensures answer { Matches result (program.next self.old pulse inbox.old.slots) (self.new, out.new) }

@@ -6,7 +6,7 @@ use Rattle.byte_functions.specs.declared.fault.PlanFault.{PlanFault}
 use Rattle.command_line.specs.Asked.{AreRefused, AskForHelp, request_of}
 use Rattle.command_line.specs.declared.request.Request.{Request}
 use Rattle.serving.specs.Answers.{MayAnswer}
-use Rattle.serving.specs.Streams.{HasFailed, HasNotFailed, IsCutOff, IsWritten, Taken, Written}
+use Rattle.serving.specs.Streams.{HasFailed, HasNotFailed, IsCutOff, IsReadInTime, IsWritten, Taken, Written}
 
 -- the line if a stream failed
 abbrev pub stream_line : List ℕ
@@ -40,13 +40,13 @@ abbrev pub Answers : Request → List ℕ → Written → Written → ℕ → Ty
 Answers request bytes output errors status = (answer : Result (List ℕ) PlanFault)
     × MayAnswer request bytes answer × Gives output errors answer status
 
--- the input ends, and its bytes are answered; or a read fails; or memory runs out
+-- the input ends, and its bytes are answered; or a read fails; or memory runs out. Each time the reads are bounded
 abbrev pub Serves : Request → Taken → Written → Written → ℕ → Type 0
-Serves request input output errors status =
+Serves request input output errors status = IsReadInTime input × (
     ((bytes : List ℕ) × EndsAfter input.before input.after bytes × HasNotFailed input
     × Answers request bytes output errors status)
     ⊎ (HasFailed input × Refuses output errors stream_line 4 status)
-    ⊎ (HasNotFailed input × Refuses output errors memory_line 4 status)
+    ⊎ (HasNotFailed input × Refuses output errors memory_line 4 status))
 
 -- nothing is read; a text of help goes to output if the words ask for it, else a text that refuses them to errors
 abbrev pub Declines : List (List ℕ) → Taken → Written → Written → ℕ → Type 0

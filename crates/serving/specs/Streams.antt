@@ -1,7 +1,8 @@
 -- What a contract knows of a stream before and after a call.
 use Rattle.std.specs.Prelude.{◌≡◌, ◌⊎◌, ℕ, List, Option}
 use Rattle.std.specs.Io.KnownBytes.{Appends}
-use Rattle.whole_streams.specs.Counts.{CountsOn, HasGrown}
+use Rattle.whole_streams.specs.Counts.{CountsOn, FallsByAtMost, HasGrown}
+use Rattle.whole_streams.specs.declared.source.TheConstants.{READ_LIMIT}
 use Rattle.whole_streams.specs.Streams.{AppendsBeginning, IsUnended}
 
 -- a writer: what was written to it, and its faults
@@ -46,6 +47,10 @@ reading remaining faults reads old new = record {
 abbrev pub HasFailed : Taken → Type 0
 HasFailed input = HasGrown input.faults_before input.faults_after
     ⊎ IsUnended input.before input.after input.reads_before input.reads_after
+
+-- the reader was read at most READ_LIMIT times
+abbrev pub IsReadInTime : Taken → Type 0
+IsReadInTime input = FallsByAtMost input.reads_before READ_LIMIT input.reads_after
 
 -- no read failed
 abbrev pub HasNotFailed : Taken → Type 0

@@ -20,7 +20,7 @@ module _ {M : Type 0} (net : Net) (ok : IsNetwork net) (outs : List (List (Optio
   pub delivered_start : (inboxes : List (Mail M)) → Lists (count_of net) (empty_inbox net) inboxes → Delivered net outs 1 [] inboxes
   delivered_start inboxes h = record {
     count = h.count;
-    start = λ v d is_vertex. ap (λ (mail : Mail M). mail.place) (at_vertex net (empty_inbox net) inboxes v d h is_vertex);
+    start = λ v d is_vertex. ap (λ (mail : Mail M). mail.cursor) (at_vertex net (empty_inbox net) inboxes v d h is_vertex);
     ports = λ v d is_vertex. ap (λ (mail : Mail M). length mail.slots) (at_vertex net (empty_inbox net) inboxes v d h is_vertex) ∙
         length-replicate (degree_of net v) None;
     done = λ v port d is_vertex below is_done. elim is_done [
@@ -76,14 +76,14 @@ module _ {M : Type 0} (net : Net) (ok : IsNetwork net) (outs : List (List (Optio
         let v : ℕ = k + 1 in
         let is_vertex : IsVertex net v = (omega arith, omega arith) in
         let at : v - 1 ≡ k = omega arith in
-        let mail : List (Option M) → ℕ → Mail M = λ s n. record { slots = s; place = n } in
+        let mail : List (Option M) → ℕ → Mail M = λ s n. record { slots = s; cursor = n } in
         let inbox : Mail M = get_or inboxes k d in
-        let start : inbox.place ≡ 0 = ap (λ (i : ℕ). (get_or inboxes i d).place) (sym at) ∙ h.start v d is_vertex in
+        let start : inbox.cursor ≡ 0 = ap (λ (i : ℕ). (get_or inboxes i d).cursor) (sym at) ∙ h.start v d is_vertex in
         let size : length inbox.slots ≡ degree_of net v = ap (λ (i : ℕ). length (get_or inboxes i d).slots) (sym at) ∙ h.ports v d is_vertex in
         let same : inbox.slots ≡ received net outs v = ext_get_or None inbox.slots (received net outs v) (size ∙ sym (length-received net outs v)) (λ port low.
         let below : port < degree_of net v = omega (arith, size) in
         ap (λ (i : ℕ). at_port (get_or inboxes i d).slots port) (sym at)
         ∙ (h.done v port d is_vertex below (inl (let w = ok.vertices v port is_vertex below in omega (arith, last)))
         ∙ sym (at_port-received net outs v port below))) in
-        ap (λ (s : List (Option M)). mail s inbox.place) same ∙ ap (mail (received net outs v)) start;
+        ap (λ (s : List (Option M)). mail s inbox.cursor) same ∙ ap (mail (received net outs v)) start;
   }

@@ -14,7 +14,7 @@ IsDone net w ports v port =
 pub record Delivered {M : Type 0} (net : Net) (outs : List (List (Option M))) (w : ℕ) (of_w : List ℕ)
     (inboxes : List (Mail M)) : Type 0 where
   pub count : length inboxes ≡ count_of net
-  pub start : (v : ℕ) (d : Mail M) → IsVertex net v → (slice_index_or inboxes (v - 1) d).place ≡ 0
+  pub start : (v : ℕ) (d : Mail M) → IsVertex net v → (slice_index_or inboxes (v - 1) d).cursor ≡ 0
   pub ports : (v : ℕ) (d : Mail M) → IsVertex net v → length (slice_index_or inboxes (v - 1) d).slots ≡ degree_of net v
   pub done : (v port : ℕ) (d : Mail M) → IsVertex net v → port < degree_of net v → IsDone net w of_w v port
       → at_port (slice_index_or inboxes (v - 1) d).slots port ≡ sent_in outs (neighbour_of net v port)

@@ -1,5 +1,6 @@
 -- Numbers that a stream may know of itself. Of an unknown one nothing is said.
-use Rattle.std.specs.Prelude.{◌≡◌, ◌<◌, ◌+◌, ◌-◌, ◌==◌, ℕ, Option, Some, None, Result, MatchResult, ⊤, if◌then◌else◌}
+use Rattle.std.specs.Prelude.{◌≡◌, ◌<◌, ◌≤◌, ◌+◌, ◌-◌, ◌==◌, ℕ, Option, Some, None, Result, MatchResult, ⊤}
+use Rattle.std.specs.Prelude.{if◌then◌else◌}
 
 -- a number that is known grows by n
 abbrev pub CountsOn : Option ℕ → ℕ → Option ℕ → Type 0
@@ -12,6 +13,12 @@ abbrev pub CountsDown : Option ℕ → ℕ → Option ℕ → Type 0
 CountsDown None n new = ⊤
 CountsDown (Some a) n None = ⊥
 CountsDown (Some a) n (Some b) = b ≡ a - n
+
+-- at most n is taken off a number that is known
+abbrev pub FallsByAtMost : Option ℕ → ℕ → Option ℕ → Type 0
+FallsByAtMost None n new = ⊤
+FallsByAtMost (Some a) n None = ⊥
+FallsByAtMost (Some a) n (Some b) = a ≤ b + n
 
 -- a number that is known has grown
 abbrev pub HasGrown : Option ℕ → Option ℕ → Type 0

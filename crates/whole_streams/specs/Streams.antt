@@ -2,6 +2,7 @@
 use Rattle.std.specs.Prelude.{◌≡◌, ◌≤◌, ◌⊎◌, ℕ, List, ◌++◌, Option, length}
 use Rattle.std.specs.Io.KnownBytes.{Appends, Consumes, IsAtEnd}
 use Rattle.whole_streams.specs.Counts.{CountsDown, CountsOn, HasGrown}
+use Rattle.whole_streams.specs.declared.source.TheConstants.{READ_LIMIT}
 use Rattle.whole_streams.specs.declared.source.ReadFault.{ReadFault}
 use Rattle.whole_streams.specs.declared.source.ReadFault.TheVariants.{Stream, Memory}
 
@@ -14,14 +15,10 @@ AppendsBeginning old new bs =
 abbrev pub EndsAfter : Option (List ℕ) → Option (List ℕ) → List ℕ → Type 0
 EndsAfter old new bs = Consumes old new bs × IsAtEnd new
 
--- the number of reads after which an input counts as endless
-abbrev pub read_limit : ℕ
-read_limit = 1073741824
-
 -- a reader was read that often, gave a byte at each read, and did not end
 abbrev pub IsUnended : Option (List ℕ) → Option (List ℕ) → Option ℕ → Option ℕ → Type 0
 IsUnended old new left left' =
-    CountsDown left read_limit left' × ((bs : List ℕ) × (read_limit ≤ length bs) × Consumes old new bs)
+    CountsDown left READ_LIMIT left' × ((bs : List ℕ) × (READ_LIMIT ≤ length bs) × Consumes old new bs)
 
 -- a failed stream is reported only if a read failed or the reader did not end, and memory only if no read failed
 abbrev pub WantsStreamFault : Option ℕ → Option ℕ → Type 0 → ReadFault → Type 0

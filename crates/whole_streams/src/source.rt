@@ -3,7 +3,7 @@
 ghost use Rattle.std.specs.Prelude.{ℕ, Option, Some, None, IfOk, IfErr};
 ghost use Rattle.std.specs.Io.{ReadsAtMost};
 ghost use Rattle.std.specs.Io.KnownBytes.{ReadConsumes};
-ghost use Rattle.whole_streams.specs.Counts.{CountsDown, CountsOn, CountsRead};
+ghost use Rattle.whole_streams.specs.Counts.{CountsDown, CountsOn, CountsRead, FallsByAtMost};
 ghost use Rattle.whole_streams.specs.Streams.{EndsAfter, WantsStreamFault, IsUnended};
 
 use std::alloc::Global;
@@ -52,7 +52,7 @@ pub enum ReadFault {
     Memory,
 }
 
-/// Reads `input` to its end.
+/// Reads `input` to its end, by at most `READ_LIMIT` reads.
 ///
 /// # Errors
 /// `Stream` if a read failed, or if `READ_LIMIT` reads each gave a byte and none met the end; `Memory` if
@@ -62,6 +62,7 @@ pub fn read_whole<R: Source>(alloc: Global, input: &mut R) -> Result<Vec<u8>, Re
     ensures quiet { IfOk result (λ _. CountsOn (R.faults input.old) 0 (R.faults input.new)) }
     ensures fault { IfErr result (WantsStreamFault (R.faults input.old) (R.faults input.new)
         (IsUnended (R.remaining input.old) (R.remaining input.new) (R.reads_left input.old) (R.reads_left input.new))) }
+    ensures reads { FallsByAtMost (R.reads_left input.old) READ_LIMIT (R.reads_left input.new) }
 {
     let mut bytes = Vec::new(alloc);
     let mut piece = [0u8; PIECE];

@@ -39,7 +39,7 @@ pub fn feed(
 fn inbox_of(alloc: Global, payloads: &[Option<Payload>]) -> Result<Inbox<Payload>, Memory>
     requires few { length payloads.now ≤ MAX_DEGREE }
     ensures ports { IfOk result (λ inbox. length inbox.slots ≡ length payloads.now) }
-    ensures rewound { IfOk result (λ inbox. inbox.place ≡ 0) }
+    ensures rewound { IfOk result (λ inbox. inbox.cursor ≡ 0) }
 {
     let degree = payloads.len() as u32;
     let mut inbox = Inbox::new(alloc, degree)?;

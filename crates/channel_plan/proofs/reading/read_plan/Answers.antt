@@ -1,3 +1,5 @@
+-- The plan: a wrong line is refused as the definition refuses it after the lines before it (fault-line); a line more leaves
+-- the reader as the definition has it (read-more); at the end all lines were taken in (ended).
 use Rattle.std.proofs.Common.{◌==◌, ◌≡◌, ◌+◌, ◌++◌, ◌∷◌, ◌∙◌, Err, IfOk, None, Ok, Some, ap, drop, length, map, rules}
 use Rattle.std.proofs.Common.{suc, subst, sym, tests}
 use Rattle.std.specs.List.{slice_split}
@@ -11,6 +13,7 @@ use Rattle.channel_plan.specs.Reader.{known}
 use Rattle.channel_plan.specs.Reading.{known_after, read_at_end, read_from}
 use Rattle.channel_plan.proofs.Readings.{fault-end, fault-line, read-end, read-more, read-wrong}
 use Rattle.channel_plan.proofs.reading.read_plan.Goals as goal
+use Rattle.channel_plan.proofs.reading.read_plan.Goals.{In-None}
 
 pub returns-in_err-step-clause-fault : goal.returns-in_err-step-clause-fault
 unfolding lines_of
@@ -49,30 +52,23 @@ loop-line-preserved c =
       line = c.in_ok-step.ensures.line ∙ ap (λ n. n + 1) c.loop-line.invariant.line ∙ sym (length_push c.loop-line.yielded c.in-Some.line);
     }
 
-pub returns-clause-ok : goal.returns-clause-ok
+-- the lines taken in are all lines of the text, so reading them ends as the reader stands
+ended : (c : In-None) → read_from 1 None (lines_of c.args.text.now) ≡ read_at_end (known c.loop-line.reader)
 unfolding lines_of
-returns-clause-ok c =
+ended c =
     let gives = c.into_iter-line-iterator.ensures.into_iter_gives in
     let all = items-at_end c.loop-line.yielded c.loop-line.line-iterator c.loop-line.yielded_by c.next.result c.next.new.self c.in-None.is c.next.ensures.steps
     (YieldsList-from_slice_split _ (λ byte. byte == 10) c.args.text.now (ap split_rest gives ∙ c.split-line-items.ensures.rest) (ap split_done gives ∙
     c.split-line-items.ensures.done) (ap split_callee gives ∙ c.split-line-items.ensures.closure) (λ x r q k. search (rules, tests))) in
-    let same : map (λ x. line_of x.now) c.loop-line.yielded ≡ lines_of c.args.text.now = sym (map-twice line_of (λ x. x.now) c.loop-line.yielded) ∙
-    ap (map line_of) all in
-    let end : read_from 1 None (lines_of c.args.text.now) ≡ read_at_end (known c.loop-line.reader) =
-    read-end (lines_of c.args.text.now) (map (λ x. line_of x.now) c.loop-line.yielded) (c.loop-line.reader.line + 1) (known c.loop-line.reader) same
-    c.loop-line.invariant.knows in
+    read-end (lines_of c.args.text.now) (map (λ x. line_of x.now) c.loop-line.yielded) (c.loop-line.reader.line + 1) (known c.loop-line.reader)
+    (sym (map-twice line_of (λ x. x.now) c.loop-line.yielded) ∙ ap (map line_of) all) c.loop-line.invariant.knows
+
+pub returns-clause-ok : goal.returns-clause-ok
+returns-clause-ok c =
+    let end = ended (goal.at.returns-clause-ok c).In-None in
     subst (λ r. IfOk c.finish.result (λ plan. r ≡ Ok plan.rows.items)) (sym end) c.finish.ensures.ok
 
 pub returns-clause-fault : goal.returns-clause-fault
-unfolding lines_of
 returns-clause-fault c =
-    let gives = c.into_iter-line-iterator.ensures.into_iter_gives in
-    let all = items-at_end c.loop-line.yielded c.loop-line.line-iterator c.loop-line.yielded_by c.next.result c.next.new.self c.in-None.is c.next.ensures.steps
-    (YieldsList-from_slice_split _ (λ byte. byte == 10) c.args.text.now (ap split_rest gives ∙ c.split-line-items.ensures.rest) (ap split_done gives ∙
-    c.split-line-items.ensures.done) (ap split_callee gives ∙ c.split-line-items.ensures.closure) (λ x r q k. search (rules, tests))) in
-    let same : map (λ x. line_of x.now) c.loop-line.yielded ≡ lines_of c.args.text.now = sym (map-twice line_of (λ x. x.now) c.loop-line.yielded) ∙
-    ap (map line_of) all in
-    let end : read_from 1 None (lines_of c.args.text.now) ≡ read_at_end (known c.loop-line.reader) =
-    read-end (lines_of c.args.text.now) (map (λ x. line_of x.now) c.loop-line.yielded) (c.loop-line.reader.line + 1) (known c.loop-line.reader) same
-    c.loop-line.invariant.knows in
+    let end = ended (goal.at.returns-clause-fault c).In-None in
     fault-end (lines_of c.args.text.now) 1 (read_at_end (known c.loop-line.reader) ≡ Err 1) c.finish.result (λ wrong. end ∙ wrong) c.finish.ensures.fault

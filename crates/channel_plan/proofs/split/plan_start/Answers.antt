@@ -1,82 +1,90 @@
-use Rattle.std.proofs.Common.{◌==◌, ◌≡◌, ◌+◌, ◌++◌, ◌∷◌, [], ◌∙◌, ap, arith, drop, length, map, rules, suc}
+-- The plan: the line at hand is a part of the text between two line feeds (here), so the text is cut at its beginning
+-- (cut); none of the lines before it begins a plan text, so they are the network's lines, and where it begins one it is the
+-- first of the plan's lines (lines). At the end every line was looked at (none-begins).
+use Rattle.std.proofs.Common.{◌==◌, ◌≡◌, ◌<◌, ◌+◌, ◌++◌, ◌∷◌, [], ◌∙◌, List, ℕ, true, ap, arith, drop, get_or, inr, length, map, rules, suc}
 use Rattle.std.proofs.Common.{subst, sym, take, tests}
-use Rattle.std.specs.List.{slice_split}
 use Rattle.std.specs.Slice.Iter.{split_callee, split_done, split_rest}
 use Rattle.std.proofs.lemmas.Iterator.Splits.{YieldsList-from_slice_split}
-use Rattle.std.proofs.lemmas.List.{map-append, map_push}
-use Rattle.dimacs_col.specs.Lines.{line_of, lines_of}
+use Rattle.std.proofs.lemmas.List.{map-append, map_push, take-append-drop}
+use Rattle.dimacs_col.specs.Lines.{Line, line_of, lines_of}
 use Rattle.dimacs_col.proofs.Whole.{items-at_end, items-at_turn, lines-at_turn, map-twice}
-use Rattle.channel_plan.specs.Split.{network_lines, plan_lines}
-use Rattle.channel_plan.proofs.Parts.{closed, closed-push, parts-around, text-cut}
-use Rattle.channel_plan.proofs.Splitting.{AreBefore, before-end, before-plan, before-push, empty-line}
+use Rattle.channel_plan.specs.Split.{EndsLine, begins_plan, network_lines, plan_lines}
+use Rattle.channel_plan.proofs.Parts.{IsCut, closed, closed-push, parts-around, parts_of, text-cut}
+use Rattle.channel_plan.proofs.Splitting.{AreBefore, before-end, before-plan, before-push, empty-line, front-text}
 use Rattle.channel_plan.proofs.split.plan_start.Goals as goal
+use Rattle.channel_plan.proofs.split.plan_start.Goals.{In-None, In-Some}
+
+here : (c : In-Some) → (map (λ x. x.now) c.loop-line.yielded ≡ take (length c.loop-line.yielded) (parts_of c.args.input.now))
+    × (length c.loop-line.yielded < length (parts_of c.args.input.now))
+    × (c.in-Some.line.now ≡ get_or (parts_of c.args.input.now) (length c.loop-line.yielded) c.in-Some.line.now)
+here c =
+    let gives = c.into_iter-line-iterator.ensures.into_iter_gives in
+    items-at_turn {all = parts_of c.args.input.now} c.loop-line.yielded c.loop-line.line-iterator c.loop-line.yielded_by c.next.result c.next.new.self
+    c.in-Some.line c.in-Some.is c.next.ensures.steps
+    (YieldsList-from_slice_split _ (λ byte. byte == 10) c.args.input.now (ap split_rest gives ∙ c.split-line-items.ensures.rest) (ap split_done gives ∙
+    c.split-line-items.ensures.done) (ap split_callee gives ∙ c.split-line-items.ensures.closure) (λ x r q k. search (rules, tests)))
+
+abbrev after : In-Some → List (List ℕ)
+after c = drop (suc (length c.loop-line.yielded)) (parts_of c.args.input.now)
+
+cut : (c : In-Some) → IsCut c.args.input.now (map (λ x. x.now) c.loop-line.yielded) c.in-Some.line.now (after c)
+cut c =
+    text-cut c.args.input.now (map (λ x. x.now) c.loop-line.yielded) c.in-Some.line.now (after c)
+    (parts-around (λ x. x.now) (parts_of c.args.input.now) c.loop-line.yielded c.in-Some.line (here c))
+
+abbrev before : In-Some → List Line
+before c = map (λ x. line_of x.now) c.loop-line.yielded
+
+lines : (c : In-Some) → begins_plan (line_of c.in-Some.line.now) ≡ true → (network_lines (lines_of c.args.input.now) ≡ before c) ×
+    (plan_lines (lines_of c.args.input.now) ≡ line_of c.in-Some.line.now ∷ map line_of (after c))
+unfolding lines_of
+lines c begins =
+    let is = before-plan (before c) (line_of c.in-Some.line.now) (map line_of (after c)) begins c.loop-line.invariant.before in
+    let all = lines-at_turn (λ x. x.now) (parts_of c.args.input.now) c.loop-line.yielded c.in-Some.line (here c) in
+    (ap network_lines all ∙ is.0, ap plan_lines all ∙ is.1)
 
 pub returns-then-begins_plan-clause-within : goal.returns-then-begins_plan-clause-within
 returns-then-begins_plan-clause-within c =
-    let gives = c.into_iter-line-iterator.ensures.into_iter_gives in
-    let parts = slice_split (λ byte. byte == 10) c.args.input.now in
-    let here = items-at_turn {all = parts} c.loop-line.yielded c.loop-line.line-iterator c.loop-line.yielded_by c.next.result c.next.new.self c.in-Some.line
-    c.in-Some.is c.next.ensures.steps
-    (YieldsList-from_slice_split _ (λ byte. byte == 10) c.args.input.now (ap split_rest gives ∙ c.split-line-items.ensures.rest) (ap split_done gives ∙
-    c.split-line-items.ensures.done) (ap split_callee gives ∙ c.split-line-items.ensures.closure) (λ x r q k. search (rules, tests))) in
-    let cut = text-cut c.args.input.now (map (λ x. x.now) c.loop-line.yielded) c.in-Some.line.now (drop (suc (length c.loop-line.yielded)) parts)
-    (parts-around (λ x. x.now) parts c.loop-line.yielded c.in-Some.line here) in
-    omega (arith, c.loop-line.invariant.start, cut.within)
+    omega (arith, c.loop-line.invariant.start, (cut (goal.at.returns-then-begins_plan-clause-within c).In-Some).within)
 
-pub returns-then-begins_plan-clause-network : goal.returns-then-begins_plan-clause-network
+front : (c : In-Some) → begins_plan (line_of c.in-Some.line.now) ≡ true →
+    lines_of (take c.loop-line.start c.args.input.now) ≡ network_lines (lines_of c.args.input.now) ++ [] ∷ []
 unfolding lines_of
-returns-then-begins_plan-clause-network c =
-    let gives = c.into_iter-line-iterator.ensures.into_iter_gives in
-    let parts = slice_split (λ byte. byte == 10) c.args.input.now in
-    let here = items-at_turn {all = parts} c.loop-line.yielded c.loop-line.line-iterator c.loop-line.yielded_by c.next.result c.next.new.self c.in-Some.line
-    c.in-Some.is c.next.ensures.steps
-    (YieldsList-from_slice_split _ (λ byte. byte == 10) c.args.input.now (ap split_rest gives ∙ c.split-line-items.ensures.rest) (ap split_done gives ∙
-    c.split-line-items.ensures.done) (ap split_callee gives ∙ c.split-line-items.ensures.closure) (λ x r q k. search (rules, tests))) in
-    let before = map (λ x. line_of x.now) c.loop-line.yielded in
-    let after = drop (suc (length c.loop-line.yielded)) parts in
-    let cut = text-cut c.args.input.now (map (λ x. x.now) c.loop-line.yielded) c.in-Some.line.now after (parts-around (λ x. x.now) parts c.loop-line.yielded
-    c.in-Some.line here) in
-    let place : lines_of c.args.input.now ≡ before ++ line_of c.in-Some.line.now ∷ map line_of after =
-    lines-at_turn (λ x. x.now) parts c.loop-line.yielded c.in-Some.line here in
-    let lines = before-plan before (line_of c.in-Some.line.now) (map line_of after) (sym c.begins_plan.ensures ∙
-    c.if-begins_plan.true) c.loop-line.invariant.before in
-    let front : lines_of (take c.loop-line.start c.args.input.now) ≡ before ++ [] ∷ [] =
-    ap (λ k. lines_of (take k c.args.input.now)) c.loop-line.invariant.start ∙ ap (map line_of) cut.front
+front c begins =
+    ap (λ k. lines_of (take k c.args.input.now)) c.loop-line.invariant.start ∙ ap (map line_of) (cut c).front
     ∙ map-append line_of (map (λ x. x.now) c.loop-line.yielded) ([] ∷ [])
     ∙ ap (λ l. map line_of (map (λ x. x.now) c.loop-line.yielded) ++ l ∷ []) empty-line
-    ∙ ap (λ ls. ls ++ [] ∷ []) (map-twice line_of (λ x. x.now) c.loop-line.yielded) in
-    front ∙ ap (λ ls. ls ++ [] ∷ []) (sym (ap network_lines place ∙ lines.0))
+    ∙ ap (λ ls. ls ++ [] ∷ []) (map-twice line_of (λ x. x.now) c.loop-line.yielded ∙ sym (lines c begins).0)
+
+back : (c : In-Some) → lines_of (drop c.loop-line.start c.args.input.now) ≡ line_of c.in-Some.line.now ∷ map line_of (after c)
+unfolding lines_of
+back c = ap (λ k. lines_of (drop k c.args.input.now)) c.loop-line.invariant.start ∙ ap (map line_of) (cut c).back
+
+pub returns-then-begins_plan-clause-network : goal.returns-then-begins_plan-clause-network
+returns-then-begins_plan-clause-network c =
+    front (goal.at.returns-then-begins_plan-clause-network c).In-Some (sym c.begins_plan.ensures ∙ c.if-begins_plan.true)
 
 pub returns-then-begins_plan-clause-plan : goal.returns-then-begins_plan-clause-plan
-unfolding lines_of
 returns-then-begins_plan-clause-plan c =
-    let gives = c.into_iter-line-iterator.ensures.into_iter_gives in
-    let parts = slice_split (λ byte. byte == 10) c.args.input.now in
-    let here = items-at_turn {all = parts} c.loop-line.yielded c.loop-line.line-iterator c.loop-line.yielded_by c.next.result c.next.new.self c.in-Some.line
-    c.in-Some.is c.next.ensures.steps
-    (YieldsList-from_slice_split _ (λ byte. byte == 10) c.args.input.now (ap split_rest gives ∙ c.split-line-items.ensures.rest) (ap split_done gives ∙
-    c.split-line-items.ensures.done) (ap split_callee gives ∙ c.split-line-items.ensures.closure) (λ x r q k. search (rules, tests))) in
-    let before = map (λ x. line_of x.now) c.loop-line.yielded in
-    let after = drop (suc (length c.loop-line.yielded)) parts in
-    let cut = text-cut c.args.input.now (map (λ x. x.now) c.loop-line.yielded) c.in-Some.line.now after (parts-around (λ x. x.now) parts c.loop-line.yielded
-    c.in-Some.line here) in
-    let place : lines_of c.args.input.now ≡ before ++ line_of c.in-Some.line.now ∷ map line_of after =
-    lines-at_turn (λ x. x.now) parts c.loop-line.yielded c.in-Some.line here in
-    let lines = before-plan before (line_of c.in-Some.line.now) (map line_of after) (sym c.begins_plan.ensures ∙
-    c.if-begins_plan.true) c.loop-line.invariant.before in
-    ap (λ k. lines_of (drop k c.args.input.now)) c.loop-line.invariant.start ∙ ap (map line_of) cut.back ∙ sym (ap plan_lines place ∙ lines.1)
+    let at = (goal.at.returns-then-begins_plan-clause-plan c).In-Some in
+    back at ∙ sym (lines at (sym c.begins_plan.ensures ∙ c.if-begins_plan.true)).1
+
+pub returns-then-begins_plan-clause-text : goal.returns-then-begins_plan-clause-text
+returns-then-begins_plan-clause-text c =
+    let at = (goal.at.returns-then-begins_plan-clause-text c).In-Some in
+    let begins : begins_plan (line_of c.in-Some.line.now) ≡ true = sym c.begins_plan.ensures ∙ c.if-begins_plan.true in
+    record {
+      whole = take-append-drop c.loop-line.start c.args.input.now;
+      front = front-text (lines_of c.args.input.now) (lines_of (take c.loop-line.start c.args.input.now)) (front at begins);
+      back = inr (
+        subst (λ k. EndsLine (take k c.args.input.now)) (sym c.loop-line.invariant.start) (cut at).ends,
+        (line_of c.in-Some.line.now, map line_of (after at), back at, begins),
+      );
+    }
 
 pub overflow_add-start-in-loop-line : goal.overflow_add-start-in-loop-line
 overflow_add-start-in-loop-line c =
-    let gives = c.into_iter-line-iterator.ensures.into_iter_gives in
-    let parts = slice_split (λ byte. byte == 10) c.args.input.now in
-    let here = items-at_turn {all = parts} c.loop-line.yielded c.loop-line.line-iterator c.loop-line.yielded_by c.next.result c.next.new.self c.in-Some.line
-    c.in-Some.is c.next.ensures.steps
-    (YieldsList-from_slice_split _ (λ byte. byte == 10) c.args.input.now (ap split_rest gives ∙ c.split-line-items.ensures.rest) (ap split_done gives ∙
-    c.split-line-items.ensures.done) (ap split_callee gives ∙ c.split-line-items.ensures.closure) (λ x r q k. search (rules, tests))) in
-    let cut = text-cut c.args.input.now (map (λ x. x.now) c.loop-line.yielded) c.in-Some.line.now (drop (suc (length c.loop-line.yielded)) parts)
-    (parts-around (λ x. x.now) parts c.loop-line.yielded c.in-Some.line here) in
-    omega (arith, c.loop-line.invariant.start, cut.within)
+    omega (arith, c.loop-line.invariant.start, (cut (goal.at.overflow_add-start-in-loop-line c).In-Some).within)
 
 pub loop-line-preserved : goal.loop-line-preserved
 loop-line-preserved c = record {
@@ -89,24 +97,18 @@ loop-line-preserved c = record {
       closed-push (map (λ x. x.now) c.loop-line.yielded) c.in-Some.line.now);
 }
 
-pub returns-clause-none : goal.returns-clause-none
+none-begins : (c : In-None) → (network_lines (lines_of c.args.input.now) ≡ lines_of c.args.input.now) × (plan_lines (lines_of c.args.input.now) ≡ [])
 unfolding lines_of
-returns-clause-none c =
+none-begins c =
     let gives = c.into_iter-line-iterator.ensures.into_iter_gives in
     let all = items-at_end c.loop-line.yielded c.loop-line.line-iterator c.loop-line.yielded_by c.next.result c.next.new.self c.in-None.is c.next.ensures.steps
     (YieldsList-from_slice_split _ (λ byte. byte == 10) c.args.input.now (ap split_rest gives ∙ c.split-line-items.ensures.rest) (ap split_done gives ∙
     c.split-line-items.ensures.done) (ap split_callee gives ∙ c.split-line-items.ensures.closure) (λ x r q k. search (rules, tests))) in
-    let same : map (λ x. line_of x.now) c.loop-line.yielded ≡ lines_of c.args.input.now = sym (map-twice line_of (λ x. x.now) c.loop-line.yielded) ∙
-    ap (map line_of) all in
-    subst (λ ls. network_lines ls ≡ ls) same (before-end (map (λ x. line_of x.now) c.loop-line.yielded) c.loop-line.invariant.before).0
+    subst (λ ls. (network_lines ls ≡ ls) × (plan_lines ls ≡ [])) (sym (map-twice line_of (λ x. x.now) c.loop-line.yielded) ∙ ap (map line_of) all)
+    (before-end (map (λ x. line_of x.now) c.loop-line.yielded) c.loop-line.invariant.before)
+
+pub returns-clause-none : goal.returns-clause-none
+returns-clause-none c = (none-begins (goal.at.returns-clause-none c).In-None).0
 
 pub returns-clause-no_plan : goal.returns-clause-no_plan
-unfolding lines_of
-returns-clause-no_plan c =
-    let gives = c.into_iter-line-iterator.ensures.into_iter_gives in
-    let all = items-at_end c.loop-line.yielded c.loop-line.line-iterator c.loop-line.yielded_by c.next.result c.next.new.self c.in-None.is c.next.ensures.steps
-    (YieldsList-from_slice_split _ (λ byte. byte == 10) c.args.input.now (ap split_rest gives ∙ c.split-line-items.ensures.rest) (ap split_done gives ∙
-    c.split-line-items.ensures.done) (ap split_callee gives ∙ c.split-line-items.ensures.closure) (λ x r q k. search (rules, tests))) in
-    let same : map (λ x. line_of x.now) c.loop-line.yielded ≡ lines_of c.args.input.now = sym (map-twice line_of (λ x. x.now) c.loop-line.yielded) ∙
-    ap (map line_of) all in
-    subst (λ ls. plan_lines ls ≡ []) same (before-end (map (λ x. line_of x.now) c.loop-line.yielded) c.loop-line.invariant.before).1
+returns-clause-no_plan c = (none-begins (goal.at.returns-clause-no_plan c).In-None).1

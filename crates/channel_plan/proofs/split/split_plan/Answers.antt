@@ -1,7 +1,8 @@
-use Rattle.std.proofs.Common.{◌∙◌, ap, inl, inr, sym}
+use Rattle.std.proofs.Common.{◌≡◌, ◌∙◌, false, All, ap, append-nil, inl, inr, refl, subst, sym}
 use Rattle.dimacs_col.specs.Lines.{lines_of}
 use Rattle.channel_plan.specs.Reading.{reading_of}
-use Rattle.channel_plan.proofs.Splitting.{last-line, read-empty}
+use Rattle.channel_plan.specs.Split.{begins_plan}
+use Rattle.channel_plan.proofs.Splitting.{front-all, last-line, read-empty}
 use Rattle.channel_plan.proofs.split.split_plan.Goals as goal
 
 pub returns-in-Some-clause-network : goal.returns-in-Some-clause-network
@@ -15,3 +16,10 @@ returns-in-None-clause-network c = inl (sym c.in-None.ensures.none)
 
 pub returns-in-None-clause-plan : goal.returns-in-None-clause-plan
 returns-in-None-clause-plan c = ap reading_of last-line ∙ read-empty ∙ ap reading_of (sym c.in-None.ensures.no_plan)
+
+pub returns-in-None-clause-text : goal.returns-in-None-clause-text
+returns-in-None-clause-text c = record {
+  whole = append-nil c.args.input.now;
+  front = subst (All (λ line. begins_plan line ≡ false)) c.in-None.ensures.none (front-all (lines_of c.args.input.now));
+  back = inl refl;
+}

@@ -21,10 +21,10 @@ loop-inbox-init c = record {
 pub add-requires : goal.add-requires
 add-requires c =
     let l = c.loop-inbox in
-    let there : at_port c.args.inbox.now.slots (c.next.new.self.place - 1) ≡ Some (Chosen c.in-Chosen.colour) =
-    ap (λ (slots : List (Option Payload)). at_port slots (c.next.new.self.place - 1)) (sym l.invariant.same) ∙
+    let there : at_port c.args.inbox.now.slots (c.next.new.self.cursor - 1) ≡ Some (Chosen c.in-Chosen.colour) =
+    ap (λ (slots : List (Option Payload)). at_port slots (c.next.new.self.cursor - 1)) (sym l.invariant.same) ∙
     (read-is l.inbox c.next.result c.next.new.self c.next.ensures.reads ∙ ap Some c.in-Chosen.is) in
-    let low : c.in-Chosen.colour < COLOURS = c.requires.colours (c.next.new.self.place - 1) c.in-Chosen.colour there in
+    let low : c.in-Chosen.colour < COLOURS = c.requires.colours (c.next.new.self.cursor - 1) c.in-Chosen.colour there in
     omega arith
 
 pub loop-inbox-smaller-in-Chosen : goal.loop-inbox-smaller-in-Chosen
@@ -33,7 +33,7 @@ loop-inbox-smaller-in-Chosen c = read-less c.loop-inbox.inbox c.next.result c.ne
 pub loop-inbox-preserved-in-Chosen : goal.loop-inbox-preserved-in-Chosen
 loop-inbox-preserved-in-Chosen c =
     let l = c.loop-inbox in
-    let port : ℕ = c.next.new.self.place - 1 in
+    let port : ℕ = c.next.new.self.cursor - 1 in
     record {
       same = c.next.ensures.reads.same ∙ l.invariant.same;
       rest =
@@ -50,7 +50,7 @@ loop-inbox-preserved c =
       same = c.next.ensures.reads.same ∙ c.loop-inbox.invariant.same;
       rest =
           ap (λ (set : FinSet nat_cmp). fold_rest taken_in set c.next.new.self)
-          (sym (taken_in-other c.loop-inbox.chosen (c.next.new.self.place - 1) c.next.result c.in_default.not-Chosen))
+          (sym (taken_in-other c.loop-inbox.chosen (c.next.new.self.cursor - 1) c.next.result c.in_default.not-Chosen))
           ∙ (sym (fold_rest-read taken_in c.loop-inbox.inbox c.next.result c.next.new.self c.loop-inbox.chosen c.next.ensures.reads)
           ∙ c.loop-inbox.invariant.rest);
     }

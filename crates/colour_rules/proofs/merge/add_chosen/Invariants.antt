@@ -12,4 +12,4 @@ invariant-loop-inbox l =
     }
 
 abbrev pub decreases-loop-inbox : goal.decreases-loop-inbox
-decreases-loop-inbox l = length l.inbox.slots - l.inbox.place
+decreases-loop-inbox l = length l.inbox.slots - l.inbox.cursor

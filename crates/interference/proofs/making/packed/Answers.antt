@@ -5,37 +5,38 @@ use Rattle.interference.proofs.Starting.{greatest_is}
 use Rattle.interference.proofs.Packing.{length-rows, row_is, net_is, is_packed}
 use Rattle.interference.proofs.PortsBack.{has_backs}
 use Rattle.interference.proofs.making.packed.Goals as goal
+use Rattle.interference.proofs.making.packed.Goals.{After-deref-3}
+
+filled-by : (c : After-deref-3) →
+    IsFilled c.args.nodes c.args.edges.now c.starts_of-starts.result.items c.in_ok-ports.ports.items c.in_ok-ports.backs.items
+filled-by c = rw (← c.deref-2.ensures.value) c.in_ok-ports.ensures
 
 pub forest_count-forest_count-requires : goal.forest_count-forest_count-requires
 forest_count-forest_count-requires c =
-    let filled : IsFilled c.args.nodes c.args.edges.now c.starts_of-starts.result.items c.in_ok-ports.ports.items c.in_ok-ports.backs.items =
-    rw (← c.deref-2.ensures.value) c.in_ok-ports.ensures in
+    let filled = filled-by (goal.at.forest_count-forest_count-requires c).After-deref-3 in
     rw (c.deref-3.ensures.value, c.deref-4.ensures.value) (is_packed c.args.nodes c.args.edges.now _ _ _ filled c.args.ids.now c.requires.ids
     c.requires.network)
 
 pub from_parts-requires-clause-packed : goal.from_parts-requires-clause-packed
 from_parts-requires-clause-packed c =
-    let filled : IsFilled c.args.nodes c.args.edges.now c.starts_of-starts.result.items c.in_ok-ports.ports.items c.in_ok-ports.backs.items =
-    rw (← c.deref-2.ensures.value) c.in_ok-ports.ensures in
+    let filled = filled-by (goal.at.from_parts-requires-clause-packed c).After-deref-3 in
     rw c.in_ok-ids.ensures.items (is_packed c.args.nodes c.args.edges.now _ _ _ filled c.args.ids.now c.requires.ids c.requires.network)
 
 pub from_parts-requires-clause-backs : goal.from_parts-requires-clause-backs
 from_parts-requires-clause-backs c =
-    let filled : IsFilled c.args.nodes c.args.edges.now c.starts_of-starts.result.items c.in_ok-ports.ports.items c.in_ok-ports.backs.items =
-    rw (← c.deref-2.ensures.value) c.in_ok-ports.ensures in
+    let filled = filled-by (goal.at.from_parts-requires-clause-backs c).After-deref-3 in
     rw c.in_ok-ids.ensures.items (has_backs c.args.nodes c.args.edges.now _ _ _ filled c.args.ids.now c.requires.ids)
 
 pub from_parts-requires-clause-greatest : goal.from_parts-requires-clause-greatest
 from_parts-requires-clause-greatest c =
     let starts = c.starts_of-starts.result.items in
     let ports = c.in_ok-ports.ports.items in
-    let filled : IsFilled c.args.nodes c.args.edges.now starts ports c.in_ok-ports.backs.items = rw (← c.deref-2.ensures.value) c.in_ok-ports.ensures in
+    let filled = filled-by (goal.at.from_parts-requires-clause-greatest c).After-deref-3 in
     c.greatest-greatest_degree.ensures ∙ ap (fold max 0) c.deref.ensures.value
     ∙ greatest_is c.args.nodes c.args.edges.now c.args.degrees.items (rows starts ports) c.requires.edges c.requires.degrees
     (omega (arith, length-rows starts ports, filled.are.sizes)) (row_is c.args.nodes c.args.edges.now starts ports c.in_ok-ports.backs.items filled)
 
 pub returns : goal.returns
 returns c =
-    let filled : IsFilled c.args.nodes c.args.edges.now c.starts_of-starts.result.items c.in_ok-ports.ports.items c.in_ok-ports.backs.items =
-    rw (← c.deref-2.ensures.value) c.in_ok-ports.ensures in
+    let filled = filled-by (goal.at.returns c).After-deref-3 in
     c.from_parts.ensures ∙ rw c.in_ok-ids.ensures.items (net_is c.args.nodes c.args.edges.now _ _ _ filled c.args.ids.now c.requires.ids)

@@ -68,7 +68,7 @@ loop-port-preserved g c =
     (sym (take_more ports k 0 c.loop-port-test.true))
     (delivered_at net c.is_network.ensures outs w (take k ports) port c.requires.vertex in_row fresh inboxes c.loop-port.invariant
     c.in-Some.payload got c.neighbour-v.result c.back_port.result c.index-inboxes-v.result c.put.new.self c.neighbour-v.ensures.value
-    c.back_port.ensures.value c.index-inboxes-v.is c.put.ensures.slots c.put.ensures.place)
+    c.back_port.ensures.value c.index-inboxes-v.is c.put.ensures.slots c.put.ensures.cursor)
 
 pub returns : goal.returns
 returns g c =

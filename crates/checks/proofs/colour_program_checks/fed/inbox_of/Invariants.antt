@@ -4,5 +4,5 @@ use Rattle.checks.proofs.colour_program_checks.fed.inbox_of.Given as goal
 abbrev pub invariant-loop-port : goal.invariant-loop-port
 invariant-loop-port l = record {
   slots : length l.inbox.slots ≡ length l.payloads;
-  place : l.inbox.place ≡ 0;
+  cursor : l.inbox.cursor ≡ 0;
 }

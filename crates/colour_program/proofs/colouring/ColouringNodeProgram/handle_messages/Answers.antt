@@ -13,7 +13,7 @@ returns-then-not-has_next-clause-answer c =
     let slots : List (Option Payload) = c.args.inbox.now.slots in
     let covered = c.contains.ensures.0 c.if-contains.true in
     let quiet : HasFrom slots 0 → ⊥ =
-    subst (λ (place : ℕ). HasFrom slots place → ⊥) c.requires.rewound (λ some. let e : IsTrue false = c.if-not-has_next.ensures.more.1 some in (cc)) in
+    subst (λ (cursor : ℕ). HasFrom slots cursor → ⊥) c.requires.rewound (λ some. let e : IsTrue false = c.if-not-has_next.ensures.more.1 some in (cc)) in
     let empty : slots ≡ nothing (ports node) = nothing-came slots quiet ∙ ap (λ (n : ℕ). nothing n) c.requires.inbox in
     let stays : next node c.args.pulse (nothing (ports node)) ≡ Ok (node, nothing (ports node)) =
     subst (λ (n : Node). next n c.args.pulse (nothing (ports n)) ≡ Ok (n, nothing (ports n))) c.self.view_is

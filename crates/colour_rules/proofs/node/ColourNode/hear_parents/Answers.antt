@@ -40,8 +40,8 @@ loop-self-preserved c =
 
 pub returns-clause-parent_colours : goal.returns-clause-parent_colours
 returns-clause-parent_colours c f h =
-    let place = c.loop-self.inbox.place in
-    let end : HasFrom c.loop-self.inbox.slots place → ⊥ = λ more. let e : IsTrue false = c.loop-self-test.ensures.more.1 more in absurd (cc) in
+    let cursor = c.loop-self.inbox.cursor in
+    let end : HasFrom c.loop-self.inbox.slots cursor → ⊥ = λ more. let e : IsTrue false = c.loop-self-test.ensures.more.1 more in absurd (cc) in
     let inside : f < length c.loop-self.parent_colours = omega (arith, c.loop-self.auto.parent_colours, c.fill.ensures.len, c.requires.room) in
-    heard-all c.args.self.now.roles c.args.inbox.now.slots place c.loop-self.parent_colours c.loop-self.invariant.heard c.requires.all c.requires.ports
-    (subst (λ (slots : List (Option Payload)). HasFrom slots place → ⊥) c.loop-self.invariant.same end) f inside
+    heard-all c.args.self.now.roles c.args.inbox.now.slots cursor c.loop-self.parent_colours c.loop-self.invariant.heard c.requires.all c.requires.ports
+    (subst (λ (slots : List (Option Payload)). HasFrom slots cursor → ⊥) c.loop-self.invariant.same end) f inside

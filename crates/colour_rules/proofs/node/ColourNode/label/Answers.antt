@@ -25,9 +25,9 @@ loop-self-preserved c =
 
 pub returns-clause-node : goal.returns-clause-node
 returns-clause-node c =
-    let place = c.loop-self.inbox.place in
-    let end : HasFrom c.loop-self.inbox.slots place → ⊥ = λ h. let e : IsTrue false = c.loop-self-test.ensures.more.1 h in absurd (cc) in
+    let cursor = c.loop-self.inbox.cursor in
+    let end : HasFrom c.loop-self.inbox.slots cursor → ⊥ = λ h. let e : IsTrue false = c.loop-self-test.ensures.more.1 h in absurd (cc) in
     c.loop-self.invariant.node
     ∙ ap (with_roles c.args.self.now)
-    (labelled-all c.args.self.now.roles c.args.inbox.now.slots place c.loop-self.self-inside.roles.items c.loop-self.invariant.roles c.requires.ports
-    (subst (λ (slots : List (Option Payload)). HasFrom slots place → ⊥) c.loop-self.invariant.same end))
+    (labelled-all c.args.self.now.roles c.args.inbox.now.slots cursor c.loop-self.self-inside.roles.items c.loop-self.invariant.roles c.requires.ports
+    (subst (λ (slots : List (Option Payload)). HasFrom slots cursor → ⊥) c.loop-self.invariant.same end))

@@ -9,8 +9,8 @@ invariant-loop-self l =
     record {
       same : l.inbox.slots ≡ l.fn.inbox.slots;
       node : the_view l.self-inside ≡ with_roles l.fn.self l.self-inside.roles.items;
-      roles : Labelled l.fn.self.roles l.fn.inbox.slots l.inbox.place l.self-inside.roles.items;
+      roles : Labelled l.fn.self.roles l.fn.inbox.slots l.inbox.cursor l.self-inside.roles.items;
     }
 
 abbrev pub decreases-loop-self : goal.decreases-loop-self
-decreases-loop-self l = length l.inbox.slots - l.inbox.place
+decreases-loop-self l = length l.inbox.slots - l.inbox.cursor

@@ -1,7 +1,7 @@
 -- The plan: the payload that is read is the next one, and nothing came before it (read). So the ports before it are
 -- passed (there), unless one of them had to bring something; and its own port is passed or refused by its rule.
 use Rattle.std.proofs.Common.{rules, ◌≡◌, ℕ, ◌+◌, ◌<◌, ◌≤◌, false, refl, ap, sym, subst, ◌∙◌, arith, slice_index_or}
-use Rattle.std.specs.Prelude.{Option, Some, None}
+use Rattle.std.specs.Prelude.{Option, Some}
 use Rattle.forests.specs.declared.numbering.Role.TheVariants.{Unknown}
 use Rattle.colour_rules.specs.declared.payload.Payload.{Payload}
 use Rattle.colour_rules.specs.Node.{ports}

@@ -7,7 +7,7 @@ abbrev pub invariant-loop-identifiers : goal.invariant-loop-identifiers
 invariant-loop-identifiers l =
     record {
       same : l.inbox.slots ≡ l.fn.inbox.slots;
-      cursor : l.from ≡ l.inbox.place;
+      cursor : l.from ≡ l.inbox.cursor;
       within : l.from ≤ ports l.fn.self;
       room : length l.identifiers ≡ ports l.fn.self;
       few : l.count ≤ l.from;
@@ -15,4 +15,4 @@ invariant-loop-identifiers l =
     }
 
 abbrev pub decreases-loop-identifiers : goal.decreases-loop-identifiers
-decreases-loop-identifiers l = length l.inbox.slots - l.inbox.place
+decreases-loop-identifiers l = length l.inbox.slots - l.inbox.cursor

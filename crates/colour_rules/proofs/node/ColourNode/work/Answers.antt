@@ -17,7 +17,7 @@ use Rattle.colour_rules.proofs.node.ColourNode.work.Goals.{After-turn_all}
 
 pub hear_parents-requires-clause-all : goal.hear_parents-requires-clause-all
 hear_parents-requires-clause-all c port f h up =
-    let b = brought c.args.self.now c.args.reduction c.args.inbox.now.slots c.requires.real c.requires.own c.requires.ports c.requires.accepted port f h up in
+    let b = brought c.args.self.now c.args.reduction c.args.inbox.now.slots c.requires.accepted port f h up in
     (b.0, b.1)
 
 pub turn_all-requires-clause-ready : goal.turn_all-requires-clause-ready
@@ -31,8 +31,7 @@ turn_all-requires-clause-ready c f h =
     let heard : slice_index_or c.hear_parents.new.parent_colours f None ≡ from_parent f node.roles c.args.inbox.now.slots =
     c.hear_parents.ensures.parent_colours f in_forest in
     rw (own, before, heard)
-    (ready node c.args.reduction c.args.inbox.now.slots c.requires.real c.requires.own c.requires.ports c.requires.accepted valid.6 (valid.4 ∙
-    sym valid.3) f within)
+    (ready node c.args.reduction c.args.inbox.now.slots c.requires.accepted valid.6 (valid.4 ∙ sym valid.3) f within)
 
 -- the colours after the turn, and those kept beside them
 turned : (c : After-turn_all) → ((with_items c.self.inside.colours c.turn_all.new.colours).items
@@ -83,7 +82,7 @@ stays c =
     subst IsValid (sym (worked c))
     (valid-colours node (next_colours node c.args.reduction c.args.inbox.now.slots) (next_kept node c.args.reduction) valid
     (length-map-range_with_len _ 0 node.sizes.forests) (length-map-range_with_len _ 0 node.sizes.forests)
-    (kept-below node c.args.reduction c.args.inbox.now.slots c.requires.real c.requires.own valid.6 (valid.4 ∙ sym valid.3) valid.3))
+    (kept-below node c.args.reduction c.args.inbox.now.slots c.requires.accepted valid.6 (valid.4 ∙ sym valid.3) valid.3))
 
 pub invariant_of-self : goal.invariant_of-self
 invariant_of-self c = stays (goal.at.invariant_of-self c).After-turn_all

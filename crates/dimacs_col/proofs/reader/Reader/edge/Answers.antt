@@ -1,57 +1,55 @@
-use Rattle.std.proofs.Common.{◌∙◌, sym, ap, Some, arith}
-use Rattle.dimacs_col.specs.Lines.{field_at}
-use Rattle.dimacs_col.specs.State.{kept_number}
+-- The plan: the two numbers that were read are the fields of the line (as-edge), so a vertex out of range is told as the
+-- definition says; once the edge is put among the others (as-put), the reader knows one line more or the text is too large.
+use Rattle.std.proofs.Common.{◌≡◌, ◌∙◌, ℕ, List, sym, ap, Some, arith}
+use Rattle.dimacs_col.specs.Kinds.{kind_of_word}
+use Rattle.dimacs_col.specs.Lines.{Line, field_at}
+use Rattle.dimacs_col.specs.State.{Knows, kept_number}
 use Rattle.dimacs_col.specs.declared.fault.ColFault.TheVariants.{VertexRange, TooLarge}
+use Rattle.dimacs_col.specs.declared.kind.Kind.TheVariants.{Edge}
 use Rattle.dimacs_col.proofs.Verdicts.{field_at-drop}
 use Rattle.dimacs_col.proofs.Edges.{IsEdge, IsPut, told-range, told-large, knows-put}
 use Rattle.dimacs_col.proofs.reader.Reader.edge.Goals as goal
+use Rattle.dimacs_col.proofs.reader.Reader.edge.Goals.{In-Some-Some, After-is_too_large}
+
+as-edge : (c : In-Some-Some) (before : List Line) (word : List ℕ) → Knows before c.args.self.now → kind_of_word word ≡ Edge →
+    IsEdge before word c.args.fields c.args.self.now c.in-Some.nodes c.in-Some-Some.v c.in-Some-Some.w
+as-edge c before word knows kind = record {
+  knows = knows;
+  kind = kind;
+  nodes_is = c.in-Some.is;
+  first = sym c.next_number.ensures.first ∙ c.in-Some-Some.is-0;
+  second = sym (c.next_number-2.ensures.first ∙ ap (λ fs. kept_number (field_at fs 0)) c.next_number.ensures.rest ∙
+      ap kept_number (field_at-drop c.args.fields 1 0)) ∙ c.in-Some-Some.is-1;
+}
+
+as-put : (c : After-is_too_large) (before : List Line) (word : List ℕ) →
+    IsEdge before word c.args.fields c.args.self.now c.in-Some.nodes c.in-Some-Some.v c.in-Some-Some.w →
+    IsPut before word c.args.fields c.args.self.now c.in-Some.nodes c.in-Some-Some.v c.in-Some-Some.w c.insert.new.self
+as-put c before word edge = record {
+  edge = edge;
+  first_low = omega arith;
+  first_high = omega arith;
+  second_low = omega arith;
+  second_high = omega arith;
+  apart = c.if-v-w.false;
+  members = rw (← c.ordered.ensures) c.in_ok-insert.ensures;
+}
 
 pub returns-then-v-eq0-clause-judged : goal.returns-then-v-eq0-clause-judged
 returns-then-v-eq0-clause-judged c = λ before word knows line kind.
-    let first = sym c.next_number.ensures.first ∙ c.in-Some-Some.is-0 in
-    let second = sym (c.next_number-2.ensures.first ∙ ap (λ fs. kept_number (field_at fs 0)) c.next_number.ensures.rest ∙
-    ap kept_number (field_at-drop c.args.fields 1 0)) ∙ c.in-Some-Some.is-1 in
-    let e : IsEdge before word c.args.fields c.args.self.now c.in-Some.nodes c.in-Some-Some.v c.in-Some-Some.w =
-    record { knows = knows; kind = kind; nodes_is = c.in-Some.is; first = first; second = second } in
+    let e = as-edge (goal.at.returns-then-v-eq0-clause-judged c).In-Some-Some before word knows kind in
     told-range before word c.args.fields c.args.self.now c.in-Some.nodes c.in-Some-Some.v c.in-Some-Some.w e (λ a b d f. omega arith) ∙
     ap (λ n. Some (VertexRange n)) (sym line)
 
 pub returns-then-is_too_large-clause-judged : goal.returns-then-is_too_large-clause-judged
 returns-then-is_too_large-clause-judged c = λ before word knows line kind.
-    let first = sym c.next_number.ensures.first ∙ c.in-Some-Some.is-0 in
-    let second = sym (c.next_number-2.ensures.first ∙ ap (λ fs. kept_number (field_at fs 0)) c.next_number.ensures.rest ∙
-    ap kept_number (field_at-drop c.args.fields 1 0)) ∙ c.in-Some-Some.is-1 in
-    let e : IsEdge before word c.args.fields c.args.self.now c.in-Some.nodes c.in-Some-Some.v c.in-Some-Some.w =
-    record { knows = knows; kind = kind; nodes_is = c.in-Some.is; first = first; second = second } in
-    let p : IsPut before word c.args.fields c.args.self.now c.in-Some.nodes c.in-Some-Some.v c.in-Some-Some.w c.insert.new.self =
-    record {
-      edge = e;
-      first_low = omega arith;
-      first_high = omega arith;
-      second_low = omega arith;
-      second_high = omega arith;
-      apart = c.if-v-w.false;
-      members = rw (← c.ordered.ensures) c.in_ok-insert.ensures;
-    } in
-    told-large before word c.args.fields c.args.self.now c.in-Some.nodes c.in-Some-Some.v c.in-Some-Some.w c.insert.new.self p (sym c.is_too_large.ensures ∙
-    c.if-is_too_large.true) ∙ ap (λ n. Some (TooLarge n)) (sym line)
+    let at = goal.at.returns-then-is_too_large-clause-judged c in
+    told-large before word c.args.fields c.args.self.now c.in-Some.nodes c.in-Some-Some.v c.in-Some-Some.w c.insert.new.self
+    (as-put at.After-is_too_large before word (as-edge at.In-Some-Some before word knows kind)) (sym c.is_too_large.ensures ∙ c.if-is_too_large.true) ∙
+    ap (λ n. Some (TooLarge n)) (sym line)
 
 pub returns-clause-judged : goal.returns-clause-judged
 returns-clause-judged c = λ before word knows line kind.
-    let first = sym c.next_number.ensures.first ∙ c.in-Some-Some.is-0 in
-    let second = sym (c.next_number-2.ensures.first ∙ ap (λ fs. kept_number (field_at fs 0)) c.next_number.ensures.rest ∙
-    ap kept_number (field_at-drop c.args.fields 1 0)) ∙ c.in-Some-Some.is-1 in
-    let e : IsEdge before word c.args.fields c.args.self.now c.in-Some.nodes c.in-Some-Some.v c.in-Some-Some.w =
-    record { knows = knows; kind = kind; nodes_is = c.in-Some.is; first = first; second = second } in
-    let p : IsPut before word c.args.fields c.args.self.now c.in-Some.nodes c.in-Some-Some.v c.in-Some-Some.w c.insert.new.self =
-    record {
-      edge = e;
-      first_low = omega arith;
-      first_high = omega arith;
-      second_low = omega arith;
-      second_high = omega arith;
-      apart = c.if-v-w.false;
-      members = rw (← c.ordered.ensures) c.in_ok-insert.ensures;
-    } in
-    knows-put before word c.args.fields c.args.self.now c.args.self.now.line c.in-Some.nodes c.in-Some-Some.v c.in-Some-Some.w c.insert.new.self p
-    (sym c.is_too_large.ensures ∙ c.if-is_too_large.false)
+    let at = goal.at.returns-clause-judged c in
+    knows-put before word c.args.fields c.args.self.now c.args.self.now.line c.in-Some.nodes c.in-Some-Some.v c.in-Some-Some.w c.insert.new.self
+    (as-put at.After-is_too_large before word (as-edge at.In-Some-Some before word knows kind)) (sym c.is_too_large.ensures ∙ c.if-is_too_large.false)

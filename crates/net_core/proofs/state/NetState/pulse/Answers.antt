@@ -1,18 +1,40 @@
-use Rattle.std.proofs.Common.{refl, sym, ap, ◌∙◌, arith}
+-- The plan: the vertex is one of the network's (vertex-is). If its node can't make a pulse nothing changes (kept_same); if it
+-- can, no node refuses its pulse (pulse_refused), and it is made as the definition makes it (pulsed).
+use Rattle.std.proofs.Common.{◌≡◌, ◌-◌, Ok, set, refl, sym, ap, ◌∙◌, arith}
 use Rattle.interference.specs.Net.{IsVertex}
 use Rattle.net_core.specs.declared.event.Event.TheVariants.{Pulse}
+use Rattle.net_core.specs.State.{state_in}
 use Rattle.net_core.specs.Step.{is_vertex, step}
+use Rattle.net_core.specs.Simulation.{IsNetState}
 use Rattle.net_core.proofs.NetKept.{vertex_from}
 use Rattle.net_core.proofs.Held.{in_nodes, kept_same, pulse_not_ready, pulse_made, pulse_refused}
 use Rattle.net_core.proofs.state.NetState.pulse.Goals as goal
+use Rattle.net_core.proofs.state.NetState.pulse.Goals.{Else-not-is_vertex, In-Ok}
+
+-- the vertex is one of the network's
+vertex-is : (g : _) (c : Else-not-is_vertex g) → IsVertex c.self.inside.net c.args.v
+vertex-is g c =
+    vertex_from c.self.inside.net c.args.v (ap (λ s. is_vertex s.net c.args.v) c.self.view_is ∙ sym c.is_vertex.ensures.vertex ∙ c.if-not-is_vertex.false)
+
+-- the step of the definition is made, and what it leaves is a state of the network
+pulsed : (g : _) (c : In-Ok g) → IsVertex c.self.inside.net c.args.v →
+    (step g.P.NodeProgram.program c.self.inside.net (state_in c.self.inside.nodes.items c.self.inside.links) (Pulse c.args.v)
+    ≡ Ok (state_in (set c.self.inside.nodes.items (c.args.v - 1) c.pulse.new.self) c.self.inside.links)) ×
+    IsNetState g.P.NodeProgram.program c.self.inside.net (set c.self.inside.nodes.items (c.args.v - 1) c.pulse.new.self) c.self.inside.links
+pulsed g c vertex =
+    let m = g.P.NodeProgram in
+    let a = c.self.inside in
+    let ok = c.is_network.ensures in
+    pulse_made m.program m.laws a.net ok a.nodes.items a.links c.self.invariant c.args.v vertex c.index_mut-node.result.now
+    c.index_mut-node.ensures.value
+    (sym c.can_pulse.ensures.can ∙ c.if-not-can_pulse.false) c.pulse.new.self c.in-Ok.ensures.pulse c.in-Ok.ensures.last
 
 pub index_mut-node-requires : goal.index_mut-node-requires
 index_mut-node-requires g c =
     let m = g.P.NodeProgram in
     let a = c.self.inside in
     let ok = c.is_network.ensures in
-    let vertex : IsVertex a.net c.args.v =
-    vertex_from a.net c.args.v (ap (λ s. is_vertex s.net c.args.v) c.self.view_is ∙ sym c.is_vertex.ensures.vertex ∙ c.if-not-is_vertex.false) in
+    let vertex = vertex-is g (goal.at.index_mut-node-requires g c).Else-not-is_vertex in
     omega (arith, a.nodes.ok.0, in_nodes m.program m.laws a.net ok a.nodes.items a.links c.self.invariant c.args.v vertex)
 
 pub invariant_of-self : goal.invariant_of-self
@@ -20,8 +42,7 @@ invariant_of-self g c =
     let m = g.P.NodeProgram in
     let a = c.self.inside in
     let ok = c.is_network.ensures in
-    let vertex : IsVertex a.net c.args.v =
-    vertex_from a.net c.args.v (ap (λ s. is_vertex s.net c.args.v) c.self.view_is ∙ sym c.is_vertex.ensures.vertex ∙ c.if-not-is_vertex.false) in
+    let vertex = vertex-is g (goal.at.invariant_of-self g c).Else-not-is_vertex in
     kept_same m.program m.laws a.net ok a.nodes.items a.links c.self.invariant c.args.v vertex c.index_mut-node.result.now c.index_mut-node.ensures.value
     c.index_mut-node.result.now refl a.links refl
 
@@ -30,8 +51,7 @@ returns-then-not-can_pulse-clause-step g c =
     let m = g.P.NodeProgram in
     let a = c.self.inside in
     let ok = c.is_network.ensures in
-    let vertex : IsVertex a.net c.args.v =
-    vertex_from a.net c.args.v (ap (λ s. is_vertex s.net c.args.v) c.self.view_is ∙ sym c.is_vertex.ensures.vertex ∙ c.if-not-is_vertex.false) in
+    let vertex = vertex-is g (goal.at.returns-then-not-can_pulse-clause-step g c).Else-not-is_vertex in
     λ _. ap (λ s. step m.program s.net s.state (Pulse c.args.v)) (sym c.self.view_is)
     ∙ pulse_not_ready m.program m.laws a.net ok a.nodes.items a.links c.self.invariant c.args.v vertex c.index_mut-node.result.now
     c.index_mut-node.ensures.value
@@ -42,8 +62,7 @@ unreachable-requires g c =
     let m = g.P.NodeProgram in
     let a = c.self.inside in
     let ok = c.is_network.ensures in
-    let vertex : IsVertex a.net c.args.v =
-    vertex_from a.net c.args.v (ap (λ s. is_vertex s.net c.args.v) c.self.view_is ∙ sym c.is_vertex.ensures.vertex ∙ c.if-not-is_vertex.false) in
+    let vertex = vertex-is g (goal.at.unreachable-requires g c).Else-not-is_vertex in
     pulse_refused m.program m.laws a.net ok a.nodes.items a.links c.self.invariant c.args.v vertex c.index_mut-node.result.now c.index_mut-node.ensures.value
     (sym c.can_pulse.ensures.can ∙ c.if-not-can_pulse.false) _ c.in-Err.ensures.pulse.2
 
@@ -52,11 +71,8 @@ invariant_of-self-2 g c =
     let m = g.P.NodeProgram in
     let a = c.self.inside in
     let ok = c.is_network.ensures in
-    let vertex : IsVertex a.net c.args.v =
-    vertex_from a.net c.args.v (ap (λ s. is_vertex s.net c.args.v) c.self.view_is ∙ sym c.is_vertex.ensures.vertex ∙ c.if-not-is_vertex.false) in
-    let made = pulse_made m.program m.laws a.net ok a.nodes.items a.links c.self.invariant c.args.v vertex c.index_mut-node.result.now
-    c.index_mut-node.ensures.value
-    (sym c.can_pulse.ensures.can ∙ c.if-not-can_pulse.false) c.pulse.new.self c.in-Ok.ensures.pulse c.in-Ok.ensures.last in
+    let vertex = vertex-is g (goal.at.invariant_of-self-2 g c).Else-not-is_vertex in
+    let made = pulsed g (goal.at.invariant_of-self-2 g c).In-Ok vertex in
     made.1
 
 pub returns-clause-step : goal.returns-clause-step
@@ -64,9 +80,6 @@ returns-clause-step g c =
     let m = g.P.NodeProgram in
     let a = c.self.inside in
     let ok = c.is_network.ensures in
-    let vertex : IsVertex a.net c.args.v =
-    vertex_from a.net c.args.v (ap (λ s. is_vertex s.net c.args.v) c.self.view_is ∙ sym c.is_vertex.ensures.vertex ∙ c.if-not-is_vertex.false) in
-    let made = pulse_made m.program m.laws a.net ok a.nodes.items a.links c.self.invariant c.args.v vertex c.index_mut-node.result.now
-    c.index_mut-node.ensures.value
-    (sym c.can_pulse.ensures.can ∙ c.if-not-can_pulse.false) c.pulse.new.self c.in-Ok.ensures.pulse c.in-Ok.ensures.last in
+    let vertex = vertex-is g (goal.at.returns-clause-step g c).Else-not-is_vertex in
+    let made = pulsed g (goal.at.returns-clause-step g c).In-Ok vertex in
     ap (λ s. step m.program s.net s.state (Pulse c.args.v)) (sym c.self.view_is) ∙ made.0

@@ -1,43 +1,85 @@
-use Rattle.std.proofs.Common.{◌≡◌, sym, ap, ◌∙◌, arith, subst}
+-- The plan: the port is one of the network's (there-is), so the link that leads to it is there (link-there), and it is the
+-- one that the definition names (link-is). Its oldest wire (oldest) is taken as the definition takes it (taken-in); no node
+-- refuses it (take_refused).
+use Rattle.std.proofs.Common.{◌≡◌, ◌<◌, ◌-◌, ◌∷◌, List, Ok, set, sym, ap, ◌∙◌, arith, subst}
 use Rattle.std.specs.Prelude.{slice_get}
-use Rattle.interference.specs.Net.{neighbour_of}
+use Rattle.interference.specs.Net.{IsVertex, degree_of, neighbour_of}
 use Rattle.net_core.specs.declared.event.Event.TheVariants.{Take}
-use Rattle.net_core.specs.State.{HasLink, link_at, link_to, set_link, take_one}
+use Rattle.net_core.specs.State.{HasLink, link_at, link_to, set_link, state_in, take_one}
 use Rattle.net_core.specs.Step.{has_port, step}
+use Rattle.net_core.specs.Simulation.{IsNetState}
 use Rattle.net_core.proofs.Parts.{first-some, first-none}
 use Rattle.net_core.proofs.NetKept.{port_from}
 use Rattle.net_core.proofs.Held.{in_nodes, has_link_to, in_ports, room, take_nothing, take_made, take_refused}
 use Rattle.net_core.proofs.state.NetState.take.Goals as goal
+use Rattle.net_core.proofs.state.NetState.take.Goals.{After-back_port-back, After-take, In-Some, Else-not-has_port}
+
+-- the port is one of the network's
+there-is : (g : _) (c : Else-not-has_port g) → IsVertex c.self.inside.net c.args.v × (c.args.port < degree_of c.self.inside.net c.args.v)
+there-is g c =
+    port_from c.self.inside.net c.args.v c.args.port
+    (ap (λ s. has_port s.net c.args.v c.args.port) c.self.view_is ∙ sym c.has_port.ensures.port ∙ c.if-not-has_port.false)
+
+link-there : (g : _) (c : After-back_port-back g) → IsVertex c.self.inside.net c.args.v × (c.args.port < degree_of c.self.inside.net c.args.v) →
+    HasLink c.self.inside.links c.neighbour-from.result c.back_port-back.result
+link-there g c there =
+    let m = g.P.NodeProgram in
+    let a = c.self.inside in
+    subst (λ k. HasLink a.links k c.back_port-back.result) (sym c.neighbour-from.ensures.value)
+    (subst (λ k. HasLink a.links (neighbour_of a.net c.args.v c.args.port) k) (sym c.back_port-back.ensures.value)
+    (has_link_to m.program m.laws a.net c.is_network.ensures a.nodes.items a.links c.self.invariant c.args.v c.args.port there.0 there.1))
+
+link-is : (g : _) (c : After-back_port-back g) →
+    link_at c.self.inside.links c.neighbour-from.result c.back_port-back.result ≡ link_to c.self.inside.net c.self.inside.links c.args.v c.args.port
+link-is g c =
+    let a = c.self.inside in
+    ap (λ k. link_at a.links k c.back_port-back.result) c.neighbour-from.ensures.value ∙
+    ap (λ k. link_at a.links (neighbour_of a.net c.args.v c.args.port) k) c.back_port-back.ensures.value
+
+-- the wire at hand is the oldest on the link
+oldest : (g : _) (c : In-Some g) →
+    link_at c.self.inside.links c.neighbour-from.result c.back_port-back.result ≡ link_to c.self.inside.net c.self.inside.links c.args.v c.args.port →
+    (rest : List _) × ((link_to c.self.inside.net c.self.inside.links c.args.v c.args.port).held ≡ c.in-Some.wire ∷ rest)
+oldest g c is =
+    first-some (link_to c.self.inside.net c.self.inside.links c.args.v c.args.port).held _
+    (ap (λ l. slice_get l.held 0) (sym is) ∙ sym c.next.ensures.next ∙ c.in-Some.is)
+
+-- the step of the definition is made, and what it leaves is a state of the network
+taken-in : (g : _) (c : After-take g) → IsVertex c.self.inside.net c.args.v × (c.args.port < degree_of c.self.inside.net c.args.v) →
+    (rest : List _) × ((link_to c.self.inside.net c.self.inside.links c.args.v c.args.port).held ≡ c.in-Some.wire ∷ rest) →
+    (step g.P.NodeProgram.program c.self.inside.net (state_in c.self.inside.nodes.items c.self.inside.links) (Take c.args.v c.args.port)
+    ≡ Ok (state_in (set c.self.inside.nodes.items (c.args.v - 1) c.on_wire.new.self) c.take.new.self)) ×
+    IsNetState g.P.NodeProgram.program c.self.inside.net (set c.self.inside.nodes.items (c.args.v - 1) c.on_wire.new.self) c.take.new.self
+taken-in g c there first =
+    let m = g.P.NodeProgram in
+    let a = c.self.inside in
+    let ok = c.is_network.ensures in
+    let net_from = c.neighbour-from.ensures.value in
+    let net_back = c.back_port-back.ensures.value in
+    take_made m.program m.laws a.net ok a.nodes.items a.links c.self.invariant c.args.v there.0 c.index_mut-node.result.now
+    c.index_mut-node.ensures.value c.args.port there.1 _ first.0 first.1
+    c.on_wire.new.self c.in-Ok.ensures.reaction c.in-Ok.ensures.state c.in-Ok.ensures.last c.take.new.self
+    (c.take.ensures.taken
+    ∙ ap (λ k. set_link a.links k c.back_port-back.result (take_one (link_at a.links k c.back_port-back.result))) net_from
+    ∙ ap (λ k. set_link a.links (neighbour_of a.net c.args.v c.args.port) k (take_one (link_at a.links (neighbour_of a.net c.args.v c.args.port) k)))
+    net_back)
 
 pub neighbour-from-requires-clause-port : goal.neighbour-from-requires-clause-port
 neighbour-from-requires-clause-port g c =
-    let m = g.P.NodeProgram in
-    let a = c.self.inside in
-    let ok = c.is_network.ensures in
-    let there = port_from a.net c.args.v c.args.port
-    (ap (λ s. has_port s.net c.args.v c.args.port) c.self.view_is ∙ sym c.has_port.ensures.port ∙ c.if-not-has_port.false) in
-    there.1
+    (port_from c.self.inside.net c.args.v c.args.port
+    (ap (λ s. has_port s.net c.args.v c.args.port) c.self.view_is ∙ sym c.has_port.ensures.port ∙ c.if-not-has_port.false)).1
 
 pub next-requires : goal.next-requires
 next-requires g c =
-    let m = g.P.NodeProgram in
-    let a = c.self.inside in
-    let ok = c.is_network.ensures in
-    let there = port_from a.net c.args.v c.args.port
-    (ap (λ s. has_port s.net c.args.v c.args.port) c.self.view_is ∙ sym c.has_port.ensures.port ∙ c.if-not-has_port.false) in
-    record {
-      link = subst (λ k. HasLink a.links k c.back_port-back.result) (sym c.neighbour-from.ensures.value)
-          (subst (λ k. HasLink a.links (neighbour_of a.net c.args.v c.args.port) k) (sym c.back_port-back.ensures.value)
-          (has_link_to m.program m.laws a.net ok a.nodes.items a.links c.self.invariant c.args.v c.args.port there.0 there.1));
-    }
+    let there = there-is g (goal.at.next-requires g c).Else-not-has_port in
+    record { link = link-there g (goal.at.next-requires g c).After-back_port-back there }
 
 pub index_mut-node-requires : goal.index_mut-node-requires
 index_mut-node-requires g c =
     let m = g.P.NodeProgram in
     let a = c.self.inside in
     let ok = c.is_network.ensures in
-    let there = port_from a.net c.args.v c.args.port
-    (ap (λ s. has_port s.net c.args.v c.args.port) c.self.view_is ∙ sym c.has_port.ensures.port ∙ c.if-not-has_port.false) in
+    let there = there-is g (goal.at.index_mut-node-requires g c).Else-not-has_port in
     omega (arith, a.nodes.ok.0, in_nodes m.program m.laws a.net ok a.nodes.items a.links c.self.invariant c.args.v there.0)
 
 pub on_wire-requires-clause-port : goal.on_wire-requires-clause-port
@@ -45,8 +87,7 @@ on_wire-requires-clause-port g c κs within =
     let m = g.P.NodeProgram in
     let a = c.self.inside in
     let ok = c.is_network.ensures in
-    let there = port_from a.net c.args.v c.args.port
-    (ap (λ s. has_port s.net c.args.v c.args.port) c.self.view_is ∙ sym c.has_port.ensures.port ∙ c.if-not-has_port.false) in
+    let there = there-is g (goal.at.on_wire-requires-clause-port g c).Else-not-has_port in
     in_ports m.program m.laws a.net ok a.nodes.items a.links c.self.invariant c.args.v there.0 c.index_mut-node.result.now c.index_mut-node.ensures.value
     c.args.port there.1
 
@@ -55,41 +96,20 @@ on_wire-requires-clause-room g c κs within =
     let m = g.P.NodeProgram in
     let a = c.self.inside in
     let ok = c.is_network.ensures in
-    let there = port_from a.net c.args.v c.args.port
-    (ap (λ s. has_port s.net c.args.v c.args.port) c.self.view_is ∙ sym c.has_port.ensures.port ∙ c.if-not-has_port.false) in
+    let there = there-is g (goal.at.on_wire-requires-clause-room g c).Else-not-has_port in
     room m.program m.laws a.net ok a.nodes.items a.links c.self.invariant c.args.v there.0 c.index_mut-node.result.now c.index_mut-node.ensures.value
 
 pub take-requires-clause-link : goal.take-requires-clause-link
 take-requires-clause-link g c =
-    let m = g.P.NodeProgram in
-    let a = c.self.inside in
-    let ok = c.is_network.ensures in
-    let there = port_from a.net c.args.v c.args.port
-    (ap (λ s. has_port s.net c.args.v c.args.port) c.self.view_is ∙ sym c.has_port.ensures.port ∙ c.if-not-has_port.false) in
-    subst (λ k. HasLink a.links k c.back_port-back.result) (sym c.neighbour-from.ensures.value)
-    (subst (λ k. HasLink a.links (neighbour_of a.net c.args.v c.args.port) k) (sym c.back_port-back.ensures.value)
-    (has_link_to m.program m.laws a.net ok a.nodes.items a.links c.self.invariant c.args.v c.args.port there.0 there.1))
+    let there = there-is g (goal.at.take-requires-clause-link g c).Else-not-has_port in
+    link-there g (goal.at.take-requires-clause-link g c).After-back_port-back there
 
 pub invariant_of-self : goal.invariant_of-self
 invariant_of-self g c =
-    let m = g.P.NodeProgram in
-    let a = c.self.inside in
-    let ok = c.is_network.ensures in
-    let there = port_from a.net c.args.v c.args.port
-    (ap (λ s. has_port s.net c.args.v c.args.port) c.self.view_is ∙ sym c.has_port.ensures.port ∙ c.if-not-has_port.false) in
-    let net_from = c.neighbour-from.ensures.value in
-    let net_back = c.back_port-back.ensures.value in
-    let there_link : link_at a.links c.neighbour-from.result c.back_port-back.result ≡ link_to a.net a.links c.args.v c.args.port =
-    ap (λ k. link_at a.links k c.back_port-back.result) net_from ∙ ap (λ k. link_at a.links (neighbour_of a.net c.args.v c.args.port) k) net_back in
-    let first = first-some (link_to a.net a.links c.args.v c.args.port).held _ (ap (λ l. slice_get l.held 0) (sym there_link) ∙ sym c.next.ensures.next ∙
-    c.in-Some.is) in
-    let made = take_made m.program m.laws a.net ok a.nodes.items a.links c.self.invariant c.args.v there.0 c.index_mut-node.result.now
-    c.index_mut-node.ensures.value c.args.port there.1 _ first.0 first.1
-    c.on_wire.new.self c.in-Ok.ensures.reaction c.in-Ok.ensures.state c.in-Ok.ensures.last c.take.new.self
-    (c.take.ensures.taken
-    ∙ ap (λ k. set_link a.links k c.back_port-back.result (take_one (link_at a.links k c.back_port-back.result))) net_from
-    ∙ ap (λ k. set_link a.links (neighbour_of a.net c.args.v c.args.port) k (take_one (link_at a.links (neighbour_of a.net c.args.v c.args.port) k)))
-    net_back) in
+    let there = there-is g (goal.at.invariant_of-self g c).Else-not-has_port in
+    let at = goal.at.invariant_of-self g c in
+    let first = oldest g at.In-Some (link-is g at.After-back_port-back) in
+    let made = taken-in g at.After-take there first in
     made.1
 
 pub unreachable-requires : goal.unreachable-requires
@@ -97,14 +117,9 @@ unreachable-requires g c =
     let m = g.P.NodeProgram in
     let a = c.self.inside in
     let ok = c.is_network.ensures in
-    let there = port_from a.net c.args.v c.args.port
-    (ap (λ s. has_port s.net c.args.v c.args.port) c.self.view_is ∙ sym c.has_port.ensures.port ∙ c.if-not-has_port.false) in
-    let net_from = c.neighbour-from.ensures.value in
-    let net_back = c.back_port-back.ensures.value in
-    let there_link : link_at a.links c.neighbour-from.result c.back_port-back.result ≡ link_to a.net a.links c.args.v c.args.port =
-    ap (λ k. link_at a.links k c.back_port-back.result) net_from ∙ ap (λ k. link_at a.links (neighbour_of a.net c.args.v c.args.port) k) net_back in
-    let first = first-some (link_to a.net a.links c.args.v c.args.port).held _ (ap (λ l. slice_get l.held 0) (sym there_link) ∙ sym c.next.ensures.next ∙
-    c.in-Some.is) in
+    let there = there-is g (goal.at.unreachable-requires g c).Else-not-has_port in
+    let at = goal.at.unreachable-requires g c in
+    let first = oldest g at.In-Some (link-is g at.After-back_port-back) in
     take_refused m.program m.laws a.net ok a.nodes.items a.links c.self.invariant c.args.v there.0 c.index_mut-node.result.now c.index_mut-node.ensures.value
     c.args.port there.1 _ first.0 first.1 _ c.in-Err.ensures.reaction
 
@@ -113,34 +128,17 @@ returns-in-None-clause-step g c =
     let m = g.P.NodeProgram in
     let a = c.self.inside in
     let ok = c.is_network.ensures in
-    let there = port_from a.net c.args.v c.args.port
-    (ap (λ s. has_port s.net c.args.v c.args.port) c.self.view_is ∙ sym c.has_port.ensures.port ∙ c.if-not-has_port.false) in
-    let net_from = c.neighbour-from.ensures.value in
-    let net_back = c.back_port-back.ensures.value in
-    let there_link : link_at a.links c.neighbour-from.result c.back_port-back.result ≡ link_to a.net a.links c.args.v c.args.port =
-    ap (λ k. link_at a.links k c.back_port-back.result) net_from ∙ ap (λ k. link_at a.links (neighbour_of a.net c.args.v c.args.port) k) net_back in
+    let there = there-is g (goal.at.returns-in-None-clause-step g c).Else-not-has_port in
     λ _. ap (λ s. step m.program s.net s.state (Take c.args.v c.args.port)) (sym c.self.view_is)
     ∙ take_nothing m.program m.laws a.net ok a.nodes.items a.links c.self.invariant c.args.v there.0 c.args.port there.1
-    (first-none _ (ap (λ l. slice_get l.held 0) (sym there_link) ∙ sym c.next.ensures.next ∙ c.in-None.is))
+    (first-none _ (ap (λ l. slice_get l.held 0) (sym (link-is g (goal.at.returns-in-None-clause-step g c).After-back_port-back)) ∙ sym c.next.ensures.next ∙
+    c.in-None.is))
 
 pub returns-clause-step : goal.returns-clause-step
 returns-clause-step g c =
     let m = g.P.NodeProgram in
-    let a = c.self.inside in
-    let ok = c.is_network.ensures in
-    let there = port_from a.net c.args.v c.args.port
-    (ap (λ s. has_port s.net c.args.v c.args.port) c.self.view_is ∙ sym c.has_port.ensures.port ∙ c.if-not-has_port.false) in
-    let net_from = c.neighbour-from.ensures.value in
-    let net_back = c.back_port-back.ensures.value in
-    let there_link : link_at a.links c.neighbour-from.result c.back_port-back.result ≡ link_to a.net a.links c.args.v c.args.port =
-    ap (λ k. link_at a.links k c.back_port-back.result) net_from ∙ ap (λ k. link_at a.links (neighbour_of a.net c.args.v c.args.port) k) net_back in
-    let first = first-some (link_to a.net a.links c.args.v c.args.port).held _ (ap (λ l. slice_get l.held 0) (sym there_link) ∙ sym c.next.ensures.next ∙
-    c.in-Some.is) in
-    let made = take_made m.program m.laws a.net ok a.nodes.items a.links c.self.invariant c.args.v there.0 c.index_mut-node.result.now
-    c.index_mut-node.ensures.value c.args.port there.1 _ first.0 first.1
-    c.on_wire.new.self c.in-Ok.ensures.reaction c.in-Ok.ensures.state c.in-Ok.ensures.last c.take.new.self
-    (c.take.ensures.taken
-    ∙ ap (λ k. set_link a.links k c.back_port-back.result (take_one (link_at a.links k c.back_port-back.result))) net_from
-    ∙ ap (λ k. set_link a.links (neighbour_of a.net c.args.v c.args.port) k (take_one (link_at a.links (neighbour_of a.net c.args.v c.args.port) k)))
-    net_back) in
+    let there = there-is g (goal.at.returns-clause-step g c).Else-not-has_port in
+    let at = goal.at.returns-clause-step g c in
+    let first = oldest g at.In-Some (link-is g at.After-back_port-back) in
+    let made = taken-in g at.After-take there first in
     ap (λ s. step m.program s.net s.state (Take c.args.v c.args.port)) (sym c.self.view_is) ∙ made.0

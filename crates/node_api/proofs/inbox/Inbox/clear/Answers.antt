@@ -17,8 +17,8 @@ returns-else-self-ne0 g c =
     record {
       empty =
           sym c.self.view_is
-          ∙ (ap (λ (pairs : List (ℕ × g.row.T.Denot)). record { slots = slots_of a.degree pairs; place = a.place }) none
-          ∙ (ap (λ (slots : List _). record { slots = slots; place = a.place }) (slots_of-none a.degree)
-          ∙ (ap (λ (place : ℕ). record { slots = nothing a.degree; place = place }) c.if-self-ne0.false
+          ∙ (ap (λ (pairs : List (ℕ × g.row.T.Denot)). record { slots = slots_of a.degree pairs; cursor = a.cursor }) none
+          ∙ (ap (λ (slots : List _). record { slots = slots; cursor = a.cursor }) (slots_of-none a.degree)
+          ∙ (ap (λ (cursor : ℕ). record { slots = nothing a.degree; cursor = cursor }) c.if-self-ne0.false
           ∙ ap (λ (n : ℕ). unread (nothing n)) size)));
     }

@@ -11,7 +11,7 @@ returns-then-rank-len g c =
     let r = c.rank-rank.ensures in
     let end : c.rank-rank.result ≡ length a.pairs.items = omega (arith, c.if-rank-len.true, c.len.ensures, a.pairs.ok.0) in
     let none : at_port c.args.self.now.slots c.args.port ≡ None =
-    empty_at_end a.degree a.read a.place a.pairs.items c.deref.result.now c.self.invariant.2 c.deref.ensures.value c.args.self.now c.self.view_is
+    empty_at_end a.degree a.read a.cursor a.pairs.items c.deref.result.now c.self.invariant.2 c.deref.ensures.value c.args.self.now c.self.view_is
     c.args.port c.rank-rank.result c.requires.port r.within r.before r.others end in
     record { empty = (λ yes. none, λ yes. grind (arith, nat_tests, c.if-rank-len.true)) }
 
@@ -28,6 +28,6 @@ returns-else-rank-len g c =
       ap length c.deref.ensures.value,
     ) in
     record {
-      empty = empty_if_other a.degree a.read a.place a.pairs.items c.deref.result.now c.self.invariant.2 c.deref.ensures.value c.args.self.now
+      empty = empty_if_other a.degree a.read a.cursor a.pairs.items c.deref.result.now c.self.invariant.2 c.deref.ensures.value c.args.self.now
           c.self.view_is c.args.port c.rank-rank.result c.requires.port r.within r.before r.others c.index.result.now more c.index.ensures;
     }
