@@ -1,4 +1,4 @@
-//! What the commands of `forestplan` compute, from the bytes of a DIMACS text to the bytes of an answer,
+//! What the commands of `forestplan` and `forestplay` compute, from the bytes of a DIMACS text to the bytes of an answer,
 //! and the report of each fault. It names no stream, no command line and no system, so that a test or
 //! another program calls the same functions.
 //!
@@ -14,6 +14,7 @@
 #![tactic(auto)]
 
 mod answer;
+mod events;
 mod fault;
 mod forests_text;
 pub mod laws;
@@ -22,6 +23,7 @@ mod report;
 mod verdict;
 
 pub use answer::{forest_bytes, plain_bytes};
+pub use events::events_bytes;
 pub use fault::PlanFault;
 pub use report::{FaultReport, fault_report};
 pub use verdict::check_bytes;

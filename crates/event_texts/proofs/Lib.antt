@@ -1,0 +1,4 @@
+mod Numbers
+mod Splitting
+mod Readings
+mod Ranges
