@@ -61,7 +61,8 @@ out_of_memory_is_no_help same = cc
 
 pub known : (program : Program) (words : List Text) → is_some (subcommand_of (line program) words) ≡ true
     → is_some (choice_of (subcommand_of (line program) words)) ≡ true
-known program words h = entered_known program (stop_after (built (line program)).top.rules (names_of (built (line program))) (argument_words (line program) words)) h
+known program words h = entered_known program
+    (stop_after (built (line program)).top.rules (names_of (built (line program))) (argument_words (line program) words)) h
 
 pub taken : (program : Program) (words : List Text) (r : Request) → fault_of (line program) words ≡ [] → choice_of (subcommand_of (line program) words) ≡ Some r
     → request_of program words ≡ Some r

@@ -2,3 +2,4 @@ mod Numbers
 mod Splitting
 mod Readings
 mod Ranges
+mod Within

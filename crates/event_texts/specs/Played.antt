@@ -1,5 +1,5 @@
 -- What playing the events of a text comes to.
-use Rattle.std.specs.Prelude.{◌≡◌, ℕ, List, map, Err, slice_index_or}
+use Rattle.std.specs.Prelude.{◌≡◌, ◌<◌, ℕ, List, length, map, Err, slice_index_or}
 use Rattle.interference.specs.Net.{Net}
 use Rattle.node_api.specs.Program.{Program}
 use Rattle.net_core.specs.declared.event.Event.{Event}
@@ -30,3 +30,16 @@ abbrev pub IsFaultOfRun : {S M E : Type 0} → Program S M E → Net → Script 
 IsFaultOfRun program net script Memory = Unit {0}
 IsFaultOfRun program net script fault = (refused : RunRefused)
     × (run program net (events_in script) ≡ Err refused) × (fault ≡ fault_at script refused)
+
+-- the index of a refusal is below this
+abbrev pub IsIndexBelow : ℕ → RunRefused → Type 0
+IsIndexBelow n (run_refused.NotReady k) = k < n
+IsIndexBelow n (run_refused.NothingToPut k) = k < n
+IsIndexBelow n (run_refused.LinkEmpty k) = k < n
+IsIndexBelow n (run_refused.NoSuch k) = k < n
+IsIndexBelow n run_refused.Memory = Unit {0}
+
+-- a run of the events of a script is refused at one of them
+abbrev pub RefusalsHaveAnEvent : {S M E : Type 0} → Program S M E → Net → Type 0
+RefusalsHaveAnEvent program net = (script : Script) (refused : RunRefused)
+    → run program net (events_in script) ≡ Err refused → IsIndexBelow (length script) refused

@@ -15,6 +15,7 @@
 
 mod event_line;
 mod fault;
+pub mod laws;
 mod playing;
 mod reading;
 mod split;
