@@ -107,7 +107,7 @@ def plain_rows():
 
 def example_texts():
     folder = os.path.join(TOP, "examples")
-    for name in sorted(os.listdir(folder)):
+    for name in sorted(name for name in os.listdir(folder) if name.endswith(".col")):
         with open(os.path.join(folder, name), "rb") as file:
             yield name, file.read()
 

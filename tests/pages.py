@@ -1,10 +1,10 @@
 #!/usr/bin/env python3
 """Checks what the pages README.md and docs/*.md show and name. The last line is 'N passed, M failed'.
 
-  pages.py [PROGRAM]      default: the program as `./forestplan` builds it
+  pages.py [PROGRAM PLAY]      default: the programs as `./forestplan` and `./forestplay` build them
 
-- Each command shown, a line `$ ..` with `./forestplan`, is run at the top of the repository; what stands under it, in
-  the same columns, has to be its output (notes behind two blanks are left out).
+- Each command shown, a line `$ ..` with `./forestplan` or `./forestplay`, is run at the top of the repository; what stands
+  under it, in the same columns, has to be its output (notes behind two blanks are left out), or its refusal.
 - Each table of docs/LESSONS.md is worked out from the definitions (plain_definition.py, alpha_definition.py), not from
   the program.
 - These definitions fit together: on small networks the rounds, and any order of events, end with the colours.
@@ -41,7 +41,7 @@ def lines_of(page):
 def shown_commands(lines):
     """(line number, command, lines shown under it), of each command in an indented block."""
     for number, line in enumerate(lines):
-        found = re.match(r"^( {4}.*?)\$ (.*\./forestplan .*)$", line)
+        found = re.match(r"^( {4}.*?)\$ (.*\./forestpla[ny] .*)$", line)
         if not found:
             continue
         column, shown = len(found.group(1)), []
@@ -52,13 +52,13 @@ def shown_commands(lines):
         yield number + 1, re.split(r" {2,}", found.group(2))[0], shown
 
 
-def check_commands(page, program):
+def check_commands(page, programs):
     for number, command, shown in shown_commands(lines_of(page)):
-        words = command.replace("./forestplan", program)
+        words = command.replace("./forestplan", programs[0]).replace("./forestplay", programs[1])
         done = subprocess.run(["sh", "-c", words], cwd=TOP, capture_output=True, timeout=LIMIT)
         wanted = "".join(line + "\n" for line in shown)
-        note(f"{page}:{number} {command}", done.stdout.decode() == wanted and done.returncode == 0,
-             f"shown {wanted!r}, written {done.stdout!r}")
+        good = [(0, wanted.encode(), b""), (1, b"", wanted.encode())]
+        note(f"{page}:{number} {command}", (done.returncode, done.stdout, done.stderr) in good, f"shown {wanted!r}, got {done}")
 
 
 def tables_of(lines):
@@ -261,14 +261,15 @@ def check_crates():
 
 
 def main():
-    program = os.path.join(TOP, "crates", "forestplan", "out", "forestplan")
-    if len(sys.argv) > 1:
-        program = os.path.abspath(sys.argv[1])
+    programs = [os.path.join(TOP, "crates", name, "out", name) for name in ("forestplan", "forestplay")]
+    if len(sys.argv) > 2:
+        programs = [os.path.abspath(word) for word in sys.argv[1:3]]
     else:
-        built = subprocess.run([os.path.join(TOP, "forestplan"), "--help"], stdout=subprocess.DEVNULL)
-        note("the program builds", built.returncode == 0, built)
+        for name in ("forestplan", "forestplay"):
+            built = subprocess.run([os.path.join(TOP, name), "--help"], stdout=subprocess.DEVNULL)
+            note(f"{name} builds", built.returncode == 0, built)
     for page in PAGES:
-        check_commands(page, program)
+        check_commands(page, programs)
         check_names(page)
         check_excerpts(page)
     check_crates()

@@ -35,10 +35,10 @@ def refused_memory_rows(program, network, answer):
         return rows
 
 
-def sweep(program, front, words, data, wanted):
+def sweep(program, front, words, data, wanted, own_name="forestplan"):
     """Refuses growth 1, 2, .. until a run is as one without refusal. `wanted` is None if clap's text is the answer."""
     name = f"each growth refused in turn: {' '.join(words)}"
-    memory = (4, b"", b"forestplan: memory\n")
+    memory = (4, b"", f"{own_name}: memory\n".encode())
     if wanted is None:
         wanted = answer_of(program, front, words, data, 0)
     refusals = 0

@@ -170,7 +170,7 @@ def largest(program):
 def piped_rows(program, examples):
     """Each example, then the plan that `plain` writes for it."""
     rows = []
-    for name in sorted(os.listdir(examples)):
+    for name in sorted(name for name in os.listdir(examples) if name.endswith(".col")):
         with open(os.path.join(examples, name), "rb") as file:
             network = file.read()
         plan = subprocess.run([program, "plain"], input=network, capture_output=True, timeout=LIMIT).stdout

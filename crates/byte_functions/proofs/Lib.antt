@@ -4,3 +4,4 @@ pub mod Following
 pub mod ProperPlans
 pub mod Agreed
 pub mod Judging
+mod Playing

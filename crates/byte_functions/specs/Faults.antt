@@ -4,8 +4,9 @@ use Rattle.std.specs.Fmt.{decimal}
 use Rattle.dimacs_col.specs.declared.fault.ColFault.TheVariants as col
 use Rattle.interference.specs.declared.fault.NetFault.TheVariants as net
 use Rattle.channel_plan.specs.declared.plan.CheckFault.TheVariants as check
+use Rattle.event_texts.specs.declared.fault.EventFault.TheVariants as event
 use Rattle.byte_functions.specs.declared.fault.PlanFault.{PlanFault}
-use Rattle.byte_functions.specs.declared.fault.PlanFault.TheVariants.{Check, Col, Net, Memory}
+use Rattle.byte_functions.specs.declared.fault.PlanFault.TheVariants.{Check, Col, Event, Net, Memory}
 
 -- a code, and the line of the input that has the fault
 abbrev pub at_line : List ℕ → ℕ → List ℕ
@@ -40,14 +41,21 @@ fault_text (Check (check.Clash v w)) = (at_vertices (codes "C4") v w, 1)
 fault_text (Check (check.TooHigh v)) = (at_vertex (codes "C5") v, 1)
 fault_text (Check (check.Syntax n)) = (at_line (codes "C6") n, 1)
 fault_text (Check check.Memory) = (codes "memory", 4)
+fault_text (Event (event.NoEvent n)) = (at_line (codes "NoEvent") n, 1)
+fault_text (Event (event.NotReady n)) = (at_line (codes "NotReady") n, 1)
+fault_text (Event (event.NothingToPut n)) = (at_line (codes "NothingToPut") n, 1)
+fault_text (Event (event.LinkEmpty n)) = (at_line (codes "LinkEmpty") n, 1)
+fault_text (Event (event.NoSuch n)) = (at_line (codes "NoSuch") n, 1)
+fault_text (Event event.Memory) = (codes "memory", 4)
 fault_text Memory = (codes "memory", 4)
 
--- a line of the program's: its name, the text, and LF
-abbrev pub line_with : List ℕ → List ℕ
-line_with text = codes "forestplan: " ++ text ++ 10 ∷ []
+-- a line of a program: its name, the text, and LF
+abbrev pub line_with : List ℕ → List ℕ → List ℕ
+line_with name text = name ++ (codes ": " ++ (text ++ 10 ∷ []))
 
-abbrev pub fault_line : PlanFault → List ℕ
-fault_line fault = line_with (fault_text fault).0
+-- the line with which a program of a name reports a fault
+abbrev pub fault_line : List ℕ → PlanFault → List ℕ
+fault_line name fault = line_with name (fault_text fault).0
 
 abbrev pub fault_status : PlanFault → ℕ
 fault_status fault = (fault_text fault).1

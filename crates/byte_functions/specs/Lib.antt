@@ -3,3 +3,4 @@ pub mod Plans
 pub mod Faults
 pub mod Answers
 pub mod Verdicts
+pub mod EventAnswers

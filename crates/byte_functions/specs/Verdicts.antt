@@ -38,4 +38,5 @@ IsFaultOfCheck input (plan.Col fault) = IsFault (network_lines (lines_of input))
 IsFaultOfCheck input (plan.Net fault) = LinesReadAs (network_lines (lines_of input)) (λ net. IsFaultOf net fault)
 IsFaultOfCheck input (plan.Check fault) = LinesReadAs (network_lines (lines_of input))
     (λ net. IsNetwork net × IsFaultOfPlanText net (plan_lines (lines_of input)) fault)
+IsFaultOfCheck input (plan.Event fault) = ⊥
 IsFaultOfCheck input plan.Memory = Unit {0}

@@ -1,10 +1,11 @@
 //! Why a text has no answer.
 
 ghost use Rattle.std.specs.Prelude.{◌≡◌};
-ghost use Rattle.byte_functions.specs.declared.fault.PlanFault.TheVariants.{Check, Col, Net, Memory};
+ghost use Rattle.byte_functions.specs.declared.fault.PlanFault.TheVariants.{Check, Col, Event, Net, Memory};
 
 use channel_plan::CheckFault;
 use dimacs_col::ColFault;
+use event_texts::EventFault;
 use interference::{Memory, NetFault};
 
 /// Why a text has no answer.
@@ -16,6 +17,8 @@ pub enum PlanFault {
     Net(NetFault),
     /// The plan that follows it is refused.
     Check(CheckFault),
+    /// The events that follow it are refused.
+    Event(EventFault),
     /// Memory ran out.
     Memory,
 }
@@ -41,6 +44,14 @@ impl From<CheckFault> for PlanFault {
 
     fn from(fault: CheckFault) -> PlanFault {
         PlanFault::Check(fault)
+    }
+}
+
+impl From<EventFault> for PlanFault {
+    ghost from_gives = { λ fault result. result ≡ Event fault };
+
+    fn from(fault: EventFault) -> PlanFault {
+        PlanFault::Event(fault)
     }
 }
 

@@ -1,8 +1,9 @@
-//! What the commands of `forestplan` compute, from the bytes of a DIMACS text to the bytes of an answer,
-//! and the report of each fault. It names no stream, no command line and no system, so that a test or
+//! What the commands of `forestplan` and `forestplay` compute, from the bytes of a DIMACS text to the bytes of
+//! an answer, and the report of each fault. It names no stream, no command line and no system, so that a test or
 //! another program calls the same functions.
 //!
-//! `serving` calls `forest_bytes`, `plain_bytes` or `check_bytes` for a command, and `fault_report` if it fails.
+//! `serving` calls `forest_bytes`, `plain_bytes`, `check_bytes` or `events_bytes` for a command, and
+//! `fault_report` if they fail.
 //!
 //! ```
 //! let text = b"p edge 3 3\ne 1 2\ne 1 3\ne 2 3\n";
@@ -14,6 +15,7 @@
 #![tactic(auto)]
 
 mod answer;
+mod events;
 mod fault;
 mod forests_text;
 pub mod laws;
@@ -22,6 +24,7 @@ mod report;
 mod verdict;
 
 pub use answer::{forest_bytes, plain_bytes};
+pub use events::events_bytes;
 pub use fault::PlanFault;
 pub use report::{FaultReport, fault_report};
 pub use verdict::check_bytes;

@@ -1,8 +1,9 @@
 //! The answers to a text by the byte functions alone, and the report of each fault.
 
-use byte_functions::{PlanFault, check_bytes, fault_report, forest_bytes, plain_bytes};
+use byte_functions::{PlanFault, check_bytes, events_bytes, fault_report, forest_bytes, plain_bytes};
 use channel_plan::CheckFault;
 use dimacs_col::ColFault;
+use event_texts::EventFault;
 use interference::NetFault;
 use std::test::Fail;
 
@@ -68,10 +69,28 @@ fn reports_each_fault(rt: HostRuntime) -> Result<(), Fail> {
         (PlanFault::Check(CheckFault::TooHigh(3)), "C5 vertex 3", 1),
         (PlanFault::Check(CheckFault::Syntax(4)), "C6 line 4", 1),
         (PlanFault::Check(CheckFault::Memory), "memory", 4),
+        (PlanFault::Event(EventFault::NoEvent(5)), "NoEvent line 5", 1),
+        (
+            PlanFault::Event(EventFault::NotReady(6)),
+            "NotReady line 6",
+            1,
+        ),
+        (
+            PlanFault::Event(EventFault::NothingToPut(7)),
+            "NothingToPut line 7",
+            1,
+        ),
+        (
+            PlanFault::Event(EventFault::LinkEmpty(8)),
+            "LinkEmpty line 8",
+            1,
+        ),
+        (PlanFault::Event(EventFault::NoSuch(9)), "NoSuch line 9", 1),
+        (PlanFault::Event(EventFault::Memory), "memory", 4),
         (PlanFault::Memory, "memory", 4),
     ] {
-        let report = fault_report(rt.alloc(), fault)?;
-        let wanted = format!(in rt.alloc(); "forestplan: {line}\n")?;
+        let report = fault_report(rt.alloc(), "name", fault)?;
+        let wanted = format!(in rt.alloc(); "name: {line}\n")?;
         assert!(rt; report.line.as_bytes() == wanted.as_bytes(), "{line}");
         assert_eq!(rt; report.status, status, "{line}");
     }
@@ -107,5 +126,18 @@ fn checks_plans(rt: HostRuntime) -> Result<(), Fail> {
             }
         }
     }
+    Ok(())
+}
+
+// The greeting of node 2 waits, and its acknowledgement of node 1's is behind it in the out-list.
+#[test]
+fn plays_events(rt: HostRuntime) -> Result<(), Fail> {
+    let alloc = rt.alloc();
+    let text = b"p edge 2 1\ne 1 2\nput 1 0\nc\ntake 2 0\n\nput 2 0\n";
+    let wanted = "node 1 pulse 0\nlink 1 2 taken 1\nnode 2 pulse 0\nlink 2 1 taken 0 payload 0 hello 2\n";
+    let answer = events_bytes(alloc, text)?;
+    assert!(rt; answer.as_slice() == wanted.as_bytes());
+    let fault = events_bytes(alloc, b"p edge 2 1\ne 1 2\nc\ntake 2 0\n");
+    assert!(rt; fault.is_err_and(|fault| fault == PlanFault::Event(EventFault::LinkEmpty(4))));
     Ok(())
 }

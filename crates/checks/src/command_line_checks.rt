@@ -1,18 +1,19 @@
 //! The words of each command, and the texts of clap by their openings; the black-box tests compare them whole.
 
-use command_line::{Declined, Request, parse};
+use command_line::{Declined, Program, Request, parse};
 use std::alloc::Global;
 use std::test::Fail;
 
 #[test]
 fn knows_the_commands(rt: HostRuntime) -> Result<(), Fail> {
-    for (word, wanted) in [
-        ("forests", Request::Forests),
-        ("plain", Request::Plain),
-        ("check", Request::Check),
+    for (program, word, wanted) in [
+        (Program::Forestplan, "forests", Request::Forests),
+        (Program::Forestplan, "plain", Request::Plain),
+        (Program::Forestplan, "check", Request::Check),
+        (Program::Forestplay, "events", Request::Events),
     ] {
         assert!(rt;
-            parse(rt.alloc(), &["forestplan", word]).is_ok_and(|request| request == wanted),
+            parse(rt.alloc(), program, &["out/p", word]).is_ok_and(|request| request == wanted),
             "{word}"
         );
     }
@@ -21,7 +22,7 @@ fn knows_the_commands(rt: HostRuntime) -> Result<(), Fail> {
 
 // Whether the words are declined by a text with this opening.
 fn is_declined(alloc: Global, words: &[&str], is_help: bool, opening: &str) -> bool {
-    match parse(alloc, words) {
+    match parse(alloc, Program::Forestplan, words) {
         Err(Declined::Help(text)) => is_help && text.starts_with(opening),
         Err(Declined::Refused(text)) => !is_help && text.starts_with(opening),
         _ => false,

@@ -1,7 +1,7 @@
 //! Streams that fail at each read or write in turn, and where the texts of clap go.
 
 use crate::fake_streams::{NEVER, Reader, Writer};
-use serving::{serve, serve_all};
+use serving::{Program, serve, serve_all};
 use std::test::Fail;
 
 const FORESTS: [&str; 2] = ["forestplan", "forests"];
@@ -21,7 +21,14 @@ fn fails_at_each_read(rt: HostRuntime) -> Result<(), Fail> {
         let mut input = Reader::new(TRIANGLE, k);
         let mut output = Writer::new(alloc, NEVER, false);
         let mut errors = Writer::new(alloc, NEVER, false);
-        let status = serve(alloc, &FORESTS, &mut input, &mut output, &mut errors);
+        let status = serve(
+            alloc,
+            Program::Forestplan,
+            &FORESTS,
+            &mut input,
+            &mut output,
+            &mut errors,
+        );
         let is_failed = k < 11;
         assert_eq!(rt; status, if is_failed { 4 } else { 0 }, "at read {k}");
         assert_eq!(rt;
@@ -49,7 +56,14 @@ fn fails_at_each_write(rt: HostRuntime) -> Result<(), Fail> {
             let mut input = Reader::new(TRIANGLE, NEVER);
             let mut output = Writer::new(alloc, k, takes_none);
             let mut errors = Writer::new(alloc, NEVER, false);
-            let status = serve(alloc, &FORESTS, &mut input, &mut output, &mut errors);
+            let status = serve(
+                alloc,
+                Program::Forestplan,
+                &FORESTS,
+                &mut input,
+                &mut output,
+                &mut errors,
+            );
             let is_failed = k < 10;
             assert_eq!(rt; status, if is_failed { 4 } else { 0 }, "at write {k}");
             assert_eq!(rt;
@@ -83,7 +97,7 @@ fn a_failed_write_to_errors_changes_no_status(rt: HostRuntime) -> Result<(), Fai
                 let mut errors = Writer::new(alloc, k, takes_none);
                 let words = ["forestplan", word];
                 assert_eq!(rt;
-                    serve(alloc, &words, &mut input, &mut output, &mut errors),
+                    serve(alloc, Program::Forestplan, &words, &mut input, &mut output, &mut errors),
                     status
                 );
                 assert_eq!(rt; errors.bytes.len(), 3 * k as usize);
@@ -110,14 +124,14 @@ fn declines_words(rt: HostRuntime) -> Result<(), Fail> {
         let mut output = Writer::new(alloc, NEVER, false);
         let mut errors = Writer::new(alloc, NEVER, false);
         assert_eq!(rt;
-            serve(alloc, words, &mut input, &mut output, &mut errors),
+            serve(alloc, Program::Forestplan, words, &mut input, &mut output, &mut errors),
             status
         );
         assert_eq!(rt; output.bytes.is_empty(), status == 2);
         assert_eq!(rt; errors.bytes.is_empty(), status == 0);
         if status == 0 {
             let mut full = Writer::new(alloc, 2, true);
-            assert_eq!(rt; serve(alloc, words, &mut input, &mut full, &mut errors), 4);
+            assert_eq!(rt; serve(alloc, Program::Forestplan, words, &mut input, &mut full, &mut errors), 4);
             assert_eq!(rt; full.bytes.len(), 6);
             assert!(rt; output.bytes.starts_with(full.bytes.as_slice()));
             assert!(rt; errors.bytes.as_slice() == STREAM);
@@ -143,6 +157,7 @@ fn serves_owned_words_over_streams_in_memory(rt: HostRuntime) -> Result<(), Fail
         let mut errors = Vec::new(alloc);
         let status = serve_all(
             alloc,
+            Program::Forestplan,
             words.as_slice(),
             &mut input,
             &mut output,

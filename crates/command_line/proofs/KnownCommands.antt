@@ -11,17 +11,25 @@ use Rattle.clap.specs.declared.error.kind.ErrorKind.TheVariants.{DisplayHelp, Ou
 use Rattle.clap.proofs.OnLiterals.{clap_on_literals}
 use Rattle.command_line.specs.Line.{line}
 use Rattle.command_line.specs.Asked.{IsDeclinedBy, MayDecline, choice_of, named, request_of, unless_at_fault}
+use Rattle.command_line.specs.declared.program.Program.{Program}
+use Rattle.command_line.specs.declared.program.Program.TheVariants.{Forestplan, Forestplay}
 use Rattle.command_line.specs.declared.request.Declined.{Declined}
 use Rattle.command_line.specs.declared.request.Declined.TheVariants as given
 use Rattle.command_line.specs.declared.request.Request.{Request}
 
-pub line_is_free : is_simple_and_free line ≡ true
+pub line_is_free : (program : Program) → is_simple_and_free (line program) ≡ true
 unfolding clap_on_literals
-line_is_free = refl
+line_is_free Forestplan = refl
+line_is_free Forestplay = refl
 
-pub line_is_simple : is_simple line ≡ true
+pub line_is_simple : (program : Program) → is_simple (line program) ≡ true
 unfolding clap_on_literals
-line_is_simple = refl
+line_is_simple Forestplan = refl
+line_is_simple Forestplay = refl
+
+pub line_wants_a_command : (program : Program) → (line program).top.subcommand_required ≡ true
+line_wants_a_command Forestplan = refl
+line_wants_a_command Forestplay = refl
 
 abbrev HasRequest : Shape → Type 0
 HasRequest s = (rows : List Row) → is_some (named s.name rows) ≡ true
@@ -40,36 +48,39 @@ found test ws (x ∷ xs) all h = go (test x) h (λ k. found test ws xs all.1 k)
     go false h rest = rest h
 
 -- a command that was entered is one of those listed: a `refl` each
-pub entered_known : (stop : Option (Text × List Text)) → is_some (entered (built line) stop) ≡ true
-    → is_some (choice_of (entered (built line) stop)) ≡ true
-entered_known None h = h
-entered_known (Some p) h = found (λ x. answers_to p.0 (label_of x)) p.1 (built line).subs
+pub entered_known : (program : Program) (stop : Option (Text × List Text)) → is_some (entered (built (line program)) stop) ≡ true
+    → is_some (choice_of (entered (built (line program)) stop)) ≡ true
+entered_known program None h = h
+entered_known Forestplan (Some p) h = found (λ x. answers_to p.0 (label_of x)) p.1 (built (line Forestplan)).subs
     ((λ rows. refl), ((λ rows. refl), ((λ rows. refl), tt))) h
+entered_known Forestplay (Some p) h = found (λ x. answers_to p.0 (label_of x)) p.1 (built (line Forestplay)).subs
+    ((λ rows. refl), tt) h
 
 out_of_memory_is_no_help : OutOfMemory ≢ DisplayHelp
 out_of_memory_is_no_help same = cc
 
-pub known : (words : List Text) → is_some (subcommand_of line words) ≡ true
-    → is_some (choice_of (subcommand_of line words)) ≡ true
-known words h = entered_known (stop_after (built line).top.rules (names_of (built line)) (argument_words line words)) h
+pub known : (program : Program) (words : List Text) → is_some (subcommand_of (line program) words) ≡ true
+    → is_some (choice_of (subcommand_of (line program) words)) ≡ true
+known program words h = entered_known program
+    (stop_after (built (line program)).top.rules (names_of (built (line program))) (argument_words (line program) words)) h
 
-pub taken : (words : List Text) (r : Request) → fault_of line words ≡ [] → choice_of (subcommand_of line words) ≡ Some r
-    → request_of words ≡ Some r
-taken words r none e = ap (λ (ks : Kinds). unless_at_fault ks (choice_of (subcommand_of line words))) none ∙ e
+pub taken : (program : Program) (words : List Text) (r : Request) → fault_of (line program) words ≡ [] → choice_of (subcommand_of (line program) words) ≡ Some r
+    → request_of program words ≡ Some r
+taken program words r none e = ap (λ (ks : Kinds). unless_at_fault ks (choice_of (subcommand_of (line program) words))) none ∙ e
 
-pub refused : (words : List Text) (k : ErrorKind) → IsAmong k (fault_of line words) → request_of words ≡ None
-refused words k h = go (fault_of line words) h
+pub refused : (program : Program) (words : List Text) (k : ErrorKind) → IsAmong k (fault_of (line program) words) → request_of program words ≡ None
+refused program words k h = go (fault_of (line program) words) h
   where
-    go : (ks : Kinds) → IsAmong k ks → unless_at_fault ks (choice_of (subcommand_of line words)) ≡ None
+    go : (ks : Kinds) → IsAmong k ks → unless_at_fault ks (choice_of (subcommand_of (line program) words)) ≡ None
     go [] h = absurd h
     go (x ∷ xs) h = refl
 
 -- clap's kind is that of a fault, or that of memory; what it becomes is then what the words may be declined with
-pub declined : (words : List Text) (kind : ErrorKind) (with : Declined)
-    → (kind ≡ OutOfMemory) ⊎ IsAmong kind (fault_of line words) → IsDeclinedBy kind with → MayDecline words with
-declined words kind (given.Help text) (inl memory) is = absurd (out_of_memory_is_no_help (sym memory ∙ is))
-declined words kind (given.Help text) (inr among) is =
-    (refused words kind among, subst (λ k. IsAmong k (fault_of line words)) is among)
-declined words kind (given.Refused text) (inl memory) is = absurd (is.1 memory)
-declined words kind (given.Refused text) (inr among) is = (refused words kind among, (kind, is.0, among))
-declined words kind given.Memory has is = tt
+pub declined : (program : Program) (words : List Text) (kind : ErrorKind) (with : Declined)
+    → (kind ≡ OutOfMemory) ⊎ IsAmong kind (fault_of (line program) words) → IsDeclinedBy kind with → MayDecline program words with
+declined program words kind (given.Help text) (inl memory) is = absurd (out_of_memory_is_no_help (sym memory ∙ is))
+declined program words kind (given.Help text) (inr among) is =
+    (refused program words kind among, subst (λ k. IsAmong k (fault_of (line program) words)) is among)
+declined program words kind (given.Refused text) (inl memory) is = absurd (is.1 memory)
+declined program words kind (given.Refused text) (inr among) is = (refused program words kind among, (kind, is.0, among))
+declined program words kind given.Memory has is = tt

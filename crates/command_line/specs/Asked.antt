@@ -6,10 +6,11 @@ use Rattle.clap.specs.Kinds.{IsAmong, Kinds}
 use Rattle.clap.specs.declared.error.kind.ErrorKind.{ErrorKind}
 use Rattle.clap.specs.declared.error.kind.ErrorKind.TheVariants.{DisplayHelp, OutOfMemory}
 use Rattle.command_line.specs.Line.{line}
+use Rattle.command_line.specs.declared.program.Program.{Program}
 use Rattle.command_line.specs.declared.request.Declined.{Declined}
 use Rattle.command_line.specs.declared.request.Declined.TheVariants as declined
 use Rattle.command_line.specs.declared.request.Request.{Request}
-use Rattle.command_line.specs.declared.request.Request.TheVariants.{Check, Forests, Plain}
+use Rattle.command_line.specs.declared.request.Request.TheVariants.{Check, Events, Forests, Plain}
 
 -- what the command of a name asks for, given the values of its options; each command is a line
 abbrev pub named : Text → List Row → Option Request
@@ -17,6 +18,7 @@ named name rows =
     if bytes_eq name (codes "forests") then Some Forests
     else if bytes_eq name (codes "plain") then Some Plain
     else if bytes_eq name (codes "check") then Some Check
+    else if bytes_eq name (codes "events") then Some Events
     else None
 
 -- what the command that was found asks for
@@ -28,23 +30,24 @@ abbrev pub unless_at_fault : Kinds → Option Request → Option Request
 unless_at_fault [] answer = answer
 unless_at_fault (kind ∷ kinds) answer = None
 
--- what the words ask for: their command's request, if clap finds no fault in them
-abbrev pub request_of : List Text → Option Request
-request_of words = unless_at_fault (fault_of line words) (choice_of (subcommand_of line words))
+-- what the words ask a program for: their command's request, if clap finds no fault in them
+abbrev pub request_of : Program → List Text → Option Request
+request_of program words =
+    unless_at_fault (fault_of (line program) words) (choice_of (subcommand_of (line program) words))
 
 -- clap's first fault in the words is that they ask for help
-abbrev pub AskForHelp : List Text → Type 0
-AskForHelp words = IsAmong DisplayHelp (fault_of line words)
+abbrev pub AskForHelp : Program → List Text → Type 0
+AskForHelp program words = IsAmong DisplayHelp (fault_of (line program) words)
 
 -- clap's first fault in the words is any other
-abbrev pub AreRefused : List Text → Type 0
-AreRefused words = (kind : ErrorKind) × (kind ≢ DisplayHelp) × IsAmong kind (fault_of line words)
+abbrev pub AreRefused : Program → List Text → Type 0
+AreRefused program words = (kind : ErrorKind) × (kind ≢ DisplayHelp) × IsAmong kind (fault_of (line program) words)
 
 -- what the words, which ask for no command, are declined with
-abbrev pub MayDecline : List Text → Declined → Type 0
-MayDecline words (declined.Help text) = (request_of words ≡ None) × AskForHelp words
-MayDecline words (declined.Refused text) = (request_of words ≡ None) × AreRefused words
-MayDecline words declined.Memory = Unit {0}
+abbrev pub MayDecline : Program → List Text → Declined → Type 0
+MayDecline program words (declined.Help text) = (request_of program words ≡ None) × AskForHelp program words
+MayDecline program words (declined.Refused text) = (request_of program words ≡ None) × AreRefused program words
+MayDecline program words declined.Memory = Unit {0}
 
 -- what an error of this kind becomes
 abbrev pub IsDeclinedBy : ErrorKind → Declined → Type 0

@@ -1,11 +1,17 @@
--- The command line in clap's own words: the program, and its commands.
+-- The command lines in clap's own words: a program, and its commands.
 use Rattle.std.specs.Prelude.{true, codes}
-use Rattle.clap.specs.Words.{App, new_app, with_subcommand}
+use Rattle.clap.specs.Words.{App, Text, new_app, with_subcommand}
+use Rattle.command_line.specs.declared.program.Program.{Program}
+use Rattle.command_line.specs.declared.program.Program.TheVariants.{Forestplan, Forestplay}
 
--- the program: a command is wanted, and the word `help` is none
-abbrev pub without_commands : App
-without_commands = record (new_app (codes "forestplan")) {
-  top = record (new_app (codes "forestplan")).top {
+abbrev pub name_of : Program → Text
+name_of Forestplan = codes "forestplan"
+name_of Forestplay = codes "forestplay"
+
+-- a program of a name: a command is wanted, and the word `help` is none
+abbrev pub without_commands : Text → App
+without_commands name = record (new_app name) {
+  top = record (new_app name).top {
     subcommand_required = true;
     disable_help_subcommand = true;
   };
@@ -18,9 +24,14 @@ with_network_commands program =
     with_subcommand with_forests (new_app (codes "plain")).top
 
 -- these, and the one that checks a plan
-abbrev pub with_commands : App → App
-with_commands program = with_subcommand (with_network_commands program) (new_app (codes "check")).top
+abbrev pub with_plan_commands : App → App
+with_plan_commands program = with_subcommand (with_network_commands program) (new_app (codes "check")).top
 
--- the whole command line
-abbrev pub line : App
-line = with_commands without_commands
+-- the commands for lessons
+abbrev pub with_play_commands : App → App
+with_play_commands program = with_subcommand program (new_app (codes "events")).top
+
+-- the whole command line of a program
+abbrev pub line : Program → App
+line Forestplan = with_plan_commands (without_commands (name_of Forestplan))
+line Forestplay = with_play_commands (without_commands (name_of Forestplay))

@@ -11,7 +11,7 @@ pub struct Help {
     pub format: &'static str,
 }
 
-pub const PROGRAM: Help = Help {
+pub const FORESTPLAN: Help = Help {
     about: "Plans channels for transmitters: no two that interfere share one",
     long_about: "Plans channels for transmitters: no two that interfere share one.
 
@@ -116,4 +116,70 @@ Example: a plan of the triangle
   (cat net.col; forestplan plain < net.col) | forestplan check
 prints
   proper 3",
+};
+
+pub const FORESTPLAY: Help = Help {
+    about: "Plays by hand what nodes do to find a channel plan, for lessons",
+    long_about: "Plays by hand what nodes do to find a channel plan, for lessons.
+
+The program reads a graph from standard input, in which the nodes are the
+vertices, and behind it what happens, and writes where that leads. A fault of
+the input is one line on standard error, a refused command line is several, and
+standard output then stays empty. If a write fails, standard output holds a
+beginning of the answer.",
+    format: "The graph is read as by forestplan, and its faults are the same, reported as
+`forestplay: F6 line 2`: see `forestplan --help`.
+
+Status: 0 done, 1 input refused, 2 command line refused, 4 memory ran out, or
+the input could not be read or the output not written.
+
+Example: node 1 of two greets the other
+  printf 'p edge 2 1\\ne 1 2\\nput 1 0\\n' | forestplay events",
+};
+
+pub const EVENTS: Help = Help {
+    about: "Plays events, and prints where they lead",
+    long_about: "Plays events, and prints where they lead.
+
+The nodes look for the channels that `forestplan plain` prints, but without a
+common clock, by Awerbuch's synchroniser alpha. At the start each node is at
+pulse 0, and has a greeting for each neighbour in the out-list of the
+neighbour's port. An event is a step of one node; events are played in the order
+in which they stand.",
+    format: "Input: a graph in the DIMACS format, as `p edge NODES EDGES` and then `e V W`, and
+behind it events, a line each:
+  pulse V              node V makes its next pulse
+  put V PORT           V puts the oldest wire of the port's out-list on the link
+  take V PORT          V takes the oldest wire that waits for it at the port
+The ports of a node count from 0, by ascending neighbour. The events begin at
+the first line whose first field is one of the three words. From there empty
+lines are skipped, and those whose first field begins with c.
+
+Output, for each node V, ascending, a line each:
+  node V pulse P           its pulse; behind its last one ` channel C`
+  link V W taken N WIRES   for each neighbour W, ascending: the number of wires
+                           that W has taken from this link, and the wires that
+                           wait on it, the oldest first, as
+    payload P WORD NUMBER    what V sends W at pulse P
+    ack P                    V has taken what W sent at pulse P
+    safe P                   all that V sent at pulse P has been taken
+    close                    the last wire
+
+Faults of the events, reported once the graph has none, each as
+`forestplay: NotReady line 5`, where lines count from the first of the graph:
+  NoEvent       the line is no event, and not skipped
+  NoSuch        there is no such node or port
+  NotReady      the node cannot make its next pulse yet
+  NothingToPut  the out-list is empty
+  LinkEmpty     no wire waits at the port
+The first line that is no event is looked for first. If there is none, the first
+event that is not possible is reported.
+
+Example: node 1 greets node 2, which takes it and greets back
+  printf 'p edge 2 1\\ne 1 2\\nput 1 0\\ntake 2 0\\nput 2 0\\n' | forestplay events
+prints
+  node 1 pulse 0
+  link 1 2 taken 1
+  node 2 pulse 0
+  link 2 1 taken 0 payload 0 hello 2",
 };

@@ -1,13 +1,14 @@
-//! The command line of `forestplan`: which words ask for what, and what `clap` says of the others.
+//! The command lines of `forestplan` and `forestplay`: which words ask for what, and what `clap` says of the others.
 //!
 //! `serving` calls `parse` with the words that the program was started with, its own name first. No type
 //! of `clap` crosses this boundary.
 //!
 //! ```
-//! match parse(alloc, &["forestplan", "plain"]) {
+//! match parse(alloc, Program::Forestplan, &["forestplan", "plain"]) {
 //!     Ok(Request::Plain) => ..,
 //!     Ok(Request::Forests) => ..,
 //!     Ok(Request::Check) => ..,
+//!     Ok(Request::Events) => ..,
 //!     Err(Declined::Help(text)) => ..,
 //!     Err(Declined::Refused(text)) => ..,
 //!     Err(Declined::Memory) => ..,
@@ -20,6 +21,8 @@
 
 mod help;
 mod line;
+mod program;
 mod request;
 
+pub use program::Program;
 pub use request::{Declined, Request, parse};

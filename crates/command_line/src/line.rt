@@ -3,25 +3,27 @@
 ghost use Rattle.std.specs.Prelude.{◌≡◌, IfOk, false};
 ghost use Rattle.clap.specs.Words.{app_of, new_app, with_subcommand};
 ghost use Rattle.clap.specs.declared.builder.command.Command.TheViews.{out-Command};
-ghost use Rattle.command_line.specs.Line.{line, with_commands, with_network_commands, without_commands};
+ghost use Rattle.command_line.specs.Line.{line, with_network_commands, with_plan_commands, with_play_commands};
+ghost use Rattle.command_line.specs.Line.{without_commands};
 
 use crate::help;
 use crate::help::Help;
+use crate::program::Program;
 use clap::Command;
 use std::alloc::{AllocError, Global};
 
-// The program with no command yet. Its texts say `forestplan` whatever file it is started from.
-fn program<'a>(alloc: Global) -> Result<Command<'a>, AllocError>
-    ensures shape { IfOk result (λ c. app_of c ≡ without_commands) }
+// A program with no command yet. Its texts say its name whatever file it is started from.
+fn without_commands<'a>(alloc: Global, name: &'a str, help: Help) -> Result<Command<'a>, AllocError>
+    ensures shape { IfOk result (λ c. app_of c ≡ without_commands name.entry.now) }
     ensures local { IfOk result (λ c. (out-Command c).has_globals ≡ false) }
 {
-    Command::new(alloc, "forestplan")
-        .about(help::PROGRAM.about)
-        .long_about(help::PROGRAM.long_about)
-        .after_help(help::PROGRAM.format)
+    Command::new(alloc, name)
+        .about(help.about)
+        .long_about(help.long_about)
+        .after_help(help.format)
         .subcommand_required(true)
         .disable_help_subcommand(true)
-        .bin_name("forestplan")
+        .bin_name(name)
 }
 
 // A command with no options.
@@ -56,22 +58,40 @@ fn with_network_commands<'a>(alloc: Global, program: Command<'a>) -> Result<Comm
 }
 
 // These, and the command that checks a plan.
-fn with_all_commands<'a>(alloc: Global, program: Command<'a>) -> Result<Command<'a>, AllocError>
+fn with_plan_commands<'a>(alloc: Global, program: Command<'a>) -> Result<Command<'a>, AllocError>
     requires { (out-Command program).has_globals ≡ false }
-    ensures shape { IfOk result (λ c. app_of c ≡ with_commands (app_of program.entry)) }
+    ensures shape { IfOk result (λ c. app_of c ≡ with_plan_commands (app_of program.entry)) }
     ensures local { IfOk result (λ c. (out-Command c).has_globals ≡ false) }
 {
     let program = with_network_commands(alloc, program)?;
     with_command(program, command(alloc, "check", help::CHECK))
 }
 
-/// The whole command line.
+// The commands for lessons.
+fn with_play_commands<'a>(alloc: Global, program: Command<'a>) -> Result<Command<'a>, AllocError>
+    requires { (out-Command program).has_globals ≡ false }
+    ensures shape { IfOk result (λ c. app_of c ≡ with_play_commands (app_of program.entry)) }
+    ensures local { IfOk result (λ c. (out-Command c).has_globals ≡ false) }
+{
+    with_command(program, command(alloc, "events", help::EVENTS))
+}
+
+/// The whole command line of a program.
 ///
 /// # Errors
 /// If memory ran out.
-pub fn whole_line<'a>(alloc: Global) -> Result<Command<'a>, AllocError>
-    ensures shape { IfOk result (λ c. app_of c ≡ line) }
+pub fn whole_line<'a>(alloc: Global, program: Program) -> Result<Command<'a>, AllocError>
+    ensures shape { IfOk result (λ c. app_of c ≡ line program) }
     ensures local { IfOk result (λ c. (out-Command c).has_globals ≡ false) }
 {
-    with_all_commands(alloc, program(alloc)?)
+    match program {
+        Program::Forestplan => {
+            let command = without_commands(alloc, "forestplan", help::FORESTPLAN)?;
+            with_plan_commands(alloc, command)
+        }
+        Program::Forestplay => {
+            let command = without_commands(alloc, "forestplay", help::FORESTPLAY)?;
+            with_play_commands(alloc, command)
+        }
+    }
 }

@@ -5,6 +5,7 @@ ghost use Rattle.clap.specs.Words.{found_of, kind_of, rows_of, subcommand_rows_o
 ghost use Rattle.command_line.specs.Asked.{IsDeclinedBy, MayDecline, choice_of, named, request_of};
 
 use crate::line::whole_line;
+use crate::program::Program;
 use clap::error::ErrorKind;
 use clap::{ArgMatches, Error};
 use std::alloc::Global;
@@ -18,6 +19,8 @@ pub enum Request {
     Plain,
     /// The verdict on a channel plan of a network.
     Check,
+    /// The state that events lead to.
+    Events,
 }
 
 /// Why words ask for no command, and what is said of them.
@@ -38,6 +41,7 @@ fn request_named(name: &str, _matches: &ArgMatches<'_>) -> Option<Request>
         "forests" => Some(Request::Forests),
         "plain" => Some(Request::Plain),
         "check" => Some(Request::Check),
+        "events" => Some(Request::Events),
         _ => None,
     }
 }
@@ -64,16 +68,16 @@ fn declined_by(alloc: Global, error: &Error) -> Declined
     }
 }
 
-/// What the words ask for; the first is the program's name, and is not looked at.
+/// What the words ask a program for; the first is its name, and is not looked at.
 ///
 /// # Errors
 /// `Help` or `Refused` by the first fault that clap meets in the words. Any call may instead fail with
 /// `Memory`.
-pub fn parse<'a>(alloc: Global, words: &'a [&'a str]) -> Result<Request, Declined>
-    ensures ok { IfOk result (λ request. request_of (map (λ word. word.now) words.entry.now) ≡ Some request) }
-    ensures err { IfErr result (MayDecline (map (λ word. word.now) words.entry.now)) }
+pub fn parse<'a>(alloc: Global, program: Program, words: &'a [&'a str]) -> Result<Request, Declined>
+    ensures ok { IfOk result (λ request. request_of program (map (λ word. word.now) words.entry.now) ≡ Some request) }
+    ensures err { IfErr result (MayDecline program (map (λ word. word.now) words.entry.now)) }
 {
-    let Ok(line) = whole_line(alloc) else {
+    let Ok(line) = whole_line(alloc, program) else {
         return Err(Declined::Memory);
     };
     match line.try_get_matches_from(words) {

@@ -65,6 +65,15 @@ impl<T: Copy> Links<T> {
         self.rows[(v - 1) as usize][port as usize].waiting()
     }
 
+    /// How many wires were taken from it, and those that it holds, oldest first.
+    pub(crate) fn parts(&self, v: u32, port: u32) -> (usize, &[Wire<T>])
+        requires link { HasLink self.now v port }
+        ensures taken { result.0 ≡ length (link_at self.now v port).taken }
+        ensures held { result.1.now ≡ (link_at self.now v port).held }
+    {
+        self.rows[(v - 1) as usize][port as usize].parts()
+    }
+
     /// Puts a wire on it. All links stay as they were if memory is refused.
     pub(crate) fn put(&mut self, v: u32, port: u32, wire: Wire<T>) -> Result<(), Memory>
         requires link { HasLink self.old v port }

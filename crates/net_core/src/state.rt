@@ -7,7 +7,7 @@ ghost use Rattle.net_core.specs.Simulation.{IsReached, IsSimulation};
 ghost use Rattle.net_core.specs.State.{link_at, node_of, start, started_nodes};
 
 use crate::links::Links;
-use alpha_core::AlphaNode;
+use alpha_core::{AlphaNode, Wire};
 use interference::{Memory, Network};
 use node_api::NodeProgram;
 use std::alloc::Global;
@@ -101,5 +101,24 @@ impl<P: NodeProgram> NetState<P> {
     {
         self.net.is_network();
         self.links.waiting(v, port)
+    }
+
+    /// How many wires were taken from the link out of a vertex by a port, and those that it holds, oldest
+    /// first.
+    pub fn link(&self, v: u32, port: u32) -> (usize, &[Wire<P::Payload>])
+        requires vertex { IsVertex self.now.net v }
+        requires port { port < degree_of self.now.net v }
+        ensures taken { result.0 ≡ length (link_at self.now.state.links v port).taken }
+        ensures held { result.1.now ≡ (link_at self.now.state.links v port).held }
+    {
+        self.net.is_network();
+        self.links.parts(v, port)
+    }
+
+    /// The network.
+    pub fn network(&self) -> &Network
+        ensures network { result.now ≡ self.now.net }
+    {
+        &self.net
     }
 }

@@ -68,4 +68,12 @@ impl<T: Copy> Wires<T> {
     {
         self.sent.len() - self.taken
     }
+
+    /// How many wires were taken, and those that were put and not taken, oldest first.
+    pub(crate) fn parts(&self) -> (usize, &[Wire<T>])
+        ensures taken { result.0 ≡ length self.now.taken }
+        ensures held { result.1.now ≡ self.now.held }
+    {
+        (self.taken, &self.sent[self.taken..])
+    }
 }

@@ -1,22 +1,25 @@
 -- What a command may answer to the bytes of its input.
 use Rattle.std.specs.Prelude.{ℕ, List, Result, Ok, Err}
 use Rattle.byte_functions.specs.Answers.{IsFaultOfText, IsForestsAnswer, IsPlainAnswer}
+use Rattle.byte_functions.specs.EventAnswers.{IsEventsAnswer, IsFaultOfEvents}
 use Rattle.byte_functions.specs.Verdicts.{IsCheckAnswer, IsFaultOfCheck}
 use Rattle.byte_functions.specs.declared.fault.PlanFault.{PlanFault}
 use Rattle.command_line.specs.declared.request.Request.{Request}
-use Rattle.command_line.specs.declared.request.Request.TheVariants.{Check, Forests, Plain}
+use Rattle.command_line.specs.declared.request.Request.TheVariants.{Check, Events, Forests, Plain}
 
 -- the answer of each command to a good input, a line for each
 abbrev pub IsGoodAnswer : Request → List ℕ → List ℕ → Type 0
 IsGoodAnswer Forests input answer = IsForestsAnswer input answer
 IsGoodAnswer Plain input answer = IsPlainAnswer input answer
 IsGoodAnswer Check input answer = IsCheckAnswer input answer
+IsGoodAnswer Events input answer = IsEventsAnswer input answer
 
 -- the fault of an input for each command, a line for each
 abbrev pub IsFaultAnswer : Request → List ℕ → PlanFault → Type 0
 IsFaultAnswer Forests input fault = IsFaultOfText input fault
 IsFaultAnswer Plain input fault = IsFaultOfText input fault
 IsFaultAnswer Check input fault = IsFaultOfCheck input fault
+IsFaultAnswer Events input fault = IsFaultOfEvents input fault
 
 -- the bytes that a command may answer, or its fault
 abbrev pub MayAnswer : Request → List ℕ → Result (List ℕ) PlanFault → Type 0

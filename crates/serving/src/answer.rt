@@ -3,7 +3,7 @@
 ghost use Rattle.std.specs.Prelude.{IfOk, IfErr, Ok, Err};
 ghost use Rattle.serving.specs.Answers.{MayAnswer};
 
-use byte_functions::{PlanFault, check_bytes, forest_bytes, plain_bytes};
+use byte_functions::{PlanFault, check_bytes, events_bytes, forest_bytes, plain_bytes};
 use command_line::Request;
 use std::alloc::Global;
 
@@ -19,5 +19,6 @@ pub fn answer_bytes(alloc: Global, request: Request, input: &[u8]) -> Result<Vec
         Request::Forests => forest_bytes(alloc, input),
         Request::Plain => plain_bytes(alloc, input),
         Request::Check => check_bytes(alloc, input),
+        Request::Events => events_bytes(alloc, input),
     }
 }

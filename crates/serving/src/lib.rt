@@ -1,12 +1,13 @@
-//! Serving one command of `forestplan`: from the words of the command line and the input to what is
+//! Serving one command of `forestplan` or `forestplay`: from the words of the command line and the input to what is
 //! written and the status, over a source and two sinks of the caller's.
 //!
-//! The program `forestplan` calls `serve_all` with the words and the streams that the system gives.
+//! Each program calls `serve_process`, and that `serve_all` with the words and the streams that the system gives.
 //!
 //! ```
 //! let mut input: &[u8] = b"p edge 2 1\ne 1 2\n";
 //! let (mut output, mut errors) = (Vec::new(alloc), Vec::new(alloc));
-//! let status = serve(alloc, &["forestplan", "plain"], &mut input, &mut output, &mut errors);
+//! let words = ["forestplan", "plain"];
+//! let status = serve(alloc, Program::Forestplan, &words, &mut input, &mut output, &mut errors);
 //! // status 0, output "plan", "1 1", "2 2", a line each
 //! ```
 //!
@@ -15,9 +16,12 @@
 #![tactic(auto)]
 
 mod answer;
+mod process;
 mod serving;
 mod words;
 
 pub use answer::answer_bytes;
-pub use serving::{refuse_memory, serve};
+pub use command_line::Program;
+pub use process::serve_process;
+pub use serving::serve;
 pub use words::serve_all;

@@ -2,12 +2,13 @@
 
 ghost use Rattle.std.specs.Prelude.{◌≡◌, ◌⊎◌, map};
 ghost use Rattle.byte_functions.specs.Faults.{fault_line, fault_status};
+ghost use Rattle.command_line.specs.Line.{name_of};
 ghost use Rattle.serving.specs.Serve.{Answers, IsReported, Puts, Serves, ServesWords, memory_line, stream_line};
 ghost use Rattle.serving.specs.Streams.{reading, writing};
 
 use crate::answer::answer_bytes;
 use byte_functions::{PlanFault, fault_report};
-use command_line::{Declined, Request, parse};
+use command_line::{Declined, Program, Request, parse};
 use std::alloc::Global;
 use whole_streams::{ReadFault, Sink, Source, read_whole, write_whole};
 
@@ -27,80 +28,88 @@ fn refuse<E: Sink>(errors: &mut E, text: &[u8], status: u8) -> u8
 }
 
 // Reports that a stream failed.
-fn refuse_stream<E: Sink>(errors: &mut E) -> u8
-    ensures reported { IsReported (writing E.contents E.faults errors.old errors.new) stream_line }
+fn refuse_stream<E: Sink>(program: Program, errors: &mut E) -> u8
+    ensures reported { IsReported (writing E.contents E.faults errors.old errors.new) (stream_line program) }
     ensures status { result ≡ 4 }
 {
-    refuse(errors, b"forestplan: stream\n", NOT_DONE)
+    match program {
+        Program::Forestplan => refuse(errors, b"forestplan: stream\n", NOT_DONE),
+        Program::Forestplay => refuse(errors, b"forestplay: stream\n", NOT_DONE),
+    }
 }
 
 /// Reports on `errors` that memory ran out, and returns the status 4.
-pub fn refuse_memory<E: Sink>(errors: &mut E) -> u8
-    ensures reported { IsReported (writing E.contents E.faults errors.old errors.new) memory_line }
+pub fn refuse_memory<E: Sink>(program: Program, errors: &mut E) -> u8
+    ensures reported { IsReported (writing E.contents E.faults errors.old errors.new) (memory_line program) }
     ensures status { result ≡ 4 }
 {
-    refuse(errors, b"forestplan: memory\n", NOT_DONE)
+    match program {
+        Program::Forestplan => refuse(errors, b"forestplan: memory\n", NOT_DONE),
+        Program::Forestplay => refuse(errors, b"forestplay: memory\n", NOT_DONE),
+    }
 }
 
 // Writes a text to `output`, and reports if a write fails.
-fn put<W: Sink, E: Sink>(output: &mut W, errors: &mut E, text: &[u8]) -> u8
-    ensures { Puts (writing W.contents W.faults output.old output.new)
+fn put<W: Sink, E: Sink>(program: Program, output: &mut W, errors: &mut E, text: &[u8]) -> u8
+    ensures { Puts program (writing W.contents W.faults output.old output.new)
         (writing E.contents E.faults errors.old errors.new) text.now result }
 {
     match write_whole(output, text) {
         Ok(()) => 0,
-        Err(_) => refuse_stream(errors),
+        Err(_) => refuse_stream(program, errors),
     }
 }
 
 // Reports a fault, or that there is no memory for its line.
-fn refuse_fault<E: Sink>(alloc: Global, errors: &mut E, fault: PlanFault) -> u8
-    ensures { (IsReported (writing E.contents E.faults errors.old errors.new) (fault_line fault)
+fn refuse_fault<E: Sink>(alloc: Global, program: Program, errors: &mut E, fault: PlanFault) -> u8
+    ensures { (IsReported (writing E.contents E.faults errors.old errors.new) (fault_line (name_of program) fault)
         × (result ≡ fault_status fault))
-        ⊎ (IsReported (writing E.contents E.faults errors.old errors.new) memory_line × (result ≡ 4)) }
+        ⊎ (IsReported (writing E.contents E.faults errors.old errors.new) (memory_line program) × (result ≡ 4)) }
 {
-    match fault_report(alloc, fault) {
+    match fault_report(alloc, program.name(), fault) {
         Ok(report) => refuse(errors, report.line.as_bytes(), report.status),
-        Err(_) => refuse_memory(errors),
+        Err(_) => refuse_memory(program, errors),
     }
 }
 
 // Gives the answer to the bytes of an input.
 fn give<W: Sink, E: Sink>(
     alloc: Global,
+    program: Program,
     request: Request,
     input: &[u8],
     output: &mut W,
     errors: &mut E,
 ) -> u8
-    ensures { Answers request input.now (writing W.contents W.faults output.old output.new)
+    ensures { Answers program request input.now (writing W.contents W.faults output.old output.new)
         (writing E.contents E.faults errors.old errors.new) result }
 {
     match answer_bytes(alloc, request, input) {
-        Ok(bytes) => put(output, errors, bytes.as_slice()),
-        Err(fault) => refuse_fault(alloc, errors, fault),
+        Ok(bytes) => put(program, output, errors, bytes.as_slice()),
+        Err(fault) => refuse_fault(alloc, program, errors, fault),
     }
 }
 
 fn serve_request<R: Source, W: Sink, E: Sink>(
     alloc: Global,
+    program: Program,
     request: Request,
     input: &mut R,
     output: &mut W,
     errors: &mut E,
 ) -> u8
-    ensures { Serves request (reading R.remaining R.faults R.reads_left input.old input.new)
+    ensures { Serves program request (reading R.remaining R.faults R.reads_left input.old input.new)
         (writing W.contents W.faults output.old output.new)
         (writing E.contents E.faults errors.old errors.new) result }
 {
     match read_whole(alloc, input) {
-        Ok(bytes) => give(alloc, request, bytes.as_slice(), output, errors),
-        Err(ReadFault::Stream) => refuse_stream(errors),
-        Err(ReadFault::Memory) => refuse_memory(errors),
+        Ok(bytes) => give(alloc, program, request, bytes.as_slice(), output, errors),
+        Err(ReadFault::Stream) => refuse_stream(program, errors),
+        Err(ReadFault::Memory) => refuse_memory(program, errors),
     }
 }
 
-/// Serves the command that the words name, the program's name being the first word, and returns the
+/// Serves the command of a program that the words name, its name being the first word, and returns the
 /// status of the program.
 ///
 /// If the words ask for a command, `input` is read to its end, the answer goes to `output`, and the
@@ -110,20 +119,21 @@ fn serve_request<R: Source, W: Sink, E: Sink>(
 /// `output` holds a beginning of the answer. A failed write to `errors` changes nothing.
 pub fn serve<'a, R: Source, W: Sink, E: Sink>(
     alloc: Global,
+    program: Program,
     words: &'a [&'a str],
     input: &mut R,
     output: &mut W,
     errors: &mut E,
 ) -> u8
-    ensures { ServesWords (map (λ word. word.now) words.entry.now)
+    ensures { ServesWords program (map (λ word. word.now) words.entry.now)
         (reading R.remaining R.faults R.reads_left input.old input.new)
         (writing W.contents W.faults output.old output.new)
         (writing E.contents E.faults errors.old errors.new) result }
 {
-    match parse(alloc, words) {
-        Ok(request) => serve_request(alloc, request, input, output, errors),
-        Err(Declined::Help(text)) => put(output, errors, text.as_bytes()),
+    match parse(alloc, program, words) {
+        Ok(request) => serve_request(alloc, program, request, input, output, errors),
+        Err(Declined::Help(text)) => put(program, output, errors, text.as_bytes()),
         Err(Declined::Refused(text)) => refuse(errors, text.as_bytes(), REFUSED_WORDS),
-        Err(Declined::Memory) => refuse_memory(errors),
+        Err(Declined::Memory) => refuse_memory(program, errors),
     }
 }

@@ -5,6 +5,7 @@ ghost use Rattle.serving.specs.Serve.{ServesWords};
 ghost use Rattle.serving.specs.Streams.{reading, writing};
 
 use crate::serving::{refuse_memory, serve};
+use command_line::Program;
 use std::alloc::{AllocError, Global};
 use whole_streams::{Sink, Source};
 
@@ -22,18 +23,19 @@ fn borrowed<'a>(alloc: Global, words: &'a [String]) -> Result<Vec<&'a str>, Allo
 /// `serve` for words that are owned.
 pub fn serve_all<R: Source, W: Sink, E: Sink>(
     alloc: Global,
+    program: Program,
     words: &[String],
     input: &mut R,
     output: &mut W,
     errors: &mut E,
 ) -> u8
-    ensures { ServesWords (map string_bytes words.now)
+    ensures { ServesWords program (map string_bytes words.now)
         (reading R.remaining R.faults R.reads_left input.old input.new)
         (writing W.contents W.faults output.old output.new)
         (writing E.contents E.faults errors.old errors.new) result }
 {
     match borrowed(alloc, words) {
-        Ok(words) => serve(alloc, words.as_slice(), input, output, errors),
-        Err(_) => refuse_memory(errors),
+        Ok(words) => serve(alloc, program, words.as_slice(), input, output, errors),
+        Err(_) => refuse_memory(program, errors),
     }
 }

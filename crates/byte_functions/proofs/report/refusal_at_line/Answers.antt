@@ -13,4 +13,4 @@ at-line-end code n end =
 pub returns-clause-line : goal.returns-clause-line
 returns-clause-line c =
     c.refusal.ensures.line ∙ c.in_ok-format.ensures.ok
-    ∙ ap (λ l. codes "forestplan: " ++ l) (sym (at-line-end c.args.code.now c.args.number (10 ∷ [])))
+    ∙ ap (λ l. c.args.name.now ++ (codes ": " ++ l)) (sym (at-line-end c.args.code.now c.args.number (10 ∷ [])))

@@ -13,4 +13,4 @@ at-vertex-end code v end =
 pub returns-clause-line : goal.returns-clause-line
 returns-clause-line c =
     c.refusal.ensures.line ∙ c.in_ok-format.ensures.ok
-    ∙ ap (λ l. codes "forestplan: " ++ l) (sym (at-vertex-end c.args.code.now c.args.v (10 ∷ [])))
+    ∙ ap (λ l. c.args.name.now ++ (codes ": " ++ l)) (sym (at-vertex-end c.args.code.now c.args.v (10 ∷ [])))

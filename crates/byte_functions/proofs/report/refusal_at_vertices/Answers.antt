@@ -15,4 +15,4 @@ at-vertices-end code v w end =
 pub returns-clause-line : goal.returns-clause-line
 returns-clause-line c =
     c.refusal.ensures.line ∙ c.in_ok-format.ensures.ok
-    ∙ ap (λ l. codes "forestplan: " ++ l) (sym (at-vertices-end c.args.code.now c.args.v c.args.w (10 ∷ [])))
+    ∙ ap (λ l. c.args.name.now ++ (codes ": " ++ l)) (sym (at-vertices-end c.args.code.now c.args.v c.args.w (10 ∷ [])))

@@ -4,7 +4,7 @@ use Rattle.clap.specs.Walk.{texts}
 use Rattle.clap.specs.Faults.{is_simple_and_free}
 use Rattle.clap.specs.Kinds.{HasKind}
 use Rattle.command_line.specs.Asked.{choice_of}
-use Rattle.command_line.proofs.KnownCommands.{declined, known, line_is_free, line_is_simple, taken}
+use Rattle.command_line.proofs.KnownCommands.{declined, known, line_is_free, line_is_simple, line_wants_a_command, taken}
 use Rattle.command_line.proofs.request.parse.Goals as goal
 
 mapped : {X Y : Type 0} (f : X → Y) (o : Option X) → is_some o ≡ true → is_some (option_map f o) ≡ true
@@ -15,11 +15,11 @@ pub unreachable-requires : goal.unreachable-requires
 unreachable-requires c =
     let e = c.in-Ok-try_get_matches_from.ensures in
     let shape = c.in-Ok.ensures.shape in
-    let rows_are = (e.matches (ap is_simple shape ∙ line_is_simple)).1 ∙ ap (λ (a : App). subcommand_of a (texts c.args.words.now)) shape in
-    let wanted = e.parsed.from.needs_subcommand ∙ ap (λ (a : App). a.top.subcommand_required) shape in
+    let rows_are = (e.matches (ap is_simple shape ∙ line_is_simple c.args.program)).1 ∙ ap (λ (a : App). subcommand_of a (texts c.args.words.now)) shape in
+    let wanted = e.parsed.from.needs_subcommand ∙ ap (λ (a : App). a.top.subcommand_required) shape ∙ line_wants_a_command c.args.program in
     let parsed = e.parsed.parsed (e.parsed.from.globals ∙ c.in-Ok.ensures.local) in
     let there = mapped _ _ (parsed.checked.subcommand wanted) in
-    let some = known (texts c.args.words.now) (ap is_some (sym rows_are) ∙ there) in
+    let some = known c.args.program (texts c.args.words.now) (ap is_some (sym rows_are) ∙ there) in
     let bad : false ≡ true = ap is_some (c.in-None.ensures ∙ ap choice_of rows_are) ∙ some in
     cc
 
@@ -27,14 +27,14 @@ pub returns-in-Some-clause-ok : goal.returns-in-Some-clause-ok
 returns-in-Some-clause-ok c =
     let e = c.in-Ok-try_get_matches_from.ensures in
     let shape = c.in-Ok.ensures.shape in
-    let rows_are = (e.matches (ap is_simple shape ∙ line_is_simple)).1 ∙ ap (λ (a : App). subcommand_of a (texts c.args.words.now)) shape in
-    let none = ap (λ (a : App). fault_of a (texts c.args.words.now)) (sym shape) ∙ e.kinds (ap is_simple_and_free shape ∙ line_is_free) in
-    taken (texts c.args.words.now) c.in-Some.request none (ap choice_of (sym rows_are) ∙ sym c.in-Some.ensures)
+    let rows_are = (e.matches (ap is_simple shape ∙ line_is_simple c.args.program)).1 ∙ ap (λ (a : App). subcommand_of a (texts c.args.words.now)) shape in
+    let none = ap (λ (a : App). fault_of a (texts c.args.words.now)) (sym shape) ∙ e.kinds (ap is_simple_and_free shape ∙ line_is_free c.args.program) in
+    taken c.args.program (texts c.args.words.now) c.in-Some.request none (ap choice_of (sym rows_are) ∙ sym c.in-Some.ensures)
 
 pub returns-in-Err-clause-err : goal.returns-in-Err-clause-err
 returns-in-Err-clause-err c =
     let words = texts c.args.words.now in
     let shape = c.in-Ok.ensures.shape in
     let has = subst (λ (a : App). HasKind (fault_of a words) c.in-Err.error) shape
-    (c.in-Err.ensures.kinds (ap is_simple_and_free shape ∙ line_is_free)) in
-    declined words (kind_of c.in-Err.error) c.declined_by.result has c.declined_by.ensures
+    (c.in-Err.ensures.kinds (ap is_simple_and_free shape ∙ line_is_free c.args.program)) in
+    declined c.args.program words (kind_of c.in-Err.error) c.declined_by.result has c.declined_by.ensures

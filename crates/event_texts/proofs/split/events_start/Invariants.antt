@@ -1,0 +1,13 @@
+use Rattle.std.proofs.Common.{◌≡◌, length, map}
+use Rattle.dimacs_col.specs.Lines.{line_of}
+use Rattle.channel_plan.proofs.Parts.{closed}
+use Rattle.event_texts.proofs.Splitting.{AreBefore}
+use Rattle.event_texts.proofs.split.events_start.Given as goal
+
+-- no line so far begins an event, and `start` is the length of those lines with their line feeds
+abbrev pub invariant-loop-line : goal.invariant-loop-line
+invariant-loop-line l = record {
+  steps : (goal.iterator-loop-line).can_next l.line-iterator × (goal.iterator-loop-line).is_finite l.line-iterator;
+  before : AreBefore (map (λ x. line_of x.now) l.yielded);
+  start : l.start ≡ length (closed (map (λ x. x.now) l.yielded));
+}

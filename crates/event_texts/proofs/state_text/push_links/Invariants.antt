@@ -1,0 +1,10 @@
+use Rattle.std.proofs.Common.{◌≡◌, ◌++◌, flat_map}
+use Rattle.std.specs.List.{range_with_len}
+use Rattle.interference.specs.Net.{neighbour_of}
+use Rattle.net_core.specs.State.{link_at}
+use Rattle.event_texts.specs.StateText.{link_text}
+use Rattle.event_texts.proofs.state_text.push_links.Given as goal
+
+abbrev pub invariant-loop-port : goal.invariant-loop-port
+invariant-loop-port l = l.text.items ≡ l.fn.text.items
+    ++ flat_map (λ port. link_text l.v (neighbour_of l.state.net l.v port) (link_at l.state.state.links l.v port)) (range_with_len 0 l.port)

@@ -1,0 +1,5 @@
+pub mod EventLines
+pub mod Reading
+pub mod Reader
+pub mod Played
+pub mod StateText

@@ -1,0 +1,78 @@
+//! The text of a state of a network.
+
+ghost use Rattle.std.specs.Prelude.{◌≡◌, ◌++◌, ◌<◌, IfOk};
+ghost use Rattle.interference.specs.Net.{IsVertex, degree_of, neighbour_of};
+ghost use Rattle.net_core.specs.State.{link_at, node_of};
+ghost use Rattle.colour_rules.specs.Program.{colouring};
+ghost use Rattle.event_texts.specs.StateText.{link_text, links_text, node_text, state_text};
+
+use crate::wire_text::{push_numbered, push_wires};
+use colour_program::Colouring;
+use interference::Memory;
+use net_core::NetState;
+use std::alloc::{AllocError, Global};
+
+// Appends the line of a vertex's node.
+fn push_node(text: &mut Vec<u8>, state: &NetState<Colouring>, v: u32) -> Result<(), AllocError>
+    requires vertex { IsVertex state.now.net v }
+    ensures { IfOk result (λ _. text.new.items ≡ text.old.items
+        ++ node_text state.now.net v (node_of colouring state.now.net state.now.state v)) }
+{
+    let node = state.node(v);
+    push_numbered(text, b"node ", u128::from(v))?;
+    push_numbered(text, b" pulse ", u128::from(node.pulse_number()))?;
+    if node.halted() {
+        push_numbered(text, b" channel ", u128::from(node.program().colour()) + 1)?;
+    }
+    text.push(b'\n')?;
+    Ok(())
+}
+
+// Appends the line of the link out of a vertex by a port.
+fn push_link(
+    text: &mut Vec<u8>,
+    state: &NetState<Colouring>,
+    v: u32,
+    port: u32,
+) -> Result<(), AllocError>
+    requires vertex { IsVertex state.now.net v }
+    requires port { port < degree_of state.now.net v }
+    ensures { IfOk result (λ _. text.new.items ≡ text.old.items
+        ++ link_text v (neighbour_of state.now.net v port) (link_at state.now.state.links v port)) }
+{
+    let (taken, held) = state.link(v, port);
+    push_numbered(text, b"link ", u128::from(v))?;
+    push_numbered(text, b" ", u128::from(state.network().neighbour(v, port)))?;
+    push_numbered(text, b" taken ", taken as u128)?;
+    push_wires(text, held)?;
+    text.push(b'\n')?;
+    Ok(())
+}
+
+// Appends the lines of the links out of a vertex, by port.
+fn push_links(text: &mut Vec<u8>, state: &NetState<Colouring>, v: u32) -> Result<(), AllocError>
+    requires vertex { IsVertex state.now.net v }
+    ensures { IfOk result (λ _. text.new.items ≡ text.old.items ++ links_text state.now.net state.now.state v) }
+{
+    for port in 0..state.network().degree(v) {
+        push_link(text, state, v, port)?;
+    }
+    Ok(())
+}
+
+/// The text of a state: for each vertex, ascending, `node V pulse P`, and behind the last pulse its channel;
+/// then, for each link out of it, by port, `link V W taken N` and the wires that it holds, oldest first.
+///
+/// # Errors
+///
+/// If memory is refused.
+pub fn text_of_state(alloc: Global, state: &NetState<Colouring>) -> Result<Vec<u8>, Memory>
+    ensures text { IfOk result (λ text. text.items ≡ state_text state.now.net state.now.state) }
+{
+    let mut text = Vec::new(alloc);
+    for i in 0..state.network().nodes() {
+        push_node(&mut text, state, i + 1)?;
+        push_links(&mut text, state, i + 1)?;
+    }
+    Ok(text)
+}

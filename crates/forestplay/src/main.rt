@@ -1,0 +1,17 @@
+//! The program `forestplay`: what nodes do to find a channel plan, played by hand for lessons, from standard
+//! input to standard output.
+//!
+//! ```sh
+//! printf 'p edge 2 1\ne 1 2\nput 1 0\ntake 2 0\nput 2 0\n' | forestplay events
+//! ```
+//!
+//! It hands the words and the streams that the system gives to `serving`, whose contract says what is written
+//! and which status comes, for all words and every input.
+#![tactic(auto)]
+
+use serving::{Program, serve_process};
+use std::process::ExitCode;
+
+fn main(rt: HostRuntime) -> ExitCode {
+    ExitCode::from(serve_process(&rt, Program::Forestplay))
+}
