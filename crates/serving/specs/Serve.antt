@@ -40,7 +40,7 @@ abbrev pub Answers : Request → List ℕ → Written → Written → ℕ → Ty
 Answers request bytes output errors status = (answer : Result (List ℕ) PlanFault)
     × MayAnswer request bytes answer × Gives output errors answer status
 
--- the input ends, and its bytes are answered; or a read fails; or memory runs out. Each time the reads are bounded
+-- the input ends, and its bytes are answered; or a read fails; or memory runs out. At most READ_LIMIT reads are made
 abbrev pub Serves : Request → Taken → Written → Written → ℕ → Type 0
 Serves request input output errors status = IsReadInTime input × (
     ((bytes : List ℕ) × EndsAfter input.before input.after bytes × HasNotFailed input
