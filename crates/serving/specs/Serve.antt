@@ -43,7 +43,7 @@ abbrev pub Answers : Program → Request → List ℕ → Written → Written �
 Answers program request bytes output errors status = (answer : Result (List ℕ) PlanFault)
     × MayAnswer request bytes answer × Gives program output errors answer status
 
--- the input ends, and its bytes are answered; or a read fails; or memory runs out. Each time the reads are bounded
+-- the input ends, and its bytes are answered; or a read fails; or memory runs out. At most READ_LIMIT reads are made
 abbrev pub Serves : Program → Request → Taken → Written → Written → ℕ → Type 0
 Serves program request input output errors status = IsReadInTime input × (
     ((bytes : List ℕ) × EndsAfter input.before input.after bytes × HasNotFailed input
