@@ -1,17 +1,15 @@
 -- The plan of `plain`, behind its network, is proper, and has no fault.
-use Rattle.std.proofs.Common.{◌≡◌, ◌++◌, ◌∷◌, [], ◌⊎◌, inl, inr, ◌∙◌, ℕ, Some, None, Ok, Err, Result, Option, List, append-nil, arith, ap, codes, map, refl}
+use Rattle.std.proofs.Common.{◌≡◌, ◌++◌, ◌∷◌, [], inl, inr, ◌∙◌, ℕ, Some, None, Ok, Err, List, append-nil, arith, ap, codes, map, refl}
 use Rattle.std.proofs.Common.{subst, sym}
 use Rattle.dimacs_col.specs.Lines.{Line, lines_of}
-use Rattle.dimacs_col.specs.Reading.{IsFault, IsGraph}
-use Rattle.dimacs_col.specs.declared.fault.ColFault.{ColFault}
-use Rattle.dimacs_col.specs.declared.fault.ColFault.TheVariants as col
+use Rattle.dimacs_col.specs.Reading.{IsGraph}
 use Rattle.dimacs_col.proofs.Unique.{graph-or_fault, one-edges, one-nodes}
 use Rattle.interference.specs.Making.{IsFaultOf}
 use Rattle.interference.specs.Net.{IsNetwork, Net, vertices}
 use Rattle.interference.specs.declared.fault.NetFault.{NetFault}
 use Rattle.interference.specs.declared.fault.NetFault.TheVariants as net_fault
 use Rattle.channel_plan.specs.Checked.{IsFaultOfPlan, IsProper, fault_of, greatest_channel}
-use Rattle.channel_plan.specs.PlanText.{plan_of, rows_from}
+use Rattle.channel_plan.specs.PlanText.{rows_from}
 use Rattle.channel_plan.specs.Reading.{IsFaultOfReading, Row, reading_of, rows_of}
 use Rattle.channel_plan.specs.Split.{network_lines, plan_lines}
 use Rattle.channel_plan.specs.declared.plan.CheckFault.{CheckFault}
@@ -20,9 +18,8 @@ use Rattle.channel_plan.proofs.Blank.{graph-front}
 use Rattle.channel_plan.proofs.Proper.{fault-from}
 use Rattle.channel_plan.proofs.Splitting.{before-plan, last-line}
 use Rattle.channel_plan.proofs.Written.{plan-lines, written-read}
-use Rattle.byte_functions.specs.Answers.{IsPlainAnswer, LinesReadAs, network_with}
+use Rattle.byte_functions.specs.Answers.{IsPlainAnswer, network_with}
 use Rattle.byte_functions.specs.Faults.{fault_status}
-use Rattle.byte_functions.specs.Plans.{IsChannelPlan}
 use Rattle.byte_functions.specs.Verdicts.{IsCheckAnswer, IsFaultOfCheck, IsFaultOfPlanText, verdict_text}
 use Rattle.byte_functions.specs.declared.fault.PlanFault.{PlanFault}
 use Rattle.byte_functions.specs.declared.fault.PlanFault.TheVariants as plan

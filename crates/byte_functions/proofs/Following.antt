@@ -1,11 +1,10 @@
 -- A network text that ends in a line feed, and a plan text behind it: their lines.
 -- The lines of both are the network's and then the plan's. A good line never begins with `plan`, which is
 -- no kind of line, so the plan text begins where the plan does.
-use Rattle.std.proofs.Common.{◌≡◌, ◌++◌, ◌∷◌, [], ◌==◌, ◌∙◌, ℕ, Bool, true, false, Some, None, Option, List, append_assoc, ap, codes, map, refl, sym}
+use Rattle.std.proofs.Common.{◌≡◌, ◌++◌, ◌∷◌, [], ◌==◌, ◌∙◌, ℕ, Bool, true, false, Some, None, List, append_assoc, ap, codes, map, refl, sym}
 use Rattle.std.proofs.lemmas.List.{map-append}
 use Rattle.std.proofs.lemmas.Slice.Eq.{bytes_eq-Decides}
-use Rattle.std.specs.List.{AllByRecursion, onto_first, slice_split}
-use Rattle.std.specs.Str.{bytes_eq}
+use Rattle.std.specs.List.{slice_split}
 use Rattle.dimacs_col.specs.Kinds.{kind_of, kind_of_word}
 use Rattle.dimacs_col.specs.Lines.{Line, line_of, lines_of}
 use Rattle.dimacs_col.specs.Reading.{AllGood, number_after, verdict}

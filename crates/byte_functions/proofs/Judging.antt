@@ -1,14 +1,14 @@
 -- From what is known of a network text and of the plan text behind it to what `check` may answer.
-use Rattle.std.proofs.Common.{◌≡◌, ◌∙◌, inl, inr, ℕ, Ok, Err, List, refl, subst, sym}
+use Rattle.std.proofs.Common.{◌≡◌, ◌∙◌, inl, inr, ℕ, Ok, List, subst, sym}
 use Rattle.dimacs_col.specs.Lines.{Line, lines_of}
 use Rattle.interference.specs.Net.{IsNetwork, Net}
 use Rattle.channel_plan.specs.Checked.{IsFaultOfPlan, IsProper, greatest_channel}
 use Rattle.channel_plan.specs.Reading.{IsFaultOfReading, Row, reading_of}
-use Rattle.channel_plan.specs.Split.{AreNetworkLines, network_lines, plan_lines}
+use Rattle.channel_plan.specs.Split.{AreNetworkLines, plan_lines}
 use Rattle.channel_plan.specs.declared.plan.CheckFault.{CheckFault}
 use Rattle.channel_plan.specs.declared.plan.CheckFault.TheVariants as check
 use Rattle.channel_plan.proofs.Blank.{fault-of, graph-of}
-use Rattle.byte_functions.specs.Answers.{IsFaultOfText, LinesReadAs, ReadsAs}
+use Rattle.byte_functions.specs.Answers.{IsFaultOfText, ReadsAs}
 use Rattle.byte_functions.specs.Verdicts.{IsCheckAnswer, IsFaultOfCheck, verdict_text}
 use Rattle.byte_functions.specs.declared.fault.PlanFault.{PlanFault}
 use Rattle.byte_functions.specs.declared.fault.PlanFault.TheVariants as plan

@@ -1,5 +1,5 @@
 -- The rows of a channel plan are proper: each vertex has the row of its colour plus one, and no other.
-use Rattle.std.proofs.Common.{◌≡◌, ◌≢◌, ◌<◌, ◌≤◌, ◌+◌, ◌-◌, ◌^◌, ◌++◌, ◌∷◌, [], ◌==◌, ◌∙◌, ℕ, zero, suc, Bool, true, false, List, All, arith, ap, get_or}
+use Rattle.std.proofs.Common.{◌≡◌, ◌≢◌, ◌<◌, ◌≤◌, ◌+◌, ◌^◌, ◌∷◌, ◌==◌, ◌∙◌, ℕ, zero, suc, Bool, true, false, All, arith, ap, get_or}
 use Rattle.std.proofs.Common.{length, map, refl, subst, sym}
 use Rattle.std.proofs.lemmas.Bool.{eqb-true, eqb-false, ne_eqb}
 use Rattle.std.proofs.lemmas.List.{length-map}
@@ -7,8 +7,8 @@ use Rattle.std.proofs.lemmas.List.Elements.{All-map}
 use Rattle.std.proofs.lemmas.List.FromFn.{get_or-map-range_with_len, length-map-range_with_len, length-range_with_len}
 use Rattle.std.specs.List.{Contains, range_with_len}
 use Rattle.interference.specs.Net.{IsEdge, IsNetwork, IsVertex, Net, count_of, greatest_degree_of, vertices}
-use Rattle.interference.proofs.Neighbours.{greatest_degree-within, neighbour-is_vertex}
-use Rattle.channel_plan.specs.Checked.{IsProper, most_channel}
+use Rattle.interference.proofs.Neighbours.{greatest_degree-within}
+use Rattle.channel_plan.specs.Checked.{IsProper}
 use Rattle.channel_plan.specs.Reading.{Row, rows_of}
 use Rattle.channel_plan.proofs.Counts.{counted, row_count}
 use Rattle.channel_plan.proofs.Proper.{vertices-are}

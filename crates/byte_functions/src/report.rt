@@ -37,7 +37,12 @@ fn refusal(line: String) -> FaultReport
 }
 
 // `NAME: CODE line N`.
-fn refusal_at_line(alloc: Global, name: &str, code: &str, number: usize) -> Result<FaultReport, AllocError>
+fn refusal_at_line(
+    alloc: Global,
+    name: &str,
+    code: &str,
+    number: usize,
+) -> Result<FaultReport, AllocError>
     ensures line { IfOk result (λ report. string_bytes report.line ≡ line_with name.now (at_line code.now number)) }
     ensures status { IfOk result (λ report. report.status ≡ 1) }
 {
@@ -45,7 +50,12 @@ fn refusal_at_line(alloc: Global, name: &str, code: &str, number: usize) -> Resu
 }
 
 // `NAME: CODE vertex V`.
-fn refusal_at_vertex(alloc: Global, name: &str, code: &str, v: u32) -> Result<FaultReport, AllocError>
+fn refusal_at_vertex(
+    alloc: Global,
+    name: &str,
+    code: &str,
+    v: u32,
+) -> Result<FaultReport, AllocError>
     ensures line { IfOk result (λ report. string_bytes report.line ≡ line_with name.now (at_vertex code.now v)) }
     ensures status { IfOk result (λ report. report.status ≡ 1) }
 {
@@ -53,7 +63,13 @@ fn refusal_at_vertex(alloc: Global, name: &str, code: &str, v: u32) -> Result<Fa
 }
 
 // `NAME: CODE vertices V W`.
-fn refusal_at_vertices(alloc: Global, name: &str, code: &str, v: u32, w: u32) -> Result<FaultReport, AllocError>
+fn refusal_at_vertices(
+    alloc: Global,
+    name: &str,
+    code: &str,
+    v: u32,
+    w: u32,
+) -> Result<FaultReport, AllocError>
     ensures line { IfOk result (λ report. string_bytes report.line ≡ line_with name.now (at_vertices code.now v w)) }
     ensures status { IfOk result (λ report. report.status ≡ 1) }
 {

@@ -3,3 +3,4 @@ mod Splitting
 mod Readings
 mod Ranges
 mod Within
+mod Scripts

@@ -30,10 +30,10 @@ unfolding known_after
 known-event n known next line words word event e p w is = rw (e, p, w, is) refl
 
 -- ---- all lines
-abbrev then_read : ℕ → List Line → Option Script → Result Script ℕ
+abbrev pub then_read : ℕ → List Line → Option Script → Result Script ℕ
 then_read n lines known = elim known [ None ↦ Err n | Some next ↦ read_from (n + 1) next lines ]
 
-read-one : (n : ℕ) (known : Script) (line : Line) (lines : List Line) → read_from n known (line ∷ lines) ≡ then_read n lines (known_after n known line)
+pub read-one : (n : ℕ) (known : Script) (line : Line) (lines : List Line) → read_from n known (line ∷ lines) ≡ then_read n lines (known_after n known line)
 unfolding read_from
 read-one n known line lines = refl
 

@@ -1,5 +1,5 @@
 -- A run is refused at one of its events.
-use Rattle.std.proofs.Common.{◌≡◌, ◌∙◌, ◌+◌, ◌<◌, ℕ, suc, List, [], ◌∷◌, length, Ok, Err, Result, ap, arith, refl, subst}
+use Rattle.std.proofs.Common.{◌≡◌, ◌+◌, ◌<◌, ℕ, suc, List, [], ◌∷◌, length, Ok, Err, Result, arith, subst}
 use Rattle.std.proofs.lemmas.List.{length-map}
 use Rattle.interference.specs.Net.{Net}
 use Rattle.node_api.specs.Program.{Program}
@@ -11,7 +11,6 @@ use Rattle.net_core.specs.Refusals.{at_index}
 use Rattle.net_core.specs.State.{State, start}
 use Rattle.net_core.specs.Step.{go_on, run_from, step}
 use Rattle.event_texts.specs.Played.{IsIndexBelow, RefusalsHaveAnEvent, events_in}
-use Rattle.event_texts.specs.Reading.{Script}
 
 at-below : (k n : ℕ) (reason : StepRefused) → k < n → IsIndexBelow n (at_index k reason)
 at-below k n NotReady lt = lt

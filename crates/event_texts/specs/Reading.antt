@@ -1,10 +1,10 @@
 -- The reading of the events of a text, each with the number of its line.
-use Rattle.std.specs.Prelude.{ℕ, ◌+◌, Bool, true, not, if◌then◌else◌, Option, Some, None, option_map, Result, Ok, Err}
-use Rattle.std.specs.Prelude.{List, [], ◌∷◌, ◌++◌}
+use Rattle.std.specs.Prelude.{◌≡◌, ℕ, ◌+◌, Bool, false, true, not, if◌then◌else◌, Option, Some, None, option_map, Result, Ok, Err}
+use Rattle.std.specs.Prelude.{List, [], ◌∷◌, ◌++◌, filter, map}
 use Rattle.dimacs_col.specs.Kinds.{is_comment}
 use Rattle.dimacs_col.specs.Lines.{Line}
 use Rattle.net_core.specs.declared.event.Event.{Event}
-use Rattle.event_texts.specs.EventLines.{event_of, is_event_word}
+use Rattle.event_texts.specs.EventLines.{begins_event, event_of, is_event_word}
 
 -- events, each behind the number of its line
 abbrev pub Script : Type 0
@@ -34,3 +34,33 @@ read_from n known (line ∷ lines) =
 -- the events of a text, or the number of the first line that is none; lines count from 1, the network's too
 abbrev pub script_of : List Line → Result Script ℕ
 script_of lines = read_from 1 [] lines
+
+-- the lines from line n on, each behind its number
+abbrev pub numbered : ℕ → List Line → List (ℕ × Line)
+numbered n [] = []
+numbered n (line ∷ lines) = (n, line) ∷ numbered (n + 1) lines
+
+-- those from the first one on that begins an event
+abbrev pub from_first : List (ℕ × Line) → List (ℕ × Line)
+from_first [] = []
+from_first (row ∷ rows) = if begins_event row.1 then row ∷ rows else from_first rows
+
+-- a line that is neither empty nor a comment
+abbrev pub is_written : ℕ × Line → Bool
+is_written (n, []) = false
+is_written (n, word ∷ words) = not (is_comment word)
+
+-- the lines of events: from the first one on, without empty ones and comments, each behind its number
+abbrev pub event_lines : List Line → List (ℕ × Line)
+event_lines lines = filter is_written (from_first (numbered 1 lines))
+
+-- a numbered line as an event, if it is one
+abbrev pub read_row : ℕ × Line → ℕ × Option Event
+read_row row = (row.0, event_of row.1)
+
+abbrev pub rows_of : Script → List (ℕ × Option Event)
+rows_of script = map (λ row. (row.0, Some row.1)) script
+
+-- the events are those of the event lines, in their order, each behind the number of its line
+abbrev pub IsScript : List Line → Script → Type 0
+IsScript lines script = map read_row (event_lines lines) ≡ rows_of script

@@ -1,13 +1,14 @@
 //! Events as text: read behind a network text, played, and the state that they lead to as text.
 //!
 //! A text of events has a line for each: `pulse V`, `put V PORT` or `take V PORT`. The command `events` of
-//! `byte_functions` cuts its input by `network_text`, and calls `read_events`, `play` and `state_text`.
+//! `byte_functions` cuts its input by `network_text`, and calls `read_events`, `play` and
+//! `text_of_state`.
 //!
 //! ```
 //! let input = b"p edge 2 1\ne 1 2\nput 1 0\n";
 //! let script = read_events(alloc, input)?;             // (3, Put(1, 0))
 //! let state = play::<Colouring>(alloc, &network, script.as_slice())?;
-//! let text = state_text(alloc, &state)?;               // "node 1 pulse 0", "link 1 2 taken 0 payload 0 hello 1", ..
+//! let text = text_of_state(alloc, &state)?;            // "node 1 pulse 0", "link 1 2 taken 0 payload 0 hello 1", ..
 //! ```
 //!
 //! Lines count from 1 over the whole input. Limits are those of `interference`.

@@ -1,4 +1,4 @@
-use Rattle.std.proofs.Common.{◌≡◌, ◌∙◌, ap}
+use Rattle.std.proofs.Common.{◌∙◌, ap}
 use Rattle.std.proofs.lemmas.Result.{err_from_is_err_and}
 use Rattle.byte_functions.specs.Verdicts.{verdict_text}
 use Rattle.byte_functions.proofs.Judging.{AreParts, fault-reading, fault-rows, fault-text, proper-rows}
