@@ -1,12 +1,14 @@
-use Rattle.std.proofs.Common.{refl, sym, ap, ◌∙◌, arith}
+use Rattle.std.proofs.Common.{refl, sym, ap, ◌∙◌, arith, subst}
 use Rattle.alpha_core.specs.View.{port_at}
 use Rattle.net_core.specs.declared.event.Event.TheVariants.{Put}
 use Rattle.std.proofs.lemmas.Result.{err_from_is_err_and}
 use Rattle.net_core.specs.State.{state_in}
+use Rattle.net_core.specs.declared.refused.StepRefused.TheVariants.{Memory}
+use Rattle.net_core.specs.Events.{Possible}
 use Rattle.net_core.specs.Step.{has_port, step}
-use Rattle.net_core.proofs.Parts.{first-some, first-none, on_err}
+use Rattle.net_core.proofs.Parts.{first-some, first-none, if_err, on_err}
 use Rattle.net_core.proofs.NetKept.{port_from}
-use Rattle.net_core.proofs.Held.{in_nodes, has_link, in_ports, unchanged, kept_same, put_nothing, put_made}
+use Rattle.net_core.proofs.Held.{in_nodes, has_link, in_ports, unchanged, kept_same, put_nothing, put_made, put_possible}
 use Rattle.net_core.proofs.state.NetState.put.Goals as goal
 
 pub index_mut-node-requires : goal.index_mut-node-requires
@@ -111,3 +113,16 @@ returns-clause-step g c =
     c.index_mut-node.ensures.value c.args.port there.1 _ first.0 first.1
     c.put_done.new.self c.put_done.ensures.view c.put_done.ensures.state c.put_done.ensures.last c.put.new.self c.in_ok-put.ensures.put in
     ap (λ s. step m.program s.net s.state (Put c.args.v c.args.port)) (sym c.self.view_is) ∙ made.0
+
+pub returns-in_err-put-clause-growth : goal.returns-in_err-put-clause-growth
+returns-in_err-put-clause-growth g c =
+    let m = g.P.NodeProgram in
+    let a = c.self.inside in
+    let ok = c.is_network.ensures in
+    let there = port_from a.net c.args.v c.args.port
+    (ap (λ s. has_port s.net c.args.v c.args.port) c.self.view_is ∙ sym c.has_port.ensures.port ∙ c.if-not-has_port.false) in
+    let first = first-some (port_at c.index_mut-node.result.now.node.view c.args.port).out _ (sym c.front.ensures.oldest ∙ c.in-Some.is) in
+    if_err c.from_residual.result Memory
+    (subst (λ s. Possible m.program s.net s.state (Put c.args.v c.args.port)) c.self.view_is
+    (put_possible m.program m.laws a.net ok a.nodes.items a.links c.self.invariant c.args.v there.0 c.index_mut-node.result.now c.index_mut-node.ensures.value
+    c.args.port there.1 _ first.0 first.1))
