@@ -1,13 +1,11 @@
-//! How a node takes a wire.
+//! When a wire can come, and how a node takes one that is due.
 
-ghost use Rattle.std.specs.Prelude.{◌≡◌, ◌<◌, ◌≤◌, IsTrue, MatchResult, OnErr, Option, Result, length};
-ghost use Rattle.alpha_core.specs.Alpha.{reaction, reacts, settles};
-ghost use Rattle.alpha_core.specs.Table.{is_beyond, is_early, may_close, refusal_of, relation};
+ghost use Rattle.std.specs.Prelude.{◌≡◌, ◌<◌, ◌≤◌, IsTrue, Option, length};
+ghost use Rattle.alpha_core.specs.Alpha.{reacts, settles};
+ghost use Rattle.alpha_core.specs.Table.{is_beyond, is_early, may_close, relation};
 ghost use Rattle.alpha_core.specs.View.{can_take, port_at};
 
 use crate::node::AlphaNode;
-use crate::refused::AlphaRefused;
-use crate::table::{Verdict, cell};
 use crate::wire::Wire;
 use node_api::NodeProgram;
 use std::cmp::Ordering;
@@ -32,8 +30,8 @@ impl<P: NodeProgram> AlphaNode<P> {
         self.pulse == self.last || (u64::from(self.pulse) + 1 == u64::from(self.last) && self.said)
     }
 
-    // Whether a wire can't come yet.
-    fn is_early(&self, wire: Wire<P::Payload>) -> bool
+    /// Whether a wire can't come yet.
+    pub(crate) fn is_early(&self, wire: Wire<P::Payload>) -> bool
         ensures early { result ≡ is_early self.now.last self.now.node.view.pulse self.now.node.view.said wire }
     {
         match wire {
@@ -44,8 +42,8 @@ impl<P: NodeProgram> AlphaNode<P> {
         }
     }
 
-    // How a wire's pulse compares with the pulse that can come.
-    fn relation(&self, port: u32, wire: Wire<P::Payload>) -> Ordering
+    /// How a wire's pulse compares with the pulse that can come.
+    pub(crate) fn relation(&self, port: u32, wire: Wire<P::Payload>) -> Ordering
         requires port { port < length self.now.node.view.ports }
         ensures relation { result ≡
             relation self.now.last self.now.node.view.pulse (port_at self.now.node.view port) wire }
@@ -59,26 +57,8 @@ impl<P: NodeProgram> AlphaNode<P> {
         }
     }
 
-    // Why a wire is refused, if it is.
-    fn refusal(&self, port: u32, wire: Wire<P::Payload>) -> Option<AlphaRefused>
-        requires port { port < length self.now.node.view.ports }
-        ensures refusal { result ≡ refusal_of self.now.last self.now.node.view.pulse self.now.node.view.said
-            (port_at self.now.node.view port) wire }
-    {
-        let is_early = self.is_early(wire);
-        match cell(wire, self.relation(port, wire), self.ports.situation(port)) {
-            Verdict::Refused(refused) => Some(refused),
-            Verdict::Again | Verdict::Due if is_early => Some(AlphaRefused::WrongPulse),
-            Verdict::Again => Some(AlphaRefused::DoublePayload),
-            Verdict::Due => match wire {
-                Wire::Ack(_) if !self.ports.waits(port) => Some(AlphaRefused::StrayAck),
-                _ => None,
-            },
-        }
-    }
-
-    // Takes a payload that is due, and acknowledges it.
-    fn take_payload(&mut self, port: u32, q: u32, payload: P::Payload)
+    /// Takes a payload that is due, and acknowledges it.
+    pub(crate) fn take_payload(&mut self, port: u32, q: u32, payload: P::Payload)
         requires port { port < length self.old.node.view.ports }
         requires room { length (port_at self.old.node.view port).out ≤ 3 }
         requires present { q ≡ self.old.node.view.pulse → (port_at self.old.node.view port).present ≡ Option.None }
@@ -96,8 +76,8 @@ impl<P: NodeProgram> AlphaNode<P> {
         }
     }
 
-    // Takes a safe that is due.
-    fn take_safe(&mut self, port: u32, q: u32)
+    /// Takes a safe that is due.
+    pub(crate) fn take_safe(&mut self, port: u32, q: u32)
         requires port { port < length self.old.node.view.ports }
         ensures rest { self.new ≡ record self.old {
           node = record self.old.node {
@@ -112,8 +92,8 @@ impl<P: NodeProgram> AlphaNode<P> {
         }
     }
 
-    // Takes an acknowledgement that is due; if now no port waits, safe is said.
-    fn take_ack(&mut self, port: u32, q: u32)
+    /// Takes an acknowledgement that is due; if now no port waits, safe is said.
+    pub(crate) fn take_ack(&mut self, port: u32, q: u32)
         requires port { port < length self.old.node.view.ports }
         requires room { IsTrue (can_take self.old.node.view) }
         ensures rest { self.new ≡ record self.old {
@@ -139,32 +119,5 @@ impl<P: NodeProgram> AlphaNode<P> {
             self.said = true;
             self.ports.push_everywhere(Wire::Safe(self.pulse));
         }
-    }
-
-    /// Takes a wire that comes by a port; the node can take one (`can_take`).
-    ///
-    /// # Errors
-    ///
-    /// All but `Program`, by the table of 36 cells. The node stays as it was.
-    pub fn on_wire(&mut self, port: u32, wire: Wire<P::Payload>) -> Result<(), AlphaRefused>
-        requires port { port < length self.old.node.view.ports }
-        requires room { IsTrue (can_take self.old.node.view) }
-        ensures reaction { MatchResult result
-            (λ _. reaction self.old.last self.old.node.view port wire ≡ Result.Ok self.new.node.view)
-            (λ refused. reaction self.old.last self.old.node.view port wire ≡ Result.Err refused) }
-        ensures state { self.new.node.state ≡ self.old.node.state }
-        ensures last { self.new.last ≡ self.old.last }
-        ensures refused { OnErr result (self.new ≡ self.old) }
-    {
-        if let Some(refused) = self.refusal(port, wire) {
-            return Err(refused);
-        }
-        match wire {
-            Wire::Payload(q, payload) => self.take_payload(port, q, payload),
-            Wire::Ack(q) => self.take_ack(port, q),
-            Wire::Safe(q) => self.take_safe(port, q),
-            Wire::Close => self.ports.close(port),
-        }
-        Ok(())
     }
 }

@@ -16,6 +16,7 @@ use Rattle.net_core.specs.declared.event.Event.TheVariants.{Pulse, Put, Take}
 use Rattle.net_core.specs.declared.refused.StepRefused.{StepRefused}
 use Rattle.net_core.specs.declared.refused.StepRefused.TheVariants.{NotReady, NothingToPut, LinkEmpty, NoSuch}
 use Rattle.net_core.specs.State.{Link, State, HasLink, node_of, link_at, link_to, set_node, set_link, set_link_to, state_in, take_one}
+use Rattle.net_core.specs.Events.{Possible}
 use Rattle.net_core.specs.Step.{else_old, after_put, after_take, step}
 use Rattle.net_core.specs.Simulation.{IsSimulation, IsNetState}
 use Rattle.net_core.proofs.Parts.{set-same, each-set}
@@ -136,6 +137,11 @@ module _ {S M E : Type 0} (program : Program S M E) (laws : IsProgram program) (
 
       pub put_nothing : (port_at x.node.view i).out ≡ [] → step program net (state_in nodes links) (Put v i) ≡ Err NothingToPut
       put_nothing is = put_by [] is
+
+      pub put_possible : (w : Wire M) (rest : List (Wire M)) → (port_at x.node.view i).out ≡ w ∷ rest → Possible program net (state_in nodes links) (Put v i)
+      put_possible w rest is =
+          let some : 0 < length (port_at x.node.view i).out = omega (arith, ap length is) in
+          ((vertex, lt), subst (λ n. 0 < length (port_at n.view i).out) node_is some)
 
       pub put_made : (w : Wire M) (rest : List (Wire M)) → (port_at x.node.view i).out ≡ w ∷ rest
           → (y : Alpha S M) → y.node.view ≡ put_done x.node.view i → y.node.state ≡ x.node.state → y.last ≡ x.last

@@ -27,7 +27,7 @@ use Rattle.std.proofs.Common.{
   ◌∙◌,
   arith,
 }
-use Rattle.std.specs.Prelude.{OnErr, slice_get}
+use Rattle.std.specs.Prelude.{IfErr, OnErr, slice_get}
 use Rattle.std.specs.List.{range_with_len}
 use Rattle.std.proofs.lemmas.List.{map-append}
 use Rattle.interference.proofs.Members.{range-more}
@@ -82,6 +82,10 @@ map-next f n =
 pub on_err : {T E P : Type 0} (r : Result T E) → P → OnErr r P
 on_err (Ok x) p = tt
 on_err (Err e) p = p
+
+pub if_err : {T E P : Type 0} (r : Result T E) (e : E) → P → IfErr r (λ refused. refused ≡ e → P)
+if_err (Ok x) e p = tt
+if_err (Err x) e p = λ _. p
 
 -- the first entry of a list, and there is none
 pub first-some : {X : Type 0} (xs : List X) (x : X) → slice_get xs 0 ≡ Some x → (rest : List X) × (xs ≡ x ∷ rest)

@@ -31,6 +31,12 @@ Ready program net state (Take v i) =
 abbrev pub Possible : {S M E : Type 0} → Program S M E → Net → State S M → Event → Type 0
 Possible program net state event = Exists net event × Ready program net state event
 
+-- Memory is needed by a put alone, and by one that is possible.
+abbrev pub NeedsMemory : {S M E : Type 0} → Program S M E → Net → State S M → Event → Type 0
+NeedsMemory program net state (Pulse v) = ⊥
+NeedsMemory program net state (Put v i) = Possible program net state (Put v i)
+NeedsMemory program net state (Take v i) = ⊥
+
 -- the refusal of an event that isn't ready
 abbrev pub not_ready : Event → StepRefused
 not_ready (Pulse v) = NotReady

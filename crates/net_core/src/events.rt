@@ -1,7 +1,9 @@
 //! The events of a network.
 
-ghost use Rattle.std.specs.Prelude.{◌≡◌, OnErr};
+ghost use Rattle.std.specs.Prelude.{◌≡◌, ◌≢◌, IfErr, OnErr};
 ghost use Rattle.net_core.specs.declared.event.Event.{Event};
+ghost use Rattle.net_core.specs.declared.refused.StepRefused.{StepRefused};
+ghost use Rattle.net_core.specs.Events.{NeedsMemory};
 ghost use Rattle.net_core.specs.Simulation.{IsSimulation};
 ghost use Rattle.net_core.specs.Step.{StepMatches, has_port, is_vertex};
 
@@ -20,6 +22,8 @@ impl<P: NodeProgram> NetState<P> {
     /// as it was.
     pub fn step(&mut self, event: Event) -> Result<(), StepRefused>
         ensures step { StepMatches P.program self.old event result self.new }
+        ensures growth { IfErr result (λ refused. refused ≡ StepRefused.Memory
+            → NeedsMemory P.program self.old.net self.old.state event) }
         ensures net { self.new.net ≡ self.old.net }
         ensures refused { OnErr result (self.new ≡ self.old) }
         ensures simulates { IsSimulation P.program self.new.net self.new.state }
@@ -48,6 +52,7 @@ impl<P: NodeProgram> NetState<P> {
     /// The vertex makes its next pulse.
     fn pulse(&mut self, v: u32) -> Result<(), StepRefused>
         ensures step { StepMatches P.program self.old (Event.Pulse v) result self.new }
+        ensures growth { IfErr result (λ refused. refused ≢ StepRefused.Memory) }
         ensures net { self.new.net ≡ self.old.net }
         ensures refused { OnErr result (self.new ≡ self.old) }
     {
@@ -69,6 +74,8 @@ impl<P: NodeProgram> NetState<P> {
     /// The vertex puts the oldest wire of the port's out-list on the link.
     fn put(&mut self, v: u32, port: u32) -> Result<(), StepRefused>
         ensures step { StepMatches P.program self.old (Event.Put v port) result self.new }
+        ensures growth { IfErr result (λ refused. refused ≡ StepRefused.Memory
+            → NeedsMemory P.program self.old.net self.old.state (Event.Put v port)) }
         ensures net { self.new.net ≡ self.old.net }
         ensures refused { OnErr result (self.new ≡ self.old) }
     {
@@ -89,6 +96,7 @@ impl<P: NodeProgram> NetState<P> {
     /// The vertex takes the oldest wire of the link that comes by the port, and reacts.
     fn take(&mut self, v: u32, port: u32) -> Result<(), StepRefused>
         ensures step { StepMatches P.program self.old (Event.Take v port) result self.new }
+        ensures growth { IfErr result (λ refused. refused ≢ StepRefused.Memory) }
         ensures net { self.new.net ≡ self.old.net }
         ensures refused { OnErr result (self.new ≡ self.old) }
     {

@@ -1,16 +1,18 @@
 -- The plan: the port is one of the network's (there-is), so the link is there. Without a wire to put, or if the link refuses
 -- it, nothing changes (kept_same); the oldest wire of the port is put as the definition puts it (put-in).
-use Rattle.std.proofs.Common.{◌≡◌, ◌<◌, ◌-◌, Ok, set, refl, sym, ap, ◌∙◌, arith}
+use Rattle.std.proofs.Common.{◌≡◌, ◌<◌, ◌-◌, Ok, set, refl, sym, ap, ◌∙◌, arith, subst}
 use Rattle.interference.specs.Net.{IsVertex, degree_of}
 use Rattle.alpha_core.specs.View.{port_at}
 use Rattle.net_core.specs.declared.event.Event.TheVariants.{Put}
 use Rattle.std.proofs.lemmas.Result.{err_from_is_err_and}
 use Rattle.net_core.specs.State.{state_in}
+use Rattle.net_core.specs.declared.refused.StepRefused.TheVariants.{Memory}
+use Rattle.net_core.specs.Events.{Possible}
 use Rattle.net_core.specs.Step.{has_port, step}
 use Rattle.net_core.specs.Simulation.{IsNetState}
-use Rattle.net_core.proofs.Parts.{first-some, first-none, on_err}
+use Rattle.net_core.proofs.Parts.{first-some, first-none, if_err, on_err}
 use Rattle.net_core.proofs.NetKept.{port_from}
-use Rattle.net_core.proofs.Held.{in_nodes, has_link, in_ports, unchanged, kept_same, put_nothing, put_made}
+use Rattle.net_core.proofs.Held.{in_nodes, has_link, in_ports, unchanged, kept_same, put_nothing, put_made, put_possible}
 use Rattle.net_core.proofs.state.NetState.put.Goals as goal
 use Rattle.net_core.proofs.state.NetState.put.Goals.{After-put_done, Else-not-has_port}
 
@@ -121,3 +123,15 @@ returns-clause-step g c =
     let there = there-is g (goal.at.returns-clause-step g c).Else-not-has_port in
     let made = put-in g (goal.at.returns-clause-step g c).After-put_done there in
     ap (λ s. step m.program s.net s.state (Put c.args.v c.args.port)) (sym c.self.view_is) ∙ made.0
+
+pub returns-in_err-put-clause-growth : goal.returns-in_err-put-clause-growth
+returns-in_err-put-clause-growth g c =
+    let m = g.P.NodeProgram in
+    let a = c.self.inside in
+    let ok = c.is_network.ensures in
+    let there = there-is g (goal.at.returns-in_err-put-clause-growth g c).Else-not-has_port in
+    let first = first-some (port_at c.index_mut-node.result.now.node.view c.args.port).out _ (sym c.front.ensures.oldest ∙ c.in-Some.is) in
+    if_err c.from_residual.result Memory
+    (subst (λ s. Possible m.program s.net s.state (Put c.args.v c.args.port)) c.self.view_is
+    (put_possible m.program m.laws a.net ok a.nodes.items a.links c.self.invariant c.args.v there.0 c.index_mut-node.result.now c.index_mut-node.ensures.value
+    c.args.port there.1 _ first.0 first.1))
