@@ -43,8 +43,10 @@ invariant_of-self-in-Ok g c =
     let ins = same_all (λ e. (e.vertex, e.port)) _ _ _ _ is (λ i. (at.place.0 i, at.place.1 i)) in
     let count = as_long (λ e. (e.vertex, e.port)) (λ i. (neighbour_of net v i, back_port_of net v i)) old.takes.items (degree_of net v) old.ins in
     let lt : c.args.port < degree_of net v = omega (arith, c.requires.port, old.ports) in
-    let place = at_place (λ e. (e.vertex, e.port)) (λ i. (neighbour_of net v i, back_port_of net v i)) old.takes.items (degree_of net v) c.args.port _ old.ins lt is in
-    let legal = legal_of_name g.P.NodeProgram.program net old.network v c.args.port _ _ _ _ old.is_vertex lt c.index_mut.result.now.place.named place at.legal in
+    let place = at_place (λ e. (e.vertex, e.port)) (λ i. (neighbour_of net v i, back_port_of net v i)) old.takes.items (degree_of net v) c.args.port _
+        old.ins lt is in
+    let legal = legal_of_name g.P.NodeProgram.program net old.network v c.args.port _ _ _ _ old.is_vertex lt c.index_mut.result.now.place.named place
+        at.legal in
     record {
       network = old.network;
       is_vertex = old.is_vertex;
