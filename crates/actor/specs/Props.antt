@@ -13,6 +13,7 @@ module _ {M : Type 0} (payloads : IsSet M) where
   Allows-prop sends last at (Safe q) = Prim.hlevel (props, payloads)
   Allows-prop sends last at Close = Prim.hlevel (props, payloads)
 
-  pub Follows-prop : (sends : ℕ → Option M) (last : ℕ) (at : Position) (ws : List (Wire M)) → IsProp (Follows sends last at ws)
+  pub Follows-prop : (sends : ℕ → Option M) (last : ℕ) (at : Position) (ws : List (Wire M)) →
+      IsProp (Follows sends last at ws)
   Follows-prop sends last at [] = Unit-prop
   Follows-prop sends last at (w ∷ ws) = ×_prop (Allows-prop sends last at w) (Follows-prop sends last (move at w) ws)
