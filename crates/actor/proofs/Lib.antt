@@ -1,0 +1,3 @@
+pub mod Lists
+pub mod Kept
+pub mod Steps

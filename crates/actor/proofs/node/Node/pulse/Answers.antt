@@ -1,0 +1,30 @@
+use Rattle.std.proofs.Common.{sym, ◌∙◌}
+use Rattle.actor.proofs.Steps.{answered, pulsed, never_refused}
+use Rattle.actor.proofs.node.Node.pulse.Goals as goal
+
+pub unreachable-requires : goal.unreachable-requires
+unreachable-requires g c =
+    let old = c.args.self.now in
+    let why = c.in-Err.ensures.pulse in
+    let can = sym c.can_pulse.ensures.can ∙ c.if-not-can_pulse.false in
+    never_refused g.P.NodeProgram.program g.J.Wiring.net g.P.NodeProgram.laws old.network _ _ _ _ _ why.0 old.last old.is_vertex can why.2 old.keeps
+
+pub invariant_of-self : goal.invariant_of-self
+invariant_of-self g c =
+    let old = c.args.self.now in
+    let program = g.P.NodeProgram.program in
+    let net = g.J.Wiring.net in
+    let laws = g.P.NodeProgram.laws in
+    let can = sym c.can_pulse.ensures.can ∙ c.if-not-can_pulse.false in
+    record {
+      network = old.network;
+      is_vertex = old.is_vertex;
+      ports = old.ports;
+      outs = old.outs;
+      ins = old.ins;
+      last = c.pulse.ensures.last ∙ old.last;
+      keeps = answered c.pulse.result c.pulse.ensures.pulse
+          (λ x made. pulsed program net laws old.network _ _ _ _ _ _ old.last old.is_vertex can made old.keeps)
+          (λ e why. never_refused program net laws old.network _ _ _ _ _ why.0 old.last old.is_vertex can why.2 old.keeps);
+      set_aside = λ a e. absurd (let none = sym c.requires.going ∙ e in cc);
+    }

@@ -1,0 +1,71 @@
+use Rattle.std.proofs.Common.{[], ◌∷◌, ◌++◌, ◌<◌, length, sym, ◌∙◌, subst, arith}
+use Rattle.interference.specs.Net.{degree_of}
+use Rattle.link_queue.specs.Ends.{put_list, taken_list}
+use Rattle.actor.proofs.Lists.{same_all, get_map, as_long, at_place}
+use Rattle.actor.proofs.Kept.{may_put, legal_by_name}
+use Rattle.actor.proofs.Steps.{put_none, put_one}
+use Rattle.interference.specs.Net.{neighbour_of}
+use Rattle.alpha_core.specs.Program.{IsLegal}
+use Rattle.actor.proofs.node.Node.put_one.Goals as goal
+
+-- there is an end for each port
+pub index_mut-requires : goal.index_mut-requires
+index_mut-requires g c =
+    let v = c.args.self.now.vertex in
+    let count = as_long (λ e. (e.vertex, e.port)) (λ i. (v, i)) c.args.self.now.puts.items (degree_of g.J.Wiring.net v) c.args.self.now.outs in
+    omega (arith, count, c.requires.port, c.args.self.now.ports, c.args.self.now.puts.ok.0)
+
+pub put-requires-clause-legal : goal.put-requires-clause-legal
+put-requires-clause-legal g c κs within =
+    let old = c.args.self.now in
+    let net = g.J.Wiring.net in
+    let v = c.args.self.now.vertex in
+    let program = g.P.NodeProgram.program in
+    let is = c.index_mut.ensures.value in
+    let count = as_long (λ e. (e.vertex, e.port)) (λ i. (v, i)) old.puts.items (degree_of net v) old.outs in
+    let lt : c.args.port < degree_of net v = omega (arith, c.requires.port, old.ports) in
+    let inside : c.args.port < length old.puts.items = omega (arith, lt, count) in
+    let place = at_place (λ e. (e.vertex, e.port)) (λ i. (v, i)) old.puts.items (degree_of net v) c.args.port _ old.outs lt is in
+    let legal = may_put program net v c.args.port _ _ _ c.in-Some.wire old.keeps lt (sym c.in-Some.ensures.oldest) in
+    let here = get_map (λ e. put_list e.end) old.puts.items c.args.port _ [] inside is in
+    legal_by_name program net v c.args.port _ _ _ _ c.index_mut.result.now.place.named place
+    (subst (λ l. IsLegal program net v (neighbour_of net v c.args.port) (l ++ (c.in-Some.wire ∷ []))) (sym here) legal)
+
+pub invariant_of-self : goal.invariant_of-self
+invariant_of-self g c =
+    let old = c.args.self.now in
+    let at = c.in-Err.ensures in
+    let is = c.index_mut.ensures.value in
+    let outs = same_all (λ e. (e.vertex, e.port)) _ _ _ _ is (λ i. (at.place.0 i, at.place.1 i)) in
+    record {
+      network = old.network;
+      is_vertex = old.is_vertex;
+      ports = old.ports;
+      outs = outs ∙ old.outs;
+      ins = old.ins;
+      last = old.last;
+      keeps = put_none g.P.NodeProgram.program g.J.Wiring.net (λ e. put_list e.end) (λ e. taken_list e.end) _ _ _ _ _ _ _ _ is at.unchanged old.keeps;
+      set_aside = λ a e. absurd (let none = sym c.requires.going ∙ e in cc);
+    }
+
+pub invariant_of-self-in-Ok : goal.invariant_of-self-in-Ok
+invariant_of-self-in-Ok g c =
+    let old = c.args.self.now in
+    let net = g.J.Wiring.net in
+    let v = c.args.self.now.vertex in
+    let at = c.in-Ok.ensures in
+    let is = c.index_mut.ensures.value in
+    let outs = same_all (λ e. (e.vertex, e.port)) _ _ _ _ is (λ i. (at.place.0 i, at.place.1 i)) in
+    let count = as_long (λ e. (e.vertex, e.port)) (λ i. (v, i)) old.puts.items (degree_of net v) old.outs in
+    let lt : c.args.port < degree_of net v = omega (arith, c.requires.port, old.ports) in
+    record {
+      network = old.network;
+      is_vertex = old.is_vertex;
+      ports = old.ports;
+      outs = outs ∙ old.outs;
+      ins = old.ins;
+      last = c.put_done.ensures.last ∙ old.last;
+      keeps = put_one g.P.NodeProgram.program net (λ e. put_list e.end) (λ e. taken_list e.end) _ _ _ _ _ _ _ _ _ _ count lt is at.put
+      (sym c.in-Some.ensures.oldest) c.put_done.ensures.view c.put_done.ensures.state old.keeps;
+      set_aside = λ a e. absurd (let none = sym c.requires.going ∙ e in cc);
+    }

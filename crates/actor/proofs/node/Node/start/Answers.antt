@@ -1,0 +1,36 @@
+use Rattle.std.proofs.Common.{[], sym, subst, ap, ◌∙◌, map}
+use Rattle.interference.specs.Net.{IsNetwork, IsVertex, degree_of}
+use Rattle.node_api.specs.Program.{last_pulse_on}
+use Rattle.alpha_core.specs.Program.{start_node}
+use Rattle.alpha_laws.proofs.NodeLaws.{starts_keep}
+use Rattle.alpha_laws.specs.Kept.{NodeKept}
+use Rattle.alpha_laws.proofs.Runs.{runs}
+use Rattle.link_queue.specs.Ends.{put_list, taken_list}
+use Rattle.actor.specs.Node.{by_port, links_in, links_out}
+use Rattle.actor.proofs.Lists.{none_at}
+use Rattle.actor.proofs.Kept.{node_same}
+use Rattle.actor.proofs.node.Node.start.Goals as goal
+
+-- the network that the run picked is this one, at whose start the node keeps its empty links
+pub invariant_of-result : goal.invariant_of-result
+invariant_of-result g c =
+    let program = g.P.NodeProgram.program in
+    let same = sym c.requires.network in
+    let sent = by_port (map (λ e. put_list e.end) c.args.puts.items) in
+    let taken = by_port (map (λ e. taken_list e.end) c.args.takes.items) in
+    let fresh = starts_keep program c.args.net.now (runs program g.P.NodeProgram.laws c.args.net.now c.is_network.ensures) c.args.vertex c.requires.vertex in
+    let kept = node_same program c.args.net.now c.args.vertex (start_node program c.args.net.now c.args.vertex) (λ i. []) (λ i. [])
+    sent taken (none_at (λ e. put_list e.end) c.args.puts.items c.requires.nothing_put)
+    (none_at (λ e. taken_list e.end) c.args.takes.items c.requires.nothing_taken) fresh in
+    record {
+      network = subst (λ net. IsNetwork net) same c.is_network.ensures;
+      is_vertex = subst (λ net. IsVertex net c.args.vertex) same c.requires.vertex;
+      ports = c.degree.ensures.value ∙ ap (λ net. degree_of net c.args.vertex) same;
+      outs = c.requires.outs ∙ ap (λ net. links_out net c.args.vertex) same;
+      ins = c.requires.ins ∙ ap (λ net. links_in net c.args.vertex) same;
+      last = c.in_ok-alpha.ensures.last ∙ ap (λ net. last_pulse_on program net) same;
+      keeps = subst (λ net. NodeKept program net c.args.vertex c.in_ok-alpha.alpha.node sent
+      taken) same (subst (λ n. NodeKept program c.args.net.now c.args.vertex n sent
+      taken) (sym c.in_ok-alpha.ensures.node) kept);
+      set_aside = λ a none. absurd cc;
+    }

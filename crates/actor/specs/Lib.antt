@@ -1,0 +1,2 @@
+pub mod Props
+pub mod Node

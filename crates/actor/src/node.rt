@@ -1,0 +1,77 @@
+//! A node with its ends.
+
+ghost use Rattle.std.specs.Prelude.{◌≡◌, [], All, IfOk, Some, map};
+ghost use Rattle.std.proofs.Props.{props};
+ghost use Rattle.interference.specs.Net.{IsNetwork, IsVertex, degree_of};
+ghost use Rattle.node_api.specs.Program.{last_pulse_on};
+ghost use Rattle.alpha_laws.specs.Kept.{NodeKept};
+ghost use Rattle.link_queue.specs.Ends.{put_list, taken_list};
+ghost use Rattle.actor.specs.declared.aside.Aside.{Aside};
+ghost use Rattle.actor.specs.Node.{IsAside, by_port, links_in, links_out, reacted_to};
+ghost use Rattle.actor.specs.Props.{Follows-prop};
+
+use crate::aside::Aside;
+use alpha_core::AlphaNode;
+use ends::{WiredPut, WiredTake, Wiring};
+use interference::{Memory, Network};
+use node_api::NodeProgram;
+use std::alloc::Global;
+
+/// A node of a run, with the ends of its links by port. A node that has set a wire aside makes no further turn.
+#[derive(Drop)]
+pub struct Node<J: Wiring, P: NodeProgram> {
+    pub vertex: u32,
+    pub degree: u32,
+    pub alpha: AlphaNode<P>,
+    pub puts: Vec<WiredPut<J, P::Payload>>,
+    pub takes: Vec<WiredTake<J, P::Payload>>,
+    pub aside: Option<Aside<P::Payload>>,
+    // It is a vertex of the network, with an end that puts and one that takes for each port.
+    pub ghost network: { IsNetwork J.net },
+    pub ghost is_vertex: { IsVertex J.net vertex },
+    pub ghost ports: { degree ≡ degree_of J.net vertex },
+    pub ghost outs: { map (λ e. (e.vertex, e.port)) puts.items ≡ links_out J.net vertex },
+    pub ghost ins: { map (λ e. (e.vertex, e.port)) takes.items ≡ links_in J.net vertex },
+    // It keeps its links, with the lists that its ends put and took, but for the wire that it set aside.
+    pub ghost last: { alpha.last ≡ last_pulse_on P.program J.net },
+    pub ghost keeps: { NodeKept P.program J.net vertex alpha.node (by_port (map (λ e. put_list e.end) puts.items))
+        (by_port (reacted_to aside (map (λ e. taken_list e.end) takes.items))) }
+        by { Prim.hlevel (props, Follows-prop) },
+    pub ghost set_aside: { (a : Aside P.Payload) → aside ≡ Some a →
+        IsAside (last_pulse_on P.program J.net) alpha.node.view (map (λ e. taken_list e.end) takes.items) a },
+}
+
+impl<J: Wiring, P: NodeProgram> Node<J, P> {
+    /// The node of a vertex at pulse 0, with ends at which nothing was put or taken. Nothing else of a node takes
+    /// memory.
+    ///
+    /// # Errors
+    ///
+    /// `Memory` if memory is refused.
+    pub fn start(
+        alloc: Global,
+        net: &Network,
+        vertex: u32,
+        puts: Vec<WiredPut<J, P::Payload>>,
+        takes: Vec<WiredTake<J, P::Payload>>,
+    ) -> Result<Node<J, P>, Memory>
+        requires network { J.net ≡ net.now }
+        requires vertex { IsVertex net.now vertex }
+        requires outs { map (λ e. (e.vertex, e.port)) puts.items ≡ links_out net.now vertex }
+        requires ins { map (λ e. (e.vertex, e.port)) takes.items ≡ links_in net.now vertex }
+        requires nothing_put { All (λ e. put_list e.end ≡ []) puts.items }
+        requires nothing_taken { All (λ e. taken_list e.end ≡ []) takes.items }
+        ensures vertex { IfOk result (λ node. node.vertex ≡ vertex) }
+    {
+        net.is_network();
+        let alpha = AlphaNode::start(alloc, net, vertex)?;
+        Ok(Node {
+            vertex,
+            degree: net.degree(vertex),
+            alpha,
+            puts,
+            takes,
+            aside: None,
+        })
+    }
+}

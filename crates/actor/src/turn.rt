@@ -1,0 +1,147 @@
+//! What a node does in a turn.
+
+ghost use Rattle.std.specs.Prelude.{◌≡◌, ◌<◌, IsTrue, None};
+ghost use Rattle.alpha_core.specs.View.{can_take};
+
+use crate::aside::Aside;
+use crate::gate::Gate;
+use crate::node::Node;
+use ends::{Links, Wiring};
+use node_api::NodeProgram;
+use std::sync::Wait;
+
+// How many wires a node takes by one port in a turn, at most.
+const TAKES: u32 = 4;
+
+// How many wires it puts by one port in a turn, at most: as many as an out-list has.
+const PUTS: u32 = 4;
+
+impl<J: Wiring, P: NodeProgram> Node<J, P> {
+    // Takes a wire by a port, if there is one, and reacts to it. Returns whether there was one.
+    fn take_one<R: Wait>(&mut self, rt: &R, links: &Links<J, P>, port: u32) -> bool
+        requires port { port < self.old.degree }
+        requires going { self.old.aside ≡ None }
+        requires room { IsTrue (can_take self.old.alpha.node.view) }
+        ensures same { (self.new.vertex ≡ self.old.vertex) × (self.new.degree ≡ self.old.degree) }
+    {
+        match links.take(rt, &mut self.takes[port as usize]) {
+            None => false,
+            Some(wire) => {
+                match self.alpha.on_wire(port, wire) {
+                    Ok(()) => {}
+                    Err(_) => self.aside = Some(Aside { port, wire }),
+                }
+                true
+            }
+        }
+    }
+
+    // Takes by a port, at most `TAKES` wires. Returns whether it took one.
+    fn take_some<R: Wait>(&mut self, rt: &R, links: &Links<J, P>, port: u32) -> bool
+        requires port { port < self.old.degree }
+        ensures same { (self.new.vertex ≡ self.old.vertex) × (self.new.degree ≡ self.old.degree) }
+    {
+        let mut took = false;
+        for _ in 0..TAKES {
+            if self.aside.is_some() || !self.alpha.can_take() || !self.take_one(rt, links, port) {
+                break;
+            }
+            took = true;
+        }
+        took
+    }
+
+    // Takes by each port, ascending. Returns whether it took a wire.
+    fn take_all<R: Wait>(&mut self, rt: &R, links: &Links<J, P>) -> bool
+        ensures same { (self.new.vertex ≡ self.old.vertex) × (self.new.degree ≡ self.old.degree) }
+    {
+        let mut took = false;
+        for port in 0..self.degree {
+            if self.take_some(rt, links, port) {
+                took = true;
+            }
+        }
+        took
+    }
+
+    // Makes the next pulse, if the node can; its program doesn't refuse it. Returns whether it made one.
+    fn pulse(&mut self) -> bool
+        requires going { self.old.aside ≡ None }
+        ensures same { (self.new.vertex ≡ self.old.vertex) × (self.new.degree ≡ self.old.degree) }
+        ensures going { self.new.aside ≡ None }
+    {
+        if !self.alpha.can_pulse() {
+            return false;
+        }
+        match self.alpha.pulse() {
+            Ok(()) => true,
+            Err(_) => unreachable!(),
+        }
+    }
+
+    // Puts the oldest wire of a port, if there is one and room for it. Returns whether it put one.
+    fn put_one<R: Wait>(&mut self, rt: &R, links: &Links<J, P>, port: u32) -> bool
+        requires port { port < self.old.degree }
+        requires going { self.old.aside ≡ None }
+        ensures same { (self.new.vertex ≡ self.old.vertex) × (self.new.degree ≡ self.old.degree) }
+        ensures going { self.new.aside ≡ None }
+    {
+        let Some(wire) = self.alpha.front(port) else {
+            return false;
+        };
+        match links.put(rt, &mut self.puts[port as usize], wire) {
+            Err(_) => false,
+            Ok(()) => {
+                self.alpha.put_done(port);
+                true
+            }
+        }
+    }
+
+    // Puts by a port, until nothing is left or the link is full. Returns whether it put a wire.
+    fn put_some<R: Wait>(&mut self, rt: &R, links: &Links<J, P>, port: u32) -> bool
+        requires port { port < self.old.degree }
+        requires going { self.old.aside ≡ None }
+        ensures same { (self.new.vertex ≡ self.old.vertex) × (self.new.degree ≡ self.old.degree) }
+        ensures going { self.new.aside ≡ None }
+    {
+        let mut put = false;
+        for _ in 0..PUTS {
+            if !self.put_one(rt, links, port) {
+                break;
+            }
+            put = true;
+        }
+        put
+    }
+
+    // Puts by each port, ascending. Returns whether it put a wire.
+    fn put_all<R: Wait>(&mut self, rt: &R, links: &Links<J, P>) -> bool
+        requires going { self.old.aside ≡ None }
+        ensures same { (self.new.vertex ≡ self.old.vertex) × (self.new.degree ≡ self.old.degree) }
+        ensures going { self.new.aside ≡ None }
+    {
+        let mut put = false;
+        for port in 0..self.degree {
+            if self.put_some(rt, links, port) {
+                put = true;
+            }
+        }
+        put
+    }
+
+    /// One turn: takes by each port, then one pulse if the node can make it, then puts by each port. Returns whether
+    /// the node did anything. It takes no memory.
+    pub fn turn<R: Wait, G: Gate>(&mut self, rt: &R, links: &Links<J, P>, gate: &G, worker: u32) -> bool
+        ensures vertex { self.new.vertex ≡ self.old.vertex }
+    {
+        let took = self.take_all(rt, links);
+        gate.middle(rt, worker, self.vertex);
+        if self.aside.is_some() {
+            return false;
+        }
+        let pulsed = self.pulse();
+        let put = self.put_all(rt, links);
+        took || pulsed || put
+    }
+}

@@ -1,0 +1,54 @@
+-- What is read of lists that are made in other ways.
+use Rattle.std.proofs.Common.{◌≡◌, ℕ, zero, suc, ◌+◌, ◌<◌, List, [], ◌∷◌, ◌++◌, length, map, get_or, refl, ap, ◌∙◌, arith}
+use Rattle.std.proofs.Common.{Some, None, slice_get}
+use Rattle.std.specs.List.{range_with_len}
+use Rattle.std.proofs.lemmas.List.{get_or-map, length-map, map-append}
+use Rattle.std.proofs.lemmas.List.FromFn.{length-range_with_len, get_or-range_with_len}
+
+module _ {A : Type 0} where
+  pub some_at : (xs : List A) (j : ℕ) → get_or (map Some xs) j None ≡ slice_get xs j
+  some_at [] j = refl
+  some_at (x ∷ xs) zero = refl
+  some_at (x ∷ xs) (suc j) = some_at xs j
+
+  pub somes_at : (rows : List (List A)) (k j : ℕ) → get_or (get_or (map (λ row. map Some row) rows) k []) j None ≡ slice_get (get_or rows k []) j
+  somes_at [] k j = refl
+  somes_at (row ∷ rows) zero j = some_at row j
+  somes_at (row ∷ rows) (suc k) j = somes_at rows k j
+
+  pub somes_long : (rows : List (List A)) (k : ℕ) → length (get_or (map (λ row. map Some row) rows) k []) ≡ length (get_or rows k [])
+  somes_long [] k = refl
+  somes_long (row ∷ rows) zero = length-map row Some
+  somes_long (row ∷ rows) (suc k) = somes_long rows k
+
+  pub at_old : (xs ys : List A) (k : ℕ) (d : A) → k < length xs → get_or (xs ++ ys) k d ≡ get_or xs k d
+  at_old [] ys k d lt = absurd (omega arith)
+  at_old (x ∷ xs) ys zero d lt = refl
+  at_old (x ∷ xs) ys (suc k) d lt = at_old xs ys k d (omega arith)
+
+  pub at_new : (xs : List A) (y d : A) (k : ℕ) → k ≡ length xs → get_or (xs ++ y ∷ []) k d ≡ y
+  at_new [] y d zero is = refl
+  at_new [] y d (suc k) is = absurd (omega arith)
+  at_new (x ∷ xs) y d zero is = absurd (omega arith)
+  at_new (x ∷ xs) y d (suc k) is = at_new xs y d k (omega arith)
+
+pub map-twice : {A B C : Type 0} (f : B → C) (g : A → B) (xs : List A) → map f (map g xs) ≡ map (λ x. f (g x)) xs
+map-twice f g [] = refl
+map-twice f g (x ∷ xs) = ap (λ l. f (g x) ∷ l) (map-twice f g xs)
+
+-- a list that is given place by place, and one place more
+pub at_range : {B : Type 0} (g : ℕ → B) (n i : ℕ) (d : B) → i < n → get_or (map g (range_with_len 0 n)) i d ≡ g i
+at_range g n i d lt =
+    let at : get_or (range_with_len 0 n) i 0 ≡ i = omega (arith, get_or-range_with_len 0 n i 0 lt) in
+    get_or-map g (range_with_len 0 n) i 0 d (omega (arith, length-range_with_len 0 n)) ∙ ap g at
+
+range_more : (a n : ℕ) → range_with_len a (suc n) ≡ range_with_len a n ++ (a + n) ∷ []
+range_more a zero = ap (λ k. k ∷ []) (omega arith)
+range_more a (suc n) = ap (λ l. a ∷ l) (range_more (a + 1) n ∙ ap (λ k. range_with_len (a + 1) n ++ k ∷ []) (omega arith))
+
+pub range_next : {B : Type 0} (g : ℕ → B) (n : ℕ) → map g (range_with_len 0 (n + 1)) ≡ map g (range_with_len 0 n) ++ g n ∷ []
+range_next g n =
+    let more : n + 1 ≡ suc n = omega arith in
+    let last : 0 + n ≡ n = omega arith in
+    ap (λ k. map g (range_with_len 0 k)) more ∙ ap (map g) (range_more 0 n) ∙ map-append g (range_with_len 0 n) ((0 + n) ∷ [])
+    ∙ ap (λ k. map g (range_with_len 0 n) ++ g k ∷ []) last

@@ -1,0 +1,16 @@
+//! What the nodes of a run of worker threads are, once all of them and all ends of their links are back.
+//!
+//! Each node keeps as a fact of its type that it fits the lists of its own ends (`actor`). A wire that was refused in
+//! the middle of a run is set aside, since no node can know by itself that none is. When all ends have met, the lists
+//! of both ends of each link show that none was, and that the nodes simulate the synchronous run, in the very record
+//! that lists of events have: `Simulates` of `alpha_laws`. `IsOutcome` of `specs/Outcome.antt` is what a run is to
+//! promise.
+//!
+//! ```text
+//! gather_laws::laws::met_nodes_simulate::<S, M, E>(); // brings the law into a proof
+//! ```
+//!
+//! Limits: it is a law alone. No code that gathers nodes stands here.
+#![tactic(auto)]
+
+pub mod laws;

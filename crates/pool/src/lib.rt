@@ -1,0 +1,28 @@
+//! Workers in threads of their own, which make turns of all nodes of a run.
+//!
+//! The nodes stand in one lock-free queue, the pool. A worker takes the first of it, makes one turn of it and puts it
+//! back, or, if nothing is left for it to do, keeps it. Whatever the threads do, no node is lost and none is there
+//! twice: that is the pool's rule (`specs/Hands.antt`), and `run_nodes` returns each node once. What a turn leaves is a
+//! fact of the node's type (`actor`). `node_pool` makes the nodes and their links, and gathers them.
+//!
+//! ```text
+//! let nodes = run_nodes(&rt, alloc, &links, &OpenGate, nodes, workers, turns)?;   // in any order
+//! let nodes = by_vertex(alloc, nodes)?;                                           // ascending
+//! ```
+//!
+//! Limits: `MAX_WORKERS`. No turn takes memory. Nothing is promised of time, of fairness, or that a call returns.
+#![tactic(auto)]
+
+mod fault;
+mod hand;
+mod limits;
+mod order;
+mod pass;
+mod run;
+mod signals;
+mod worker;
+
+pub use fault::PoolFault;
+pub use limits::MAX_WORKERS;
+pub use order::by_vertex;
+pub use run::run_nodes;
