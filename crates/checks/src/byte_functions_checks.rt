@@ -1,6 +1,8 @@
 //! The answers to a text by the byte functions alone, and the report of each fault.
 
-use byte_functions::{PlanFault, check_bytes, events_bytes, fault_report, forest_bytes, plain_bytes};
+use byte_functions::{
+    PlanFault, check_bytes, events_bytes, fault_report, forest_bytes, plain_bytes,
+};
 use channel_plan::CheckFault;
 use dimacs_col::ColFault;
 use event_texts::EventFault;
@@ -69,7 +71,11 @@ fn reports_each_fault(rt: HostRuntime) -> Result<(), Fail> {
         (PlanFault::Check(CheckFault::TooHigh(3)), "C5 vertex 3", 1),
         (PlanFault::Check(CheckFault::Syntax(4)), "C6 line 4", 1),
         (PlanFault::Check(CheckFault::Memory), "memory", 4),
-        (PlanFault::Event(EventFault::NoEvent(5)), "NoEvent line 5", 1),
+        (
+            PlanFault::Event(EventFault::NoEvent(5)),
+            "NoEvent line 5",
+            1,
+        ),
         (
             PlanFault::Event(EventFault::NotReady(6)),
             "NotReady line 6",
@@ -134,7 +140,8 @@ fn checks_plans(rt: HostRuntime) -> Result<(), Fail> {
 fn plays_events(rt: HostRuntime) -> Result<(), Fail> {
     let alloc = rt.alloc();
     let text = b"p edge 2 1\ne 1 2\nput 1 0\nc\ntake 2 0\n\nput 2 0\n";
-    let wanted = "node 1 pulse 0\nlink 1 2 taken 1\nnode 2 pulse 0\nlink 2 1 taken 0 payload 0 hello 2\n";
+    let wanted =
+        "node 1 pulse 0\nlink 1 2 taken 1\nnode 2 pulse 0\nlink 2 1 taken 0 payload 0 hello 2\n";
     let answer = events_bytes(alloc, text)?;
     assert!(rt; answer.as_slice() == wanted.as_bytes());
     let fault = events_bytes(alloc, b"p edge 2 1\ne 1 2\nc\ntake 2 0\n");

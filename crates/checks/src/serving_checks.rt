@@ -97,7 +97,14 @@ fn a_failed_write_to_errors_changes_no_status(rt: HostRuntime) -> Result<(), Fai
                 let mut errors = Writer::new(alloc, k, takes_none);
                 let words = ["forestplan", word];
                 assert_eq!(rt;
-                    serve(alloc, Program::Forestplan, &words, &mut input, &mut output, &mut errors),
+                    serve(
+                        alloc,
+                        Program::Forestplan,
+                        &words,
+                        &mut input,
+                        &mut output,
+                        &mut errors
+                    ),
                     status
                 );
                 assert_eq!(rt; errors.bytes.len(), 3 * k as usize);
@@ -124,14 +131,31 @@ fn declines_words(rt: HostRuntime) -> Result<(), Fail> {
         let mut output = Writer::new(alloc, NEVER, false);
         let mut errors = Writer::new(alloc, NEVER, false);
         assert_eq!(rt;
-            serve(alloc, Program::Forestplan, words, &mut input, &mut output, &mut errors),
+            serve(
+                alloc,
+                Program::Forestplan,
+                words,
+                &mut input,
+                &mut output,
+                &mut errors
+            ),
             status
         );
         assert_eq!(rt; output.bytes.is_empty(), status == 2);
         assert_eq!(rt; errors.bytes.is_empty(), status == 0);
         if status == 0 {
             let mut full = Writer::new(alloc, 2, true);
-            assert_eq!(rt; serve(alloc, Program::Forestplan, words, &mut input, &mut full, &mut errors), 4);
+            assert_eq!(rt;
+                serve(
+                    alloc,
+                    Program::Forestplan,
+                    words,
+                    &mut input,
+                    &mut full,
+                    &mut errors
+                ),
+                4
+            );
             assert_eq!(rt; full.bytes.len(), 6);
             assert!(rt; output.bytes.starts_with(full.bytes.as_slice()));
             assert!(rt; errors.bytes.as_slice() == STREAM);
