@@ -85,11 +85,11 @@ module _ {S M R Y : Type 0} (program : Program S M R) (net : Net) (taken : Y →
       let within' : i < length (map taken ys) = omega (arith, length-map ys taken) in
       let here : by_port lists i ≡ by_port (map taken ys) i ++ (w ∷ []) = (one_more taken ys i x y w within is more).here in
       let ends : by_port lists i ≡ all_but_last (by_port lists i) ++ (w ∷ []) =
-          here ∙ ap (λ l. l ++ (w ∷ [])) (sym (ap all_but_last here ∙ but_last-more (by_port (map taken ys) i) w)) in
+      here ∙ ap (λ l. l ++ (w ∷ [])) (sym (ap all_but_last here ∙ but_last-more (by_port (map taken ys) i) w)) in
       let due = not_due (last_pulse_on program net) node.view i w e (subst (λ l. reaction l node.view i w ≡ Err e) last_is refused) in
       let P : ℕ → Wire M → Node S M → Type 0 = λ k u n. IsAside (last_pulse_on program net) n.view lists record { port = k; wire = u } in
       subst (λ b. IsAside (last_pulse_on program net) new.view lists b) (some_same given) (subst (λ k. P k aside.wire new) (sym port) (subst (λ u. P i u
-          new) (sym wire) (subst (λ n. P i w n) (sym same) record {
+      new) (sym wire) (subst (λ n. P i w n) (sym same) record {
         port = omega (arith, length-map (set ys i y) taken, length-set ys i y);
         came_last = ends;
         refused = due;

@@ -132,7 +132,13 @@ impl<J: Wiring, P: NodeProgram> Node<J, P> {
 
     /// One turn: takes by each port, then one pulse if the node can make it, then puts by each port. Returns whether
     /// the node did anything. It takes no memory.
-    pub fn turn<R: Wait, G: Gate>(&mut self, rt: &R, links: &Links<J, P>, gate: &G, worker: u32) -> bool
+    pub fn turn<R: Wait, G: Gate>(
+        &mut self,
+        rt: &R,
+        links: &Links<J, P>,
+        gate: &G,
+        worker: u32,
+    ) -> bool
         ensures vertex { self.new.vertex ≡ self.old.vertex }
     {
         let took = self.take_all(rt, links);

@@ -7,6 +7,8 @@ use channel_plan::CheckFault;
 use dimacs_col::ColFault;
 use event_texts::EventFault;
 use interference::NetFault;
+use std::alloc::Global;
+use std::process::Abort;
 use std::test::Fail;
 
 #[test]
@@ -36,9 +38,24 @@ fn answers_texts(rt: HostRuntime) -> Result<(), Fail> {
     Ok(())
 }
 
-// Each fault, in the order of its table; no text gives N2 or a fault of memory at will.
+// The report of a fault is this line, with this status.
+fn reports(
+    rt: &impl Abort,
+    alloc: Global,
+    fault: PlanFault,
+    line: &str,
+    status: u8,
+) -> Result<(), Fail> {
+    let report = fault_report(alloc, "name", fault)?;
+    let wanted = format!(in alloc; "name: {line}\n")?;
+    assert!(rt; report.line.as_bytes() == wanted.as_bytes(), "{line}");
+    assert_eq!(rt; report.status, status, "{line}");
+    Ok(())
+}
+
+// The faults of networks, in the order of their table; no text gives N2 or a fault of memory at will.
 #[test]
-fn reports_each_fault(rt: HostRuntime) -> Result<(), Fail> {
+fn reports_each_fault_of_a_network(rt: HostRuntime) -> Result<(), Fail> {
     for (fault, line, status) in [
         (PlanFault::Col(ColFault::NoProblem), "F1", 1),
         (PlanFault::Col(ColFault::SecondProblem(2)), "F2 line 2", 1),
@@ -60,6 +77,16 @@ fn reports_each_fault(rt: HostRuntime) -> Result<(), Fail> {
         (PlanFault::Net(NetFault::Degree(1)), "N1 vertex 1", 1),
         (PlanFault::Net(NetFault::SameId(1, 2)), "N2 vertices 1 2", 1),
         (PlanFault::Net(NetFault::Memory), "memory", 4),
+    ] {
+        reports(&rt, rt.alloc(), fault, line, status)?;
+    }
+    Ok(())
+}
+
+// The faults of plans and events, likewise.
+#[test]
+fn reports_each_fault_of_a_plan_or_of_events(rt: HostRuntime) -> Result<(), Fail> {
+    for (fault, line, status) in [
         (PlanFault::Check(CheckFault::Missing(3)), "C1 vertex 3", 1),
         (PlanFault::Check(CheckFault::Stranger(0)), "C2 vertex 0", 1),
         (PlanFault::Check(CheckFault::Twice(1)), "C3 vertex 1", 1),
@@ -95,10 +122,7 @@ fn reports_each_fault(rt: HostRuntime) -> Result<(), Fail> {
         (PlanFault::Event(EventFault::Memory), "memory", 4),
         (PlanFault::Memory, "memory", 4),
     ] {
-        let report = fault_report(rt.alloc(), "name", fault)?;
-        let wanted = format!(in rt.alloc(); "name: {line}\n")?;
-        assert!(rt; report.line.as_bytes() == wanted.as_bytes(), "{line}");
-        assert_eq!(rt; report.status, status, "{line}");
+        reports(&rt, rt.alloc(), fault, line, status)?;
     }
     Ok(())
 }

@@ -35,9 +35,9 @@ found [] k l = absurd (omega arith)
 found (x ∷ xs) k l = ⊎_elim
     (λ (s : _ × (x ≡ k)). (0, omega arith, s.1))
     (λ (o : (eqb x k ≡ false) × _).
-        let p = other_one (eqb x k) o.0 in
-        let r = found xs k (omega arith) in
-        (suc r.0, (let q = r.1 in omega arith), r.2))
+    let p = other_one (eqb x k) o.0 in
+    let r = found xs k (omega arith) in
+    (suc r.0, (let q = r.1 in omega arith), r.2))
     (eqb_tells x k)
 
 -- each of 1 to n is there

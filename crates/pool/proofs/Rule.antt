@@ -105,7 +105,7 @@ module _ {A : Type 0} (f : A → ℕ) (all : List ℕ) where
               let s = total_set (λ u. weigh h u.out) views pass v w at in
               let p = b.once h in
               let m : weigh h (map f (items ++ x ∷ [])) ≡ weigh h (map f items) + weigh h (f x ∷ []) =
-                  ap (weigh h) (map_snoc f items x) ∙ weigh-append h (map f items) (f x ∷ []) in
+              ap (weigh h) (map_snoc f items x) ∙ weigh-append h (map f items) (f x ∷ []) in
               let q : weigh h v.out ≡ weigh h rest + weigh h (f x ∷ []) = ap (weigh h) e ∙ weigh-append h rest (f x ∷ []) in
               omega arith;
           idle = idle_set views pass w (λ none. absurd (omega arith)) b.idle;
@@ -127,9 +127,12 @@ module _ {A : Type 0} (f : A → ℕ) (all : List ℕ) where
               omega arith;
           idle = idle_set views pass w (λ none. absurd (omega arith)) b.idle;
         },
-        (refl, (let p = b.once (λ _. 1) in
-        let t = total_at (λ u. weigh (λ _. 1) u.out) views pass v at in
-        omega (arith, weigh-one v.out, weigh-one all))),
+        (
+          refl,
+          (let p = b.once (λ _. 1) in
+              let t = total_at (λ u. weigh (λ _. 1) u.out) views pass v at in
+              omega (arith, weigh-one v.out, weigh-one all)),
+        ),
       )
 
   pub forks : (pass : ℕ) (v : Hand) → 1 < v.parts → Forks Held pass v (hand (v.parts - 1) v.out) (hand 1 [])

@@ -205,7 +205,10 @@ pub fn run_nodes<
                 let Some(mine) = places.pop() else {
                     unreachable!();
                 };
-                children.reserve(1)?;
+                if children.reserve(1).is_err() {
+                    watch.fail();
+                    return Err(PoolFault::Memory);
+                }
                 let theirs = hire(all, &mut chief);
                 let started = scope.spawn_with(
                     OfPool(all),

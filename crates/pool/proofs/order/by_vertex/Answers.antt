@@ -19,5 +19,7 @@ returns g c =
     let n = count_of g.J.Wiring.net in
     let many = as_many _ n c.in_ok-nodes.ensures.once in
     let count : c.len-count.result ≡ n = omega (arith, many, nodes.ok.0, c.len-count.ensures, length-map nodes.items (λ x. x.vertex)) in
-    record { order = ok_says c.in_order.result
-    (λ all order. from_one (λ x. x.vertex) n (λ x. x.is_vertex.0) (λ x. x.is_vertex.1) all.items _ count order) c.in_order.ensures.order }
+    record {
+      order = ok_says c.in_order.result
+          (λ all order. from_one (λ x. x.vertex) n (λ x. x.is_vertex.0) (λ x. x.is_vertex.1) all.items _ count order) c.in_order.ensures.order;
+    }

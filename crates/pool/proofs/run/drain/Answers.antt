@@ -10,8 +10,10 @@ pop_as-requires-clause-rule g c =
 
 -- the pool was empty, so all that there is came out by this pass
 pub returns-in-None-pop_as : goal.returns-in-None-pop_as
-returns-in-None-pop_as g c = record { once = λ h.
-    let found = c.in-None-pop_as.ensures.rule.1 in
-    ap (λ items. weigh h (map (λ b. b.value.vertex) items)) c.reserve.ensures.items
-    ∙ ap (weigh h) (sym c.loop.invariant.out)
-    ∙ settled (λ b. b.value.vertex) (vertices g.J.Wiring.net) _ c.loop.invariant.parts found.0 found.1 found.2 h }
+returns-in-None-pop_as g c = record {
+  once = λ h.
+      let found = c.in-None-pop_as.ensures.rule.1 in
+      ap (λ items. weigh h (map (λ b. b.value.vertex) items)) c.reserve.ensures.items
+      ∙ ap (weigh h) (sym c.loop.invariant.out)
+      ∙ settled (λ b. b.value.vertex) (vertices g.J.Wiring.net) _ c.loop.invariant.parts found.0 found.1 found.2 h;
+}

@@ -11,10 +11,9 @@ pop_as-requires-clause-rule g c =
 pub push_as-requires-clause-rule : goal.push_as-requires-clause-rule
 push_as-requires-clause-rule g c =
     let e = c.in-Some.ensures.rule.0 in
-    let p : 0 < (view c.pop_as.new.pass).parts = (let q = ap (λ v. v.parts) e in omega arith) in
-    (
+    let p : 0 < (view c.pop_as.new.pass).parts = (let q = ap (λ v. v.parts) e in omega arith) in (
       gives (λ b. b.value.vertex) (vertices g.J.Wiring.net) _ _ _ _ _ p
-      (ap (λ v. v.out) e ∙ ap (λ n. (view c.args.pass.now).out ++ n.vertex ∷ []) (sym c.deref_mut.ensures.value)
-      ∙ ap (λ x. (view c.args.pass.now).out ++ x ∷ []) (sym c.turn-moved.ensures.vertex)),
+          (ap (λ v. v.out) e ∙ ap (λ n. (view c.args.pass.now).out ++ n.vertex ∷ []) (sym c.deref_mut.ensures.value)
+          ∙ ap (λ x. (view c.args.pass.now).out ++ x ∷ []) (sym c.turn-moved.ensures.vertex)),
       room (λ b. b.value.vertex) (vertices g.J.Wiring.net) _ _,
     )

@@ -66,6 +66,6 @@ invariant_of-self-in-Ok g c =
       ins = old.ins;
       last = c.put_done.ensures.last ∙ old.last;
       keeps = put_one g.P.NodeProgram.program net (λ e. put_list e.end) (λ e. taken_list e.end) _ _ _ _ _ _ _ _ _ _ count lt is at.put
-      (sym c.in-Some.ensures.oldest) c.put_done.ensures.view c.put_done.ensures.state old.keeps;
+          (sym c.in-Some.ensures.oldest) c.put_done.ensures.view c.put_done.ensures.state old.keeps;
       set_aside = λ a e. absurd (let none = sym c.requires.going ∙ e in cc);
     }

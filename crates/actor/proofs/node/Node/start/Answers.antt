@@ -30,7 +30,7 @@ invariant_of-result g c =
       ins = c.requires.ins ∙ ap (λ net. links_in net c.args.vertex) same;
       last = c.in_ok-alpha.ensures.last ∙ ap (λ net. last_pulse_on program net) same;
       keeps = subst (λ net. NodeKept program net c.args.vertex c.in_ok-alpha.alpha.node sent
-      taken) same (subst (λ n. NodeKept program c.args.net.now c.args.vertex n sent
-      taken) (sym c.in_ok-alpha.ensures.node) kept);
+          taken) same (subst (λ n. NodeKept program c.args.net.now c.args.vertex n sent
+          taken) (sym c.in_ok-alpha.ensures.node) kept);
       set_aside = λ a none. absurd cc;
     }

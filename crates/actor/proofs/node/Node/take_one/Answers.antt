@@ -44,9 +44,9 @@ invariant_of-self-in-Ok g c =
     let count = as_long (λ e. (e.vertex, e.port)) (λ i. (neighbour_of net v i, back_port_of net v i)) old.takes.items (degree_of net v) old.ins in
     let lt : c.args.port < degree_of net v = omega (arith, c.requires.port, old.ports) in
     let place = at_place (λ e. (e.vertex, e.port)) (λ i. (neighbour_of net v i, back_port_of net v i)) old.takes.items (degree_of net v) c.args.port _
-        old.ins lt is in
+    old.ins lt is in
     let legal = legal_of_name g.P.NodeProgram.program net old.network v c.args.port _ _ _ _ old.is_vertex lt c.index_mut.result.now.place.named place
-        at.legal in
+    at.legal in
     record {
       network = old.network;
       is_vertex = old.is_vertex;
@@ -55,7 +55,7 @@ invariant_of-self-in-Ok g c =
       ins = ins ∙ old.ins;
       last = c.in-Ok.ensures.last ∙ old.last;
       keeps = took_one g.P.NodeProgram.program net (λ e. put_list e.end) (λ e. taken_list e.end) _ _ _ _ _ _ _ _ _ _ _ old.last count lt c.requires.going is
-      at.taken legal c.in-Ok.ensures.reaction c.in-Ok.ensures.state old.keeps;
+          at.taken legal c.in-Ok.ensures.reaction c.in-Ok.ensures.state old.keeps;
       set_aside = λ a e. absurd (let none = sym c.requires.going ∙ e in cc);
     }
 
@@ -80,7 +80,7 @@ invariant_of-self-in-Err g c =
       ins = ins ∙ old.ins;
       last = c.in-Err.ensures.last ∙ old.last;
       keeps = took_refused g.P.NodeProgram.program net (λ e. put_list e.end) (λ e. taken_list e.end) _ _ _ _ _ _ _ _ _ _ aside refl count lt
-      c.requires.going is at.taken same old.keeps;
+          c.requires.going is at.taken same old.keeps;
       set_aside = refused_is g.P.NodeProgram.program net (λ e. taken_list e.end) _ _ old.takes.items c.args.port c.index_mut.result.now c.take.new.end
-      c.in-Some.wire aside _ _ old.last refl refl within is at.taken same c.in-Err.ensures.reaction;
+          c.in-Some.wire aside _ _ old.last refl refl within is at.taken same c.in-Err.ensures.reaction;
     }

@@ -8,5 +8,5 @@ loop-preserved g c = record {
   parts = omega (arith, c.in_ok-chief.ensures.parts, c.in-Some-pop.ensures.len);
   count = omega (arith, c.in-Some-pop.ensures.len);
   theirs = (All-pop (λ h. h.promise.0.now.table.shared.table_id ≡ c.captures.all.now.table.shared.table_id) _ _ _ c.pop-in-loop.ensures.items
-  c.loop.invariant.theirs).0;
+      c.loop.invariant.theirs).0;
 }
