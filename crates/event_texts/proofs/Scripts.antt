@@ -61,8 +61,8 @@ goes-on ([] ∷ lines) n first known script e =
 goes-on ((word ∷ words) ∷ lines) n first known script e = by-word (is_comment word) refl (goes-on lines)
   where
     Later : Type 0
-    Later = (n : ℕ) (first : ℕ × Event) (known script : Script) → read_from n (first ∷ known) lines ≡ Ok script
-        → GoesOn (first ∷ known) (written n lines) script
+    Later = (n : ℕ) (first : ℕ × Event) (known script : Script) → read_from n (first ∷ known) lines ≡ Ok script →
+        GoesOn (first ∷ known) (written n lines) script
 
     by-event : (o : Option Event) → is_comment word ≡ false → event_of (word ∷ words) ≡ o → Later →
         GoesOn (first ∷ known) (written n ((word ∷ words) ∷ lines)) script
