@@ -1,16 +1,13 @@
-"""Counts allocations: running a node program takes memory for the nodes, and none for its pulses.
+"""Counts allocations: running a node program takes memory for the nodes, and none for its pulses; nor does a node under
+the synchroniser, but as it starts.
 
 No contract says that: a list in working space can grow without an allocator in its call's hands. So the counts of two
 runs that differ in their pulses alone are compared."""
 import os
-import subprocess
 import tempfile
 
-from refused_memory import build_front
+from refused_memory import TESTS, build_front, count
 
-TOP = os.path.dirname(os.path.dirname(os.path.abspath(__file__)))
-# Built by `rt ci`, or by `rt test` in crates/checks.
-TESTS = os.path.join(TOP, "crates", "checks", "out", "checks_tests")
 # Both have six nodes, six edges and no node alone. `plain` has 30 rounds on the first, which has two forests and
 # degrees up to 2, and 102 on the second, with five forests and degrees up to 5.
 HEXAGON = b"p edge 6 6\ne 1 2\ne 2 3\ne 3 4\ne 4 5\ne 5 6\ne 1 6\n"
@@ -27,20 +24,14 @@ def allocation_rows(program):
         rows = [row("plain allocates as often in 102 rounds as in 30", rounds)]
         if not os.path.isfile(TESTS):
             return rows + [("the tests of crates/checks are built", False, f"no file {TESTS}")]
-        pulses = [count(front, folder, [TESTS, f"sync_rounds_checks::greatest_within_{links}"]) for links in ("1_link", "50_links")]
-        return rows + [row("run_rounds allocates as often in 50 pulses as in 1", pulses)]
+        links = [f"sync_rounds_checks::greatest_within_{links}" for links in ("1_link", "50_links")]
+        pulses = [f"alpha_core_checks::runs::a_node_of_{pulses}" for pulses in ("1_pulse", "50_pulses")]
+        return rows + [
+            row("run_rounds allocates as often in 50 pulses as in 1", [count(front, folder, [TESTS, name]) for name in links]),
+            row("a node under the synchroniser allocates as often in 50 pulses as in 1",
+                [count(front, folder, [TESTS, name]) for name in pulses]),
+        ]
 
 
 def row(name, counts):
     return name, None not in counts and 0 < counts[0] == counts[1], f"allocations: {counts}"
-
-
-def count(front, folder, words, data=b""):
-    """How often a run allocates, or None if it fails."""
-    name = os.path.join(folder, "count")
-    done = subprocess.run(words, input=data, capture_output=True, timeout=60,
-                          env={"PATH": os.environ.get("PATH", ""), "LD_PRELOAD": front, "COUNT": name})
-    if done.returncode != 0:
-        return None
-    with open(name, encoding="ascii") as file:
-        return int(file.read())

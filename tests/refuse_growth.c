@@ -26,6 +26,14 @@ __attribute__((destructor)) static void write_count(void) {
     }
 }
 
+/* A program that has started threads ends here, and no destructor runs. */
+__attribute__((noreturn)) void _exit(int status) {
+    void (*real)(int) = dlsym(RTLD_NEXT, "_exit");
+    write_count();
+    real(status);
+    __builtin_unreachable();
+}
+
 void *malloc(size_t size) {
     static void *(*real)(size_t);
     if (!real) real = dlsym(RTLD_NEXT, "malloc");

@@ -6,6 +6,10 @@ import tempfile
 from plain_definition import plan_text
 
 HERE = os.path.dirname(os.path.abspath(__file__))
+# Built by `rt ci`, or by `rt test` in crates/checks.
+TESTS = os.path.join(os.path.dirname(HERE), "crates", "checks", "out", "checks_tests")
+# Tests that try again what memory is refused to once.
+TRIED_AGAIN = ("a_state_goes_on_after_a_refused_growth", "a_list_runs_again_after_a_refused_growth")
 MOST = 5000
 
 
@@ -32,7 +36,28 @@ def refused_memory_rows(program, network, answer):
         rows.append(sweep(program, front, ["forests"], b"q\n", (1, b"", b"forestplan: F8 line 1\n")))
         rows.append(sweep(program, front, ["nothing"], b"", None))
         rows.append(sweep(program, front, ["--help"], b"", None))
-        return rows
+        if not os.path.isfile(TESTS):
+            return rows + [("the tests of crates/checks are built", False, f"no file {TESTS}")]
+        return rows + [tried_again(front, folder, name) for name in TRIED_AGAIN]
+
+
+def tried_again(front, folder, name):
+    """Refuses each growth of a test in turn: it passes, and then asks more often for memory than if nothing is refused."""
+    words = [TESTS, f"net_core_checks::refused_growths::{name}"]
+    ample = count(front, folder, words) or 0
+    counts = [count(front, folder, words, refused=refused) for refused in range(1, ample + 1)]
+    wrong = [k for k, made in enumerate(counts, 1) if made is None or made <= ample]
+    return f"each growth refused in turn: {name}", ample > 0 and not wrong, f"of {ample} growths: {wrong}"
+
+
+def count(front, folder, words, data=b"", refused=0):
+    """How often a run asks for memory, or None if it fails. The growth of number `refused` is, unless that is 0."""
+    name = os.path.join(folder, "count")
+    done = run(front, words, data, REFUSE=str(refused), COUNT=name)
+    if done.returncode != 0:
+        return None
+    with open(name, encoding="ascii") as file:
+        return int(file.read())
 
 
 def sweep(program, front, words, data, wanted, own_name="forestplan"):
@@ -55,6 +80,10 @@ def sweep(program, front, words, data, wanted, own_name="forestplan"):
 
 
 def answer_of(program, front, words, data, number):
-    done = subprocess.run([program] + words, input=data, capture_output=True, timeout=60,
-                          env={"PATH": os.environ.get("PATH", ""), "LD_PRELOAD": front, "REFUSE": str(number)})
+    done = run(front, [program] + words, data, REFUSE=str(number))
     return done.returncode, done.stdout, done.stderr
+
+
+def run(front, words, data, **given):
+    return subprocess.run(words, input=data, capture_output=True, timeout=60,
+                          env={"PATH": os.environ.get("PATH", ""), "LD_PRELOAD": front, **given})

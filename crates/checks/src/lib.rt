@@ -3,6 +3,8 @@
 #![tactic(auto)]
 
 #[cfg(test)]
+mod alpha_core_checks;
+#[cfg(test)]
 mod byte_functions_checks;
 #[cfg(test)]
 mod channel_plan_checks;

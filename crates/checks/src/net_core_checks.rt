@@ -1,5 +1,7 @@
 //! The event list of the triangle, the events that are refused, and a run to its end.
 
+mod refused_growths;
+
 ghost use Rattle.std.specs.Prelude.{◌≡◌};
 ghost use Rattle.interference.specs.Net.{count_of};
 

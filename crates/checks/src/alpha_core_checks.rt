@@ -1,0 +1,5 @@
+//! One node under the synchroniser, whose calls are made by hand.
+
+mod alone;
+mod cells;
+mod runs;
