@@ -8,8 +8,12 @@ ghost use Rattle.crossing.specs.Rows.{AreCrossed, HasShape, set_slot, slot_at};
 use interference::Network;
 use std::alloc::{AllocError, Global};
 
-// The things of a row, each in a slot.
-fn slots_of<T: Drop>(alloc: Global, row: Vec<T>) -> Result<Vec<Option<T>>, AllocError>
+/// The things of a row, each in a slot.
+///
+/// # Errors
+///
+/// `AllocError` if memory is refused.
+pub fn slots_of<T: Drop>(alloc: Global, row: Vec<T>) -> Result<Vec<Option<T>>, AllocError>
     ensures slots { IfOk result (λ slots. slots.items ≡ map Some row.items) }
 {
     let mut slots = Vec::new(alloc);

@@ -10,4 +10,4 @@
 
 mod cross;
 
-pub use cross::crossed;
+pub use cross::{crossed, slots_of};

@@ -1,0 +1,27 @@
+use Rattle.std.proofs.Common.{◌≡◌, Some, sym, subst, rules}
+use Rattle.std.proofs.lemmas.List.{map-append}
+use Rattle.std.proofs.lemmas.Iterator.Consumers.{YieldsList-turn}
+use Rattle.std.proofs.lemmas.Iterator.Adapters.{YieldsList-from_vec}
+use Rattle.link_queue.specs.Ends.{put_list, taken_list}
+use Rattle.ends.specs.Tables.{table_at, table_of}
+use Rattle.gather.proofs.MetRows.{one_met}
+use Rattle.gather.proofs.meeting.meet_row.Goals as goal
+
+pub meet_one-requires-clause-link : goal.meet_one-requires-clause-link
+meet_one-requires-clause-link g c κs within =
+    let turn = YieldsList-turn (YieldsList-from_vec {s = c.into_iter-link-iterator.result} c.args.row.items (search rules) (search rules))
+    c.loop-link.yielded c.loop-link.link-iterator c.loop-link.yielded_by c.next.result c.next.new.self _ c.in-Some.is c.next.ensures.steps in
+    subst (λ x. table_at g.J.Wiring.tables x.1.0.vertex x.1.0.port ≡ Some (table_of x.0)) (sym turn.1) (c.requires.links _ _ turn.0)
+
+pub meet_one-requires-clause-same : goal.meet_one-requires-clause-same
+meet_one-requires-clause-same g c κs within =
+    let turn = YieldsList-turn (YieldsList-from_vec {s = c.into_iter-link-iterator.result} c.args.row.items (search rules) (search rules))
+    c.loop-link.yielded c.loop-link.link-iterator c.loop-link.yielded_by c.next.result c.next.new.self _ c.in-Some.is c.next.ensures.steps in
+    subst (λ x. (x.1.1.vertex ≡ x.1.0.vertex) × (x.1.1.port ≡ x.1.0.port)) (sym turn.1) (c.requires.same _ _ turn.0)
+
+pub loop-link-preserved : goal.loop-link-preserved
+loop-link-preserved g c = record {
+  met = one_met c.loop-link.mets.items _ _ _ _ _ _ _ _ _ c.in_ok-push.ensures.items
+      (map-append (λ x. put_list x.1.0.end) c.loop-link.yielded _) (map-append (λ x. taken_list x.1.1.end) c.loop-link.yielded _)
+      c.in_ok-meet_one.ensures.met c.loop-link.invariant.met;
+}
