@@ -35,7 +35,8 @@ pub struct Node<J: Wiring, P: NodeProgram> {
     // It keeps its links, with the lists that its ends put and took, but for the wire that it set aside.
     pub ghost last: { alpha.last ≡ last_pulse_on P.program J.net },
     pub ghost keeps: { NodeKept P.program J.net vertex alpha.node (by_port (map (λ e. put_list e.end) puts.items))
-        (by_port (reacted_to aside (map (λ e. taken_list e.end) takes.items))) } by { Prim.hlevel (props, Follows-prop) },
+        (by_port (reacted_to aside
+        (map (λ e. taken_list e.end) takes.items))) } by { Prim.hlevel (props, Follows-prop) },
     pub ghost set_aside: { (a : Aside P.Payload) → aside ≡ Some a →
         IsAside (last_pulse_on P.program J.net) alpha.node.view (map (λ e. taken_list e.end) takes.items) a },
 }
