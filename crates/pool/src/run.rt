@@ -238,7 +238,13 @@ pub fn run_nodes<
                 let Some(child) = children.pop() else {
                     unreachable!();
                 };
-                chief = settle(all, chief, child.join(rt))?;
+                chief = match settle(all, chief, child.join(rt)) {
+                    Ok(joined) => joined,
+                    Err(fault) => {
+                        watch.fail();
+                        return Err(fault);
+                    }
+                };
             }
             Ok(chief)
         },

@@ -4,8 +4,8 @@ use Rattle.pool.proofs.run.fn.run_nodes.scope.Goals as goal
 
 pub loop-preserved : goal.loop-preserved
 loop-preserved g c = record {
-  of = c.in_ok-chief.ensures.pool;
-  parts = omega (arith, c.in_ok-chief.ensures.parts, c.in-Some-pop.ensures.len);
+  of = c.in-Ok-settle.ensures.pool;
+  parts = omega (arith, c.in-Ok-settle.ensures.parts, c.in-Some-pop.ensures.len);
   count = omega (arith, c.in-Some-pop.ensures.len);
   theirs = (All-pop (λ h. h.promise.0.now.table.shared.table_id ≡ c.captures.all.now.table.shared.table_id) _ _ _ c.pop-in-loop.ensures.items
       c.loop.invariant.theirs).0;
