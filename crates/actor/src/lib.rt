@@ -1,15 +1,15 @@
 //! A node with the ends of its links: what moves from thread to thread, and what it does in a turn.
 //!
 //! A `Node` keeps as facts of its type that it fits the lists of its own ends: `NodeKept` of `alpha_laws`, over the
-//! lists that its ends put and took. So each turn of it, in whatever thread, is a run of events of one node (puts,
-//! takes, a pulse), and nothing is owed to a caller. `pool` lets workers make turns of all nodes of a run.
+//! lists that its ends put and took. So each turn of it, in whatever thread, leaves it as puts, takes and a pulse
+//! leave a node, and nothing is owed to a caller. `pool` lets workers make turns of all nodes of a run.
 //!
 //! ```text
 //! let mut node = Node::<J, Colouring>::start(alloc, &network, v, puts, takes)?;
 //! while node.turn(&rt, &links, &OpenGate, 0) {}
 //! ```
 //!
-//! No turn takes memory. Limits: those of `alpha_core` and `link_queue`.
+//! No turn is given an allocator. Limits: those of `alpha_core` and `link_queue`.
 #![tactic(auto)]
 
 mod aside;

@@ -17,7 +17,7 @@ use interference::{Memory, Network};
 use node_api::NodeProgram;
 use std::alloc::Global;
 
-/// A node of a run, with the ends of its links by port. A node that has set a wire aside makes no further turn.
+/// A node of a run, with the ends of its links by port. A node that has set a wire aside does nothing in a turn.
 #[derive(Drop)]
 pub struct Node<J: Wiring, P: NodeProgram> {
     pub vertex: u32,

@@ -131,7 +131,7 @@ impl<J: Wiring, P: NodeProgram> Node<J, P> {
     }
 
     /// One turn: takes by each port, then one pulse if the node can make it, then puts by each port. Returns whether
-    /// the node did anything. It takes no memory.
+    /// the node did anything, but false if it set a wire aside.
     pub fn turn<R: Wait, G: Gate>(
         &mut self,
         rt: &R,
