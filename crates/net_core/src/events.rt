@@ -13,7 +13,8 @@ use crate::state::NetState;
 use node_api::NodeProgram;
 
 impl<P: NodeProgram> NetState<P> {
-    /// Makes an event, in time that grows with the degree of its vertex alone, but when a link's list is moved as it grows.
+    /// Makes an event, in time that grows with the degree of its vertex alone, but when a link's list is moved as it
+    /// grows.
     ///
     /// # Errors
     ///
