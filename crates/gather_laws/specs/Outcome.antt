@@ -1,9 +1,10 @@
 -- What a run of workers leaves, and what it promises of it.
-use Rattle.std.specs.Prelude.{◌≡◌, ℕ, ◌-◌, ◌<◌, List, [], ◌++◌, map, length, slice_index_or}
+use Rattle.std.specs.Prelude.{◌≡◌, ℕ, ◌-◌, ◌<◌, ◌≤◌, Bool, true, ◌&&◌, nat_eq}
+use Rattle.std.specs.Prelude.{List, [], ◌∷◌, ◌++◌, map, length, slice_index_or}
 use Rattle.interference.specs.Net.{Net, IsVertex, vertices, degree_of, neighbour_of, back_port_of}
-use Rattle.node_api.specs.Program.{Program}
+use Rattle.node_api.specs.Program.{Program, last_pulse_on}
 use Rattle.alpha_core.specs.declared.wire.Wire.{Wire}
-use Rattle.alpha_core.specs.View.{Node}
+use Rattle.alpha_core.specs.View.{Alpha, Node, is_drained}
 use Rattle.alpha_core.specs.Program.{start_node}
 use Rattle.alpha_laws.specs.Simulates.{Simulates}
 
@@ -16,7 +17,7 @@ pub record History (M : Type 0) : Type 0 where
 -- A node after the run, with its vertex.
 pub record Gathered (S M : Type 0) : Type 0 where
   pub vertex : ℕ
-  pub node : Node S M
+  pub alpha : Alpha S M
 
 -- Entry v - 1 of each list is of vertex v: its node, and the links out of it, by port.
 pub record Outcome (S M : Type 0) : Type 0 where
@@ -26,27 +27,62 @@ pub record Outcome (S M : Type 0) : Type 0 where
 abbrev pub no_history : {M : Type 0} → History M
 no_history = record { put = []; taken = []; held = [] }
 
+-- a node of the program before its first event
+abbrev pub start_of : {S M E : Type 0} → Program S M E → Net → ℕ → Alpha S M
+start_of program net v = record { last = last_pulse_on program net; node = start_node program net v }
+
+-- the node of a vertex, with its last pulse
+abbrev pub alpha_in : {S M E : Type 0} → Program S M E → Net → Outcome S M → ℕ → Alpha S M
+alpha_in program net outcome v = slice_index_or (map (λ g. g.alpha) outcome.nodes) (v - 1) (start_of program net v)
+
 -- the node of a vertex
 abbrev pub node_in : {S M E : Type 0} → Program S M E → Net → Outcome S M → ℕ → Node S M
-node_in program net outcome v = slice_index_or (map (λ g. g.node) outcome.nodes) (v - 1) (start_node program net v)
+node_in program net outcome v = (alpha_in program net outcome v).node
+
+-- the links out of a vertex, by port
+abbrev pub row_in : {S M : Type 0} → Outcome S M → ℕ → List (History M)
+row_in outcome v = slice_index_or outcome.links (v - 1) []
 
 -- the link out of v by port i
 abbrev pub link_in : {S M : Type 0} → Outcome S M → ℕ → ℕ → History M
-link_in outcome v i = slice_index_or (slice_index_or outcome.links (v - 1) []) i no_history
+link_in outcome v i = slice_index_or (row_in outcome v) i no_history
 
 -- the link that comes to v by port i
 abbrev pub link_into : {S M : Type 0} → Net → Outcome S M → ℕ → ℕ → History M
 link_into net outcome v i = link_in outcome (neighbour_of net v i) (back_port_of net v i)
 
--- What every run of workers leaves, whatever the threads did.
-pub record IsOutcome {S M E : Type 0} (program : Program S M E) (net : Net) (outcome : Outcome S M) : Type 0 where
-  -- The nodes are 1 to n, each once, ascending.
+-- every node is drained
+abbrev pub all_drained : {S M : Type 0} → List (Gathered S M) → Bool
+all_drained [] = true
+all_drained (g ∷ gs) = is_drained g.alpha.last g.alpha.node.view && all_drained gs
+
+-- no link of a row holds a wire
+abbrev pub none_held : {M : Type 0} → List (History M) → Bool
+none_held [] = true
+none_held (h ∷ hs) = nat_eq (length h.held) 0 && none_held hs
+
+-- no link holds a wire
+abbrev pub all_empty : {M : Type 0} → List (List (History M)) → Bool
+all_empty [] = true
+all_empty (row ∷ rows) = none_held row && all_empty rows
+
+-- every node is drained, and every link is empty
+abbrev pub is_whole : {S M : Type 0} → Outcome S M → Bool
+is_whole outcome = all_drained outcome.nodes && all_empty outcome.links
+
+-- What every run of workers leaves, over links of this capacity, whatever the threads did.
+pub record IsOutcome {S M E : Type 0} (program : Program S M E) (net : Net) (capacity : ℕ) (outcome : Outcome S M)
+    : Type 0 where
+  -- The nodes are 1 to n, each once, ascending, and each knows the last pulse.
   pub each_once : map (λ g. g.vertex) outcome.nodes ≡ vertices net
-  -- There is a link for each vertex and port; all that was put on it is what was taken from it, and then what it holds.
+  pub last : (v : ℕ) → IsVertex net v → (alpha_in program net outcome v).last ≡ last_pulse_on program net
+  -- There is a link for each vertex and port; all that was put on it is what was taken from it, and then what it holds,
+  -- which is no more than its capacity.
   pub rows : length outcome.links ≡ length (vertices net)
-  pub row : (v : ℕ) → IsVertex net v → length (slice_index_or outcome.links (v - 1) []) ≡ degree_of net v
+  pub row : (v : ℕ) → IsVertex net v → length (row_in outcome v) ≡ degree_of net v
   pub splits : (v i : ℕ) → IsVertex net v → i < degree_of net v
       → (link_in outcome v i).put ≡ (link_in outcome v i).taken ++ (link_in outcome v i).held
+  pub room : (v i : ℕ) → IsVertex net v → i < degree_of net v → length (link_in outcome v i).held ≤ capacity
   -- The nodes simulate the synchronous run: each fits its links, what was put standing for what was sent.
   pub simulates : Simulates program net (node_in program net outcome) (λ v i. (link_in outcome v i).put)
       (λ v i. (link_into net outcome v i).taken)

@@ -1,0 +1,8 @@
+-- The value of what a run leaves.
+use Rattle.std.specs.Prelude.{List, map}
+use Rattle.gather.specs.declared.parts.Actor.{Actor}
+use Rattle.gather_laws.specs.Outcome.{Gathered}
+
+-- a node after the run
+abbrev pub gathered_of : {P T : Type 0} → Actor P T → Gathered P T
+gathered_of actor = record { vertex = actor.vertex; alpha = actor.alpha }

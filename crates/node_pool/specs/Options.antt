@@ -1,0 +1,12 @@
+-- Which options a run can have.
+use Rattle.std.specs.Prelude.{◌≤◌}
+use Rattle.link_queue.specs.declared.link.TheConstants.{MAX_CAPACITY}
+use Rattle.pool.specs.declared.limits.TheConstants.{MAX_WORKERS}
+use Rattle.node_pool.specs.declared.options.Options.{Options}
+
+-- Workers and capacity are in range.
+pub record AreInRange (options : Options) : Type 0 where
+  pub some_worker : 1 ≤ options.workers
+  pub workers : options.workers ≤ MAX_WORKERS
+  pub some_capacity : 1 ≤ options.capacity
+  pub capacity : options.capacity ≤ MAX_CAPACITY

@@ -1,0 +1,25 @@
+//! Asynchronous nodes of a network on worker threads: `run_workers` makes links and nodes, runs them, and gathers them.
+//!
+//! Whatever the threads did, what it returns is `IsOutcome` of `gather_laws`: each node once, at a state of the
+//! synchronous run, with each link's lists. `byte_functions` makes channel plans of it.
+//!
+//! ```text
+//! let options = Options { workers: 4, capacity: 4, turns: 1_000_000 };
+//! let outcome = run_workers::<Colouring, OpenGate, _>(&rt, alloc, &network, options, &OpenGate)?;
+//! if outcome.is_whole() { .. outcome.actors() .. }
+//! ```
+//!
+//! Limits: `MAX_WORKERS` and `MAX_CAPACITY`. No turn takes memory. Nothing is promised of time, of fairness, that an
+//! outcome is whole, or that the call returns.
+#![tactic(auto)]
+
+mod options;
+mod outcome;
+mod run;
+
+pub use actor::{Gate, OpenGate};
+pub use gather::Actor;
+pub use options::Options;
+pub use outcome::Outcome;
+pub use pool::PoolFault;
+pub use run::run_workers;
