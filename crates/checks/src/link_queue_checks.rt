@@ -8,7 +8,7 @@ use crate::link_threads::hand_over;
 use alpha_core::Wire;
 use colour_program::Payload;
 use interference::{NetFault, Network, edges_fit};
-use link_queue::MAX_CAPACITY;
+use run_options::MAX_CAPACITY;
 use std::alloc::Global;
 use std::process::Abort;
 use std::sync::Wait;

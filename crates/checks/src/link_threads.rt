@@ -12,7 +12,8 @@ ghost use Rattle.checks.specs.LinkRows.{echoes};
 
 use alpha_core::Wire;
 use interference::{Memory, Network};
-use link_queue::{Link, MAX_CAPACITY, PutEnd, TakeEnd};
+use link_queue::{Link, PutEnd, TakeEnd};
+use run_options::MAX_CAPACITY;
 use std::alloc::Global;
 use std::sync::Wait;
 use std::thread;

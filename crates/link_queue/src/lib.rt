@@ -22,6 +22,6 @@ mod rule;
 mod view;
 
 pub use ends::{PutEnd, PutSide, TakeEnd, TakeSide};
-pub use link::{Link, MAX_CAPACITY, MeetRefused};
+pub use link::{Link, MeetRefused};
 pub use met::{Full, Met};
 pub use view::EndView;

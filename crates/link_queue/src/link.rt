@@ -18,12 +18,10 @@ use alpha_core::Wire;
 use crossbeam_queue::{Pass, RuledArrayQueue};
 use interference::{Memory, Network};
 use node_api::NodeProgram;
+use run_options::MAX_CAPACITY;
 use std::alloc::Global;
 use std::marker::Brand;
 use std::sync::Wait;
-
-/// The greatest number of wires that a link holds.
-pub const MAX_CAPACITY: usize = 64;
 
 /// A bounded, lock-free, directed link of the program `P`: wires that one end puts, the other takes in the same order.
 /// It stands outside the scope of the threads that use it.

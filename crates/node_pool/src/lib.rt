@@ -13,13 +13,12 @@
 //! outcome is whole, or that the call returns.
 #![tactic(auto)]
 
-mod options;
 mod outcome;
 mod run;
 
 pub use actor::{Gate, OpenGate};
 pub use gather::Actor;
-pub use options::Options;
 pub use outcome::Outcome;
 pub use pool::PoolFault;
 pub use run::run_workers;
+pub use run_options::Options;

@@ -2,15 +2,15 @@
 
 ghost use Rattle.std.specs.Prelude.{◌≡◌, IfErr, IfOk, Result, Err};
 ghost use Rattle.gather_laws.specs.Outcome.{IsOutcome};
-ghost use Rattle.node_pool.specs.Options.{AreInRange};
+ghost use Rattle.run_options.specs.Ranges.{AreInRange};
 ghost use Rattle.pool.specs.declared.fault.PoolFault.TheVariants.{BadOptions};
 
-use crate::options::Options;
 use crate::outcome::Outcome;
 use actor::Gate;
 use interference::Network;
 use node_api::NodeProgram;
 use pool::PoolFault;
+use run_options::Options;
 use std::alloc::Global;
 use std::sync::Wait;
 use std::thread::Threads;

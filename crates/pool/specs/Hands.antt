@@ -3,7 +3,7 @@ use Rattle.std.specs.Prelude.{◌≡◌, ℕ, ◌+◌, List, [], ◌∷◌}
 use mathlib.Core.Option as option
 use lib.ListN.{get_elem?}
 use Rattle.pool.specs.declared.hand.Hand.{Hand}
-use Rattle.pool.specs.declared.limits.TheConstants.{MAX_WORKERS}
+use Rattle.run_options.specs.declared.TheConstants.{MAX_WORKERS}
 
 -- what a pass of the pool knows: its parts of the right to know the whole, and the vertices of the nodes that are out
 abbrev pub hand : ℕ → List ℕ → Hand

@@ -10,12 +10,11 @@
 //! let nodes = by_vertex(alloc, nodes)?;                                           // ascending
 //! ```
 //!
-//! Limits: `MAX_WORKERS`. No turn takes memory. Nothing is promised of time, of fairness, or that a call returns.
+//! Limits: `MAX_WORKERS` of `run_options`. No turn takes memory. Nothing is promised of time, of fairness, or that a call returns.
 #![tactic(auto)]
 
 mod fault;
 mod hand;
-mod limits;
 mod order;
 mod pass;
 mod run;
@@ -23,6 +22,5 @@ mod signals;
 mod worker;
 
 pub use fault::PoolFault;
-pub use limits::MAX_WORKERS;
 pub use order::by_vertex;
 pub use run::run_nodes;

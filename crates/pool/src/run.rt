@@ -7,13 +7,13 @@ ghost use Rattle.pool.specs.Hands.{AreSame, all_parts, hand};
 
 use crate::fault::PoolFault;
 use crate::hand::{Gets, Gives, Parts};
-use crate::limits::MAX_WORKERS;
 use crate::pass::{Chief, OfPool, Places, Pool, PoolPass, Worked};
 use crate::signals::Signals;
 use crate::worker::{Crew, work};
 use actor::{Gate, Node};
 use ends::{Links, Wiring};
 use node_api::NodeProgram;
+use run_options::MAX_WORKERS;
 use std::alloc::{AllocError, Global};
 use std::sync::Wait;
 use std::thread;

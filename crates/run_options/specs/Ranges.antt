@@ -1,8 +1,7 @@
 -- Which options a run can have.
 use Rattle.std.specs.Prelude.{◌≤◌}
-use Rattle.link_queue.specs.declared.link.TheConstants.{MAX_CAPACITY}
-use Rattle.pool.specs.declared.limits.TheConstants.{MAX_WORKERS}
-use Rattle.node_pool.specs.declared.options.Options.{Options}
+use Rattle.run_options.specs.declared.TheConstants.{MAX_CAPACITY, MAX_WORKERS}
+use Rattle.run_options.specs.declared.Options.{Options}
 
 -- Workers and capacity are in range.
 pub record AreInRange (options : Options) : Type 0 where

@@ -1,4 +1,0 @@
-//! Limits.
-
-/// The greatest number of workers.
-pub const MAX_WORKERS: u32 = 64;

@@ -1,0 +1,30 @@
+//! How many workers run the nodes of a network, over what links, and how long.
+//!
+//! `command_line` reads the options from words, and `node_pool` runs nodes by them.
+//!
+//! ```text
+//! let options = Options { workers: 4, capacity: 4, turns: 1_000_000_000 };
+//! ```
+//!
+//! Limits: those below.
+#![tactic(auto)]
+
+/// The greatest number of workers.
+pub const MAX_WORKERS: u32 = 64;
+
+/// The greatest number of wires that a link holds.
+pub const MAX_CAPACITY: u32 = 64;
+
+/// The greatest number of looks of a worker that the command line takes; `node_pool` has no limit.
+pub const MAX_TURNS: u64 = 1_000_000_000_000;
+
+/// How the nodes of a network are run.
+#[derive(Debug, Clone, Copy, PartialEq, Eq)]
+pub struct Options {
+    /// The number of worker threads, 1 to `MAX_WORKERS`.
+    pub workers: u32,
+    /// How many wires a link holds at most, 1 to `MAX_CAPACITY`.
+    pub capacity: u32,
+    /// How often each worker looks for a node at most; a look that finds none counts.
+    pub turns: u64,
+}
