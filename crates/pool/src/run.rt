@@ -197,9 +197,9 @@ pub fn run_nodes<
             requires { (first.pass.table_id ≡ all.now.table.shared.table_id)
                 × ((view first.pass).parts ≡ all_parts) × (workers ≤ MAX_WORKERS)
                 × (length (vertices J.net) ≤ ruled_capacity all.now) × (vec_len places ≡ workers) }
-            ensures { IfOk result (λ c. (c.pass.table_id ≡ all.entry.now.table.shared.table_id)
+            ensures pass { IfOk result (λ c. (c.pass.table_id ≡ all.entry.now.table.shared.table_id)
                 × ((view c.pass).parts ≡ all_parts)) }
-            ensures { IfErr result (λ fault. fault ≢ BadOptions) }
+            ensures fault { IfErr result (λ fault. fault ≢ BadOptions) }
         {
             let mut chief = first;
             let mut children = Vec::new(alloc);
