@@ -34,15 +34,13 @@ Faults of the input, reported as `forestplan: F6 line 2`, F1 without a line:
 and as `forestplan: N1 vertex 1` a vertex with more than 1023 neighbours.
 
 Status, and what standard error then holds:
-  0  done, or help was asked for       nothing
-  1  the input is refused              one of the lines above
-  2  the command line is refused       several lines
-  3  the workers of plan ran out of    forestplan: stopped
-     turns
-  4  a thread could not be started     forestplan: threads
-     memory ran out                    forestplan: memory
-     the input could not be read, or   forestplan: stream
-     the output not written
+  0  done, or help was asked for    nothing
+  1  the input is refused           one line, as above
+  2  the command line is refused    several lines
+  3  plan ran out of turns          forestplan: stopped
+  4  a thread could not be started  forestplan: threads
+     memory ran out                 forestplan: memory
+     a read or a write failed       forestplan: stream
 
 Example: three transmitters, each in reach of the other two
   printf 'p edge 3 3\\ne 1 2\\ne 1 3\\ne 2 3\\n' | forestplan plain",
@@ -94,39 +92,44 @@ prints
 };
 
 pub const PLAN: Help = Help {
-    about: "Prints the plan of plain, found by worker threads without a common clock",
-    long_about: "Prints the plan of plain, found by worker threads without a common clock.
+    about: "Prints the plan of plain, found by threads without a common clock",
+    long_about: "Prints the plan of plain, found by threads without a common clock.
 
-The nodes find the very plan that `forestplan plain` prints, but no clock keeps
-their rounds together. They run at different speeds, on worker threads, and
-Awerbuch's synchroniser alpha keeps each in step with its neighbours: a node
-begins its next round, or pulse, once its neighbours have said that all they
-sent at this one has arrived. So the plan does not depend on the options, nor on
-which worker was fast. A long run is silent until the plan is found.
+It is the very plan that `forestplan plain` prints, whatever the options are and
+whichever thread is faster. The nodes have no common clock: worker threads run
+them in any order, and Awerbuch's synchroniser alpha keeps each in step with its
+neighbours. A node makes its next round, here called a pulse, once each neighbour
+has said that all it sent at this one has been taken.
 
-A worker is a thread. It looks for a node that no other worker has, lets it make
-one turn, and then looks for the next. A link leads from a node to a neighbour,
-and hands on what is put on it, the wires, in their order. Its capacity is the
-number of wires that it holds; a node waits with the others if it is full. In a
-turn a node takes up to four wires from each neighbour, makes its next pulse if
-it can, and puts on its links what it has for its neighbours.",
+  worker   a thread; it looks for a node that no other worker has, makes one turn
+           of it, and looks for the next
+  turn     the node takes up to four wires from each neighbour, makes a pulse if
+           it can, and puts what it has for them on its links
+  wire     what goes to a neighbour: a message of a pulse, that one was taken,
+           that all messages of a pulse were, or that nothing more comes
+  link     leads from a node to one neighbour, and keeps the order of the wires;
+           its capacity is how many it holds, and what finds no room waits
+
+A long run is silent until the plan is found.",
     format: "Input: a graph in the DIMACS format, as `p edge NODES EDGES` and then `e V W`.
 
 Output, a line each:
   plan                 the first line
   V CHANNEL            for each vertex, ascending: its channel
 
-If it prints `forestplan: stopped` (status 3), the workers had looked as often as
---turns lets them before the nodes were done: give more turns. Looks that find
-no node count too, so that workers in excess use up their turns by waiting.
+If it reports `forestplan: stopped` (status 3), the workers had looked for nodes
+as often as they may before all nodes were done. Give more --turns, up to
+1000000000000. A look that finds no node counts too, so that workers which wait
+for each other use up their turns.
 
-On a small network more workers are not faster: there is too little to do for
-each, and they wait for each other. The work grows with the rounds: if a node has
-up to D neighbours, and U of them are above it, there are
+More workers are not faster on a small network: there is too little to do at
+once, and they wait for each other. A run grows with its rounds. With D as the
+greatest number of neighbours of a vertex, and U as that of neighbours above it,
+plain and plan make
   R = 12 + 3 U (D + 1)
-rounds, and a whole run hands on
+rounds, and plan sends for P messages on E edges in all
   2 P + 2 E (R + 1)
-wires, where E is the number of edges and P that of the messages of plain.
+wires.
 
 Example: the triangle
   printf 'p edge 3 3\\ne 1 2\\ne 1 3\\ne 2 3\\n' | forestplan plan --workers 2
@@ -136,19 +139,18 @@ prints
   2 3
   3 1
 
-Example: one worker, which looks only once, so that two nodes have no turn
+Example: a single look, so that two of the three nodes have no turn
   printf 'p edge 3 3\\ne 1 2\\ne 1 3\\ne 2 3\\n' |
     forestplan plan --workers 1 --turns 1
-prints
+reports
   forestplan: stopped",
 };
 
-pub const WORKERS: &'static str = "The number of worker threads, from 1 to 64";
+pub const WORKERS: &'static str = "How many threads run the nodes, 1 to 64";
 
-pub const CAPACITY: &'static str = "The number of wires that a link holds, from 1 to 64";
+pub const CAPACITY: &'static str = "How many wires a link holds, 1 to 64";
 
-pub const TURNS: &'static str =
-    "How often each worker looks for a node at most, from 0 to 1000000000000";
+pub const TURNS: &'static str = "How often a worker looks for a node";
 
 pub const CHECK: Help = Help {
     about: "Checks a channel plan of a graph",

@@ -26,7 +26,7 @@ fn number<'a>(
 {
     Arg::new(alloc, name)
         .long(name)
-        .value_name("NUMBER")
+        .value_name("N")
         .value_parser(ValueParser::unsigned(least, most))
         .default_value(default)
         .help(help)
