@@ -1,6 +1,7 @@
 //! The words of each command, and the texts of clap by their openings; the black-box tests compare them whole.
 
 use command_line::{Declined, Program, Request, parse};
+use run_options::Options;
 use std::alloc::Global;
 use std::test::Fail;
 
@@ -14,6 +15,58 @@ fn knows_the_commands(rt: HostRuntime) -> Result<(), Fail> {
     ] {
         assert!(rt;
             parse(rt.alloc(), program, &["out/p", word]).is_ok_and(|request| request == wanted),
+            "{word}"
+        );
+    }
+    Ok(())
+}
+
+// Whether the words ask for `plan` with so many workers, this capacity, and so many turns.
+fn is_run(alloc: Global, words: &[&str], workers: u32, capacity: u32, turns: u64) -> bool {
+    let options = Options {
+        workers,
+        capacity,
+        turns,
+    };
+    parse(alloc, Program::Forestplan, words).is_ok_and(|request| request == Request::Plan(options))
+}
+
+#[test]
+fn reads_the_options_of_a_run(rt: HostRuntime) -> Result<(), Fail> {
+    let alloc = rt.alloc();
+    assert!(rt; is_run(alloc, &["p", "plan"], 4, 4, 1_000_000_000));
+    for (first, second, third, workers, capacity, turns) in [
+        ("--workers=1", "--capacity=1", "--turns=0", 1, 1, 0),
+        (
+            "--workers=64",
+            "--capacity=64",
+            "--turns=1000000000000",
+            64,
+            64,
+            1_000_000_000_000,
+        ),
+        ("--turns=2", "--capacity=3", "--workers=5", 5, 3, 2),
+        ("--capacity=63", "--turns=1", "--workers=2", 2, 63, 1),
+        ("--workers=+7", "--capacity=0008", "--turns=+09", 7, 8, 9),
+    ] {
+        assert!(rt;
+            is_run(
+                alloc,
+                &["p", "plan", first, second, third],
+                workers,
+                capacity,
+                turns
+            ),
+            "{first}"
+        );
+    }
+    for (word, value, workers, capacity, turns) in [
+        ("--workers", "2", 2, 4, 1_000_000_000),
+        ("--capacity", "2", 4, 2, 1_000_000_000),
+        ("--turns", "2", 4, 4, 2),
+    ] {
+        assert!(rt;
+            is_run(alloc, &["p", "plan", word, value], workers, capacity, turns),
             "{word}"
         );
     }
@@ -38,7 +91,53 @@ fn declines_other_words(rt: HostRuntime) -> Result<(), Fail> {
     assert!(rt; is_declined(alloc, &["out/p", "--help"], true, "Plans channels"));
     assert!(rt; is_declined(alloc, &["out/p", "help"], false, "error: unrecognized"));
     assert!(rt; is_declined(alloc, &["out/p", "--version"], false, "error: unexpected"));
-    for command in ["forests", "plain"] {
+    for (word, value, opening) in [
+        (
+            "--workers",
+            "0",
+            "error: invalid value '0' for '--workers <N>': 0 is not in 1..=64",
+        ),
+        (
+            "--workers",
+            "65",
+            "error: invalid value '65' for '--workers <N>': 65 is not in 1..=64",
+        ),
+        ("--workers", "4294967297", "error: invalid value"),
+        ("--workers", "four", "error: invalid value"),
+        ("--workers", "", "error: invalid value"),
+        ("--workers", "4.0", "error: invalid value"),
+        ("--workers", "-1", "error: unexpected argument '-1'"),
+        (
+            "--capacity",
+            "0",
+            "error: invalid value '0' for '--capacity <N>': 0 is not in 1..=64",
+        ),
+        ("--capacity", "65", "error: invalid value"),
+        (
+            "--turns",
+            "1000000000001",
+            "error: invalid value '1000000000001' for '--turns <N>'",
+        ),
+        ("--turns", "18446744073709551616", "error: invalid value"),
+        (
+            "--turns=1",
+            "--turns=1",
+            "error: the argument '--turns <N>' cannot be used multiple times",
+        ),
+        ("--turns=1", "2", "error: unexpected argument '2'"),
+        (
+            "--turns=1",
+            "--workers",
+            "error: a value is required for '--workers <N>'",
+        ),
+        ("--edition", "1", "error: unexpected argument '--edition'"),
+    ] {
+        assert!(rt;
+            is_declined(alloc, &["out/p", "plan", word, value], false, opening),
+            "{word} {value}"
+        );
+    }
+    for command in ["forests", "plain", "plan"] {
         assert!(rt; is_declined(alloc, &["out/p", command, "-h"], true, "Prints "));
         assert!(rt; is_declined(alloc, &["out/p", command, "x"], false, "error: unexpected"));
     }

@@ -33,8 +33,14 @@ Faults of the input, reported as `forestplan: F6 line 2`, F1 without a line:
   F4  a field is missing or wrong  F8  a line of an unknown kind
 and as `forestplan: N1 vertex 1` a vertex with more than 1023 neighbours.
 
-Status: 0 done, 1 input refused, 2 command line refused, 4 memory ran out, or
-the input could not be read or the output not written.
+Status, and what standard error then holds:
+  0  done, or help was asked for    nothing
+  1  the input is refused           one line, as above
+  2  the command line is refused    several lines
+  3  plan ran out of turns          forestplan: stopped
+  4  a thread could not be started  forestplan: threads
+     memory ran out                 forestplan: memory
+     a read or a write failed       forestplan: stream
 
 Example: three transmitters, each in reach of the other two
   printf 'p edge 3 3\\ne 1 2\\ne 1 3\\ne 2 3\\n' | forestplan plain",
@@ -84,6 +90,67 @@ prints
   2 3
   3 1",
 };
+
+pub const PLAN: Help = Help {
+    about: "Prints the plan of plain, found by threads without a common clock",
+    long_about: "Prints the plan of plain, found by threads without a common clock.
+
+It is the very plan that `forestplan plain` prints, whatever the options are and
+whichever thread is faster. The nodes have no common clock: worker threads run
+them in any order, and Awerbuch's synchroniser alpha keeps each in step with its
+neighbours. A node makes its next round, here called a pulse, once each neighbour
+has said that all it sent at this one has been taken.
+
+  worker   a thread; it looks for a node that no other worker has, makes one turn
+           of it, and looks for the next
+  turn     the node takes up to four wires from each neighbour, makes a pulse if
+           it can, and puts what it has for them on its links
+  wire     what goes to a neighbour: a message of a pulse, that one was taken,
+           that all messages of a pulse were, or that nothing more comes
+  link     leads from a node to one neighbour, and keeps the order of the wires;
+           its capacity is how many it holds, and what finds no room waits
+
+A long run is silent until the plan is found.",
+    format: "Input: a graph in the DIMACS format, as `p edge NODES EDGES` and then `e V W`.
+
+Output, a line each:
+  plan                 the first line
+  V CHANNEL            for each vertex, ascending: its channel
+
+If it reports `forestplan: stopped` (status 3), the workers had looked for nodes
+as often as they may before all nodes were done. Give more --turns, up to
+1000000000000. A look that finds no node counts too, so that workers which wait
+for each other use up their turns.
+
+More workers are not faster on a small network: there is too little to do at
+once, and they wait for each other. A run grows with its rounds. With D as the
+greatest number of neighbours of a vertex, and U as that of neighbours above it,
+plain and plan make
+  R = 12 + 3 U (D + 1)
+rounds, and plan sends for P messages on E edges in all
+  2 P + 2 E (R + 1)
+wires.
+
+Example: the triangle
+  printf 'p edge 3 3\\ne 1 2\\ne 1 3\\ne 2 3\\n' | forestplan plan --workers 2
+prints
+  plan
+  1 2
+  2 3
+  3 1
+
+Example: a single look, so that two of the three nodes have no turn
+  printf 'p edge 3 3\\ne 1 2\\ne 1 3\\ne 2 3\\n' |
+    forestplan plan --workers 1 --turns 1
+reports
+  forestplan: stopped",
+};
+
+pub const WORKERS: &'static str = "How many threads run the nodes, 1 to 64";
+
+pub const CAPACITY: &'static str = "How many wires a link holds, 1 to 64";
+
+pub const TURNS: &'static str = "How often a worker looks for a node";
 
 pub const CHECK: Help = Help {
     about: "Checks a channel plan of a graph",
