@@ -1,21 +1,28 @@
--- The command line computes, and each of its commands has a request.
+-- The command line computes, and each of its commands has a request, if clap finds no fault.
 use Rattle.std.proofs.Common.{◌≡◌, ◌≢◌, ◌⊎◌, inl, inr, subst, sym, refl, ap, ◌∙◌, cond}
-use Rattle.std.proofs.Common.{Bool, true, false, List, [], ◌∷◌, Option, Some, None, is_some, find, option_map}
+use Rattle.std.proofs.Common.{Bool, true, false, List, [], ◌∷◌, Option, Some, None, is_some, find, option_map, codes}
 use Rattle.std.specs.List.{AllByRecursion}
-use Rattle.clap.specs.Walk.{Row, Text, answers_to, stop_after}
+use Rattle.std.specs.Option.{option_map_or}
+use Rattle.clap.specs.Walk.{Row, Text, answers_to, nothing_held, rows_after, stop_after, walk_from}
 use Rattle.clap.specs.Simple.{Shape, argument_words, built, entered, label_of, names_of, is_simple, rows_at, subcommand_of}
-use Rattle.clap.specs.Faults.{fault_of, is_simple_and_free}
+use Rattle.clap.specs.Faults.{entered_fault, fault_of, is_simple_and_free, level_fault, walk_fault}
 use Rattle.clap.specs.Kinds.{IsAmong, Kinds}
 use Rattle.clap.specs.declared.error.kind.ErrorKind.{ErrorKind}
 use Rattle.clap.specs.declared.error.kind.ErrorKind.TheVariants.{DisplayHelp, OutOfMemory}
 use Rattle.clap.proofs.OnLiterals.{clap_on_literals}
+use Rattle.run_options.specs.Ranges.{AreInRange}
+use Rattle.run_options.specs.declared.Options.{Options}
 use Rattle.command_line.specs.Line.{line}
-use Rattle.command_line.specs.Asked.{IsDeclinedBy, MayDecline, choice_of, named, request_of, unless_at_fault}
+use Rattle.command_line.specs.RunOptions.{options_of}
+use Rattle.command_line.proofs.Passing.{split}
+use Rattle.command_line.proofs.RunOptions.{run_found, run_rules}
+use Rattle.command_line.specs.Asked.{IsDeclinedBy, IsInRange, MayDecline, choice_of, named, request_of, unless_at_fault}
 use Rattle.command_line.specs.declared.program.Program.{Program}
 use Rattle.command_line.specs.declared.program.Program.TheVariants.{Forestplan, Forestplay}
 use Rattle.command_line.specs.declared.request.Declined.{Declined}
 use Rattle.command_line.specs.declared.request.Declined.TheVariants as given
 use Rattle.command_line.specs.declared.request.Request.{Request}
+use Rattle.command_line.specs.declared.request.Request.TheVariants.{Check, Events, Forests, Plain, Plan}
 
 pub line_is_free : (program : Program) → is_simple_and_free (line program) ≡ true
 unfolding clap_on_literals
@@ -31,38 +38,69 @@ pub line_wants_a_command : (program : Program) → (line program).top.subcommand
 line_wants_a_command Forestplan = refl
 line_wants_a_command Forestplay = refl
 
+abbrev pub IsGood : Option Request → Type 0
+IsGood asked = (request : Request) × (asked ≡ Some request) × IsInRange request
+
 abbrev HasRequest : Shape → Type 0
-HasRequest s = (rows : List Row) → is_some (named s.name rows) ≡ true
+HasRequest s = (words : List Text) → level_fault s [] nothing_held words false [] ≡ [] → IsGood (named s.name (rows_after s.rules [] words))
 
 found : (test : Shape → Bool) (ws : List Text) (xs : List Shape) → AllByRecursion HasRequest xs
-    → is_some (option_map (λ s. rows_at s ws) (find test xs)) ≡ true
-    → is_some (choice_of (option_map (λ s. rows_at s ws) (find test xs))) ≡ true
-found test ws [] all h = h
-found test ws (x ∷ xs) all h = go (test x) h (λ k. found test ws xs all.1 k)
+    → option_map_or (λ s. level_fault s [] nothing_held ws false []) (find test xs) [] ≡ []
+    → is_some (option_map (λ s. rows_at s ws) (find test xs)) ≡ true → IsGood (choice_of (option_map (λ s. rows_at s ws) (find test xs)))
+found test ws [] all none h = cc
+found test ws (x ∷ xs) all none h = go (test x) none h (found test ws xs all.1)
   where
-    go : (b : Bool) → is_some (option_map (λ s. rows_at s ws) (cond b (Some x) (find test xs))) ≡ true
-        → (is_some (option_map (λ s. rows_at s ws) (find test xs)) ≡ true
-        → is_some (choice_of (option_map (λ s. rows_at s ws) (find test xs))) ≡ true)
-        → is_some (choice_of (option_map (λ s. rows_at s ws) (cond b (Some x) (find test xs)))) ≡ true
-    go true h rest = all.0 (rows_at x ws).1
-    go false h rest = rest h
+    go : (b : Bool) → option_map_or (λ s. level_fault s [] nothing_held ws false []) (cond b (Some x) (find test xs)) [] ≡ []
+        → is_some (option_map (λ s. rows_at s ws) (cond b (Some x) (find test xs))) ≡ true
+        → (option_map_or (λ s. level_fault s [] nothing_held ws false []) (find test xs) [] ≡ []
+        → is_some (option_map (λ s. rows_at s ws) (find test xs)) ≡ true → IsGood (choice_of (option_map (λ s. rows_at s ws) (find test xs))))
+        → IsGood (choice_of (option_map (λ s. rows_at s ws) (cond b (Some x) (find test xs))))
+    go true none h rest = all.0 ws none
+    go false none h rest = rest none h
 
--- a command that was entered is one of those listed: a `refl` each
-pub entered_known : (program : Program) (stop : Option (Text × List Text)) → is_some (entered (built (line program)) stop) ≡ true
-    → is_some (choice_of (entered (built (line program)) stop)) ≡ true
-entered_known program None h = h
-entered_known Forestplan (Some p) h = found (λ x. answers_to p.0 (label_of x)) p.1 (built (line Forestplan)).subs
-    ((λ rows. refl), ((λ rows. refl), ((λ rows. refl), tt))) h
-entered_known Forestplay (Some p) h = found (λ x. answers_to p.0 (label_of x)) p.1 (built (line Forestplay)).subs
-    ((λ rows. refl), tt) h
+-- a run of workers has the options that its rows have
+run_is_good : (rows : List Row) (o : Options) → options_of rows ≡ Some o → AreInRange o → IsGood (named (codes "plan") rows)
+run_is_good rows o read range = (Plan o, ap (option_map Plan) read, range)
+
+run_has_request : (s : Shape) → s.name ≡ codes "plan" → s.rules ≡ run_rules → HasRequest s
+run_has_request s name rules words none =
+    let found = run_found s words rules none in
+    subst (λ t. IsGood (named t (rows_after s.rules [] words))) (sym name) (run_is_good (rows_after s.rules [] words) found.0 found.1 found.2)
+
+-- a command that was entered is one of those listed
+pub entered_known : (program : Program) (stop : Option (Text × List Text)) → entered_fault (built (line program)) stop ≡ []
+    → is_some (entered (built (line program)) stop) ≡ true → IsGood (choice_of (entered (built (line program)) stop))
+entered_known program None none h = cc
+entered_known Forestplan (Some p) none h = found (λ x. answers_to p.0 (label_of x)) p.1 (built (line Forestplan)).subs
+    ((λ words e. (Forests, refl, tt)), ((λ words e. (Plain, refl, tt)), (run_has_request _ refl refl, ((λ words e. (Check, refl, tt)), tt)))) none h
+entered_known Forestplay (Some p) none h = found (λ x. answers_to p.0 (label_of x)) p.1 (built (line Forestplay)).subs
+    ((λ words e. (Events, refl, tt)), tt) none h
 
 out_of_memory_is_no_help : OutOfMemory ≢ DisplayHelp
 out_of_memory_is_no_help same = cc
 
-pub known : (program : Program) (words : List Text) → is_some (subcommand_of (line program) words) ≡ true
-    → is_some (choice_of (subcommand_of (line program) words)) ≡ true
-known program words h = entered_known program
-    (stop_after (built (line program)).top.rules (names_of (built (line program))) (argument_words (line program) words)) h
+pub known : (program : Program) (words : List Text) → fault_of (line program) words ≡ [] → is_some (subcommand_of (line program) words) ≡ true
+    → IsGood (choice_of (subcommand_of (line program) words))
+known program words none h =
+    let whole = built (line program) in
+    let stop = stop_after whole.top.rules (names_of whole) (argument_words (line program) words) in
+    let after_words = split (walk_fault whole.top (names_of whole) (walk_from nothing_held) (argument_words (line program) words)) _ none in
+    entered_known program stop (split (entered_fault whole stop) _ after_words.1).0 h
+
+some_is_same : (x y : Request) → Some x ≡ Some y → x ≡ y
+some_is_same x y e = cc
+
+-- what the words ask for is in range
+pub in_range : (program : Program) (words : List Text) (r : Request) → fault_of (line program) words ≡ []
+    → choice_of (subcommand_of (line program) words) ≡ Some r
+    → IsInRange r
+in_range program words r none e = go (subcommand_of (line program) words) (known program words none) e
+  where
+    go : (o : Option (Text × List Row)) → (is_some o ≡ true → IsGood (choice_of o)) → choice_of o ≡ Some r → IsInRange r
+    go None good same = cc
+    go (Some p) good same =
+        let is = good refl in
+        subst IsInRange (some_is_same is.0 r (sym is.1 ∙ same)) is.2
 
 pub taken : (program : Program) (words : List Text) (r : Request) → fault_of (line program) words ≡ [] → choice_of (subcommand_of (line program) words) ≡ Some r
     → request_of program words ≡ Some r

@@ -1,1 +1,6 @@
+mod Defaults
 mod KnownCommands
+mod Numbers
+mod Passing
+mod RunOptions
+mod Walked

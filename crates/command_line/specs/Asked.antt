@@ -1,25 +1,34 @@
 -- What the words of a command line ask for.
 use Rattle.std.specs.Prelude.{◌≡◌, ◌≢◌, List, [], ◌∷◌, Option, Some, None, if◌then◌else◌, codes, option_and_then}
+use Rattle.std.specs.Prelude.{option_map}
 use Rattle.std.specs.Str.{bytes_eq}
 use Rattle.clap.specs.Words.{Row, Text, fault_of, subcommand_of}
 use Rattle.clap.specs.Kinds.{IsAmong, Kinds}
 use Rattle.clap.specs.declared.error.kind.ErrorKind.{ErrorKind}
 use Rattle.clap.specs.declared.error.kind.ErrorKind.TheVariants.{DisplayHelp, OutOfMemory}
+use Rattle.run_options.specs.Ranges.{AreInRange}
 use Rattle.command_line.specs.Line.{line}
+use Rattle.command_line.specs.RunOptions.{options_of}
 use Rattle.command_line.specs.declared.program.Program.{Program}
 use Rattle.command_line.specs.declared.request.Declined.{Declined}
 use Rattle.command_line.specs.declared.request.Declined.TheVariants as declined
 use Rattle.command_line.specs.declared.request.Request.{Request}
-use Rattle.command_line.specs.declared.request.Request.TheVariants.{Check, Events, Forests, Plain}
+use Rattle.command_line.specs.declared.request.Request.TheVariants.{Check, Events, Forests, Plain, Plan}
 
 -- what the command of a name asks for, given the values of its options; each command is a line
 abbrev pub named : Text → List Row → Option Request
 named name rows =
     if bytes_eq name (codes "forests") then Some Forests
     else if bytes_eq name (codes "plain") then Some Plain
+    else if bytes_eq name (codes "plan") then option_map Plan (options_of rows)
     else if bytes_eq name (codes "check") then Some Check
     else if bytes_eq name (codes "events") then Some Events
     else None
+
+-- a run of workers has options in range
+abbrev pub IsInRange : Request → Type 0
+IsInRange (Plan options) = AreInRange options
+IsInRange _ = Unit {0}
 
 -- what the command that was found asks for
 abbrev pub choice_of : Option (Text × List Row) → Option Request

@@ -1,6 +1,7 @@
 -- The command lines in clap's own words: a program, and its commands.
 use Rattle.std.specs.Prelude.{true, codes}
 use Rattle.clap.specs.Words.{App, Text, new_app, with_subcommand}
+use Rattle.command_line.specs.RunOptions.{with_run_options}
 use Rattle.command_line.specs.declared.program.Program.{Program}
 use Rattle.command_line.specs.declared.program.Program.TheVariants.{Forestplan, Forestplay}
 
@@ -17,15 +18,20 @@ without_commands name = record (new_app name) {
   };
 }
 
--- the commands that make something of a network, each a line; none has options
+-- the commands that make something of a network in rounds, each a line; none has options
 abbrev pub with_network_commands : App → App
 with_network_commands program =
     let with_forests : App = with_subcommand program (new_app (codes "forests")).top in
     with_subcommand with_forests (new_app (codes "plain")).top
 
--- these, and the one that checks a plan
+-- the commands that run workers, which have options
+abbrev pub with_worker_commands : App → App
+with_worker_commands program = with_subcommand program (with_run_options (new_app (codes "plan"))).top
+
+-- all of these, and the one that checks a plan
 abbrev pub with_plan_commands : App → App
-with_plan_commands program = with_subcommand (with_network_commands program) (new_app (codes "check")).top
+with_plan_commands program =
+    with_subcommand (with_worker_commands (with_network_commands program)) (new_app (codes "check")).top
 
 -- the commands for lessons
 abbrev pub with_play_commands : App → App

@@ -33,8 +33,16 @@ Faults of the input, reported as `forestplan: F6 line 2`, F1 without a line:
   F4  a field is missing or wrong  F8  a line of an unknown kind
 and as `forestplan: N1 vertex 1` a vertex with more than 1023 neighbours.
 
-Status: 0 done, 1 input refused, 2 command line refused, 4 memory ran out, or
-the input could not be read or the output not written.
+Status, and what standard error then holds:
+  0  done, or help was asked for       nothing
+  1  the input is refused              one of the lines above
+  2  the command line is refused       several lines
+  3  the workers of plan ran out of    forestplan: stopped
+     turns
+  4  a thread could not be started     forestplan: threads
+     memory ran out                    forestplan: memory
+     the input could not be read, or   forestplan: stream
+     the output not written
 
 Example: three transmitters, each in reach of the other two
   printf 'p edge 3 3\\ne 1 2\\ne 1 3\\ne 2 3\\n' | forestplan plain",
@@ -84,6 +92,63 @@ prints
   2 3
   3 1",
 };
+
+pub const PLAN: Help = Help {
+    about: "Prints the plan of plain, found by worker threads without a common clock",
+    long_about: "Prints the plan of plain, found by worker threads without a common clock.
+
+The nodes find the very plan that `forestplan plain` prints, but no clock keeps
+their rounds together. They run at different speeds, on worker threads, and
+Awerbuch's synchroniser alpha keeps each in step with its neighbours: a node
+begins its next round, or pulse, once its neighbours have said that all they
+sent at this one has arrived. So the plan does not depend on the options, nor on
+which worker was fast. A long run is silent until the plan is found.
+
+A worker is a thread. It looks for a node that no other worker has, lets it make
+one turn, and then looks for the next. A link leads from a node to a neighbour,
+and hands on what is put on it, the wires, in their order. Its capacity is the
+number of wires that it holds; a node waits with the others if it is full. In a
+turn a node takes up to four wires from each neighbour, makes its next pulse if
+it can, and puts on its links what it has for its neighbours.",
+    format: "Input: a graph in the DIMACS format, as `p edge NODES EDGES` and then `e V W`.
+
+Output, a line each:
+  plan                 the first line
+  V CHANNEL            for each vertex, ascending: its channel
+
+If it prints `forestplan: stopped` (status 3), the workers had looked as often as
+--turns lets them before the nodes were done: give more turns. Looks that find
+no node count too, so that workers in excess use up their turns by waiting.
+
+On a small network more workers are not faster: there is too little to do for
+each, and they wait for each other. The work grows with the rounds: if a node has
+up to D neighbours, and U of them are above it, there are
+  R = 12 + 3 U (D + 1)
+rounds, and a whole run hands on
+  2 P + 2 E (R + 1)
+wires, where E is the number of edges and P that of the messages of plain.
+
+Example: the triangle
+  printf 'p edge 3 3\\ne 1 2\\ne 1 3\\ne 2 3\\n' | forestplan plan --workers 2
+prints
+  plan
+  1 2
+  2 3
+  3 1
+
+Example: one worker, which looks only once, so that two nodes have no turn
+  printf 'p edge 3 3\\ne 1 2\\ne 1 3\\ne 2 3\\n' |
+    forestplan plan --workers 1 --turns 1
+prints
+  forestplan: stopped",
+};
+
+pub const WORKERS: &'static str = "The number of worker threads, from 1 to 64";
+
+pub const CAPACITY: &'static str = "The number of wires that a link holds, from 1 to 64";
+
+pub const TURNS: &'static str =
+    "How often each worker looks for a node at most, from 0 to 1000000000000";
 
 pub const CHECK: Help = Help {
     about: "Checks a channel plan of a graph",

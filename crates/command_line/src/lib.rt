@@ -6,6 +6,7 @@
 //! ```
 //! match parse(alloc, Program::Forestplan, &["forestplan", "plain"]) {
 //!     Ok(Request::Plain) => ..,
+//!     Ok(Request::Plan(options)) => ..,
 //!     Ok(Request::Forests) => ..,
 //!     Ok(Request::Check) => ..,
 //!     Ok(Request::Events) => ..,
@@ -15,12 +16,14 @@
 //! }
 //! ```
 //!
-//! The commands are listed in `specs/Line.antt` in clap's own words, and `parse` is exact against them. What
-//! clap's texts say, help among them, is only tested. There is no `--version` and no command `help`.
+//! The commands are listed in `specs/Line.antt` in clap's own words, the options of a run of workers in
+//! `specs/RunOptions.antt`, and `parse` is exact against them. What clap's texts say, help among them, is only tested.
+//! There is no `--version` and no command `help`. Limits: those of `run_options`.
 #![tactic(auto)]
 
 mod help;
 mod line;
+mod options;
 mod program;
 mod request;
 

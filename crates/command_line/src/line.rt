@@ -4,10 +4,11 @@ ghost use Rattle.std.specs.Prelude.{◌≡◌, IfOk, false};
 ghost use Rattle.clap.specs.Words.{app_of, new_app, with_subcommand};
 ghost use Rattle.clap.specs.declared.builder.command.Command.TheViews.{out-Command};
 ghost use Rattle.command_line.specs.Line.{line, with_network_commands, with_plan_commands, with_play_commands};
-ghost use Rattle.command_line.specs.Line.{without_commands};
+ghost use Rattle.command_line.specs.Line.{with_worker_commands, without_commands};
 
 use crate::help;
 use crate::help::Help;
+use crate::options::with_run_options;
 use crate::program::Program;
 use clap::Command;
 use std::alloc::{AllocError, Global};
@@ -57,13 +58,24 @@ fn with_network_commands<'a>(alloc: Global, program: Command<'a>) -> Result<Comm
     with_command(program, command(alloc, "plain", help::PLAIN))
 }
 
-// These, and the command that checks a plan.
+// The commands that run workers, which take options.
+fn with_worker_commands<'a>(alloc: Global, program: Command<'a>) -> Result<Command<'a>, AllocError>
+    requires { (out-Command program).has_globals ≡ false }
+    ensures shape { IfOk result (λ c. app_of c ≡ with_worker_commands (app_of program.entry)) }
+    ensures local { IfOk result (λ c. (out-Command c).has_globals ≡ false) }
+{
+    let plan = with_run_options(alloc, command(alloc, "plan", help::PLAN))?;
+    with_command(program, plan)
+}
+
+// All of these, and the command that checks a plan.
 fn with_plan_commands<'a>(alloc: Global, program: Command<'a>) -> Result<Command<'a>, AllocError>
     requires { (out-Command program).has_globals ≡ false }
     ensures shape { IfOk result (λ c. app_of c ≡ with_plan_commands (app_of program.entry)) }
     ensures local { IfOk result (λ c. (out-Command c).has_globals ≡ false) }
 {
     let program = with_network_commands(alloc, program)?;
+    let program = with_worker_commands(alloc, program)?;
     with_command(program, command(alloc, "check", help::CHECK))
 }
 

@@ -2,12 +2,14 @@
 
 ghost use Rattle.std.specs.Prelude.{◌≡◌, ◌≢◌, None, Some, IfOk, IfErr, map};
 ghost use Rattle.clap.specs.Words.{found_of, kind_of, rows_of, subcommand_rows_of};
-ghost use Rattle.command_line.specs.Asked.{IsDeclinedBy, MayDecline, choice_of, named, request_of};
+ghost use Rattle.command_line.specs.Asked.{IsDeclinedBy, IsInRange, MayDecline, choice_of, named, request_of};
 
 use crate::line::whole_line;
+use crate::options::options_of;
 use crate::program::Program;
 use clap::error::ErrorKind;
 use clap::{ArgMatches, Error};
+use run_options::Options;
 use std::alloc::Global;
 
 /// What the program is asked for.
@@ -17,6 +19,8 @@ pub enum Request {
     Forests,
     /// A channel plan of a network, by rounds on one thread.
     Plain,
+    /// The same plan, by nodes that worker threads run without a common clock.
+    Plan(Options),
     /// The verdict on a channel plan of a network.
     Check,
     /// The state that events lead to.
@@ -34,12 +38,13 @@ pub enum Declined {
     Memory,
 }
 
-fn request_named(name: &str, _matches: &ArgMatches<'_>) -> Option<Request>
-    ensures { result ≡ named name.now (rows_of (found_of _matches.now)) }
+fn request_named(name: &str, matches: &ArgMatches<'_>) -> Option<Request>
+    ensures { result ≡ named name.now (rows_of (found_of matches.now)) }
 {
     match name {
         "forests" => Some(Request::Forests),
         "plain" => Some(Request::Plain),
+        "plan" => Some(Request::Plan(options_of(matches)?)),
         "check" => Some(Request::Check),
         "events" => Some(Request::Events),
         _ => None,
@@ -75,6 +80,7 @@ fn declined_by(alloc: Global, error: &Error) -> Declined
 /// `Memory`.
 pub fn parse<'a>(alloc: Global, program: Program, words: &'a [&'a str]) -> Result<Request, Declined>
     ensures ok { IfOk result (λ request. request_of program (map (λ word. word.now) words.entry.now) ≡ Some request) }
+    ensures in_range { IfOk result IsInRange }
     ensures err { IfErr result (MayDecline program (map (λ word. word.now) words.entry.now)) }
 {
     let Ok(line) = whole_line(alloc, program) else {

@@ -1,10 +1,11 @@
-use Rattle.std.proofs.Common.{◌≡◌, ◌∙◌, true, false, Some, None, Option, is_some, refl, sym, ap, subst, option_map}
+use Rattle.std.proofs.Common.{◌≡◌, ◌∙◌, [], true, Some, None, Option, is_some, refl, sym, ap, subst, option_map}
 use Rattle.clap.specs.Words.{App, fault_of, is_simple, kind_of, subcommand_of}
 use Rattle.clap.specs.Walk.{texts}
 use Rattle.clap.specs.Faults.{is_simple_and_free}
 use Rattle.clap.specs.Kinds.{HasKind}
 use Rattle.command_line.specs.Asked.{choice_of}
-use Rattle.command_line.proofs.KnownCommands.{declined, known, line_is_free, line_is_simple, line_wants_a_command, taken}
+use Rattle.command_line.specs.Line.{line}
+use Rattle.command_line.proofs.KnownCommands.{declined, in_range, known, line_is_free, line_is_simple, line_wants_a_command, taken}
 use Rattle.command_line.proofs.request.parse.Goals as goal
 
 mapped : {X Y : Type 0} (f : X → Y) (o : Option X) → is_some o ≡ true → is_some (option_map f o) ≡ true
@@ -14,13 +15,16 @@ mapped f (Some x) h = refl
 pub unreachable-requires : goal.unreachable-requires
 unreachable-requires c =
     let e = c.in-Ok-try_get_matches_from.ensures in
+    let words = texts c.args.words.now in
     let shape = c.in-Ok.ensures.shape in
-    let rows_are = (e.matches (ap is_simple shape ∙ line_is_simple c.args.program)).1 ∙ ap (λ (a : App). subcommand_of a (texts c.args.words.now)) shape in
+    let none : fault_of (line c.args.program) words ≡ [] =
+    ap (λ (a : App). fault_of a words) (sym shape) ∙ e.kinds (ap is_simple_and_free shape ∙ line_is_free c.args.program) in
+    let rows_are = (e.matches (ap is_simple shape ∙ line_is_simple c.args.program)).1 ∙ ap (λ (a : App). subcommand_of a words) shape in
     let wanted = e.parsed.from.needs_subcommand ∙ ap (λ (a : App). a.top.subcommand_required) shape ∙ line_wants_a_command c.args.program in
     let parsed = e.parsed.parsed (e.parsed.from.globals ∙ c.in-Ok.ensures.local) in
     let there = mapped _ _ (parsed.checked.subcommand wanted) in
-    let some = known c.args.program (texts c.args.words.now) (ap is_some (sym rows_are) ∙ there) in
-    let bad : false ≡ true = ap is_some (c.in-None.ensures ∙ ap choice_of rows_are) ∙ some in
+    let some = known c.args.program words none (ap is_some (sym rows_are) ∙ there) in
+    let bad : None ≡ Some some.0 = c.in-None.ensures ∙ ap choice_of rows_are ∙ some.1 in
     cc
 
 pub returns-in-Some-clause-ok : goal.returns-in-Some-clause-ok
@@ -30,6 +34,16 @@ returns-in-Some-clause-ok c =
     let rows_are = (e.matches (ap is_simple shape ∙ line_is_simple c.args.program)).1 ∙ ap (λ (a : App). subcommand_of a (texts c.args.words.now)) shape in
     let none = ap (λ (a : App). fault_of a (texts c.args.words.now)) (sym shape) ∙ e.kinds (ap is_simple_and_free shape ∙ line_is_free c.args.program) in
     taken c.args.program (texts c.args.words.now) c.in-Some.request none (ap choice_of (sym rows_are) ∙ sym c.in-Some.ensures)
+
+pub returns-in-Some-clause-in_range : goal.returns-in-Some-clause-in_range
+returns-in-Some-clause-in_range c =
+    let e = c.in-Ok-try_get_matches_from.ensures in
+    let words = texts c.args.words.now in
+    let shape = c.in-Ok.ensures.shape in
+    let none : fault_of (line c.args.program) words ≡ [] =
+    ap (λ (a : App). fault_of a words) (sym shape) ∙ e.kinds (ap is_simple_and_free shape ∙ line_is_free c.args.program) in
+    let rows_are = (e.matches (ap is_simple shape ∙ line_is_simple c.args.program)).1 ∙ ap (λ (a : App). subcommand_of a words) shape in
+    in_range c.args.program words c.in-Some.request none (ap choice_of (sym rows_are) ∙ sym c.in-Some.ensures)
 
 pub returns-in-Err-clause-err : goal.returns-in-Err-clause-err
 returns-in-Err-clause-err c =

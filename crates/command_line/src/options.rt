@@ -1,0 +1,86 @@
+//! The options of a run of workers in `clap`'s builders, and the numbers that they have. A command that runs workers
+//! takes all three.
+
+ghost use Rattle.std.specs.Prelude.{◌≡◌, ◌^◌, IfOk, false};
+ghost use Rattle.clap.specs.Words.{app_of, found_of, rows_of, rule_of, with_rule};
+ghost use Rattle.clap.specs.declared.builder.command.Command.TheViews.{out-Command};
+ghost use Rattle.command_line.specs.RunOptions.{number_of, number_rule, options_of, with_run_options};
+
+use crate::help::{CAPACITY, TURNS, WORKERS};
+use clap::builder::ValueParser;
+use clap::{Arg, ArgMatches, Command};
+use run_options::{MAX_CAPACITY, MAX_TURNS, MAX_WORKERS, Options};
+use std::alloc::{AllocError, Global};
+
+// An option with a number, of which clap checks the range.
+fn number<'a>(
+    alloc: Global,
+    name: &'a str,
+    least: u64,
+    most: u64,
+    default: &'a str,
+    help: &'a str,
+) -> Arg<'a>
+    ensures rule { rule_of result ≡ number_rule name.entry.now least most default.entry.now }
+    ensures local { result.global ≡ false }
+{
+    Arg::new(alloc, name)
+        .long(name)
+        .value_name("NUMBER")
+        .value_parser(ValueParser::unsigned(least, most))
+        .default_value(default)
+        .help(help)
+}
+
+fn with_number<'a>(command: Command<'a>, number: Arg<'a>) -> Result<Command<'a>, AllocError>
+    requires locals { (out-Command command).has_globals ≡ false }
+    requires local { number.global ≡ false }
+    ensures shape { IfOk result (λ c. app_of c ≡ with_rule (app_of command.entry) (rule_of number.entry)) }
+    ensures local { IfOk result (λ c. (out-Command c).has_globals ≡ false) }
+{
+    command.arg(number)
+}
+
+/// A command with the options of a run of workers: `--workers`, `--capacity` and `--turns`.
+///
+/// # Errors
+/// If memory ran out.
+pub fn with_run_options<'a>(alloc: Global, command: Command<'a>) -> Result<Command<'a>, AllocError>
+    requires { (out-Command command).has_globals ≡ false }
+    ensures shape { IfOk result (λ c. app_of c ≡ with_run_options (app_of command.entry)) }
+    ensures local { IfOk result (λ c. (out-Command c).has_globals ≡ false) }
+{
+    let workers = number(alloc, "workers", 1, u64::from(MAX_WORKERS), "4", WORKERS);
+    let capacity = number(alloc, "capacity", 1, u64::from(MAX_CAPACITY), "4", CAPACITY);
+    let turns = number(alloc, "turns", 0, MAX_TURNS, "1000000000", TURNS);
+    let command = with_number(command, workers)?;
+    let command = with_number(command, capacity)?;
+    with_number(command, turns)
+}
+
+// The number that an option has, if it fits.
+fn small_number(matches: &ArgMatches<'_>, name: &str) -> Option<u32>
+    ensures { result ≡ number_of (2 ^ 32) name.now (rows_of (found_of matches.now)) }
+{
+    matches.get_one::<u32>(name)
+}
+
+fn great_number(matches: &ArgMatches<'_>, name: &str) -> Option<u64>
+    ensures { result ≡ number_of (2 ^ 64) name.now (rows_of (found_of matches.now)) }
+{
+    matches.get_one::<u64>(name)
+}
+
+/// The options that a command has, from the words or by default.
+pub fn options_of(matches: &ArgMatches<'_>) -> Option<Options>
+    ensures { result ≡ options_of (rows_of (found_of matches.now)) }
+{
+    let workers = small_number(matches, "workers")?;
+    let capacity = small_number(matches, "capacity")?;
+    let turns = great_number(matches, "turns")?;
+    Some(Options {
+        workers,
+        capacity,
+        turns,
+    })
+}
