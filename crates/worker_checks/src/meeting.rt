@@ -1,0 +1,104 @@
+//! A gate at which two workers meet.
+
+use node_pool::Gate;
+use std::sync::Wait;
+use std::sync::atomic::{AtomicBool, AtomicU64, Ordering};
+use std::thread;
+
+// How often a worker that is held looks for the other.
+const TRIES: u32 = 1_000_000;
+
+/// Counts by number, from 0 to 3.
+#[derive(Drop)]
+struct Counts([AtomicU64; 4]);
+
+impl Counts {
+    fn new() -> Counts {
+        Counts([
+            AtomicU64::new(0),
+            AtomicU64::new(0),
+            AtomicU64::new(0),
+            AtomicU64::new(0),
+        ])
+    }
+
+    fn add(&self, number: u32) {
+        if let Some(count) = self.0.as_slice().get(number as usize) {
+            count.fetch_add(1, Ordering::SeqCst);
+        }
+    }
+
+    fn of(&self, number: u32) -> u64 {
+        match self.0.as_slice().get(number as usize) {
+            Some(count) => count.load(Ordering::SeqCst),
+            None => 0,
+        }
+    }
+}
+
+/// Holds the worker that is the first in the middle of a turn until the other of two has left a turn, and counts the
+/// turns that workers (0 and 1) and nodes (1 to 3) have left.
+#[derive(Drop)]
+pub struct Meeting {
+    is_held: AtomicBool,
+    holds: AtomicU64,
+    was_alone: AtomicBool,
+    by_worker: Counts,
+    by_node: Counts,
+}
+
+impl Meeting {
+    pub fn new() -> Meeting {
+        Meeting {
+            is_held: AtomicBool::new(false),
+            holds: AtomicU64::new(0),
+            was_alone: AtomicBool::new(false),
+            by_worker: Counts::new(),
+            by_node: Counts::new(),
+        }
+    }
+
+    /// Whether a worker was held once, until the other had left a turn.
+    pub fn has_met(&self) -> bool {
+        self.holds.load(Ordering::SeqCst) == 1 && !self.was_alone.load(Ordering::SeqCst)
+    }
+
+    pub fn turns_of_worker(&self, worker: u32) -> u64 {
+        self.by_worker.of(worker)
+    }
+
+    pub fn turns_of_node(&self, node: u32) -> u64 {
+        self.by_node.of(node)
+    }
+
+    // Waits until a worker has left a turn. Returns whether it has, after so many looks at most.
+    fn sees(&self, worker: u32) -> bool {
+        for _ in 0..TRIES {
+            if self.by_worker.of(worker) > 0 {
+                return true;
+            }
+            thread::yield_now();
+        }
+        false
+    }
+}
+
+impl Gate for Meeting {
+    fn enter<R: Wait>(&self, _rt: &R, _worker: u32, _node: u32) {}
+
+    fn middle<R: Wait>(&self, _rt: &R, worker: u32, _node: u32) {
+        if self.is_held.swap(true, Ordering::SeqCst) {
+            return;
+        }
+        self.holds.fetch_add(1, Ordering::SeqCst);
+        let other = if worker == 0 { 1 } else { 0 };
+        if !self.sees(other) {
+            self.was_alone.store(true, Ordering::SeqCst);
+        }
+    }
+
+    fn leave<R: Wait>(&self, _rt: &R, worker: u32, node: u32) {
+        self.by_worker.add(worker);
+        self.by_node.add(node);
+    }
+}

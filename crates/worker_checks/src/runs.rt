@@ -1,0 +1,88 @@
+//! Networks to run, and what is read off a run.
+
+ghost use Rattle.std.specs.Prelude.{◌≡◌, ◌<◌};
+ghost use Rattle.interference.specs.Net.{IsVertex, degree_of};
+ghost use Rattle.gather_laws.specs.Outcome.{IsOutcome};
+
+use alpha_core::Wire;
+use interference::Network;
+use node_api::NodeProgram;
+use node_pool::{OpenGate, Options, Outcome, run_workers};
+use std::alloc::Global;
+use std::sync::Wait;
+use std::test::Fail;
+use std::thread::Threads;
+use sync_rounds::Greatest;
+
+pub fn path(alloc: Global) -> Result<Network, Fail> {
+    Ok(Network::try_new(alloc, &[1, 2, 3], &[(1, 2), (2, 3)])?)
+}
+
+pub fn triangle(alloc: Global) -> Result<Network, Fail> {
+    Ok(Network::try_new(alloc, &[1, 2, 3], &[(1, 2), (1, 3), (2, 3)])?)
+}
+
+// Whether two vertices of a small network are neighbours: any bit that depends on all three numbers.
+fn are_joined(number: u32, v: u32, w: u32) -> bool {
+    let mixed = number
+        .wrapping_mul(2_654_435_761)
+        .wrapping_add(v.wrapping_mul(40_503))
+        .wrapping_add(w.wrapping_mul(69_069));
+    (mixed ^ (mixed >> 15)) % 2 == 0
+}
+
+/// One of many small networks, of at most six vertices, with identifiers in no order.
+pub fn small(alloc: Global, number: u32) -> Result<Network, Fail> {
+    let count = number % 7;
+    let mut ids = Vec::new(alloc);
+    let mut edges = Vec::new(alloc);
+    for v in 1..count + 1 {
+        ids.push(u64::from((v * 37 + number % 101) % 101))?;
+        for w in v + 1..count + 1 {
+            if are_joined(number, v, w) {
+                edges.push((v, w))?;
+            }
+        }
+    }
+    Ok(Network::try_new(alloc, ids.as_slice(), edges.as_slice())?)
+}
+
+/// The greatest identifiers that nodes know at the end of a run, which has to be whole.
+pub fn greatest<const D: u32, R: Threads + Wait + Sync>(
+    rt: &R,
+    alloc: Global,
+    net: &Network,
+    workers: u32,
+    capacity: u32,
+) -> Result<Option<Vec<u64>>, Fail> {
+    let options = Options {
+        workers,
+        capacity,
+        turns: 100_000_000,
+    };
+    let outcome = run_workers::<Greatest<D>, OpenGate, R>(rt, alloc, net, options, &OpenGate)?;
+    if !outcome.is_whole() {
+        return Ok(None);
+    }
+    let mut bests = Vec::new(alloc);
+    for actor in outcome.actors() {
+        bests.push(actor.alpha().program().best())?;
+    }
+    Ok(Some(bests))
+}
+
+/// What the link out of a vertex by a port holds after a run.
+pub fn held<'a, P: NodeProgram>(
+    net: &Network,
+    outcome: &'a Outcome<P>,
+    capacity: u32,
+    vertex: u32,
+    port: u32,
+) -> &'a [Wire<P::Payload>]
+    requires outcome { IsOutcome P.program net.now capacity outcome.now }
+    requires vertex { IsVertex net.now vertex }
+    requires port { port < degree_of net.now vertex }
+{
+    let _ = (net, capacity);
+    outcome.link(vertex, port).held()
+}
