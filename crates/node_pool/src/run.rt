@@ -25,7 +25,7 @@ use std::thread::Threads;
 ///
 /// `BadOptions`, which is looked at first, exactly if the options are out of range; `Memory` if memory is refused;
 /// `Spawn` if a thread is, and those that had begun are joined. Nothing is left of the run.
-pub fn run_workers<P: NodeProgram + Send + Sync, G: Gate + Sync, R: Threads + Wait + Sync>(
+pub fn run_workers<P: NodeProgram, G: Gate + Sync, R: Threads + Wait + Sync>(
     rt: &R,
     alloc: Global,
     net: &Network,
