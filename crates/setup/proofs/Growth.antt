@@ -3,7 +3,7 @@ use Rattle.std.proofs.Common.{◌≡◌, ℕ, zero, suc, ◌+◌, ◌-◌, ◌<�
 use Rattle.std.proofs.Common.{Some, slice_get, ◌⊎◌, inl, inr, ⊎_elim}
 use Rattle.std.specs.List.{range_with_len}
 use Rattle.std.proofs.lemmas.Bool.{cases_eq}
-use Rattle.std.proofs.lemmas.List.{length_push, map-append}
+use Rattle.std.proofs.lemmas.List.{length-map, length_push, map-append}
 use Rattle.std.proofs.lemmas.Option.{slice_get-get_or}
 use Rattle.crossing.specs.Rows.{row_at}
 use Rattle.crossing.proofs.ReadLists.{at_old, at_new, range_next}
@@ -43,11 +43,15 @@ handed xs i k x at turn = ap (λ j. slice_get xs j) at ∙ slice_get-get_or xs k
 pub both : (a a' b b' : ℕ) → a ≡ a' → b ≡ b' → ◌≡◌ {A = ℕ × ℕ} (a, b) (a', b')
 both a a' b b' first second = ap {B = ℕ × ℕ} (λ x. (x, b)) first ∙ ap {B = ℕ × ℕ} (λ y. (a', y)) second
 
+-- what is read of each thing, after a push
+pub read_more : {R A : Type 0} (f : R → A) (xs new : List R) (x : R) → new ≡ xs ++ x ∷ [] → map f new ≡ map f xs ++ f x ∷ []
+read_more f xs new x more = ap (map f) more ∙ map-append f xs (x ∷ [])
+
 -- a list that is given place by place, and one place more
 pub place_more : {E D : Type 0} (f : E → D) (g : ℕ → D) (all new : List E) (x : E) (n : ℕ) → new ≡ all ++ x ∷ [] → f x ≡ g n
     → map f all ≡ map g (range_with_len 0 n) → map f new ≡ map g (range_with_len 0 (n + 1))
 place_more f g all new x n more is so_far =
-    ap (map f) more ∙ map-append f all (x ∷ []) ∙ ap (λ l. l ++ f x ∷ []) so_far
+    read_more f all new x more ∙ ap (λ l. l ++ f x ∷ []) so_far
     ∙ ap (λ d. map g (range_with_len 0 n) ++ d ∷ []) is ∙ sym (range_next g n)
 
 -- two lists side by side
@@ -60,14 +64,14 @@ beside_more R xs xs' ys ys' a b n long_a long_b more_a more_b r each i x y at_a 
     let in_b = pushed ys b i y (sym (ap (λ l. slice_get l i) more_b) ∙ at_b) in
     ⊎_elim
     (λ old_a. ⊎_elim
-        (λ old_b. each i x y old_a old_b)
-        (λ new_b. let lt = below xs i x old_a in absurd (omega (arith, lt, new_b.0, long_a, long_b)))
-        in_b)
+    (λ old_b. each i x y old_a old_b)
+    (λ new_b. let lt = below xs i x old_a in absurd (omega (arith, lt, new_b.0, long_a, long_b)))
+    in_b)
     (λ new_a. ⊎_elim
-        (λ old_b. let lt = below ys i y old_b in absurd (omega (arith, lt, new_a.0, long_a, long_b)))
-        (λ new_b. let at : n ≡ i = omega (arith, new_a.0, long_a) in
-            subst (λ k. R k x y) at (subst (λ z. R n z y) new_a.1 (subst (λ z. R n a z) new_b.1 r)))
-        in_b)
+    (λ old_b. let lt = below ys i y old_b in absurd (omega (arith, lt, new_a.0, long_a, long_b)))
+    (λ new_b. let at : n ≡ i = omega (arith, new_a.0, long_a) in
+    subst (λ k. R k x y) at (subst (λ z. R n z y) new_a.1 (subst (λ z. R n a z) new_b.1 r)))
+    in_b)
     in_a
 
 -- rows of three kinds, vertex by vertex
@@ -82,26 +86,31 @@ module _ {A B C : Type 0} (Q : ℕ → List A → List B → List C → Type 0) 
       → (u : ℕ) → 1 ≤ u → u ≤ v + 1 → Q u (row_at xs' u) (row_at ys' u) (row_at zs' u)
   rows_more xs xs' ys ys' zs zs' a b c v long_a long_b long_c more_a more_b more_c q rows u low le = ⊎_elim
       (λ here. same (v + 1) u a (row_at xs' u) b (row_at ys' u) c (row_at zs' u) (sym here)
-          (ap (λ l. row_at l u) more_a ∙ at_new xs a [] (u - 1) (omega (arith, here, long_a)))
-          (ap (λ l. row_at l u) more_b ∙ at_new ys b [] (u - 1) (omega (arith, here, long_b)))
-          (ap (λ l. row_at l u) more_c ∙ at_new zs c [] (u - 1) (omega (arith, here, long_c))) q)
+      (ap (λ l. row_at l u) more_a ∙ at_new xs a [] (u - 1) (omega (arith, here, long_a)))
+      (ap (λ l. row_at l u) more_b ∙ at_new ys b [] (u - 1) (omega (arith, here, long_b)))
+      (ap (λ l. row_at l u) more_c ∙ at_new zs c [] (u - 1) (omega (arith, here, long_c))) q)
       (λ ne. let old : u ≤ v = omega arith in
-          same u u (row_at xs u) (row_at xs' u) (row_at ys u) (row_at ys' u) (row_at zs u) (row_at zs' u) refl
-          (ap (λ l. row_at l u) more_a ∙ at_old xs (a ∷ []) (u - 1) [] (omega (arith, low, old, long_a)))
-          (ap (λ l. row_at l u) more_b ∙ at_old ys (b ∷ []) (u - 1) [] (omega (arith, low, old, long_b)))
-          (ap (λ l. row_at l u) more_c ∙ at_old zs (c ∷ []) (u - 1) [] (omega (arith, low, old, long_c))) (rows u low old))
+      same u u (row_at xs u) (row_at xs' u) (row_at ys u) (row_at ys' u) (row_at zs u) (row_at zs' u) refl
+      (ap (λ l. row_at l u) more_a ∙ at_old xs (a ∷ []) (u - 1) [] (omega (arith, low, old, long_a)))
+      (ap (λ l. row_at l u) more_b ∙ at_old ys (b ∷ []) (u - 1) [] (omega (arith, low, old, long_b)))
+      (ap (λ l. row_at l u) more_c ∙ at_old zs (c ∷ []) (u - 1) [] (omega (arith, low, old, long_c))) (rows u low old))
       (cases_eq u (v + 1))
 
 -- rows of which the last, that of vertex n, is taken off
-module _ {A : Type 0} (Q : ℕ → List A → Type 0) (rows left : List (List A)) (row : List A) (n m : ℕ) (next : n ≡ m + 1) (long : length rows ≡ n)
-    (off : rows ≡ left ++ row ∷ []) (each : (u : ℕ) → 1 ≤ u → u ≤ n → Q u (row_at rows u)) where
-  pub fewer : length left ≡ m
+module _ {R A : Type 0} (f : R → List A) (Q : ℕ → List A → Type 0) (rows left : List R) (row : R) (n m : ℕ) (next : n ≡ m + 1)
+    (long : length rows ≡ n) (off : rows ≡ left ++ row ∷ []) (each : (u : ℕ) → 1 ≤ u → u ≤ n → Q u (row_at (map f rows) u)) where
+  fewer : length left ≡ m
   fewer = omega (arith, ap (λ l. length l) off, length_push left row, next, long)
 
-  pub last_says : Q n row
-  last_says = subst (λ r. Q n r) (ap (λ l. row_at l n) off ∙ at_new left row [] (n - 1) (omega (arith, next, fewer)))
+  left_long : length (map f left) ≡ m
+  left_long = length-map left f ∙ fewer
+
+  pub last_says : Q n (f row)
+  last_says = subst (λ r. Q n r)
+      (ap (λ l. row_at l n) (read_more f left rows row off) ∙ at_new (map f left) (f row) [] (n - 1) (omega (arith, next, left_long)))
       (each n (omega (arith, next)) (omega arith))
 
-  pub rows_less : (u : ℕ) → 1 ≤ u → u ≤ m → Q u (row_at left u)
+  pub rows_less : (u : ℕ) → 1 ≤ u → u ≤ m → Q u (row_at (map f left) u)
   rows_less u low le = subst (λ r. Q u r)
-      (ap (λ l. row_at l u) off ∙ at_old left (row ∷ []) (u - 1) [] (omega (arith, fewer, low, le))) (each u low (omega (arith, next)))
+      (ap (λ l. row_at l u) (read_more f left rows row off) ∙ at_old (map f left) (f row ∷ []) (u - 1) [] (omega (arith, left_long, low, le)))
+      (each u low (omega (arith, next)))

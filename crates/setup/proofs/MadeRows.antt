@@ -1,6 +1,6 @@
 -- What is made is what the nodes start with.
 use Rattle.std.specs.Prelude.{Option}
-use Rattle.std.proofs.Common.{◌≡◌, ℕ, zero, suc, ◌-◌, ◌<◌, ◌≤◌, List, [], ◌∷◌, length, map, get_or, sym, ap, ◌∙◌, subst, arith, Some, slice_get}
+use Rattle.std.proofs.Common.{◌≡◌, ℕ, zero, suc, ◌-◌, ◌<◌, List, [], ◌∷◌, length, map, get_or, sym, ap, ◌∙◌, subst, arith, Some, slice_get}
 use Rattle.atomic_table.specs.Seated.{TableId}
 use Rattle.interference.specs.Net.{Net, IsNetwork, IsVertex, count_of, degree_of, neighbour_of, back_port_of}
 use Rattle.link_queue.specs.declared.ends.PutSide.{PutSide}
@@ -8,7 +8,7 @@ use Rattle.link_queue.specs.declared.ends.TakeSide.{TakeSide}
 use Rattle.link_queue.specs.declared.link.Link.{Link}
 use Rattle.link_rule.specs.declared.name.LinkName.{LinkName}
 use Rattle.ends.specs.Tables.{IsEndAt, table_of, tables_of, table_at}
-use Rattle.crossing.specs.Rows.{AreCrossed, HasShape, row_at, thing_at}
+use Rattle.crossing.specs.Rows.{AreCrossed, row_at, thing_at}
 use Rattle.setup.specs.Makes.{AreLinksOf, AreMade}
 use Rattle.setup.specs.News.{AreNewEnds, AreNewPutsFrom, AreNewTakesTo}
 use Rattle.setup.proofs.Growth.{below, there}

@@ -1,5 +1,5 @@
 -- The links that are made, with their ends.
-use Rattle.std.specs.Prelude.{◌≡◌, ℕ, List, All, length, Some, slice_get}
+use Rattle.std.specs.Prelude.{◌≡◌, ℕ, List, length, Some, slice_get}
 use Rattle.interference.specs.Net.{Net, IsVertex}
 use Rattle.link_rule.specs.Legal.{name_of}
 use Rattle.link_queue.specs.declared.ends.PutSide.{PutSide}

@@ -1,8 +1,8 @@
-use Rattle.std.proofs.Common.{◌≡◌, length, map, ap, ◌∙◌, arith}
-use Rattle.std.proofs.lemmas.List.{length-map, map-append}
+use Rattle.std.proofs.Common.{◌≡◌, length, map, arith}
+use Rattle.std.proofs.lemmas.List.{length-map}
 use Rattle.interference.specs.Net.{count_of, degree_of}
 use Rattle.setup.specs.Makes.{AreLinksOf}
-use Rattle.setup.proofs.Growth.{rows_more}
+use Rattle.setup.proofs.Growth.{read_more, rows_more}
 use Rattle.setup.proofs.MadeRows.{all_made}
 use Rattle.setup.proofs.making.make_links.Goals as goal
 
@@ -21,10 +21,12 @@ loop-v-preserved g c =
       links = omega (arith, c.in_ok-push.ensures.len, inv.links);
       puts = omega (arith, c.in_ok-push-2.ensures.len, inv.puts);
       takes = omega (arith, c.in_ok-push-3.ensures.len, inv.takes);
-      made = rows_more (λ u ls ps ts. AreLinksOf net c.args.capacity u (degree_of net u) ls ps ts) links _ puts _ takes _ _ _ _ v links_long puts_long takes_long
-          (ap (map (λ row. row.items)) c.in_ok-push.ensures.items ∙ map-append (λ row. row.items) c.loop-v.links.items _)
-          (ap (map (λ row. row.items)) c.in_ok-push-2.ensures.items ∙ map-append (λ row. row.items) c.loop-v.puts.items _)
-          (ap (map (λ row. row.items)) c.in_ok-push-3.ensures.items ∙ map-append (λ row. row.items) c.loop-v.takes.items _)
+      made = rows_more (λ u ls ps ts. AreLinksOf net c.args.capacity u (degree_of net u) ls ps ts) links (map (λ row. row.items) c.push.new.self.items)
+          puts (map (λ row. row.items) c.push-in-loop-v.new.self.items) takes (map (λ row. row.items) c.push-in-loop-v-2.new.self.items)
+          c.in_ok-row.row.links.items c.in_ok-row.row.puts.items c.in_ok-row.row.takes.items v links_long puts_long takes_long
+          (read_more (λ row. row.items) c.loop-v.links.items c.push.new.self.items c.in_ok-row.row.links c.in_ok-push.ensures.items)
+          (read_more (λ row. row.items) c.loop-v.puts.items c.push-in-loop-v.new.self.items c.in_ok-row.row.puts c.in_ok-push-2.ensures.items)
+          (read_more (λ row. row.items) c.loop-v.takes.items c.push-in-loop-v-2.new.self.items c.in_ok-row.row.takes c.in_ok-push-3.ensures.items)
           c.in_ok-row.ensures.made inv.made;
     }
 

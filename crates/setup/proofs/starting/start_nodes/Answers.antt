@@ -1,11 +1,11 @@
 use Rattle.std.proofs.Common.{◌≡◌, ◌-◌, ◌+◌, ◌++◌, length, map, sym, subst, ap, ◌∙◌, arith}
 use Rattle.std.specs.Prelude.{reverse}
 use Rattle.std.specs.List.{range_with_len}
-use Rattle.std.proofs.lemmas.List.{length-map, map-append}
+use Rattle.std.proofs.lemmas.List.{length-map, length_push}
 use Rattle.interference.specs.Net.{IsNetwork, count_of, vertices}
 use Rattle.crossing.specs.Rows.{AreCrossed}
 use Rattle.setup.specs.News.{AreNewPutsFrom, AreNewTakesTo}
-use Rattle.setup.proofs.Growth.{fewer, last_says, rows_less}
+use Rattle.setup.proofs.Growth.{last_says, rows_less}
 use Rattle.setup.proofs.MadeRows.{puts_from, takes_to}
 use Rattle.setup.proofs.Descent.{one_down}
 use Rattle.setup.proofs.starting.start_nodes.Goals as goal
@@ -36,41 +36,38 @@ start_node-requires-clause-puts g c κs within =
     let n = c.nodes-count.result - c.loop-k.k in
     let m = c.nodes-count.result - (c.loop-k.k + 1) in
     let next : n ≡ m + 1 = omega arith in
-    let rows = map (λ row. row.items) c.loop-k.puts.items in
-    let long : length rows ≡ n = omega (arith, length-map c.loop-k.puts.items (λ row. row.items), c.loop-k.puts.ok.0, c.loop-k.invariant.puts_left) in
-    last_says (λ u row. AreNewPutsFrom g.J.Wiring.net g.J.Wiring.tables u row) rows _ _ n m next long
-    (ap (map (λ row. row.items)) c.last_row.ensures.rows ∙ map-append (λ row. row.items) c.last_row.new.rows.items _) c.loop-k.invariant.puts
+    let long : length c.loop-k.puts.items ≡ n = omega (arith, c.loop-k.puts.ok.0, c.loop-k.invariant.puts_left) in
+    last_says (λ row. row.items) (AreNewPutsFrom g.J.Wiring.net g.J.Wiring.tables) c.loop-k.puts.items c.last_row.new.rows.items
+    c.last_row.result n m next long c.last_row.ensures.rows c.loop-k.invariant.puts
 
 pub start_node-requires-clause-takes : goal.start_node-requires-clause-takes
 start_node-requires-clause-takes g c κs within =
     let n = c.nodes-count.result - c.loop-k.k in
     let m = c.nodes-count.result - (c.loop-k.k + 1) in
     let next : n ≡ m + 1 = omega arith in
-    let rows = map (λ row. row.items) c.loop-k.takes.items in
-    let long : length rows ≡ n = omega (arith, length-map c.loop-k.takes.items (λ row. row.items), c.loop-k.takes.ok.0, c.loop-k.invariant.takes_left) in
-    last_says (λ u row. AreNewTakesTo g.J.Wiring.net g.J.Wiring.tables u row) rows _ _ n m next long
-    (ap (map (λ row. row.items)) c.last_row-in-loop-k.ensures.rows ∙ map-append (λ row. row.items) c.last_row-in-loop-k.new.rows.items _)
-    c.loop-k.invariant.takes
+    let long : length c.loop-k.takes.items ≡ n = omega (arith, c.loop-k.takes.ok.0, c.loop-k.invariant.takes_left) in
+    last_says (λ row. row.items) (AreNewTakesTo g.J.Wiring.net g.J.Wiring.tables) c.loop-k.takes.items c.last_row-in-loop-k.new.rows.items
+    c.last_row-in-loop-k.result n m next long c.last_row-in-loop-k.ensures.rows c.loop-k.invariant.takes
 
 pub loop-k-preserved : goal.loop-k-preserved
 loop-k-preserved g c =
+    let inv = c.loop-k.invariant in
     let n = c.nodes-count.result - c.loop-k.k in
     let m = c.nodes-count.result - (c.loop-k.k + 1) in
-    let inv = c.loop-k.invariant in
     let next : n ≡ m + 1 = omega arith in
-    let puts = map (λ row. row.items) c.loop-k.puts.items in
-    let takes = map (λ row. row.items) c.loop-k.takes.items in
-    let puts_long : length puts ≡ n = omega (arith, length-map c.loop-k.puts.items (λ row. row.items), c.loop-k.puts.ok.0, inv.puts_left) in
-    let takes_long : length takes ≡ n = omega (arith, length-map c.loop-k.takes.items (λ row. row.items), c.loop-k.takes.ok.0, inv.takes_left) in
-    let puts_off = ap (map (λ row. row.items)) c.last_row.ensures.rows ∙ map-append (λ row. row.items) c.last_row.new.rows.items _ in
-    let takes_off = ap (map (λ row. row.items)) c.last_row-in-loop-k.ensures.rows ∙ map-append (λ row. row.items) c.last_row-in-loop-k.new.rows.items _ in
+    let puts = c.last_row.new.rows in
+    let puts_off = c.last_row.ensures.rows in
+    let puts_long : length c.loop-k.puts.items ≡ n = omega (arith, c.loop-k.puts.ok.0, inv.puts_left) in
+    let takes = c.last_row-in-loop-k.new.rows in
+    let takes_off = c.last_row-in-loop-k.ensures.rows in
+    let takes_long : length c.loop-k.takes.items ≡ n = omega (arith, c.loop-k.takes.ok.0, inv.takes_left) in
     record {
-      puts_left = omega (arith, fewer (λ u row. AreNewPutsFrom g.J.Wiring.net g.J.Wiring.tables u row) puts _ _ n m next puts_long puts_off inv.puts,
-          length-map c.last_row.new.rows.items (λ row. row.items), c.last_row.new.rows.ok.0);
-      takes_left = omega (arith, fewer (λ u row. AreNewTakesTo g.J.Wiring.net g.J.Wiring.tables u row) takes _ _ n m next takes_long takes_off inv.takes,
-          length-map c.last_row-in-loop-k.new.rows.items (λ row. row.items), c.last_row-in-loop-k.new.rows.ok.0);
-      puts = rows_less (λ u row. AreNewPutsFrom g.J.Wiring.net g.J.Wiring.tables u row) puts _ _ n m next puts_long puts_off inv.puts;
-      takes = rows_less (λ u row. AreNewTakesTo g.J.Wiring.net g.J.Wiring.tables u row) takes _ _ n m next takes_long takes_off inv.takes;
-      started = one_down (λ b. b.value.vertex) c.loop-k.nodes.items _ _ m n (reverse (vertices g.J.Wiring.net)) c.in_ok-push.ensures.items
-          c.in_ok-node.ensures.vertex next inv.started;
+      puts_left = omega (arith, ap (λ l. length l) puts_off, length_push puts.items c.last_row.result, puts_long, next, puts.ok.0);
+      takes_left = omega (arith, ap (λ l. length l) takes_off, length_push takes.items c.last_row-in-loop-k.result, takes_long, next, takes.ok.0);
+      puts = rows_less (λ row. row.items) (AreNewPutsFrom g.J.Wiring.net g.J.Wiring.tables) c.loop-k.puts.items puts.items c.last_row.result n m
+          next puts_long puts_off inv.puts;
+      takes = rows_less (λ row. row.items) (AreNewTakesTo g.J.Wiring.net g.J.Wiring.tables) c.loop-k.takes.items takes.items
+          c.last_row-in-loop-k.result n m next takes_long takes_off inv.takes;
+      started = one_down (λ b. b.value.vertex) c.loop-k.nodes.items c.push.new.self.items c.in_ok-node.node m n
+          (reverse (vertices g.J.Wiring.net)) c.in_ok-push.ensures.items c.in_ok-node.ensures.vertex next inv.started;
     }

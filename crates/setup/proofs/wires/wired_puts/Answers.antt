@@ -1,4 +1,4 @@
-use Rattle.std.proofs.Common.{◌≡◌, ℕ, [], length, ap, ◌∙◌, arith, rules}
+use Rattle.std.proofs.Common.{◌≡◌, ◌++◌, ◌∷◌, ℕ, [], length, ap, ◌∙◌, arith, rules}
 use Rattle.std.proofs.lemmas.List.{length_push}
 use Rattle.std.proofs.lemmas.List.Elements.{All-push, All-same}
 use Rattle.std.proofs.lemmas.Iterator.Consumers.{YieldsList-turn}
@@ -24,8 +24,10 @@ loop-end-preserved g c =
     let more = c.in_ok-push.ensures.items in
     record {
       port = omega (arith, length_push c.loop-end.yielded c.in-Some.end, inv.port);
-      places = place_more {D = ℕ × ℕ} (λ e. (e.vertex, e.port)) (λ i. (c.args.v, i)) c.loop-end.all.items _ _ c.loop-end.port more
+      places = place_more {D = ℕ × ℕ} (λ e. (e.vertex, e.port)) (λ i. (c.args.v, i)) c.loop-end.all.items
+          c.push.new.self.items c.new.result c.loop-end.port more
           (both _ _ _ _ c.new.ensures.place.0 c.new.ensures.place.1) inv.places;
-      nothing_put = All-same (λ e. put_list e.end ≡ []) _ _ more (All-push (λ e. put_list e.end ≡ []) c.loop-end.all.items _ inv.nothing_put
+      nothing_put = All-same (λ e. put_list e.end ≡ []) c.push.new.self.items (c.loop-end.all.items ++ c.new.result ∷ []) more
+          (All-push (λ e. put_list e.end ≡ []) c.loop-end.all.items c.new.result inv.nothing_put
           (ap (λ e. put_list e) c.new.ensures.end ∙ new.put));
     }

@@ -1,4 +1,4 @@
-use Rattle.std.proofs.Common.{◌≡◌, ℕ, [], length, sym, ap, ◌∙◌, arith, rules}
+use Rattle.std.proofs.Common.{◌≡◌, ◌++◌, ◌∷◌, ℕ, [], length, sym, ap, subst, ◌∙◌, arith, rules}
 use Rattle.std.proofs.lemmas.List.{length_push}
 use Rattle.std.proofs.lemmas.List.Elements.{All-push, All-same}
 use Rattle.std.proofs.lemmas.Iterator.Consumers.{YieldsList-turn}
@@ -15,8 +15,8 @@ new-requires g c =
     let turn = YieldsList-turn (YieldsList-from_vec {s = c.into_iter-end-iterator.result} c.args.ends.items (search rules) (search rules))
     c.loop-end.yielded c.loop-end.end-iterator c.loop-end.yielded_by c.next.result c.next.new.self c.in-Some.end c.in-Some.is c.next.ensures.steps in
     let at = handed c.args.ends.items c.loop-end.port (length c.loop-end.yielded) c.in-Some.end c.loop-end.invariant.port turn in
-    let vertex = c.neighbour-w.ensures.value ∙ ap (λ n. neighbour_of n c.args.v c.loop-end.port) (sym c.requires.network) in
-    let port = c.back_port-j.ensures.value ∙ ap (λ n. back_port_of n c.args.v c.loop-end.port) (sym c.requires.network) in
+    let vertex = subst (λ n. c.neighbour-w.result ≡ neighbour_of n c.args.v c.loop-end.port) (sym c.requires.network) c.neighbour-w.ensures.value in
+    let port = subst (λ n. c.back_port-j.result ≡ back_port_of n c.args.v c.loop-end.port) (sym c.requires.network) c.back_port-j.ensures.value in
     record {
       place = same_place net g.J.Wiring.tables _ _ _ _ _ _ vertex port (c.requires.ends.each c.loop-end.port c.in-Some.end at).place;
     }
@@ -28,14 +28,15 @@ loop-end-preserved g c =
     c.loop-end.yielded c.loop-end.end-iterator c.loop-end.yielded_by c.next.result c.next.new.self c.in-Some.end c.in-Some.is c.next.ensures.steps in
     let at = handed c.args.ends.items c.loop-end.port (length c.loop-end.yielded) c.in-Some.end c.loop-end.invariant.port turn in
     let new = c.requires.ends.each c.loop-end.port c.in-Some.end at in
-    let vertex = c.neighbour-w.ensures.value ∙ ap (λ n. neighbour_of n c.args.v c.loop-end.port) (sym c.requires.network) in
-    let port = c.back_port-j.ensures.value ∙ ap (λ n. back_port_of n c.args.v c.loop-end.port) (sym c.requires.network) in
+    let vertex = subst (λ n. c.neighbour-w.result ≡ neighbour_of n c.args.v c.loop-end.port) (sym c.requires.network) c.neighbour-w.ensures.value in
+    let port = subst (λ n. c.back_port-j.result ≡ back_port_of n c.args.v c.loop-end.port) (sym c.requires.network) c.back_port-j.ensures.value in
     let inv = c.loop-end.invariant in
     let more = c.in_ok-push.ensures.items in
     record {
       port = omega (arith, length_push c.loop-end.yielded c.in-Some.end, inv.port);
-      places = place_more {D = ℕ × ℕ} (λ e. (e.vertex, e.port)) (λ i. (neighbour_of net c.args.v i, back_port_of net c.args.v i)) c.loop-end.all.items _ _
-          c.loop-end.port more (both _ _ _ _ (c.new.ensures.place.0 ∙ vertex) (c.new.ensures.place.1 ∙ port)) inv.places;
-      nothing_taken = All-same (λ e. taken_list e.end ≡ []) _ _ more (All-push (λ e. taken_list e.end ≡ []) c.loop-end.all.items _ inv.nothing_taken
+      places = place_more {D = ℕ × ℕ} (λ e. (e.vertex, e.port)) (λ i. (neighbour_of net c.args.v i, back_port_of net c.args.v i)) c.loop-end.all.items
+          c.push.new.self.items c.new.result c.loop-end.port more (both _ _ _ _ (c.new.ensures.place.0 ∙ vertex) (c.new.ensures.place.1 ∙ port)) inv.places;
+      nothing_taken = All-same (λ e. taken_list e.end ≡ []) c.push.new.self.items (c.loop-end.all.items ++ c.new.result ∷ []) more
+          (All-push (λ e. taken_list e.end ≡ []) c.loop-end.all.items c.new.result inv.nothing_taken
           (ap (λ e. taken_list e) c.new.ensures.end ∙ new.taken));
     }
