@@ -1,15 +1,15 @@
 -- Each end that was gathered stands at the place of its link.
-use Rattle.std.proofs.Common.{◌≡◌, ℕ, ◌-◌, ◌<◌, List, map, refl, sym, ap, ◌∙◌}
+use Rattle.std.proofs.Common.{◌≡◌, ℕ, ◌-◌, List, map, sym, ap, ◌∙◌}
 use Rattle.std.proofs.Common.{Some, slice_get}
 use Rattle.std.specs.Prelude.{option_map}
 use Rattle.std.specs.List.{range_with_len}
 use Rattle.std.proofs.lemmas.Option.{slice_get-map}
 use Rattle.atomic_table.specs.Seated.{TableId}
-use Rattle.interference.specs.Net.{Net, IsNetwork, IsVertex, degree_of, neighbour_of, back_port_of, vertices}
+use Rattle.interference.specs.Net.{Net, IsNetwork, degree_of, neighbour_of, back_port_of, vertices}
 use Rattle.alpha_laws.proofs.Across.{over}
 use Rattle.actor.specs.Node.{links_in, links_out}
 use Rattle.crossing.proofs.ReadLists.{map-twice}
-use Rattle.crossing.specs.Rows.{AreCrossed, HasShape, row_at, thing_at}
+use Rattle.crossing.specs.Rows.{AreCrossed, HasShape, row_at}
 use Rattle.ends.specs.Tables.{table_at}
 use Rattle.node_pool.proofs.Rows.{by_entries, by_nodes, entry_of, row_by, row_map}
 

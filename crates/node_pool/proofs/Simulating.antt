@@ -2,7 +2,7 @@
 -- 1. What the links say was put and taken is what the ends of the nodes said (`put_is`, `taken_is`).
 -- 2. So the ends have met, no wire was set aside, and each node keeps its links with the lists of the links (`kept`).
 -- 3. So the nodes simulate the synchronous run; the rest is read of the rows (`is_outcome`).
-use Rattle.std.proofs.Common.{◌≡◌, ℕ, ◌+◌, ◌-◌, ◌<◌, ◌≤◌, List, [], ◌∷◌, ◌++◌, length, map, get_or, refl, sym, ap, ◌∙◌, subst, arith}
+use Rattle.std.proofs.Common.{◌≡◌, ℕ, ◌-◌, ◌<◌, ◌≤◌, List, [], ◌++◌, length, map, get_or, sym, ap, ◌∙◌, subst, arith}
 use Rattle.std.proofs.Common.{Some, None, slice_get}
 use Rattle.std.specs.Prelude.{Option, All}
 use Rattle.std.proofs.lemmas.List.{length-map}
@@ -13,15 +13,15 @@ use Rattle.node_api.specs.Laws.{IsProgram}
 use Rattle.alpha_core.specs.declared.wire.Wire.{Wire}
 use Rattle.alpha_core.specs.View.{Alpha, Node, port_at}
 use Rattle.alpha_laws.specs.Kept.{AllKept, KeptAt, NodeKept}
-use Rattle.alpha_laws.specs.Simulates.{Simulates, taken_over}
+use Rattle.alpha_laws.specs.Simulates.{taken_over}
 use Rattle.alpha_laws.proofs.Across.{over}
 use Rattle.alpha_laws.proofs.Runs.{runs}
 use Rattle.alpha_laws.proofs.Claims.{simulates}
 use Rattle.actor.specs.declared.aside.Aside.{Aside}
 use Rattle.actor.specs.Node.{IsAside, by_port, reacted_to}
-use Rattle.crossing.specs.Rows.{AreCrossed, row_at, thing_at}
+use Rattle.crossing.specs.Rows.{AreCrossed, row_at}
 use Rattle.gather_laws.specs.Laws.{EndsHaveMet}
-use Rattle.gather_laws.specs.Outcome.{Gathered, History, IsOutcome, Outcome, alpha_in, link_in, link_into, no_history, node_in, row_in, start_of}
+use Rattle.gather_laws.specs.Outcome.{IsOutcome, Outcome, alpha_in, link_in, link_into, no_history, node_in, row_in, start_of}
 use Rattle.gather_laws.proofs.Asides.{met_simulate}
 use Rattle.node_pool.proofs.Rows.{some_there, get_map, row_map, get_field, node_of, as_many}
 
