@@ -15,7 +15,7 @@ use Rattle.colour_laws.proofs.Proper.{colours_proper}
 use Rattle.colour_laws.proofs.Rounds.{rounds_are_program}
 use Rattle.colour_laws.proofs.Starts.{colour_at_last}
 use Rattle.net_core.proofs.KeptRuns.{reached_simulates}
-use Rattle.async_colour_laws.specs.Coloured.{HaltedAreColoured, HaltedRunsAreColoured}
+use Rattle.async_colour_laws.specs.Coloured.{HaltedAreColoured, HaltedOutcomesAreColoured, HaltedRunsAreColoured}
 
 -- a neighbour is a vertex
 neighbour_is : (net : Net) → IsNetwork net → (v w : ℕ) → IsEdge net v w → IsVertex net w
@@ -44,3 +44,6 @@ module _ (net : Net) (ok : IsNetwork net) where
   pub runs_coloured : HaltedRunsAreColoured net
   runs_coloured events state is halted =
       halted_are_coloured _ _ _ (reached_simulates ok (runs colouring rounds_are_program net ok) state (events, is)) halted
+
+  pub outcomes_coloured : HaltedOutcomesAreColoured net
+  outcomes_coloured capacity outcome is halted = halted_are_coloured _ _ _ is.simulates halted

@@ -5,6 +5,7 @@ use Rattle.node_api.specs.Program.{Program, last_pulse_on}
 use Rattle.alpha_core.specs.declared.wire.Wire.{Wire}
 use Rattle.alpha_core.specs.View.{Node, is_halted}
 use Rattle.alpha_laws.specs.Simulates.{Simulates}
+use Rattle.gather_laws.specs.Outcome.{Outcome, IsOutcome, node_in}
 use Rattle.colour_rules.specs.declared.payload.Payload.{Payload}
 use Rattle.colour_rules.specs.Node as colour
 use Rattle.colour_rules.specs.Program.{colouring}
@@ -35,3 +36,10 @@ HaltedRunsAreColoured net =
     (events : List Event) (state : State colour.Node Payload)
     → run colouring net events ≡ Ok state → AllHalted colouring net (node_of colouring net state)
     → AreColoured net (node_of colouring net state)
+
+-- and so do those that a run of workers leaves
+abbrev pub HaltedOutcomesAreColoured : Net → Type 0
+HaltedOutcomesAreColoured net =
+    (capacity : ℕ) (outcome : Outcome colour.Node Payload)
+    → IsOutcome colouring net capacity outcome → AllHalted colouring net (node_in colouring net outcome)
+    → AreColoured net (node_in colouring net outcome)

@@ -6,15 +6,16 @@ ghost use Rattle.sync_rounds.specs.Spread.{spread};
 ghost use Rattle.colour_rules.specs.Program.{colouring};
 ghost use Rattle.net_core.specs.Laws.{RunsAreExact, RunsSimulate};
 ghost use Rattle.net_core.specs.Step.{run};
-ghost use Rattle.async_colour_laws.specs.Coloured.{HaltedAreColoured, HaltedRunsAreColoured};
+ghost use Rattle.async_colour_laws.specs.Coloured.{HaltedAreColoured, HaltedOutcomesAreColoured, HaltedRunsAreColoured};
 ghost use Rattle.async_colour_laws.specs.Small.{EndsWithTheGreatest, edge, whole_run};
 
 /// If all nodes of the colouring have halted, each has its colour of the definition; so neighbours differ,
 /// and there are at most Δ + 1 colours. The first clause holds of whatever ran the nodes, the second of lists
-/// of events.
+/// of events, the third of runs of workers.
 pub fn halted_nodes_are_coloured()
     ensures nodes { (net : Net) → IsNetwork net → HaltedAreColoured net }
     ensures runs { (net : Net) → IsNetwork net → HaltedRunsAreColoured net }
+    ensures outcomes { (net : Net) → IsNetwork net → HaltedOutcomesAreColoured net }
 {}
 
 /// The simulation at the colouring.

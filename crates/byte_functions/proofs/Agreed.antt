@@ -116,7 +116,9 @@ agreed-fault both (plan.Check fault) a (n, others, graph, (ok, is)) =
     text-fault (network_with a.nodes a.edges) (plan_lines (lines_of both)) a.rows fault a.read a.proper
     (subst (λ net. IsFaultOfPlanText net (plan_lines (lines_of both)) fault) (same-net (network_lines (lines_of both)) a.nodes n a.edges others a.graph graph)
     is)
+agreed-fault both (plan.Pool fault) a is = absurd is
 agreed-fault both (plan.Event fault) a is = absurd is
+agreed-fault both plan.Stopped a is = absurd is
 agreed-fault both plan.Memory a is = refl
 
 pub agreed-memory : (input answer : List ℕ) (fault : PlanFault) → IsPlainAnswer (input ++ 10 ∷ []) answer →

@@ -24,7 +24,9 @@ pub fault-text : (input network : List ℕ) (fault : PlanFault) → AreNetworkLi
 fault-text input network (plan.Col fault) are is = fault-of (lines_of input) (lines_of network) fault are is
 fault-text input network (plan.Net fault) are (n, es, graph, is) = (n, es, graph-of (lines_of input) (lines_of network) n es are graph, is)
 fault-text input network (plan.Check fault) are is = absurd is
+fault-text input network (plan.Pool fault) are is = absurd is
 fault-text input network (plan.Event fault) are is = absurd is
+fault-text input network plan.Stopped are is = absurd is
 fault-text input network plan.Memory are is = tt
 
 -- ---- the plan text

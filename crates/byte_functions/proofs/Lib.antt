@@ -5,3 +5,4 @@ pub mod ProperPlans
 pub mod Agreed
 pub mod Judging
 mod Playing
+mod Working

@@ -1,5 +1,5 @@
 -- The numbers from 1 on, and one more of them.
-use Rattle.std.proofs.Common.{◌≡◌, ◌∙◌, ◌+◌, ℕ, zero, suc, [], ◌∷◌, ◌++◌, ap, arith, add-one}
+use Rattle.std.proofs.Common.{◌≡◌, ◌∙◌, ◌+◌, ℕ, [], ◌∷◌, ◌++◌, ap, arith, add-one}
 use Rattle.std.specs.List.{range_with_len}
 use Rattle.interference.proofs.Members.{range-more}
 

@@ -36,7 +36,9 @@ pub fault-network : (input network : List ℕ) (fault : PlanFault) → AreNetwor
 fault-network input network (plan.Col fault) are is = fault-of (lines_of input) (lines_of network) fault are is
 fault-network input network (plan.Net fault) are (n, es, graph, is) = (n, es, graph-of (lines_of input) (lines_of network) n es are graph, is)
 fault-network input network (plan.Check fault) are is = absurd is
+fault-network input network (plan.Pool fault) are is = absurd is
 fault-network input network (plan.Event fault) are is = absurd is
+fault-network input network plan.Stopped are is = absurd is
 fault-network input network plan.Memory are is = tt
 
 pub fault-reading : (input network : List ℕ) (net : Net) (fault : EventFault) → AreNetworkLines (lines_of input) (lines_of network) →

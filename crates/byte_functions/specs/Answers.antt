@@ -27,8 +27,10 @@ ReadsAs text holds = LinesReadAs (lines_of text) holds
 abbrev pub IsFaultOfText : List ℕ → PlanFault → Type 0
 IsFaultOfText text (plan.Col fault) = IsFault (lines_of text) fault
 IsFaultOfText text (plan.Net fault) = ReadsAs text (λ net. IsFaultOf net fault)
+IsFaultOfText text (plan.Pool fault) = ⊥
 IsFaultOfText text (plan.Check fault) = ⊥
 IsFaultOfText text (plan.Event fault) = ⊥
+IsFaultOfText text plan.Stopped = ⊥
 IsFaultOfText text plan.Memory = Unit {0}
 
 -- the answer is the forests text of the network that the input describes

@@ -35,7 +35,9 @@ IsFaultOfEventLines net lines fault = IsFaultOfReading lines fault
 abbrev pub IsFaultOfEvents : List ℕ → PlanFault → Type 0
 IsFaultOfEvents input (plan.Col fault) = IsFault (network_lines (lines_of input)) fault
 IsFaultOfEvents input (plan.Net fault) = LinesReadAs (network_lines (lines_of input)) (λ net. IsFaultOf net fault)
+IsFaultOfEvents input (plan.Pool fault) = ⊥
 IsFaultOfEvents input (plan.Check fault) = ⊥
 IsFaultOfEvents input (plan.Event fault) = LinesReadAs (network_lines (lines_of input))
     (λ net. IsNetwork net × IsFaultOfEventLines net (lines_of input) fault)
+IsFaultOfEvents input plan.Stopped = ⊥
 IsFaultOfEvents input plan.Memory = Unit {0}

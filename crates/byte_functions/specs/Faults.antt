@@ -3,10 +3,11 @@ use Rattle.std.specs.Prelude.{ℕ, List, [], ◌∷◌, ◌++◌, codes}
 use Rattle.std.specs.Fmt.{decimal}
 use Rattle.dimacs_col.specs.declared.fault.ColFault.TheVariants as col
 use Rattle.interference.specs.declared.fault.NetFault.TheVariants as net
+use Rattle.pool.specs.declared.fault.PoolFault.TheVariants as pool
 use Rattle.channel_plan.specs.declared.plan.CheckFault.TheVariants as check
 use Rattle.event_texts.specs.declared.fault.EventFault.TheVariants as event
 use Rattle.byte_functions.specs.declared.fault.PlanFault.{PlanFault}
-use Rattle.byte_functions.specs.declared.fault.PlanFault.TheVariants.{Check, Col, Event, Net, Memory}
+use Rattle.byte_functions.specs.declared.fault.PlanFault.TheVariants.{Check, Col, Event, Net, Memory, Pool, Stopped}
 
 -- a code, and the line of the input that has the fault
 abbrev pub at_line : List ℕ → ℕ → List ℕ
@@ -34,6 +35,9 @@ fault_text (Col col.Memory) = (codes "memory", 4)
 fault_text (Net (net.Degree v)) = (at_vertex (codes "N1") v, 1)
 fault_text (Net (net.SameId v w)) = (at_vertices (codes "N2") v w, 1)
 fault_text (Net net.Memory) = (codes "memory", 4)
+fault_text (Pool pool.Memory) = (codes "memory", 4)
+fault_text (Pool pool.Spawn) = (codes "threads", 4)
+fault_text (Pool pool.BadOptions) = (codes "options", 2)
 fault_text (Check (check.Missing v)) = (at_vertex (codes "C1") v, 1)
 fault_text (Check (check.Stranger v)) = (at_vertex (codes "C2") v, 1)
 fault_text (Check (check.Twice v)) = (at_vertex (codes "C3") v, 1)
@@ -47,6 +51,7 @@ fault_text (Event (event.NothingToPut n)) = (at_line (codes "NothingToPut") n, 1
 fault_text (Event (event.LinkEmpty n)) = (at_line (codes "LinkEmpty") n, 1)
 fault_text (Event (event.NoSuch n)) = (at_line (codes "NoSuch") n, 1)
 fault_text (Event event.Memory) = (codes "memory", 4)
+fault_text Stopped = (codes "stopped", 3)
 fault_text Memory = (codes "memory", 4)
 
 -- a line of a program: its name, the text, and LF

@@ -4,3 +4,4 @@ pub mod Faults
 pub mod Answers
 pub mod Verdicts
 pub mod EventAnswers
+pub mod Workers

@@ -36,7 +36,9 @@ IsFaultOfPlanText net lines fault = IsFaultOfReading lines fault
 abbrev pub IsFaultOfCheck : List ℕ → PlanFault → Type 0
 IsFaultOfCheck input (plan.Col fault) = IsFault (network_lines (lines_of input)) fault
 IsFaultOfCheck input (plan.Net fault) = LinesReadAs (network_lines (lines_of input)) (λ net. IsFaultOf net fault)
+IsFaultOfCheck input (plan.Pool fault) = ⊥
 IsFaultOfCheck input (plan.Check fault) = LinesReadAs (network_lines (lines_of input))
     (λ net. IsNetwork net × IsFaultOfPlanText net (plan_lines (lines_of input)) fault)
 IsFaultOfCheck input (plan.Event fault) = ⊥
+IsFaultOfCheck input plan.Stopped = ⊥
 IsFaultOfCheck input plan.Memory = Unit {0}

@@ -1,12 +1,13 @@
 //! Why a text has no answer.
 
 ghost use Rattle.std.specs.Prelude.{◌≡◌};
-ghost use Rattle.byte_functions.specs.declared.fault.PlanFault.TheVariants.{Check, Col, Event, Net, Memory};
+ghost use Rattle.byte_functions.specs.declared.fault.PlanFault.TheVariants.{Check, Col, Event, Net, Memory, Pool};
 
 use channel_plan::CheckFault;
 use dimacs_col::ColFault;
 use event_texts::EventFault;
 use interference::{Memory, NetFault};
+use node_pool::PoolFault;
 
 /// Why a text has no answer.
 #[derive(Clone, Copy, Debug, PartialEq, Eq)]
@@ -15,10 +16,14 @@ pub enum PlanFault {
     Col(ColFault),
     /// Its graph is no network.
     Net(NetFault),
+    /// The run of workers on it has no outcome.
+    Pool(PoolFault),
     /// The plan that follows it is refused.
     Check(CheckFault),
     /// The events that follow it are refused.
     Event(EventFault),
+    /// The workers stopped, and not every node was done.
+    Stopped,
     /// Memory ran out.
     Memory,
 }
@@ -36,6 +41,14 @@ impl From<NetFault> for PlanFault {
 
     fn from(fault: NetFault) -> PlanFault {
         PlanFault::Net(fault)
+    }
+}
+
+impl From<PoolFault> for PlanFault {
+    ghost from_gives = { λ fault result. result ≡ Pool fault };
+
+    fn from(fault: PoolFault) -> PlanFault {
+        PlanFault::Pool(fault)
     }
 }
 

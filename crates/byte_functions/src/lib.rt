@@ -2,7 +2,7 @@
 //! an answer, and the report of each fault. It names no stream, no command line and no system, so that a test or
 //! another program calls the same functions.
 //!
-//! `serving` calls `forest_bytes`, `plain_bytes`, `check_bytes` or `events_bytes` for a command, and
+//! `serving` calls `forest_bytes`, `plain_bytes`, `plan_bytes`, `check_bytes` or `events_bytes` for a command, and
 //! `fault_report` if they fail.
 //!
 //! ```
@@ -22,9 +22,12 @@ pub mod laws;
 mod plan_text;
 mod report;
 mod verdict;
+mod workers;
 
 pub use answer::{forest_bytes, plain_bytes};
 pub use events::events_bytes;
 pub use fault::PlanFault;
+pub use node_pool::{Gate, OpenGate, Options, PoolFault};
 pub use report::{FaultReport, fault_report};
 pub use verdict::check_bytes;
+pub use workers::plan_bytes;

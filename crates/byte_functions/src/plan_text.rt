@@ -1,24 +1,62 @@
-//! The text of a channel plan, by rounds on one thread.
+//! The text of a channel plan, from nodes that have found their colours.
 
-ghost use Rattle.std.specs.Prelude.{◌≡◌, IfOk, map};
+ghost use Rattle.std.specs.Prelude.{◌≡◌, ℕ, IfOk, map};
+ghost use Rattle.channel_plan.specs.PlanText.{plan_of};
 ghost use Rattle.byte_functions.specs.Texts.{colours_text};
 
 use channel_plan::plan_text;
 use colour_laws::laws::rounds_end_with_the_colours;
 use colour_program::Colouring;
 use interference::{Memory, Network};
+use node_pool::Actor;
 use std::alloc::{AllocError, Global};
 use sync_rounds::run_rounds;
 
+/// A node whose colour can be read, whatever ran it.
+pub trait Coloured {
+    // Its colour.
+    ghost merged: { Self → ℕ };
+
+    fn own_colour(&self) -> u16
+        ensures { result ≡ merged self.now };
+}
+
+impl Coloured for Colouring {
+    ghost merged = { λ node. node.merged };
+
+    fn own_colour(&self) -> u16 {
+        self.colour()
+    }
+}
+
+impl Coloured for Actor<Colouring> {
+    ghost merged = { λ actor. actor.alpha.node.state.merged };
+
+    fn own_colour(&self) -> u16 {
+        self.alpha.program().colour()
+    }
+}
+
 // The colours of nodes, in their order.
-fn colours_of(alloc: Global, nodes: &[Colouring]) -> Result<Vec<u16>, AllocError>
-    ensures { IfOk result (λ all. all.items ≡ map (λ node. node.merged) nodes.now) }
+fn colours_of<N: Coloured>(alloc: Global, nodes: &[N]) -> Result<Vec<u16>, AllocError>
+    ensures { IfOk result (λ all. all.items ≡ map N.merged nodes.now) }
 {
     let mut all = Vec::new(alloc);
     for node in nodes {
-        all.push(node.colour())?;
+        all.push(node.own_colour())?;
     }
     Ok(all)
+}
+
+/// `plan`, and a row for each node with its channel.
+///
+/// # Errors
+/// If memory ran out.
+pub fn text_of_nodes<N: Coloured>(alloc: Global, nodes: &[N]) -> Result<Vec<u8>, Memory>
+    ensures { IfOk result (λ text. text.items ≡ plan_of (map N.merged nodes.now)) }
+{
+    let colours = colours_of(alloc, nodes)?;
+    plan_text(alloc, colours.as_slice())
 }
 
 /// `plan`, and a row for each vertex with its channel, as the rounds of the colouring leave it.
@@ -31,6 +69,5 @@ pub fn text_of_plan(alloc: Global, network: &Network) -> Result<Vec<u8>, Memory>
     network.is_network();
     rounds_end_with_the_colours();
     let nodes = run_rounds::<Colouring>(alloc, network)?;
-    let colours = colours_of(alloc, nodes.as_slice())?;
-    plan_text(alloc, colours.as_slice())
+    text_of_nodes(alloc, nodes.as_slice())
 }

@@ -2,19 +2,27 @@
 
 ghost use Rattle.std.specs.Prelude.{◌≡◌, IfOk, codes, string_bytes};
 ghost use Rattle.byte_functions.specs.Faults.{at_line, at_vertex, at_vertices, fault_line, fault_status, line_with};
-ghost use Rattle.byte_functions.specs.declared.fault.PlanFault.TheVariants.{Check, Col, Event, Net};
+ghost use Rattle.byte_functions.specs.declared.fault.PlanFault.TheVariants.{Check, Col, Event, Net, Pool};
 
 use crate::fault::PlanFault;
 use channel_plan::CheckFault;
 use dimacs_col::ColFault;
 use event_texts::EventFault;
 use interference::NetFault;
+use node_pool::PoolFault;
 use std::alloc::{AllocError, Global};
 
 // The status if the input is refused.
 const REFUSED: u8 = 1;
 
-// The status if memory ran out.
+// The status if the command line is refused; no fault of the program's has it, since its command line takes no
+// options that are out of range.
+const REFUSED_WORDS: u8 = 2;
+
+// The status if the workers stopped before every node was done.
+const STOPPED: u8 = 3;
+
+// The status if memory ran out, or a thread was refused.
 const NOT_DONE: u8 = 4;
 
 /// The report of a fault.
@@ -76,15 +84,20 @@ fn refusal_at_vertices(
     Ok(refusal(format!(in alloc; "{name}: {code} vertices {v} {w}\n")?))
 }
 
+// `NAME: TEXT`.
+fn report_with(alloc: Global, name: &str, text: &str, status: u8) -> Result<FaultReport, AllocError>
+    ensures line { IfOk result (λ report. string_bytes report.line ≡ line_with name.now text.now) }
+    ensures status { IfOk result (λ report. report.status ≡ status) }
+{
+    let line = format!(in alloc; "{name}: {text}\n")?;
+    Ok(FaultReport { line, status })
+}
+
 fn memory_report(alloc: Global, name: &str) -> Result<FaultReport, AllocError>
     ensures line { IfOk result (λ report. string_bytes report.line ≡ line_with name.now (codes "memory")) }
     ensures status { IfOk result (λ report. report.status ≡ 4) }
 {
-    let line = format!(in alloc; "{name}: memory\n")?;
-    Ok(FaultReport {
-        line,
-        status: NOT_DONE,
-    })
+    report_with(alloc, name, "memory", NOT_DONE)
 }
 
 fn report_of_reading(alloc: Global, name: &str, fault: ColFault) -> Result<FaultReport, AllocError>
@@ -112,6 +125,17 @@ fn report_of_network(alloc: Global, name: &str, fault: NetFault) -> Result<Fault
         NetFault::Degree(v) => refusal_at_vertex(alloc, name, "N1", v),
         NetFault::SameId(v, w) => refusal_at_vertices(alloc, name, "N2", v, w),
         NetFault::Memory => memory_report(alloc, name),
+    }
+}
+
+fn report_of_pool(alloc: Global, name: &str, fault: PoolFault) -> Result<FaultReport, AllocError>
+    ensures line { IfOk result (λ report. string_bytes report.line ≡ fault_line name.now (Pool fault)) }
+    ensures status { IfOk result (λ report. report.status ≡ fault_status (Pool fault)) }
+{
+    match fault {
+        PoolFault::Memory => memory_report(alloc, name),
+        PoolFault::Spawn => report_with(alloc, name, "threads", NOT_DONE),
+        PoolFault::BadOptions => report_with(alloc, name, "options", REFUSED_WORDS),
     }
 }
 
@@ -155,8 +179,10 @@ pub fn fault_report(alloc: Global, name: &str, fault: PlanFault) -> Result<Fault
     match fault {
         PlanFault::Col(fault) => report_of_reading(alloc, name, fault),
         PlanFault::Net(fault) => report_of_network(alloc, name, fault),
+        PlanFault::Pool(fault) => report_of_pool(alloc, name, fault),
         PlanFault::Check(fault) => report_of_check(alloc, name, fault),
         PlanFault::Event(fault) => report_of_events(alloc, name, fault),
+        PlanFault::Stopped => report_with(alloc, name, "stopped", STOPPED),
         PlanFault::Memory => memory_report(alloc, name),
     }
 }

@@ -1,11 +1,20 @@
-//! What holds of nodes whose ends have met. The law is a function that does nothing: its contract is the law.
+//! What holds of nodes whose ends have met, and of what a run of workers leaves. Each law is a function that does
+//! nothing: its contract is the law.
 
 ghost use Rattle.node_api.specs.Program.{Program};
 ghost use Rattle.alpha_laws.specs.Laws.{OnEveryNetwork};
 ghost use Rattle.gather_laws.specs.Laws.{MetNodesSimulate};
+ghost use Rattle.gather_laws.specs.Whole.{WholeOutcomesAreComplete};
+ghost use Rattle.interference.specs.Net.{IsNetwork, Net};
 
 /// Once all ends have met, the lists of both ends of each link show that no node has refused a wire, and the nodes
 /// simulate the synchronous run.
 pub fn met_nodes_simulate<S, M, E>()
     ensures law { (program : Program S M E) → OnEveryNetwork program (MetNodesSimulate program) }
+{}
+
+/// If an outcome is whole, every node has halted, all that was put on each link was taken from it, and the list of each
+/// link is complete.
+pub fn whole_outcomes_are_complete<S, M, E>()
+    ensures law { (program : Program S M E) (net : Net) → IsNetwork net → WholeOutcomesAreComplete program net }
 {}

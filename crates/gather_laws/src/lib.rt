@@ -4,13 +4,14 @@
 //! the middle of a run is set aside, since no node can know by itself that none is. When all ends have met, the lists
 //! of both ends of each link show that none was, and that the nodes simulate the synchronous run, in the very record
 //! that lists of events have: `Simulates` of `alpha_laws`. `IsOutcome` of `specs/Outcome.antt` is what a run is to
-//! promise.
+//! promise; if it is whole, `IsCompleteRun` of `specs/Whole.antt` holds of it too.
 //!
 //! ```text
 //! gather_laws::laws::met_nodes_simulate::<S, M, E>(); // brings the law into a proof
+//! gather_laws::laws::whole_outcomes_are_complete::<S, M, E>();
 //! ```
 //!
-//! Limits: it is a law alone. No code that gathers nodes stands here.
+//! Limits: these are laws alone. No code that gathers nodes stands here.
 #![tactic(auto)]
 
 pub mod laws;

@@ -1,5 +1,9 @@
-use Rattle.async_colour_laws.proofs.Colours.{coloured, runs_coloured}
+use Rattle.async_colour_laws.proofs.Colours.{coloured, outcomes_coloured, runs_coloured}
 use Rattle.async_colour_laws.proofs.laws.halted_nodes_are_coloured.Goals as goal
 
 pub returns : goal.returns
-returns c = record { nodes = λ net ok. coloured net ok; runs = λ net ok. runs_coloured net ok }
+returns c = record {
+  nodes = λ net ok. coloured net ok;
+  runs = λ net ok. runs_coloured net ok;
+  outcomes = λ net ok. outcomes_coloured net ok;
+}

@@ -16,6 +16,6 @@ returns c =
     let at_end : ℕ → Node = state_at colouring net (last_pulse_on colouring net) in
     let read : map merged (map at_end (vertices net)) ≡ map (colours net) (vertices net) =
     at-vertices net merged at_end (colours net) (c.rounds_end_with_the_colours.ensures net c.is_network.ensures) in
-    subst (λ (told : List ℕ). IfOk c.plan_text.result (λ text. text.items ≡ plan_of told))
-    (c.as_slice-2.ensures.value ∙ c.in_ok-colours.ensures ∙ ap (map merged) (c.as_slice.ensures.value ∙ c.in_ok-nodes.ensures.states) ∙ read)
-    c.plan_text.ensures.text
+    subst (λ (told : List ℕ). IfOk c.text_of_nodes.result (λ text. text.items ≡ plan_of told))
+    (ap (map merged) (c.as_slice.ensures.value ∙ c.in_ok-nodes.ensures.states) ∙ read)
+    c.text_of_nodes.ensures

@@ -1,0 +1,30 @@
+-- The faults of a plan that is made by worker threads.
+use Rattle.std.specs.Prelude.{ℕ, List}
+use Rattle.dimacs_col.specs.Lines.{lines_of}
+use Rattle.dimacs_col.specs.Reading.{IsFault}
+use Rattle.interference.specs.Net.{IsNetwork}
+use Rattle.interference.specs.Making.{IsFaultOf}
+use Rattle.run_options.specs.Ranges.{AreInRange}
+use Rattle.run_options.specs.declared.Options.{Options}
+use Rattle.pool.specs.declared.fault.PoolFault.{PoolFault}
+use Rattle.pool.specs.declared.fault.PoolFault.TheVariants as pool
+use Rattle.byte_functions.specs.Answers.{ReadsAs}
+use Rattle.byte_functions.specs.declared.fault.PlanFault.{PlanFault}
+use Rattle.byte_functions.specs.declared.fault.PlanFault.TheVariants as plan
+
+-- The fault of a run of workers: if the options are out of range, that they are. When memory or a thread is refused
+-- isn't promised.
+abbrev pub IsFaultOfPool : Options → PoolFault → Type 0
+IsFaultOfPool options pool.Memory = AreInRange options
+IsFaultOfPool options pool.Spawn = AreInRange options
+IsFaultOfPool options pool.BadOptions = AreInRange options → ⊥
+
+-- The fault of an input of `plan`: of the network text, or else of the run. When a run is stopped isn't promised.
+abbrev pub IsFaultOfWorkers : Options → List ℕ → PlanFault → Type 0
+IsFaultOfWorkers options input (plan.Col fault) = IsFault (lines_of input) fault
+IsFaultOfWorkers options input (plan.Net fault) = ReadsAs input (λ net. IsFaultOf net fault)
+IsFaultOfWorkers options input (plan.Pool fault) = ReadsAs input IsNetwork × IsFaultOfPool options fault
+IsFaultOfWorkers options input (plan.Check fault) = ⊥
+IsFaultOfWorkers options input (plan.Event fault) = ⊥
+IsFaultOfWorkers options input plan.Stopped = ReadsAs input IsNetwork × AreInRange options
+IsFaultOfWorkers options input plan.Memory = Unit {0}

@@ -1,0 +1,51 @@
+//! The channel plan by worker threads.
+
+ghost use Rattle.std.specs.Prelude.{IfOk, IfErr};
+ghost use Rattle.run_options.specs.Ranges.{AreInRange};
+ghost use Rattle.byte_functions.specs.Answers.{IsPlainAnswer};
+ghost use Rattle.byte_functions.specs.Workers.{IsFaultOfWorkers};
+
+use crate::answer::network_of_text;
+use crate::fault::PlanFault;
+use crate::plan_text::text_of_nodes;
+use async_colour_laws::laws::halted_nodes_are_coloured;
+use colour_laws::laws::colours_are_proper;
+use colour_program::Colouring;
+use colour_rules::Payload;
+use gather_laws::laws::whole_outcomes_are_complete;
+use node_api::Refused;
+use node_pool::{Gate, Options, run_workers};
+use std::alloc::Global;
+use std::sync::Wait;
+use std::thread::Threads;
+
+/// The channel plan of the network that a DIMACS text describes, as `plain_bytes` gives it. The nodes find their
+/// colours asynchronously, on worker threads with links between the nodes.
+///
+/// It is not promised that the call returns, nor that any number of turns is enough.
+///
+/// # Errors
+/// As of `forest_bytes`; if there is none, `Pool` with the fault of the run, `BadOptions` only if the options are out
+/// of range; if there is none, `Stopped` if not every node was done within the turns; then `Memory` if there is no
+/// memory for the text.
+pub fn plan_bytes<G: Gate + Sync, R: Threads + Wait + Sync>(
+    rt: &R,
+    alloc: Global,
+    input: &[u8],
+    options: Options,
+    gate: &G,
+) -> Result<Vec<u8>, PlanFault>
+    ensures ok { IfOk result (λ text. IsPlainAnswer input.now text.items) }
+    ensures in_range { IfOk result (λ _. AreInRange options) }
+    ensures fault { IfErr result (IsFaultOfWorkers options input.now) }
+{
+    colours_are_proper();
+    whole_outcomes_are_complete::<Colouring, Payload, Refused>();
+    halted_nodes_are_coloured();
+    let network = network_of_text(alloc, input)?;
+    let outcome = run_workers::<Colouring, G, R>(rt, alloc, &network, options, gate)?;
+    if !outcome.is_whole() {
+        return Err(PlanFault::Stopped);
+    }
+    Ok(text_of_nodes(alloc, outcome.actors())?)
+}
