@@ -1,5 +1,5 @@
 """Counts allocations: running a node program takes memory for the nodes, and none for its pulses; nor does a node under
-the synchroniser, but as it starts.
+the synchroniser, but as it starts, nor a worker that runs such nodes.
 
 No contract says that: a list in working space can grow without an allocator in its call's hands. So the counts of two
 runs that differ in their pulses alone are compared."""
@@ -13,6 +13,12 @@ from refused_memory import TESTS, build_front, count
 HEXAGON = b"p edge 6 6\ne 1 2\ne 2 3\ne 3 4\ne 4 5\ne 5 6\ne 1 6\n"
 STAR_AND_EDGE = b"p edge 6 6\ne 1 2\ne 1 3\ne 1 4\ne 1 5\ne 1 6\ne 2 3\n"
 
+# Six nodes and five edges each. With the greatest vertex in the middle there is one forest, and 30 rounds; with the least
+# there are five, and 102 rounds.
+STAR_AT_6 = b"p edge 6 5\ne 1 6\ne 2 6\ne 3 6\ne 4 6\ne 5 6\n"
+STAR_AT_1 = b"p edge 6 5\ne 1 2\ne 1 3\ne 1 4\ne 1 5\ne 1 6\n"
+PLAN_WORDS = ["plan", "--workers", "1"]
+
 
 def allocation_rows(program):
     """Rows (name, good, what)."""
@@ -21,7 +27,9 @@ def allocation_rows(program):
         if built is not None:
             return [("the counting allocator builds", False, built)]
         rounds = [count(front, folder, [program, "plain"], network) for network in (HEXAGON, STAR_AND_EDGE)]
-        rows = [row("plain allocates as often in 102 rounds as in 30", rounds)]
+        plans = [count(front, folder, [program] + PLAN_WORDS, network) for network in (STAR_AT_6, STAR_AT_1)]
+        rows = [row("plain allocates as often in 102 rounds as in 30", rounds),
+                row("plan with one worker allocates as often in 102 rounds as in 30", plans)]
         if not os.path.isfile(TESTS):
             return rows + [("the tests of crates/checks are built", False, f"no file {TESTS}")]
         links = [f"sync_rounds_checks::greatest_within_{links}" for links in ("1_link", "50_links")]

@@ -19,6 +19,7 @@ import tempfile
 from allocations import allocation_rows
 from plain_definition import forests_text, plan_text
 from plain_networks import plain_network_rows
+from plans import plan_rows
 from refused_memory import refused_memory_rows
 from verdicts import verdict_rows
 
@@ -95,14 +96,16 @@ def plain_rows():
     ]
     for name, network, channels in rows:
         wanted = "plan|" + "".join(f"{v} {channel}|" for v, channel in enumerate(channels, 1))
-        expect(f"plan of {name}", run(["plain"], text(network)), 0, text(wanted), b"")
+        for command in ("plain", "plan"):
+            expect(f"{command} of {name}", run([command], text(network)), 0, text(wanted), b"")
     faults = [
         ("", "F1"), ("e 1 2|p edge 2 1|", "F3 line 1"), ("p edge 2 1|e 1 1|", "F6 line 2"),
         ("p edge 1025 1024|" + "".join(f"e 1 {v}|" for v in range(2, 1026)), "N1 vertex 1"),
     ]
     for network, fault in faults:
-        done = run(["plain"], text(network))
-        expect(f"plan of {network[:30]!r}", done, 1, b"", f"forestplan: {fault}\n".encode())
+        for command in ("plain", "plan"):
+            done = run([command], text(network))
+            expect(f"{command} of {network[:30]!r}", done, 1, b"", f"forestplan: {fault}\n".encode())
 
 
 def example_texts():
@@ -123,7 +126,8 @@ def example_rows():
         stem = name.removesuffix(".col")
         wanted = text(answers[stem]) if stem in answers else forests_text(network)
         expect(f"example {name}", run(["forests"], network), 0, wanted, b"")
-        expect(f"plain of example {name}", run(["plain"], network), 0, plan_text(network), b"")
+        for command in ("plain", "plan"):
+            expect(f"{command} of example {name}", run([command], network), 0, plan_text(network), b"")
         note(f"comment of {name}", network.startswith(b"c "), "an example begins with a comment line")
 
 
@@ -196,6 +200,7 @@ def help_rows():
     for words, name in [(["--help"], "help"), (["-h"], "help_short"),
                         (["forests", "--help"], "forests_help"), (["forests", "-h"], "forests_help_short"),
                         (["plain", "--help"], "plain_help"), (["plain", "-h"], "plain_help_short"),
+                        (["plan", "--help"], "plan_help"), (["plan", "-h"], "plan_help_short"),
                         (["check", "--help"], "check_help"), (["check", "-h"], "check_help_short")]:
         with open(os.path.join(TOP, "tests", "texts", name + ".txt"), "rb") as file:
             wanted = file.read()
@@ -204,14 +209,17 @@ def help_rows():
 
 def refused_words_rows():
     """Each text whole. The first line is the fault, then maybe a tip, the usage of what was named, and where help is."""
-    program, forests, plain = "forestplan <COMMAND>", "forestplan forests", "forestplan plain"
-    none = "'forestplan' requires a subcommand but one was not provided|  [subcommands: forests, plain, check]"
-    like_plain = "||  tip: a similar subcommand exists: 'plain'"
+    program, forests, plain, plan = "forestplan <COMMAND>", "forestplan forests", "forestplan plain", "forestplan plan [OPTIONS]"
+    none = "'forestplan' requires a subcommand but one was not provided|  [subcommands: forests, plain, plan, check]"
+    like_both = "||  tip: some similar subcommands exist: 'plain', 'plan'"
+    like_workers = "||  tip: a similar argument exists: '--workers'"
+    of_plan = "||  tip: 'plan --workers' exists"
     rows = [
         ([], none, program),
         (["nothing"], "unrecognized subcommand 'nothing'", program),
         (["help"], "unrecognized subcommand 'help'", program),
-        (["plan"], "unrecognized subcommand 'plan'" + like_plain, program),
+        (["plann"], "unrecognized subcommand 'plann'" + like_both, program),
+        (["--workers", "1", "plan"], "unexpected argument '--workers' found" + of_plan, program),
         (["transcript"], "unrecognized subcommand 'transcript'", program),
         (["--version"], "unexpected argument '--version' found", program),
         (["forests", "extra"], "unexpected argument 'extra' found", forests),
@@ -220,18 +228,49 @@ def refused_words_rows():
         (["plain", "extra"], "unexpected argument 'extra' found", plain),
         (["plain", "--turns", "1", "2"], "unexpected argument '--turns' found", plain),
         (["check", "extra"], "unexpected argument 'extra' found", "forestplan check"),
+        (["plan", "extra"], "unexpected argument 'extra' found", plan),
+        (["plan", "--workers", "1", "2"], "unexpected argument '2' found", plan),
+        (["plan", "--workers", "-1"], "unexpected argument '-1' found", plan),
+        (["plan", "-w", "1"], "unexpected argument '-w' found", plan),
+        (["plan", "--edition", "1"], "unexpected argument '--edition' found", plan),
+        (["plan", "--worker", "1"], "unexpected argument '--worker' found" + like_workers, "forestplan plan --workers <N>"),
+        (["plan", "--workers", "1", "--workers", "1"], "the argument '--workers <N>' cannot be used multiple times", plan),
+        (["plan", "--turns=1", "--turns=2"], "the argument '--turns <N>' cannot be used multiple times", plan),
         (["plain", b"\xff"], "unrecognized subcommand '\N{REPLACEMENT CHARACTER}'", program),
         ([b"\xff"], "unrecognized subcommand '\N{REPLACEMENT CHARACTER}'", program),
     ]
     for words, fault, usage in rows:
-        wanted = f"error: {fault}||Usage: {usage}||For more information, try '--help'.|".replace("|", "\n")
-        expect(f"refused words {words}", run(words, text(TRIANGLE)), 2, b"", wanted.encode())
+        expect_refused(words, f"{fault}||Usage: {usage}")
+
+
+def refused_value_rows():
+    """Values of options that are refused. Each text whole; it has no usage."""
+    no_digit, too_large = "invalid digit found in string", "number too large to fit in target type"
+    empty = "cannot parse integer from empty string"
+    rows = [(option, value, f"{value} is not in 1..=64") for option in ("workers", "capacity")
+            for value in ("0", "65", "4294967297", "18446744073709551615")]
+    rows += [("turns", value, f"{value} is not in 0..=1000000000000") for value in ("1000000000001", "18446744073709551615")]
+    rows += [(option, value, why) for option in ("workers", "capacity", "turns") for value, why in [
+        ("18446744073709551616", too_large), ("four", no_digit), ("4.0", no_digit), ("4 ", no_digit), ("0x4", no_digit),
+        ("+", no_digit), ("", empty)]]
+    for option, value, why in rows:
+        expect_refused(["plan", f"--{option}", value], f"invalid value '{value}' for '--{option} <N>': {why}")
+        expect_refused(["plan", f"--{option}={value}"], f"invalid value '{value}' for '--{option} <N>': {why}")
+    for option in ("workers", "capacity", "turns"):
+        expect_refused(["plan", f"--{option}=-1"], f"invalid value '-1' for '--{option} <N>': {no_digit}")
+        expect_refused(["plan", f"--{option}"], f"a value is required for '--{option} <N>' but none was supplied")
+    expect_refused(["plan", "--workers", "65", "--turns", "x"], "invalid value '65' for '--workers <N>': 65 is not in 1..=64")
+
+
+def expect_refused(words, fault):
+    wanted = f"error: {fault}||For more information, try '--help'.|".replace("|", "\n")
+    expect(f"refused words {words}", run(words, text(TRIANGLE)), 2, b"", wanted.encode())
 
 
 def example_stream_rows():
     """Each example as input of each command, written to a full device and to a closed pipe."""
     for name, network in example_texts():
-        for command in ("forests", "plain"):
+        for command in ("forests", "plain", "plan"):
             with open("/dev/full", "wb") as full:
                 done = run([command], network, stdout=full)
             note(f"{command} of {name} to a full device", (done.returncode, done.stderr) == (4, STREAM_LINE), done)
@@ -242,11 +281,15 @@ def example_stream_rows():
 
 def second_compiler_rows(program):
     """The program as Rattle's own compiler builds it, which the gate leaves beside the other."""
+    for name, network in [("queen5_5.col", queens()), ("a graph without edges", b"p edge 4 0\n")]:
+        for command in ("plain", "plan"):
+            done = subprocess.run([program, command], input=network, capture_output=True, timeout=LIMIT)
+            expect(f"{command} of {name}, built by the second compiler", done, 0, plan_text(network), b"")
+
+
+def queens():
     with open(os.path.join(TOP, "examples", "queen5_5.col"), "rb") as file:
-        queens = file.read()
-    for name, network in [("queen5_5.col", queens), ("a graph without edges", b"p edge 4 0\n")]:
-        done = subprocess.run([program, "plain"], input=network, capture_output=True, timeout=LIMIT)
-        expect(f"plain of {name}, built by the second compiler", done, 0, plan_text(network), b"")
+        return file.read()
 
 
 def closed_pipe():
@@ -286,13 +329,14 @@ def main():
         PROGRAM = os.path.join(TOP, "crates", "forestplan", "out", "forestplan")
     if TALLY["failed"] == 0:
         for rows in (forests_rows, plain_rows, example_rows, fault_rows, beginning_rows, edge_limit_rows, definition_rows,
-                     help_rows, refused_words_rows, stream_rows, example_stream_rows):
+                     help_rows, refused_words_rows, refused_value_rows, stream_rows, example_stream_rows):
             rows()
         if given.second:
             note("the second compiler built the program", os.path.isfile(given.second), given.second)
             if os.path.isfile(given.second):
                 second_compiler_rows(os.path.abspath(given.second))
-        more = plain_network_rows(PROGRAM) + refused_memory_rows(PROGRAM, text(TRIANGLE), text(TRIANGLE_FORESTS))
+        more = plain_network_rows(PROGRAM) + plan_rows(PROGRAM, queens())
+        more += refused_memory_rows(PROGRAM, text(TRIANGLE), text(TRIANGLE_FORESTS))
         more += allocation_rows(PROGRAM) + verdict_rows(PROGRAM, os.path.join(TOP, "examples"))
         for name, good, what in more:
             note(name, good, what)

@@ -13,10 +13,10 @@ TRIED_AGAIN = ("a_state_goes_on_after_a_refused_growth", "a_list_runs_again_afte
 MOST = 5000
 
 
-def build_front(folder):
-    """The library that refuses or counts allocations, and what its compiler said if it failed, else None."""
-    front = os.path.join(folder, "refuse_growth.so")
-    built = subprocess.run(["cc", "-O1", "-shared", "-fPIC", "-o", front, os.path.join(HERE, "refuse_growth.c"), "-ldl"],
+def build_front(folder, name="refuse_growth"):
+    """The library that refuses or counts allocations (or threads), and what its compiler said if it failed, else None."""
+    front = os.path.join(folder, name + ".so")
+    built = subprocess.run(["cc", "-O1", "-shared", "-fPIC", "-o", front, os.path.join(HERE, name + ".c"), "-ldl"],
                            capture_output=True)
     return front, None if built.returncode == 0 else built.stderr
 

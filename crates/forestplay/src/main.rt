@@ -13,5 +13,14 @@ use serving::{Program, serve_process};
 use std::process::ExitCode;
 
 fn main(rt: HostRuntime) -> ExitCode {
-    ExitCode::from(serve_process(&rt, Program::Forestplay))
+    let mut input = rt.stdin();
+    let mut output = rt.stdout();
+    let mut errors = rt.stderr();
+    ExitCode::from(serve_process(
+        &rt,
+        Program::Forestplay,
+        &mut input,
+        &mut output,
+        &mut errors,
+    ))
 }

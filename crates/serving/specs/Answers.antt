@@ -1,23 +1,28 @@
 -- What a command may answer to the bytes of its input.
-use Rattle.std.specs.Prelude.{ℕ, List, Result, Ok, Err}
+use Rattle.std.specs.Prelude.{◌≢◌, ℕ, List, Result, Ok, Err}
+use Rattle.pool.specs.declared.fault.PoolFault.TheVariants.{BadOptions}
 use Rattle.byte_functions.specs.Answers.{IsFaultOfText, IsForestsAnswer, IsPlainAnswer}
 use Rattle.byte_functions.specs.EventAnswers.{IsEventsAnswer, IsFaultOfEvents}
 use Rattle.byte_functions.specs.Verdicts.{IsCheckAnswer, IsFaultOfCheck}
+use Rattle.byte_functions.specs.Workers.{IsFaultOfWorkers}
 use Rattle.byte_functions.specs.declared.fault.PlanFault.{PlanFault}
+use Rattle.byte_functions.specs.declared.fault.PlanFault.TheVariants.{Pool}
 use Rattle.command_line.specs.declared.request.Request.{Request}
-use Rattle.command_line.specs.declared.request.Request.TheVariants.{Check, Events, Forests, Plain}
+use Rattle.command_line.specs.declared.request.Request.TheVariants.{Check, Events, Forests, Plain, Plan}
 
 -- the answer of each command to a good input, a line for each
 abbrev pub IsGoodAnswer : Request → List ℕ → List ℕ → Type 0
 IsGoodAnswer Forests input answer = IsForestsAnswer input answer
 IsGoodAnswer Plain input answer = IsPlainAnswer input answer
+IsGoodAnswer (Plan options) input answer = IsPlainAnswer input answer
 IsGoodAnswer Check input answer = IsCheckAnswer input answer
 IsGoodAnswer Events input answer = IsEventsAnswer input answer
 
--- the fault of an input for each command, a line for each
+-- the fault of an input for each command, a line for each; the options of a command line are never out of range
 abbrev pub IsFaultAnswer : Request → List ℕ → PlanFault → Type 0
 IsFaultAnswer Forests input fault = IsFaultOfText input fault
 IsFaultAnswer Plain input fault = IsFaultOfText input fault
+IsFaultAnswer (Plan options) input fault = IsFaultOfWorkers options input fault × (fault ≢ Pool BadOptions)
 IsFaultAnswer Check input fault = IsFaultOfCheck input fault
 IsFaultAnswer Events input fault = IsFaultOfEvents input fault
 

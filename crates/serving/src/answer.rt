@@ -1,23 +1,36 @@
 //! The answer of a command to the bytes of its input.
 
 ghost use Rattle.std.specs.Prelude.{IfOk, IfErr, Ok, Err};
+ghost use Rattle.command_line.specs.Asked.{IsInRange};
 ghost use Rattle.serving.specs.Answers.{MayAnswer};
 
-use byte_functions::{PlanFault, check_bytes, events_bytes, forest_bytes, plain_bytes};
+use byte_functions::{
+    OpenGate, PlanFault, check_bytes, events_bytes, forest_bytes, plain_bytes, plan_bytes,
+};
 use command_line::Request;
 use std::alloc::Global;
+use std::sync::Wait;
+use std::thread::Threads;
 
-/// The answer of a command to its input; each command is a line.
+/// The answer of a command to its input; each command is a line. `Plan` alone starts threads, and isn't promised to
+/// return.
 ///
 /// # Errors
 /// The fault of the input, or of memory.
-pub fn answer_bytes(alloc: Global, request: Request, input: &[u8]) -> Result<Vec<u8>, PlanFault>
+pub fn answer_bytes<T: Threads + Wait + Sync>(
+    rt: &T,
+    alloc: Global,
+    request: Request,
+    input: &[u8],
+) -> Result<Vec<u8>, PlanFault>
+    requires in_range { IsInRange request }
     ensures ok { IfOk result (λ bytes. MayAnswer request input.now (Ok bytes.items)) }
     ensures fault { IfErr result (λ fault. MayAnswer request input.now (Err fault)) }
 {
     match request {
         Request::Forests => forest_bytes(alloc, input),
         Request::Plain => plain_bytes(alloc, input),
+        Request::Plan(options) => plan_bytes(rt, alloc, input, options, &OpenGate),
         Request::Check => check_bytes(alloc, input),
         Request::Events => events_bytes(alloc, input),
     }

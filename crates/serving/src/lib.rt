@@ -1,18 +1,19 @@
 //! Serving one command of `forestplan` or `forestplay`: from the words of the command line and the input to what is
 //! written and the status, over a source and two sinks of the caller's.
 //!
-//! Each program calls `serve_process`, and that `serve_all` with the words and the streams that the system gives.
+//! Each program calls `serve_process` with the streams that the system gives, and that `serve_all` with its words.
 //!
 //! ```
 //! let mut input: &[u8] = b"p edge 2 1\ne 1 2\n";
 //! let (mut output, mut errors) = (Vec::new(alloc), Vec::new(alloc));
 //! let words = ["forestplan", "plain"];
-//! let status = serve(alloc, Program::Forestplan, &words, &mut input, &mut output, &mut errors);
+//! let status = serve(&rt, alloc, Program::Forestplan, &words, &mut input, &mut output, &mut errors);
 //! // status 0, output "plan", "1 1", "2 2", a line each
 //! ```
 //!
 //! The contract of `serve` says what goes to the output, to the errors and into the status, for all words,
-//! every input and every stream. Of the texts of `clap`, help among them, it says only where they go.
+//! every input and every stream, if the call returns. Of the texts of `clap`, help among them, it says only where they
+//! go.
 #![tactic(auto)]
 
 mod answer;

@@ -1,45 +1,49 @@
-//! Serving the words and the streams that the system gives.
+//! Serving the words that the system gives.
 
 use crate::serving::{refuse_memory, serve};
 use crate::words::serve_all;
 use command_line::Program;
+use std::env::Env;
 use std::io;
 use std::io::ErrorKind;
+use std::sync::Wait;
+use std::thread::Threads;
+use whole_streams::{Sink, Source};
 
 // The words that the program was started with, its name first: `OutOfMemory`, or `InvalidData` if a word is no
 // text.
-fn arguments(rt: &HostRuntime) -> io::Result<Vec<String>> {
+fn arguments<T: Env + AllocGlobal>(rt: &T) -> io::Result<Vec<String>> {
     Ok(std::env::args(rt)?.collect(rt.alloc())?)
 }
 
-/// Serves the command of a program that the system's words name, over standard input, output and errors, and
-/// returns the status of the program.
+/// Serves the command of a program that the system's words name, and returns the status of the program. `main` gives
+/// standard input, output and errors.
 ///
 /// `serve_all` has the contract. That the words and the streams are handed on as they are is only tested.
-pub fn serve_process(rt: &HostRuntime, program: Program) -> u8 {
+pub fn serve_process<T, R: Source, W: Sink, E: Sink>(
+    rt: &T,
+    program: Program,
+    input: &mut R,
+    output: &mut W,
+    errors: &mut E,
+) -> u8
+where
+    T: Threads + Wait + Sync + Env + AllocGlobal,
+{
     let alloc = rt.alloc();
-    let mut input = rt.stdin();
-    let mut output = rt.stdout();
-    let mut errors = rt.stderr();
     match arguments(rt) {
-        Ok(words) => serve_all(
-            alloc,
-            program,
-            words.as_slice(),
-            &mut input,
-            &mut output,
-            &mut errors,
-        ),
-        Err(error) if error.kind() == ErrorKind::OutOfMemory => refuse_memory(program, &mut errors),
+        Ok(words) => serve_all(rt, alloc, program, words.as_slice(), input, output, errors),
+        Err(error) if error.kind() == ErrorKind::OutOfMemory => refuse_memory(program, errors),
         // A word is no text. clap takes texts alone and has no call for bytes, so that it is given the word
         // U+FFFD, which names no command: it then writes its usual refusal, with the usual status.
         Err(_) => serve(
+            rt,
             alloc,
             program,
             &[program.name(), "\u{FFFD}"],
-            &mut input,
-            &mut output,
-            &mut errors,
+            input,
+            output,
+            errors,
         ),
     }
 }

@@ -2,6 +2,7 @@
 
 ghost use Rattle.std.specs.Prelude.{◌≡◌, ◌⊎◌, map};
 ghost use Rattle.byte_functions.specs.Faults.{fault_line, fault_status};
+ghost use Rattle.command_line.specs.Asked.{IsInRange};
 ghost use Rattle.command_line.specs.Line.{name_of};
 ghost use Rattle.serving.specs.Serve.{Answers, IsReported, Puts, Serves, ServesWords, memory_line, stream_line};
 ghost use Rattle.serving.specs.Streams.{reading, writing};
@@ -10,6 +11,8 @@ use crate::answer::answer_bytes;
 use byte_functions::{PlanFault, fault_report};
 use command_line::{Declined, Program, Request, parse};
 use std::alloc::Global;
+use std::sync::Wait;
+use std::thread::Threads;
 use whole_streams::{ReadFault, Sink, Source, read_whole, write_whole};
 
 // The status if the command line is refused.
@@ -73,7 +76,8 @@ fn refuse_fault<E: Sink>(alloc: Global, program: Program, errors: &mut E, fault:
 }
 
 // Gives the answer to the bytes of an input.
-fn give<W: Sink, E: Sink>(
+fn give<T: Threads + Wait + Sync, W: Sink, E: Sink>(
+    rt: &T,
     alloc: Global,
     program: Program,
     request: Request,
@@ -81,16 +85,18 @@ fn give<W: Sink, E: Sink>(
     output: &mut W,
     errors: &mut E,
 ) -> u8
+    requires in_range { IsInRange request }
     ensures { Answers program request input.now (writing W.contents W.faults output.old output.new)
         (writing E.contents E.faults errors.old errors.new) result }
 {
-    match answer_bytes(alloc, request, input) {
+    match answer_bytes(rt, alloc, request, input) {
         Ok(bytes) => put(program, output, errors, bytes.as_slice()),
         Err(fault) => refuse_fault(alloc, program, errors, fault),
     }
 }
 
-fn serve_request<R: Source, W: Sink, E: Sink>(
+fn serve_request<T: Threads + Wait + Sync, R: Source, W: Sink, E: Sink>(
+    rt: &T,
     alloc: Global,
     program: Program,
     request: Request,
@@ -98,12 +104,21 @@ fn serve_request<R: Source, W: Sink, E: Sink>(
     output: &mut W,
     errors: &mut E,
 ) -> u8
+    requires in_range { IsInRange request }
     ensures { Serves program request (reading R.remaining R.faults R.reads_left input.old input.new)
         (writing W.contents W.faults output.old output.new)
         (writing E.contents E.faults errors.old errors.new) result }
 {
     match read_whole(alloc, input) {
-        Ok(bytes) => give(alloc, program, request, bytes.as_slice(), output, errors),
+        Ok(bytes) => give(
+            rt,
+            alloc,
+            program,
+            request,
+            bytes.as_slice(),
+            output,
+            errors,
+        ),
         Err(ReadFault::Stream) => refuse_stream(program, errors),
         Err(ReadFault::Memory) => refuse_memory(program, errors),
     }
@@ -114,10 +129,15 @@ fn serve_request<R: Source, W: Sink, E: Sink>(
 ///
 /// If the words ask for a command, `input` is read to its end, the answer goes to `output`, and the
 /// status is 0; a fault of the input goes to `errors` as one line, with status 1. If they don't, nothing
-/// is read: help goes to `output` with status 0, any other text of clap to `errors` with 2. If a read or
-/// a write fails, or memory runs out, a line on `errors` says so, with status 4; after a failed write
-/// `output` holds a beginning of the answer. A failed write to `errors` changes nothing.
-pub fn serve<'a, R: Source, W: Sink, E: Sink>(
+/// is read: help goes to `output` with status 0, any other text of clap to `errors` with 2. If the workers
+/// of `plan` stop before every node is done, a line on `errors` says so, with status 3; if a thread is
+/// refused, a read or a write fails, or memory runs out, with status 4. After a failed write `output`
+/// holds a beginning of the answer. A failed write to `errors` changes nothing.
+///
+/// `plan` may wait for threads, so it is not promised that the call returns: the contract holds if it
+/// does.
+pub fn serve<'a, T: Threads + Wait + Sync, R: Source, W: Sink, E: Sink>(
+    rt: &T,
     alloc: Global,
     program: Program,
     words: &'a [&'a str],
@@ -131,7 +151,7 @@ pub fn serve<'a, R: Source, W: Sink, E: Sink>(
         (writing E.contents E.faults errors.old errors.new) result }
 {
     match parse(alloc, program, words) {
-        Ok(request) => serve_request(alloc, program, request, input, output, errors),
+        Ok(request) => serve_request(rt, alloc, program, request, input, output, errors),
         Err(Declined::Help(text)) => put(program, output, errors, text.as_bytes()),
         Err(Declined::Refused(text)) => refuse(errors, text.as_bytes(), REFUSED_WORDS),
         Err(Declined::Memory) => refuse_memory(program, errors),

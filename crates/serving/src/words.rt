@@ -7,6 +7,8 @@ ghost use Rattle.serving.specs.Streams.{reading, writing};
 use crate::serving::{refuse_memory, serve};
 use command_line::Program;
 use std::alloc::{AllocError, Global};
+use std::sync::Wait;
+use std::thread::Threads;
 use whole_streams::{Sink, Source};
 
 // The words, each borrowed.
@@ -21,7 +23,8 @@ fn borrowed<'a>(alloc: Global, words: &'a [String]) -> Result<Vec<&'a str>, Allo
 }
 
 /// `serve` for words that are owned.
-pub fn serve_all<R: Source, W: Sink, E: Sink>(
+pub fn serve_all<T: Threads + Wait + Sync, R: Source, W: Sink, E: Sink>(
+    rt: &T,
     alloc: Global,
     program: Program,
     words: &[String],
@@ -35,7 +38,7 @@ pub fn serve_all<R: Source, W: Sink, E: Sink>(
         (writing E.contents E.faults errors.old errors.new) result }
 {
     match borrowed(alloc, words) {
-        Ok(words) => serve(alloc, program, words.as_slice(), input, output, errors),
+        Ok(words) => serve(rt, alloc, program, words.as_slice(), input, output, errors),
         Err(_) => refuse_memory(program, errors),
     }
 }
