@@ -1,7 +1,7 @@
 //! Runs of nodes on worker threads.
 
 use crate::meeting::Meeting;
-use crate::runs::{greatest, held, path, small, triangle};
+use crate::runs::{each_holds, greatest, path, small, triangle};
 use alpha_core::Wire;
 use colour_program::{Colouring, Payload};
 use interference::Network;
@@ -53,15 +53,10 @@ fn one_look_leaves_a_run_that_is_not_whole(rt: HostRuntime) -> Result<(), Fail> 
         assert_eq!(rt; actor.alpha().pulse_number(), 0);
     }
     assert_eq!(rt; vertices, 3);
+    let greeting = [Wire::Payload(0, Payload::Hello(1))];
     for v in 1..net.nodes() + 1 {
-        for port in 0..net.degree(v) {
-            let waiting = held(&net, &outcome, 4, v, port);
-            if v == 1 {
-                assert!(rt; waiting == [Wire::Payload(0, Payload::Hello(1))].as_slice());
-            } else {
-                assert_eq!(rt; waiting.len(), 0);
-            }
-        }
+        let put = if v == 1 { 1 } else { 0 };
+        assert!(rt; each_holds(&net, &outcome, v, &greeting[..put]));
     }
     Ok(())
 }

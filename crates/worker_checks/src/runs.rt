@@ -1,12 +1,12 @@
 //! Networks to run, and what is read off a run.
 
-ghost use Rattle.std.specs.Prelude.{◌≡◌, ◌<◌};
-ghost use Rattle.interference.specs.Net.{IsVertex, degree_of};
-ghost use Rattle.gather_laws.specs.Outcome.{IsOutcome};
+ghost use Rattle.std.specs.Prelude.{◌≡◌, length};
+ghost use Rattle.interference.specs.Net.{IsVertex, degree_of, vertices};
+ghost use Rattle.gather_laws.specs.Outcome.{row_in};
 
 use alpha_core::Wire;
+use colour_program::{Colouring, Payload};
 use interference::Network;
-use node_api::NodeProgram;
 use node_pool::{OpenGate, Options, Outcome, run_workers};
 use std::alloc::Global;
 use std::sync::Wait;
@@ -71,18 +71,21 @@ pub fn greatest<const D: u32, R: Threads + Wait + Sync>(
     Ok(Some(bests))
 }
 
-/// What the link out of a vertex by a port holds after a run.
-pub fn held<'a, P: NodeProgram>(
+/// Whether each link out of a vertex holds just these wires after a run of the colouring.
+pub fn each_holds(
     net: &Network,
-    outcome: &'a Outcome<P>,
-    capacity: u32,
+    outcome: &Outcome<Colouring>,
     vertex: u32,
-    port: u32,
-) -> &'a [Wire<P::Payload>]
-    requires outcome { IsOutcome P.program net.now capacity outcome.now }
+    wires: &[Wire<Payload>],
+) -> bool
     requires vertex { IsVertex net.now vertex }
-    requires port { port < degree_of net.now vertex }
+    requires rows { length outcome.now.links ≡ length (vertices net.now) }
+    requires row { length (row_in outcome.now vertex) ≡ degree_of net.now vertex }
 {
-    let _ = (net, capacity);
-    outcome.link(vertex, port).held()
+    for port in 0..net.degree(vertex) {
+        if outcome.link(vertex, port).held() != wires {
+            return false;
+        }
+    }
+    true
 }
