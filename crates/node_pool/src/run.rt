@@ -51,7 +51,15 @@ fn run_made<J: Wiring + Send + Sync, P: NodeProgram, G: Gate + Sync, R: Threads 
     let Made { links, puts, takes } = made;
     let nodes = start_nodes::<J, P>(alloc, net, puts, takes)?;
     let links = Links::<J, P>::new(links);
-    let nodes = run_nodes(rt, alloc, &links, gate, nodes, options.workers, options.turns)?;
+    let nodes = run_nodes(
+        rt,
+        alloc,
+        &links,
+        gate,
+        nodes,
+        options.workers,
+        options.turns,
+    )?;
     let nodes = by_vertex(alloc, nodes)?;
     Ok(gathered(rt, alloc, net, links.into_rows(), nodes)?)
 }

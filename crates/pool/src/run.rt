@@ -164,12 +164,7 @@ fn all_places<J: Wiring, P: NodeProgram>(
 /// # Errors
 ///
 /// `Memory` if memory is refused, `Spawn` if a thread is; the workers that had begun are joined.
-pub fn run_nodes<
-    J: Wiring + Send + Sync,
-    P: NodeProgram,
-    G: Gate + Sync,
-    R: Threads + Wait + Sync,
->(
+pub fn run_nodes<J: Wiring + Send + Sync, P: NodeProgram, G: Gate + Sync, R: Threads + Wait + Sync>(
     rt: &R,
     alloc: Global,
     links: &Links<J, P>,

@@ -72,22 +72,22 @@ returns g c =
           subst (λ net. IsOutcome program net capacity outcome) c.requires.network
           (is_outcome program g.P.NodeProgram.laws net ok nodes (λ n. n.vertex) (λ n. n.alpha) (λ n. n.aside) (λ n. map (λ e. put_list e.end) n.puts.items)
           (λ n. n.takes.items) (λ e. taken_list e.end) crossed outcome (record {
-      last = λ n. n.last;
-      keeps = λ n. n.keeps;
-      set_aside = λ n x e. n.set_aside x e;
-      outs = λ n. length-map n.puts.items (λ e. put_list e.end) ∙ as_long _ _ n.puts.items _ n.outs;
-      ins = λ n. as_long _ _ n.takes.items _ n.ins;
-      order = c.requires.nodes;
-      crosses = crosses;
-      vertices_are = map-twice (λ g. g.vertex) gathered_of actors ∙ c.in_ok-actors.ensures.vertices;
-      alphas_are = map-twice (λ g. g.alpha) gathered_of actors ∙ c.in_ok-actors.ensures.alphas;
-      puts_are = of_fields (λ row. row.items) mets history_of (λ h. h.put) ∙ met.puts_are
-          ∙ of_items (λ row. row.items) c.in_ok-actors.field-0.puts.items (λ e. put_list e.end) _ c.in_ok-actors.ensures.puts
-          ∙ map-twice (λ row. map (λ e. put_list e.end) row) (λ n. n.puts.items) nodes;
-      takens_are = of_fields (λ row. row.items) mets history_of (λ h. h.taken) ∙ met.takens_are
-          ∙ of_items (λ row. row.items) c.in_ok-takes.takes.items (λ e. taken_list e.end) _ refl;
-      splits = all_rows (λ row. row.items) mets (λ h. h.put ≡ h.taken ++ h.held) history_of
-          (all_by (λ mets. All (λ met. put_of met ≡ taken_of met ++ held_of met) mets) (λ row. row.items) mets met.splits);
-    }) capacity
+            last = λ n. n.last;
+            keeps = λ n. n.keeps;
+            set_aside = λ n x e. n.set_aside x e;
+            outs = λ n. length-map n.puts.items (λ e. put_list e.end) ∙ as_long _ _ n.puts.items _ n.outs;
+            ins = λ n. as_long _ _ n.takes.items _ n.ins;
+            order = c.requires.nodes;
+            crosses = crosses;
+            vertices_are = map-twice (λ g. g.vertex) gathered_of actors ∙ c.in_ok-actors.ensures.vertices;
+            alphas_are = map-twice (λ g. g.alpha) gathered_of actors ∙ c.in_ok-actors.ensures.alphas;
+            puts_are = of_fields (λ row. row.items) mets history_of (λ h. h.put) ∙ met.puts_are
+                ∙ of_items (λ row. row.items) c.in_ok-actors.field-0.puts.items (λ e. put_list e.end) _ c.in_ok-actors.ensures.puts
+                ∙ map-twice (λ row. map (λ e. put_list e.end) row) (λ n. n.puts.items) nodes;
+            takens_are = of_fields (λ row. row.items) mets history_of (λ h. h.taken) ∙ met.takens_are
+                ∙ of_items (λ row. row.items) c.in_ok-takes.takes.items (λ e. taken_list e.end) _ refl;
+            splits = all_rows (λ row. row.items) mets (λ h. h.put ≡ h.taken ++ h.held) history_of
+                (all_by (λ mets. All (λ met. put_of met ≡ taken_of met ++ held_of met) mets) (λ row. row.items) mets met.splits);
+          }) capacity
           (all_rows (λ row. row.items) mets (λ h. length h.held ≤ capacity) history_of (c.in_ok-links.ensures.room capacity below)));
     }

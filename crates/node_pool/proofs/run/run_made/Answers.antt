@@ -9,9 +9,15 @@ use Rattle.node_pool.proofs.run.run_made.Goals as goal
 -- the ends of the links that were made are those of the run
 pub start_nodes-requires-clause-ends : goal.start_nodes-requires-clause-ends
 start_nodes-requires-clause-ends g c κs within =
-    let made = subst (λ net. AreMade net c.args.options.capacity (map (λ row. row.items) c.args.made.links.items) (map (λ row. row.items) c.args.made.puts.items)
-    (map (λ row. row.items) c.args.made.takes.items)) (sym c.requires.network) c.requires.made in
-    new_ends g.J.Wiring.net c.args.options.capacity g.J.Wiring.tables _ _ _ c.requires.tables made
+    let capacity = c.args.options.capacity in
+    let made = c.args.made in
+    let are_made = subst (λ net. AreMade net capacity (map (λ row. row.items) made.links.items) (map (λ row. row.items) made.puts.items)
+    (map (λ row. row.items) made.takes.items)) (sym c.requires.network) c.requires.made in
+    new_ends g.J.Wiring.net capacity g.J.Wiring.tables _ _ _ c.requires.tables are_made
+
+-- the links that are gathered are those that the nodes used
+pub gathered-requires-clause-tables : goal.gathered-requires-clause-tables
+gathered-requires-clause-tables g c κs within = c.into_rows.ensures.picked
 
 -- links come back as they were made
 pub returns-clause-outcome : goal.returns-clause-outcome
