@@ -37,7 +37,8 @@ module _ (parser_at : Text → ValueParser) (s : Shape) (expected : AllByRecursi
       go None e = inner (bytes_eq word (45 ∷ 45 ∷ [])) e
       go (Some name) e = all
 
-  positional_all : (a : Rule) (word : Text) (h : Held) → positional_fault s.rules s.args_override_self a h ≡ [] → Good h → Good (positional_held s.rules a word h)
+  positional_all : (a : Rule) (word : Text) (h : Held) → positional_fault s.rules s.args_override_self a h ≡ [] → Good h
+      → Good (positional_held s.rules a word h)
   positional_all a word h none all = go (is_pending a h.pending && takes_several a) none
     where
       go : (b : Bool) → cond b [] (settle_fault s.rules s.args_override_self h) ≡ [] → Good (pushed a.id word (cond b h (settled s.rules h)))
