@@ -4,6 +4,7 @@ ghost use Rattle.std.specs.Prelude.{◌≡◌, [], All, IfOk, Some, map};
 ghost use Rattle.std.proofs.Props.{props};
 ghost use Rattle.interference.specs.Net.{IsNetwork, IsVertex, degree_of};
 ghost use Rattle.node_api.specs.Program.{last_pulse_on};
+ghost use Rattle.alpha_core.specs.Program.{start_node};
 ghost use Rattle.alpha_laws.specs.Kept.{NodeKept};
 ghost use Rattle.link_queue.specs.Ends.{put_list, taken_list};
 ghost use Rattle.actor.specs.declared.aside.Aside.{Aside};
@@ -62,6 +63,7 @@ impl<J: Wiring, P: NodeProgram> Node<J, P> {
         requires nothing_put { All (λ e. put_list e.end ≡ []) puts.items }
         requires nothing_taken { All (λ e. taken_list e.end ≡ []) takes.items }
         ensures vertex { IfOk result (λ node. node.vertex ≡ vertex) }
+        ensures first { IfOk result (λ node. node.alpha.node ≡ start_node P.program net.now vertex) }
     {
         net.is_network();
         let alpha = AlphaNode::start(alloc, net, vertex)?;

@@ -35,7 +35,8 @@ impl<J: Wiring, P: NodeProgram> Links<J, P> {
 
     /// The links, once no thread uses them.
     pub fn into_rows(self) -> Vec<Vec<Link<P>>>
-        ensures rows { tables_of (map (λ row. row.items) result.items) ≡ J.tables }
+        ensures rows { result ≡ self.rows }
+        ensures picked { tables_of (map (λ row. row.items) result.items) ≡ J.tables }
     {
         let Links { rows, of: _ } = self;
         rows

@@ -1,13 +1,13 @@
 -- A row of links whose ends have met, and one more.
 use Rattle.std.proofs.Common.{◌≡◌, ◌-◌, List, [], ◌∷◌, ◌++◌, length, map, take, refl, sym, ap, ◌∙◌, arith}
-use Rattle.std.specs.Prelude.{Option}
+use Rattle.std.specs.Prelude.{All, Option}
 use Rattle.std.proofs.lemmas.List.{length-append, map-append}
 use Rattle.std.proofs.lemmas.List.Elements.{All-nil, All-push, All-same}
 use Rattle.alpha_core.specs.declared.wire.Wire.{Wire}
 use Rattle.link_rule.specs.declared.name.LinkName.{LinkName}
 use Rattle.link_queue.specs.declared.met.Met.{Met}
 use Rattle.link_queue.specs.Ends.{HasMet, held_of}
-use Rattle.gather.specs.Meets.{AreMet, put_of, taken_of}
+use Rattle.gather.specs.Meets.{AreMet, RowsAreMet, put_of, taken_of}
 
 take_front : {A : Type 0} (xs ys : List A) → take (length xs) (xs ++ ys) ≡ xs
 take_front [] ys = refl
@@ -43,3 +43,23 @@ module _ {T : Type 0} where
         splits = All-same (λ m. put_of m ≡ taken_of m ++ held_of m) new (mets ++ met ∷ []) pushed
             (All-push (λ m. put_of m ≡ taken_of m ++ held_of m) mets met are.splits split);
       }
+
+  pub no_rows_met : (rows : List (List (Met T))) → rows ≡ [] → RowsAreMet rows [] []
+  no_rows_met rows none = record {
+    puts_are = ap (map (λ mets. map put_of mets)) none;
+    takens_are = ap (map (λ mets. map taken_of mets)) none;
+    splits = All-same (λ mets. All (λ met. put_of met ≡ taken_of met ++ held_of met) mets) rows [] none
+        (All-nil (λ mets. All (λ met. put_of met ≡ taken_of met ++ held_of met) mets));
+  }
+
+  pub one_row_met : (rows new : List (List (Met T))) (puts takens puts' takens' : List (List (List (Wire T)))) (mets : List (Met T))
+      (put taken : List (List (Wire T))) → new ≡ rows ++ mets ∷ [] → puts' ≡ puts ++ put ∷ [] → takens' ≡ takens ++ taken ∷ []
+      → AreMet mets put taken → RowsAreMet rows puts takens → RowsAreMet new puts' takens'
+  one_row_met rows new puts takens puts' takens' mets put taken pushed more_puts more_takens met are = record {
+    puts_are = ap (map (λ mets. map put_of mets)) pushed ∙ map-append (λ mets. map put_of mets) rows (mets ∷ [])
+        ∙ ap (λ l. l ++ map put_of mets ∷ []) are.puts_are ∙ ap (λ p. puts ++ p ∷ []) met.puts_are ∙ sym more_puts;
+    takens_are = ap (map (λ mets. map taken_of mets)) pushed ∙ map-append (λ mets. map taken_of mets) rows (mets ∷ [])
+        ∙ ap (λ l. l ++ map taken_of mets ∷ []) are.takens_are ∙ ap (λ p. takens ++ p ∷ []) met.takens_are ∙ sym more_takens;
+    splits = All-same (λ mets. All (λ m. put_of m ≡ taken_of m ++ held_of m) mets) new (rows ++ mets ∷ []) pushed
+        (All-push (λ mets. All (λ m. put_of m ≡ taken_of m ++ held_of m) mets) rows mets are.splits met.splits);
+  }

@@ -1,8 +1,8 @@
 -- A row beside another, thing after thing.
-use Rattle.std.proofs.Common.{◌≡◌, ℕ, zero, suc, ◌+◌, ◌<◌, ◌≤◌, List, [], ◌∷◌, ◌++◌, length, map, take, drop, set, get_or, refl, sym, ap, ◌∙◌, arith}
+use Rattle.std.proofs.Common.{◌≡◌, ℕ, zero, suc, ◌+◌, ◌<◌, ◌≤◌, List, [], ◌∷◌, ◌++◌, length, map, take, drop, set, get_or, refl, sym, ap, ◌∙◌, subst, arith}
 use Rattle.std.proofs.Common.{Some, None, slice_get}
 use Rattle.std.specs.Prelude.{Option, All, Result, Ok, Err, IfOk}
-use Rattle.std.proofs.lemmas.List.{get_or_default, get_or-set_other, map-append}
+use Rattle.std.proofs.lemmas.List.{get_or_default, get_or-map, get_or-set_other, length-map, map-append}
 
 take_next : {A : Type 0} (xs : List A) (k : ℕ) (x : A) → slice_get xs k ≡ Some x → take (suc k) xs ≡ take k xs ++ x ∷ []
 take_next [] k x is = absurd cc
@@ -51,6 +51,10 @@ pub same_each : {A D : Type 0} (f g : A → D) (xs : List A) → map f xs ≡ ma
 same_each f g [] e k d lt = absurd (omega arith)
 same_each f g (x ∷ xs) e zero d lt = ap (λ l. get_or l 0 (f x)) e
 same_each f g (x ∷ xs) e (suc k) d lt = same_each f g xs (ap (λ l. drop 1 l) e) k d (omega arith)
+
+-- what holds of what f gives of each thing
+pub all_by : {A B : Type 0} (P : B → Type 0) (f : A → B) (xs : List A) → All P (map f xs) → All (λ x. P (f x)) xs
+all_by P f xs h k d lt = subst P (get_or-map f xs k d (f d) lt) (h k (f d) (omega (arith, length-map xs f)))
 
 -- what follows from what a good answer says
 pub ok_says : {A B : Type 0} {P Q : A → Type 0} (r : Result A B) → ((x : A) → P x → Q x) → IfOk r P → IfOk r Q

@@ -24,3 +24,9 @@ module _ {T : Type 0} where
     pub puts_are : map put_of mets ≡ puts
     pub takens_are : map taken_of mets ≡ takens
     pub splits : All (λ met. put_of met ≡ taken_of met ++ held_of met) mets
+
+  -- The links of rows, whose ends put these lists and took those.
+  pub record RowsAreMet (rows : List (List (Met T))) (puts takens : List (List (List (Wire T)))) : Type 0 where
+    pub puts_are : map (λ mets. map put_of mets) rows ≡ puts
+    pub takens_are : map (λ mets. map taken_of mets) rows ≡ takens
+    pub splits : All (λ mets. All (λ met. put_of met ≡ taken_of met ++ held_of met) mets) rows

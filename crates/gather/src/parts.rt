@@ -11,8 +11,24 @@ use std::alloc::{AllocError, Global};
 /// A node after the run, with its vertex.
 #[derive(Drop)]
 pub struct Actor<P: NodeProgram> {
-    pub vertex: u32,
-    pub alpha: AlphaNode<P>,
+    vertex: u32,
+    alpha: AlphaNode<P>,
+}
+
+impl<P: NodeProgram> Actor<P> {
+    /// Its vertex, from 1.
+    pub fn node(&self) -> u32
+        ensures vertex { result ≡ self.now.vertex }
+    {
+        self.vertex
+    }
+
+    /// Its node under the synchroniser.
+    pub fn alpha(&self) -> &AlphaNode<P>
+        ensures alpha { result.now ≡ self.now.alpha }
+    {
+        &self.alpha
+    }
 }
 
 /// The nodes of a run, and the ends that they had, each by vertex and port.

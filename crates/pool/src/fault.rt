@@ -1,5 +1,8 @@
 //! Why a run of workers has no outcome.
 
+ghost use Rattle.std.specs.Prelude.{◌≡◌};
+ghost use Rattle.pool.specs.declared.fault.PoolFault.TheVariants.{Memory};
+
 use interference::Memory;
 use std::alloc::{AllocError, AllocFailed};
 
@@ -15,18 +18,24 @@ pub enum PoolFault {
 }
 
 impl From<AllocError> for PoolFault {
+    ghost from_gives = { λ _ result. result ≡ Memory };
+
     fn from(_error: AllocError) -> PoolFault {
         PoolFault::Memory
     }
 }
 
 impl<T: Drop> From<AllocFailed<T>> for PoolFault {
+    ghost from_gives = { λ _ result. result ≡ Memory };
+
     fn from(_error: AllocFailed<T>) -> PoolFault {
         PoolFault::Memory
     }
 }
 
 impl From<Memory> for PoolFault {
+    ghost from_gives = { λ _ result. result ≡ Memory };
+
     fn from(_error: Memory) -> PoolFault {
         PoolFault::Memory
     }

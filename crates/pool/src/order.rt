@@ -39,6 +39,5 @@ pub fn by_vertex<J: Wiring, P: NodeProgram>(
     ensures order { IfOk result (λ all. map (λ n. n.vertex) all.items ≡ vertices J.net) }
 {
     let nodes = unboxed(alloc, nodes)?;
-    let count = nodes.len();
-    in_order(alloc, count, nodes)
+    in_order(alloc, nodes)
 }

@@ -1,9 +1,10 @@
 //! A run of workers over the pool.
 
-ghost use Rattle.std.specs.Prelude.{◌≡◌, ◌<◌, ◌≤◌, ◌+◌, [], map, reverse, vec_len, length, IfOk};
+ghost use Rattle.std.specs.Prelude.{◌≡◌, ◌≢◌, ◌<◌, ◌≤◌, ◌+◌, [], map, reverse, vec_len, length, IfOk, IfErr};
 ghost use Rattle.interference.specs.Net.{vertices};
 ghost use Rattle.crossbeam_queue.specs.Passes.{IsPassOf, ruled_capacity, view};
 ghost use Rattle.pool.specs.Hands.{AreSame, all_parts, hand};
+ghost use Rattle.pool.specs.declared.fault.PoolFault.TheVariants.{BadOptions};
 
 use crate::fault::PoolFault;
 use crate::hand::{Gets, Gives, Parts};
@@ -48,7 +49,7 @@ fn settle<J: Wiring, P: NodeProgram>(
     pool: &Pool<J, P>,
     chief: Chief<J, P>,
     done: Worked<J, P>,
-) -> Result<Chief<J, P>, PoolFault>
+) -> Result<Chief<J, P>, AllocError>
     requires pool { chief.pass.table_id ≡ pool.now.table.shared.table_id }
     requires parts { 0 < (view chief.pass).parts }
     requires theirs { done.pass.table_id ≡ pool.now.table.shared.table_id }
@@ -165,7 +166,7 @@ fn all_places<J: Wiring, P: NodeProgram>(
 /// `Memory` if memory is refused, `Spawn` if a thread is; the workers that had begun are joined.
 pub fn run_nodes<
     J: Wiring + Send + Sync,
-    P: NodeProgram + Send + Sync,
+    P: NodeProgram,
     G: Gate + Sync,
     R: Threads + Wait + Sync,
 >(
@@ -180,6 +181,7 @@ pub fn run_nodes<
     requires nodes { map (λ b. b.value.vertex) nodes.items ≡ reverse (vertices J.net) }
     requires workers { workers ≤ MAX_WORKERS }
     ensures once { IfOk result (λ all. AreSame (map (λ b. b.value.vertex) all.items) (vertices J.net)) }
+    ensures fault { IfErr result (λ fault. fault ≢ BadOptions) }
 {
     let count = nodes.len();
     let (pool, pass) = Pool::<J, P>::ruled(alloc, count.max(1))?;
@@ -195,8 +197,9 @@ pub fn run_nodes<
             requires { (first.pass.table_id ≡ all.now.table.shared.table_id)
                 × ((view first.pass).parts ≡ all_parts) × (workers ≤ MAX_WORKERS)
                 × (length (vertices J.net) ≤ ruled_capacity all.now) × (vec_len places ≡ workers) }
-            ensures { IfOk result (λ c. (c.pass.table_id ≡ all.entry.now.table.shared.table_id)
+            ensures pass { IfOk result (λ c. (c.pass.table_id ≡ all.entry.now.table.shared.table_id)
                 × ((view c.pass).parts ≡ all_parts)) }
+            ensures fault { IfErr result (λ fault. fault ≢ BadOptions) }
         {
             let mut chief = first;
             let mut children = Vec::new(alloc);
@@ -240,9 +243,9 @@ pub fn run_nodes<
                 };
                 chief = match settle(all, chief, child.join(rt)) {
                     Ok(joined) => joined,
-                    Err(fault) => {
+                    Err(_) => {
                         watch.fail();
-                        return Err(fault);
+                        return Err(PoolFault::Memory);
                     }
                 };
             }

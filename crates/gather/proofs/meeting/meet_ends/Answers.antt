@@ -1,8 +1,9 @@
-use Rattle.std.proofs.Common.{ℕ, Some, map, sym, ap, ◌∙◌, subst}
-use Rattle.link_queue.specs.Ends.{put_list, taken_list}
+use Rattle.std.proofs.Common.{◌≤◌, ℕ, Some, map, sym, ap, ◌∙◌, subst}
+use Rattle.std.specs.Prelude.{All}
+use Rattle.link_queue.specs.Ends.{link_capacity, put_list, taken_list}
 use Rattle.ends.specs.Tables.{table_at, table_of}
 use Rattle.gather.specs.Meets.{AreMet}
-use Rattle.gather.proofs.Sides.{firsts, middles, lasts, same_each, ok_says}
+use Rattle.gather.proofs.Sides.{all_by, firsts, middles, lasts, same_each, ok_says}
 use Rattle.gather.proofs.meeting.meet_ends.Goals as goal
 
 pub meet_row-requires-clause-links : goal.meet_row-requires-clause-links
@@ -32,4 +33,7 @@ returns g c =
       met = ok_says c.meet_row.result
           (λ mets are. subst (λ l. AreMet mets.items l (map (λ e. taken_list e.end) c.args.takes.items)) puts
           (subst (λ l. AreMet mets.items (map (λ x. put_list x.1.0.end) row) l) takes are)) c.meet_row.ensures.met;
+      room = ok_says c.meet_row.result
+          (λ mets says capacity below. says capacity (all_by (λ link. link_capacity link ≤ capacity) (λ x. x.0) row
+          (subst (All (λ link. link_capacity link ≤ capacity)) (sym c.in_ok-row.ensures.left) below))) c.meet_row.ensures.room;
     }

@@ -1,8 +1,10 @@
-use Rattle.std.proofs.Common.{◌≡◌, Some, sym, subst, rules}
+use Rattle.std.proofs.Common.{◌≡◌, ◌≤◌, Some, length, refl, sym, subst, ◌∙◌, arith, rules, map-id}
+use Rattle.std.specs.Prelude.{All}
 use Rattle.std.proofs.lemmas.List.{map-append}
-use Rattle.std.proofs.lemmas.Iterator.Consumers.{YieldsList-turn}
+use Rattle.std.proofs.lemmas.List.Elements.{All-pop, All-push, All-same}
+use Rattle.std.proofs.lemmas.Iterator.Consumers.{YieldsList-end, YieldsList-turn}
 use Rattle.std.proofs.lemmas.Iterator.Adapters.{YieldsList-from_vec}
-use Rattle.link_queue.specs.Ends.{put_list, taken_list}
+use Rattle.link_queue.specs.Ends.{held_of, link_capacity, put_list, taken_list}
 use Rattle.ends.specs.Tables.{table_at, table_of}
 use Rattle.gather.proofs.MetRows.{one_met}
 use Rattle.gather.proofs.meeting.meet_row.Goals as goal
@@ -24,4 +26,16 @@ loop-link-preserved g c = record {
   met = one_met c.loop-link.mets.items _ _ _ _ _ _ _ _ _ c.in_ok-push.ensures.items
       (map-append (λ x. put_list x.1.0.end) c.loop-link.yielded _) (map-append (λ x. taken_list x.1.1.end) c.loop-link.yielded _)
       c.in_ok-meet_one.ensures.met c.loop-link.invariant.met;
+  room = λ capacity below.
+      let parts = All-pop (λ x. link_capacity x.0 ≤ capacity) _ c.loop-link.yielded (Some _) refl below in
+      All-same (λ met. length (held_of met) ≤ capacity) _ _ c.in_ok-push.ensures.items
+      (All-push (λ met. length (held_of met) ≤ capacity) c.loop-link.mets.items _ (c.loop-link.invariant.room capacity parts.0)
+      (omega (arith, c.in_ok-meet_one.ensures.room, parts.1)));
 }
+
+pub returns-clause-room : goal.returns-clause-room
+returns-clause-room g c =
+    let end = YieldsList-end (YieldsList-from_vec {s = c.into_iter-link-iterator.result} c.args.row.items (search rules) (search rules))
+    c.loop-link.yielded c.loop-link.link-iterator c.loop-link.yielded_by c.next.result c.next.new.self c.in-None.is c.next.ensures.steps in
+    let all = sym (map-id c.loop-link.yielded) ∙ end.0 in
+    λ capacity below. c.loop-link.invariant.room capacity (subst (All (λ x. link_capacity x.0 ≤ capacity)) (sym all) below)
