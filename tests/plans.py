@@ -111,7 +111,9 @@ def refused_rows(program, queens):
         rows = [thread_row(program, threads, folder, plan_words(workers, 4), name, network)
                 for workers, name, network in [(1, "triangle", TRIANGLE), (4, "triangle", TRIANGLE), (4, "queen5_5", queens),
                                                (64, "triangle", TRIANGLE)]]
-        return rows + [sweep(program, growths, ["plan", "--workers", "1"], TRIANGLE, (0, TRIANGLE_PLAN, b""))]
+        # To start a thread takes memory of the system's own; where that is refused, the thread is.
+        return rows + [sweep(program, growths, ["plan", "--workers", "1"], TRIANGLE, (0, TRIANGLE_PLAN, b""),
+                             or_else=(4, b"", THREADS))]
 
 
 def thread_row(program, front, folder, words, title, network):

@@ -60,8 +60,9 @@ def count(front, folder, words, data=b"", refused=0):
         return int(file.read())
 
 
-def sweep(program, front, words, data, wanted, own_name="forestplan"):
-    """Refuses growth 1, 2, .. until a run is as one without refusal. `wanted` is None if clap's text is the answer."""
+def sweep(program, front, words, data, wanted, own_name="forestplan", or_else=None):
+    """Refuses growth 1, 2, .. until a run is as one without refusal. `wanted` is None if clap's text is the answer;
+    `or_else` is an answer that may come in place of that of memory."""
     name = f"each growth refused in turn: {' '.join(words)}"
     memory = (4, b"", f"{own_name}: memory\n".encode())
     if wanted is None:
@@ -72,7 +73,7 @@ def sweep(program, front, words, data, wanted, own_name="forestplan"):
         if got == wanted:
             if all(answer_of(program, front, words, data, k + more) == wanted for more in range(1, 40)):
                 return name, refusals > 0, "no growth was refused at all"
-        elif got == memory:
+        elif got in (memory, or_else):
             refusals += 1
         else:
             return name, False, f"growth {k}: {got}"

@@ -30,10 +30,12 @@ impl Coloured for Colouring {
 }
 
 impl Coloured for Actor<Colouring> {
-    ghost merged = { λ actor. actor.alpha.node.state.merged };
+    ghost use Rattle.node_pool.specs.Gathers.{gathered_of};
+
+    ghost merged = { λ actor. (gathered_of actor).alpha.node.state.merged };
 
     fn own_colour(&self) -> u16 {
-        self.alpha.program().colour()
+        self.alpha().program().colour()
     }
 }
 

@@ -1,7 +1,7 @@
 //! The answers to a text by the byte functions alone, and the report of each fault.
 
 use byte_functions::{
-    PlanFault, check_bytes, events_bytes, fault_report, forest_bytes, plain_bytes,
+    PlanFault, PoolFault, check_bytes, events_bytes, fault_report, forest_bytes, plain_bytes,
 };
 use channel_plan::CheckFault;
 use dimacs_col::ColFault;
@@ -83,10 +83,14 @@ fn reports_each_fault_of_a_network(rt: HostRuntime) -> Result<(), Fail> {
     Ok(())
 }
 
-// The faults of plans and events, likewise.
+// The faults of runs, plans and events, likewise.
 #[test]
-fn reports_each_fault_of_a_plan_or_of_events(rt: HostRuntime) -> Result<(), Fail> {
+fn reports_each_fault_of_a_run_a_plan_or_events(rt: HostRuntime) -> Result<(), Fail> {
     for (fault, line, status) in [
+        (PlanFault::Pool(PoolFault::Memory), "memory", 4),
+        (PlanFault::Pool(PoolFault::Spawn), "threads", 4),
+        (PlanFault::Pool(PoolFault::BadOptions), "options", 2),
+        (PlanFault::Stopped, "stopped", 3),
         (PlanFault::Check(CheckFault::Missing(3)), "C1 vertex 3", 1),
         (PlanFault::Check(CheckFault::Stranger(0)), "C2 vertex 0", 1),
         (PlanFault::Check(CheckFault::Twice(1)), "C3 vertex 1", 1),

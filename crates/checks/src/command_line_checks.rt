@@ -82,6 +82,29 @@ fn is_declined(alloc: Global, words: &[&str], is_help: bool, opening: &str) -> b
     }
 }
 
+// Two words behind `plan`, and how the text that refuses them begins.
+static REFUSED: [(&str, &str, &str); 15] = [
+    ("--workers", "0", "error: invalid value '0'"),
+    ("--workers", "65", "error: invalid value '65'"),
+    ("--workers", "4294967297", "error: invalid value"),
+    ("--workers", "four", "error: invalid value"),
+    ("--workers", "", "error: invalid value"),
+    ("--workers", "4.0", "error: invalid value"),
+    ("--workers", "-1", "error: unexpected argument '-1'"),
+    ("--capacity", "0", "error: invalid value '0'"),
+    ("--capacity", "65", "error: invalid value '65'"),
+    ("--turns", "1000000000001", "error: invalid value"),
+    ("--turns", "18446744073709551616", "error: invalid value"),
+    (
+        "--turns=1",
+        "--turns=1",
+        "error: the argument '--turns <N>'",
+    ),
+    ("--turns=1", "2", "error: unexpected argument '2'"),
+    ("--turns=1", "--workers", "error: a value is required"),
+    ("--edition", "1", "error: unexpected argument"),
+];
+
 // The texts name the program, and not the file that it is started from.
 #[test]
 fn declines_other_words(rt: HostRuntime) -> Result<(), Fail> {
@@ -91,47 +114,7 @@ fn declines_other_words(rt: HostRuntime) -> Result<(), Fail> {
     assert!(rt; is_declined(alloc, &["out/p", "--help"], true, "Plans channels"));
     assert!(rt; is_declined(alloc, &["out/p", "help"], false, "error: unrecognized"));
     assert!(rt; is_declined(alloc, &["out/p", "--version"], false, "error: unexpected"));
-    for (word, value, opening) in [
-        (
-            "--workers",
-            "0",
-            "error: invalid value '0' for '--workers <N>': 0 is not in 1..=64",
-        ),
-        (
-            "--workers",
-            "65",
-            "error: invalid value '65' for '--workers <N>': 65 is not in 1..=64",
-        ),
-        ("--workers", "4294967297", "error: invalid value"),
-        ("--workers", "four", "error: invalid value"),
-        ("--workers", "", "error: invalid value"),
-        ("--workers", "4.0", "error: invalid value"),
-        ("--workers", "-1", "error: unexpected argument '-1'"),
-        (
-            "--capacity",
-            "0",
-            "error: invalid value '0' for '--capacity <N>': 0 is not in 1..=64",
-        ),
-        ("--capacity", "65", "error: invalid value"),
-        (
-            "--turns",
-            "1000000000001",
-            "error: invalid value '1000000000001' for '--turns <N>'",
-        ),
-        ("--turns", "18446744073709551616", "error: invalid value"),
-        (
-            "--turns=1",
-            "--turns=1",
-            "error: the argument '--turns <N>' cannot be used multiple times",
-        ),
-        ("--turns=1", "2", "error: unexpected argument '2'"),
-        (
-            "--turns=1",
-            "--workers",
-            "error: a value is required for '--workers <N>'",
-        ),
-        ("--edition", "1", "error: unexpected argument '--edition'"),
-    ] {
+    for (word, value, opening) in REFUSED {
         assert!(rt;
             is_declined(alloc, &["out/p", "plan", word, value], false, opening),
             "{word} {value}"

@@ -22,6 +22,7 @@ fn fails_at_each_read(rt: HostRuntime) -> Result<(), Fail> {
         let mut output = Writer::new(alloc, NEVER, false);
         let mut errors = Writer::new(alloc, NEVER, false);
         let status = serve(
+            &rt,
             alloc,
             Program::Forestplan,
             &FORESTS,
@@ -57,6 +58,7 @@ fn fails_at_each_write(rt: HostRuntime) -> Result<(), Fail> {
             let mut output = Writer::new(alloc, k, takes_none);
             let mut errors = Writer::new(alloc, NEVER, false);
             let status = serve(
+                &rt,
                 alloc,
                 Program::Forestplan,
                 &FORESTS,
@@ -98,6 +100,7 @@ fn a_failed_write_to_errors_changes_no_status(rt: HostRuntime) -> Result<(), Fai
                 let words = ["forestplan", word];
                 assert_eq!(rt;
                     serve(
+                        &rt,
                         alloc,
                         Program::Forestplan,
                         &words,
@@ -132,6 +135,7 @@ fn declines_words(rt: HostRuntime) -> Result<(), Fail> {
         let mut errors = Writer::new(alloc, NEVER, false);
         assert_eq!(rt;
             serve(
+                &rt,
                 alloc,
                 Program::Forestplan,
                 words,
@@ -147,6 +151,7 @@ fn declines_words(rt: HostRuntime) -> Result<(), Fail> {
             let mut full = Writer::new(alloc, 2, true);
             assert_eq!(rt;
                 serve(
+                    &rt,
                     alloc,
                     Program::Forestplan,
                     words,
@@ -180,6 +185,7 @@ fn serves_owned_words_over_streams_in_memory(rt: HostRuntime) -> Result<(), Fail
         let mut output = Vec::new(alloc);
         let mut errors = Vec::new(alloc);
         let status = serve_all(
+            &rt,
             alloc,
             Program::Forestplan,
             words.as_slice(),

@@ -3,4 +3,5 @@ mod KnownCommands
 mod Numbers
 mod Passing
 mod RunOptions
+mod Used
 mod Walked

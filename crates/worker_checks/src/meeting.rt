@@ -58,17 +58,15 @@ impl Meeting {
         }
     }
 
-    /// Whether a worker was held once, until the other had left a turn.
-    pub fn has_met(&self) -> bool {
-        self.holds.load(Ordering::SeqCst) == 1 && !self.was_alone.load(Ordering::SeqCst)
-    }
-
-    pub fn turns_of_worker(&self, worker: u32) -> u64 {
-        self.by_worker.of(worker)
-    }
-
-    pub fn turns_of_node(&self, node: u32) -> u64 {
-        self.by_node.of(node)
+    /// Whether a worker was held once, until the other had left a turn, both left turns, and so did each node, at least
+    /// this often.
+    pub fn saw_two_at_once(&self, least: u64) -> bool {
+        let met = self.holds.load(Ordering::SeqCst) == 1 && !self.was_alone.load(Ordering::SeqCst);
+        let workers = self.by_worker.of(0) > 0 && self.by_worker.of(1) > 0;
+        let nodes = self.by_node.of(1) >= least
+            && self.by_node.of(2) >= least
+            && self.by_node.of(3) >= least;
+        met && workers && nodes
     }
 
     // Waits until a worker has left a turn. Returns whether it has, after so many looks at most.

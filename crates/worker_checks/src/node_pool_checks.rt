@@ -12,6 +12,9 @@ use std::test::*;
 use std::thread::Threads;
 use sync_rounds::{Greatest, run_rounds};
 
+// How many pulses a node of the triangle makes at least; a turn makes one at most.
+pub const PULSES: u64 = 30;
+
 #[test]
 fn two_workers_are_in_turns_at_once(rt: HostRuntime) -> Result<(), Fail> {
     let alloc: Global = rt.alloc();
@@ -23,13 +26,7 @@ fn two_workers_are_in_turns_at_once(rt: HostRuntime) -> Result<(), Fail> {
         turns: 1_000_000_000,
     };
     let outcome = run_workers::<Colouring, Meeting, _>(&rt, alloc, &net, options, &gate)?;
-    assert!(rt; gate.has_met());
-    for worker in 0..2 {
-        assert!(rt; gate.turns_of_worker(worker) > 0);
-    }
-    for node in 1..4 {
-        assert!(rt; gate.turns_of_node(node) >= 30);
-    }
+    assert!(rt; gate.saw_two_at_once(PULSES));
     assert!(rt; outcome.is_whole());
     Ok(())
 }

@@ -1,0 +1,83 @@
+//! Plans by worker threads, from bytes to bytes.
+
+use crate::meeting::Meeting;
+use crate::node_pool_checks::PULSES;
+use byte_functions::{OpenGate, Options, PlanFault, PoolFault, plan_bytes};
+use dimacs_col::ColFault;
+use std::test::Fail;
+
+const TRIANGLE: &[u8] = b"p edge 3 3\ne 1 2\ne 1 3\ne 2 3\n";
+
+const TRIANGLE_PLAN: &[u8] = b"plan\n1 2\n2 3\n3 1\n";
+
+// A graph with an edge from 1 to 1, in its line 2.
+const LOOP: &[u8] = b"p edge 2 1\ne 1 1\n";
+
+// More looks than a run needs that gets on at all.
+const AMPLE: u64 = 1_000_000_000;
+
+fn options(workers: u32, capacity: u32, turns: u64) -> Options {
+    Options {
+        workers,
+        capacity,
+        turns,
+    }
+}
+
+const OUT_OF_RANGE: Result<&[u8], PlanFault> = Err(PlanFault::Pool(PoolFault::BadOptions));
+
+// Text, workers, capacity, turns, and the answer. The faults of a text come before those of the options, and these before
+// those of a run.
+#[test]
+fn plans_by_workers(rt: HostRuntime) -> Result<(), Fail> {
+    let alloc = rt.alloc();
+    for (text, options, wanted) in [
+        (TRIANGLE, options(1, 1, AMPLE), Ok(TRIANGLE_PLAN)),
+        (TRIANGLE, options(1, 4, AMPLE), Ok(TRIANGLE_PLAN)),
+        (TRIANGLE, options(2, 1, AMPLE), Ok(TRIANGLE_PLAN)),
+        (TRIANGLE, options(2, 4, AMPLE), Ok(TRIANGLE_PLAN)),
+        (TRIANGLE, options(8, 1, AMPLE), Ok(TRIANGLE_PLAN)),
+        (TRIANGLE, options(8, 4, AMPLE), Ok(TRIANGLE_PLAN)),
+        (TRIANGLE, options(64, 1, AMPLE), Ok(TRIANGLE_PLAN)),
+        (TRIANGLE, options(64, 4, AMPLE), Ok(TRIANGLE_PLAN)),
+        (b"p edge 0 0\n", options(4, 4, 0), Ok(b"plan\n")),
+        (TRIANGLE, options(1, 4, 1), Err(PlanFault::Stopped)),
+        (TRIANGLE, options(4, 4, 0), Err(PlanFault::Stopped)),
+        (TRIANGLE, options(0, 4, 0), OUT_OF_RANGE),
+        (TRIANGLE, options(65, 4, 0), OUT_OF_RANGE),
+        (TRIANGLE, options(4, 0, 0), OUT_OF_RANGE),
+        (TRIANGLE, options(4, 65, 0), OUT_OF_RANGE),
+        (
+            LOOP,
+            options(0, 4, 0),
+            Err(PlanFault::Col(ColFault::SelfLoop(2))),
+        ),
+    ] {
+        let Options {
+            workers,
+            capacity,
+            turns,
+        } = options;
+        match (plan_bytes(&rt, alloc, text, options, &OpenGate), wanted) {
+            (Ok(answer), Ok(plan)) => {
+                assert!(rt; answer.as_slice() == plan, "{workers} {capacity} {turns}")
+            }
+            (Err(fault), Err(refusal)) => assert_eq!(rt;
+                fault,
+                refusal,
+                "{workers} {capacity} {turns}"
+            ),
+            _ => assert!(rt; false, "{workers} {capacity} {turns}"),
+        }
+    }
+    Ok(())
+}
+
+#[test]
+fn two_workers_make_a_plan_at_once(rt: HostRuntime) -> Result<(), Fail> {
+    let gate = Meeting::new();
+    let plan = plan_bytes(&rt, rt.alloc(), TRIANGLE, options(2, 4, AMPLE), &gate)?;
+    assert!(rt; gate.saw_two_at_once(PULSES));
+    assert!(rt; plan.as_slice() == TRIANGLE_PLAN);
+    Ok(())
+}
