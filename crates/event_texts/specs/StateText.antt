@@ -1,11 +1,9 @@
 -- The text of the state of a network whose nodes run the colouring.
 use Rattle.std.specs.Prelude.{ℕ, ◌+◌, if◌then◌else◌, List, [], ◌++◌, codes, flat_map, length}
 use Rattle.std.specs.List.{range_with_len}
-use Rattle.std.specs.Fmt.{decimal}
 use Rattle.interference.specs.Net.{Net, degree_of, neighbour_of, vertices}
 use Rattle.node_api.specs.Program.{last_pulse_on}
 use Rattle.alpha_core.specs.declared.wire.Wire.{Wire}
-use Rattle.alpha_core.specs.declared.wire.Wire.TheVariants.{Payload, Ack, Safe, Close}
 use Rattle.alpha_core.specs.View.{is_halted}
 use Rattle.alpha_core.specs.View
 use Rattle.net_core.specs.State.{Link, State, link_at, node_of}
@@ -13,6 +11,7 @@ use Rattle.colour_rules.specs.declared.payload.Payload as payload
 use Rattle.colour_rules.specs.Node
 use Rattle.colour_rules.specs.Program.{colouring}
 use Rattle.colour_rules.specs.Words.{number_in, word_in}
+use Rattle.wire_texts.specs.WireText.{numbered, wire_text}
 
 -- a wire of the colouring
 abbrev pub ColourWire : Type 0
@@ -22,17 +21,9 @@ ColourWire = Wire payload.Payload
 abbrev pub ColourState : Type 0
 ColourState = State Node.Node payload.Payload
 
--- words, and a number behind them
-abbrev pub numbered : List ℕ → ℕ → List ℕ
-numbered words number = words ++ decimal number
-
--- a wire, with a space before each of its words
-abbrev pub wire_text : ColourWire → List ℕ
-wire_text (Payload pulse x) =
-    numbered (codes " payload ") pulse ++ codes " " ++ word_in x ++ numbered (codes " ") (number_in x)
-wire_text (Ack pulse) = numbered (codes " ack ") pulse
-wire_text (Safe pulse) = numbered (codes " safe ") pulse
-wire_text Close = codes " close"
+-- a wire of the colouring, with a space before each of its words
+abbrev pub colour_wire_text : ColourWire → List ℕ
+colour_wire_text wire = wire_text word_in number_in wire
 
 -- at the last pulse, the channel that the node has found
 abbrev pub channel_text : ℕ → View.Node Node.Node payload.Payload → List ℕ
@@ -49,7 +40,7 @@ node_text net v node =
 abbrev pub link_text : ℕ → ℕ → Link payload.Payload → List ℕ
 link_text v w link =
     numbered (codes "link ") v ++ numbered (codes " ") w ++ numbered (codes " taken ") (length link.taken)
-    ++ flat_map wire_text link.held ++ codes "\n"
+    ++ flat_map colour_wire_text link.held ++ codes "\n"
 
 -- the links out of a vertex, by port
 abbrev pub links_text : Net → ColourState → ℕ → List ℕ

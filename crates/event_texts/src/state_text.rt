@@ -6,11 +6,12 @@ ghost use Rattle.net_core.specs.State.{link_at, node_of};
 ghost use Rattle.colour_rules.specs.Program.{colouring};
 ghost use Rattle.event_texts.specs.StateText.{link_text, links_text, node_text, state_text};
 
-use crate::wire_text::{push_numbered, push_wires};
+use crate::wire_text::push_wires;
 use colour_program::Colouring;
 use interference::Memory;
 use net_core::NetState;
 use std::alloc::{AllocError, Global};
+use wire_texts::push_numbered;
 
 // Appends the line of a vertex's node.
 fn push_node(text: &mut Vec<u8>, state: &NetState<Colouring>, v: u32) -> Result<(), AllocError>

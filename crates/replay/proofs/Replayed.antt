@@ -1,14 +1,13 @@
 -- One entry more behind a replay.
-use Rattle.std.proofs.Common.{◌≡◌, ◌+◌, ◌<◌, ◌∙◌, ℕ, suc, Option, Some, List, [], ◌∷◌, ◌++◌, map, take, drop, length, get_or, Result, Ok, Err}
+use Rattle.std.proofs.Common.{◌≡◌, ◌+◌, ◌<◌, ◌∙◌, ℕ, suc, Some, List, [], ◌∷◌, ◌++◌, take, length, get_or, Result, Ok, Err}
 use Rattle.std.proofs.Common.{ap, arith, refl, sym, subst}
 use Rattle.std.proofs.lemmas.List.{map-append}
 use Rattle.interference.specs.Net.{Net}
 use Rattle.node_api.specs.Program.{Program}
 use Rattle.net_core.specs.declared.event.Event.{Event}
-use Rattle.net_core.specs.declared.refused.RunRefused.{RunRefused}
 use Rattle.net_core.specs.declared.refused.StepRefused.{StepRefused}
 use Rattle.net_core.specs.State.{State, start}
-use Rattle.net_core.specs.Step.{go_on, run, run_from, step}
+use Rattle.net_core.specs.Step.{go_on, run_from, step}
 use Rattle.net_core.proofs.Parts.{take-split}
 use Rattle.replay.specs.Rows.{Row, event_of, if_made, row_of, rows_from, rows_of}
 use Rattle.replay.specs.Replays.{IsReplay}

@@ -1,5 +1,5 @@
 -- What the event of an entry writes down, by the wire that it carries.
-use Rattle.std.proofs.Common.{◌≡◌, ◌≢◌, ◌<◌, ◌∙◌, ℕ, Option, Some, None, ap, refl, subst, sym}
+use Rattle.std.proofs.Common.{◌≡◌, ◌≢◌, ◌<◌, ◌∙◌, ℕ, Option, Some, None, ap, sym}
 use Rattle.std.specs.Option.{option_map}
 use Rattle.interference.specs.Net.{Net, neighbours, degree_of, neighbour_of, port_to}
 use Rattle.interference.proofs.Members.{place_of-is}

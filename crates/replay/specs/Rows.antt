@@ -1,5 +1,5 @@
 -- Which event an entry is of, and what an event writes down.
-use Rattle.std.specs.Prelude.{ℕ, ◌+◌, Option, Some, None, option_map, Result, Ok, Err, List, [], ◌∷◌, slice_get}
+use Rattle.std.specs.Prelude.{ℕ, ◌+◌, Option, Some, option_map, Result, Ok, Err, List, [], ◌∷◌, slice_get}
 use Rattle.interference.specs.Net.{Net, neighbour_of, port_to}
 use Rattle.node_api.specs.Program.{Program}
 use Rattle.alpha_core.specs.View.{port_at}

@@ -2,7 +2,8 @@ use Rattle.std.proofs.Common.{◌≡◌, ◌∙◌, ◌++◌, ap, codes, length,
 use Rattle.std.specs.List.{flat_map}
 use Rattle.interference.specs.Net.{neighbour_of}
 use Rattle.net_core.specs.State.{link_at}
-use Rattle.event_texts.specs.StateText.{numbered, wire_text}
+use Rattle.wire_texts.specs.WireText.{numbered}
+use Rattle.event_texts.specs.StateText.{colour_wire_text}
 use Rattle.event_texts.proofs.Ranges.{behind}
 use Rattle.event_texts.proofs.state_text.push_link.Goals as goal
 
@@ -17,12 +18,12 @@ returns c =
     let first = numbered (codes "link ") v in
     let second = numbered (codes " ") (neighbour_of net v c.args.port) in
     let third = numbered (codes " taken ") (length link.taken) in
-    let fourth = flat_map wire_text link.held in
+    let fourth = flat_map colour_wire_text link.held in
     let t1 : c.push_numbered.new.text.items ≡ text ++ first = search rules in
     let t2 = behind text first second c.push_numbered.new.text.items c.push_numbered-2.new.text.items t1
     (c.in_ok-push_numbered-2.ensures ∙ ap (λ n. c.push_numbered.new.text.items ++ numbered (codes " ") n) (c.from-2.ensures ∙ w)) in
     let t3 = behind text (first ++ second) third c.push_numbered-2.new.text.items c.push_numbered-3.new.text.items t2
     (c.in_ok-push_numbered-3.ensures ∙ ap (λ n. c.push_numbered-2.new.text.items ++ numbered (codes " taken ") n) c.link-taken.ensures.taken) in
     let t4 = behind text (first ++ second ++ third) fourth c.push_numbered-3.new.text.items c.push_wires.new.text.items t3
-    (c.in_ok-push_wires.ensures ∙ ap (λ ws. c.push_numbered-3.new.text.items ++ flat_map wire_text ws) c.link-taken.ensures.held) in
+    (c.in_ok-push_wires.ensures ∙ ap (λ ws. c.push_numbered-3.new.text.items ++ flat_map colour_wire_text ws) c.link-taken.ensures.held) in
     behind text (first ++ second ++ third ++ fourth) (codes "\n") c.push_wires.new.text.items c.push.new.self.items t4 c.in_ok-push.ensures.items

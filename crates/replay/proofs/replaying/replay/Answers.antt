@@ -1,4 +1,4 @@
-use Rattle.std.proofs.Common.{[], ◌≡◌, ap, drop, get_or, suc, sym, take, ◌∙◌, subst}
+use Rattle.std.proofs.Common.{[], ap, drop, suc, sym, take, ◌∙◌, subst}
 use Rattle.net_core.proofs.Parts.{take-split}
 use Rattle.net_core.specs.Step.{step}
 use Rattle.replay.proofs.Replayed.{replay-next, replay-start}

@@ -1,0 +1,6 @@
+pub mod FieldNumbers
+pub mod LineLists
+pub mod Payloads
+pub mod Readings
+pub mod Spaced
+pub mod Written

@@ -1,0 +1,4 @@
+pub mod TranscriptText
+pub mod EntryLines
+pub mod Reading
+pub mod Reader

@@ -1,0 +1,111 @@
+//! One line of a transcript.
+
+ghost use Rattle.std.specs.Prelude.{◌≡◌, ◌∷◌};
+ghost use Rattle.transcripts.specs.EntryLines.{entry_of, header_of, only, payload_in, payload_with};
+ghost use Rattle.transcripts.specs.EntryLines.{pulsed_wire, row_of, wire_of, wire_with};
+
+use crate::numbers::{small_number, wide_number};
+use alpha_core::Wire;
+use dimacs_col::Fields;
+use entries::Entry;
+use node_api::PayloadText;
+use std::str::from_utf8;
+
+// A value, if no field is left.
+fn only<A: Drop>(mut fields: Fields, value: A) -> Option<A>
+    ensures { result ≡ only fields.entry value }
+{
+    if fields.next().is_some() {
+        return None;
+    }
+    Some(value)
+}
+
+// The payload of a word and a number.
+fn payload_with<T: PayloadText>(word: &[u8], number: u128) -> Option<T>
+    ensures { result ≡ payload_with T.payload_of word.now number }
+{
+    match from_utf8(word) {
+        Ok(word) => T::from_words(word, number),
+        Err(_) => None,
+    }
+}
+
+// The payload of a word and a number, the only fields.
+fn payload_in<T: PayloadText>(mut fields: Fields) -> Option<T>
+    ensures { result ≡ payload_in T.payload_of fields.entry }
+{
+    let word = fields.next()?;
+    let number = wide_number(fields.next()?)?;
+    only(fields, payload_with(word, number)?)
+}
+
+// The wire of a word and a pulse, and of the fields behind them.
+fn wire_with<T: PayloadText>(word: &[u8], pulse: u32, fields: Fields) -> Option<Wire<T>>
+    ensures { result ≡ wire_with T.payload_of word.now pulse fields.entry }
+{
+    if word == b"payload".as_slice() {
+        Some(Wire::Payload(pulse, payload_in(fields)?))
+    } else if word == b"ack".as_slice() {
+        only(fields, Wire::Ack(pulse))
+    } else if word == b"safe".as_slice() {
+        only(fields, Wire::Safe(pulse))
+    } else {
+        None
+    }
+}
+
+// The wire of a word, and of a pulse and the fields behind it.
+fn pulsed_wire<T: PayloadText>(word: &[u8], mut fields: Fields) -> Option<Wire<T>>
+    ensures { result ≡ pulsed_wire T.payload_of word.now fields.entry }
+{
+    let pulse = small_number(fields.next()?)?;
+    wire_with(word, pulse, fields)
+}
+
+// The wire that the fields are.
+fn wire_of<T: PayloadText>(mut fields: Fields) -> Option<Wire<T>>
+    ensures { result ≡ wire_of T.payload_of fields.entry }
+{
+    let word = fields.next()?;
+    if word == b"close".as_slice() {
+        return only(fields, Wire::Close);
+    }
+    pulsed_wire(word, fields)
+}
+
+// The entry that the fields are.
+fn entry_of<T: PayloadText>(mut fields: Fields) -> Option<Entry<T>>
+    ensures { result ≡ entry_of T.payload_of fields.entry }
+{
+    let word = fields.next()?;
+    let number = small_number(fields.next()?)?;
+    if word == b"pulse".as_slice() {
+        only(fields, Entry::Pulse(number))
+    } else if word == b"put".as_slice() {
+        Some(Entry::Put(number, wire_of(fields)?))
+    } else if word == b"take".as_slice() {
+        Some(Entry::Take(number, wire_of(fields)?))
+    } else {
+        None
+    }
+}
+
+/// The vertex and the entry that a line is, of which the first field was taken.
+pub(crate) fn row_of<T: PayloadText>(first: &[u8], others: Fields) -> Option<(u32, Entry<T>)>
+    ensures { result ≡ row_of T.payload_of (first.now ∷ others.entry) }
+{
+    let v = small_number(first)?;
+    Some((v, entry_of(others)?))
+}
+
+/// How many nodes a first line says that there are, of which the first field was taken.
+pub(crate) fn header_of(first: &[u8], mut others: Fields) -> Option<u32>
+    ensures { result ≡ header_of (first.now ∷ others.entry) }
+{
+    if first != b"transcript".as_slice() || others.next()? != b"1".as_slice() {
+        return None;
+    }
+    let nodes = small_number(others.next()?)?;
+    only(others, nodes)
+}

@@ -1,0 +1,24 @@
+//! Transcripts: the entries of nodes as text, written and read.
+//!
+//! A transcript is a line `transcript 1 NODES`, and then a line for each entry. `transcript_text` writes it, and
+//! `read_transcript` reads what anybody wrote; what the first wrote, the second reads as the same entries.
+//!
+//! ```text
+//! let rows = [(1, Entry::Put(2, Wire::Close)), (2, Entry::Take(1, Wire::Close))];
+//! let text = transcript_text(alloc, 2, &rows)?;          // "transcript 1 2", "1 put 2 close", "2 take 1 close"
+//! let (nodes, rows) = read_transcript::<Best>(alloc, text.as_slice())?;
+//! ```
+//!
+//! Nodes, vertices and pulses that are read are below 2^32, numbers of payloads below 2^128. Whether a vertex is there
+//! is for `replay` to say.
+#![tactic(auto)]
+
+mod entry_line;
+mod fault;
+mod numbers;
+mod reading;
+mod writing;
+
+pub use fault::TextFault;
+pub use reading::read_transcript;
+pub use writing::transcript_text;

@@ -1,0 +1,125 @@
+//! The reading of a transcript.
+
+ghost use Rattle.std.specs.Prelude.{◌≡◌, ◌==◌, ◌+◌, ◌<◌, ◌^◌, IfOk, IfErr, None, Ok, Err, Some, map};
+ghost use Rattle.std.specs.List.{slice_split};
+ghost use Rattle.dimacs_col.specs.Lines.{lines_of};
+ghost use Rattle.transcripts.specs.Reading.{IsFaultOfReading, known_after, read_at_end, reading_of};
+ghost use Rattle.transcripts.specs.Reader.{IsSyntaxFault};
+
+use crate::entry_line::{header_of, row_of};
+use crate::fault::TextFault;
+use dimacs_col::{Fields, without_carriage_return};
+use entries::Entry;
+use node_api::PayloadText;
+use std::alloc::{AllocError, Global};
+use std::marker::Model;
+
+// How many nodes there are, and the entries so far.
+#[derive(Drop)]
+struct Transcript<T> {
+    nodes: u32,
+    rows: Vec<(u32, Entry<T>)>,
+}
+
+impl<T> Model for Transcript<T> {
+    ghost use Rattle.transcripts.specs.Reading as reading;
+
+    ghost Value = { reading.Transcript T };
+
+    ghost view = { λ a. (a.nodes, a.rows.items) };
+}
+
+#[derive(Drop)]
+struct Reader<T> {
+    // The number of the last line, from 1.
+    line: usize,
+    // What the lines so far say, once the first one came.
+    known: Option<Transcript<T>>,
+}
+
+impl<T: PayloadText> Reader<T> {
+    fn new() -> Reader<T>
+        ensures line { result.line ≡ 0 }
+        ensures known { result.known ≡ None }
+    {
+        Reader {
+            line: 0,
+            known: None,
+        }
+    }
+
+    /// Takes the fields of the next line.
+    fn step(&mut self, alloc: Global, mut fields: Fields) -> Result<(), TextFault>
+        requires { self.old.line + 1 < 2 ^ 64 }
+        ensures line { self.new.line ≡ self.old.line + 1 }
+        ensures ok { IfOk result (λ _. known_after T.payload_of self.old.known fields.entry ≡ Some self.new.known) }
+        ensures fault { IfErr result (IsSyntaxFault (known_after T.payload_of self.old.known fields.entry ≡ None)
+            (self.old.line + 1)) }
+    {
+        self.line += 1;
+        let Some(first) = fields.next() else {
+            return Ok(());
+        };
+        match &mut self.known {
+            Some(known) => {
+                let Some(row) = row_of(first, fields) else {
+                    return Err(TextFault::Syntax(self.line));
+                };
+                known.rows.push(row)?;
+            }
+            None => {
+                let Some(nodes) = header_of(first, fields) else {
+                    return Err(TextFault::Syntax(self.line));
+                };
+                self.known = Some(Transcript {
+                    nodes,
+                    rows: Vec::new(alloc),
+                });
+            }
+        }
+        Ok(())
+    }
+
+    fn finish(self) -> Result<(u32, Vec<(u32, Entry<T>)>), TextFault>
+        ensures ok { IfOk result (λ read. read_at_end T.payload_of self.known ≡ Ok (read.0, read.1.items)) }
+        ensures fault { IfErr result (IsSyntaxFault (read_at_end T.payload_of self.known ≡ Err 1) 1) }
+    {
+        match self.known {
+            Some(known) => Ok((known.nodes, known.rows)),
+            None => Err(TextFault::Syntax(1)),
+        }
+    }
+}
+
+// The lines of a text, without their line feeds.
+fn split_lines(alloc: Global, text: &[u8]) -> Result<Vec<&[u8]>, AllocError>
+    ensures { IfOk result (λ lines. map (λ line. line.now) lines.items ≡ slice_split (λ byte. byte == 10) text.now) }
+{
+    let mut lines = Vec::new(alloc);
+    for line in text.split(|byte| *byte == b'\n') {
+        lines.push(line)?;
+    }
+    Ok(lines)
+}
+
+/// How many nodes there are, and the entries of a transcript, each behind the vertex of its node: the first line that
+/// has a field is `transcript 1 NODES`, and each later one `V pulse P`, `V put W WIRE` or `V take W WIRE`.
+///
+/// # Errors
+///
+/// `Syntax` with the first line that is none of these, or with line 1 if no line has a field. `Memory` if memory is
+/// refused.
+pub fn read_transcript<T: PayloadText>(
+    alloc: Global,
+    text: &[u8],
+) -> Result<(u32, Vec<(u32, Entry<T>)>), TextFault>
+    ensures ok { IfOk result (λ read. reading_of T.payload_of (lines_of text.now) ≡ Ok (read.0, read.1.items)) }
+    ensures fault { IfErr result (IsFaultOfReading T.payload_of (lines_of text.now)) }
+{
+    let lines = split_lines(alloc, text)?;
+    let mut reader = Reader::new();
+    for line in lines.as_slice() {
+        reader.step(alloc, Fields::of(without_carriage_return(line)))?;
+    }
+    reader.finish()
+}

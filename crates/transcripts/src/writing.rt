@@ -1,0 +1,67 @@
+//! The writing of a transcript.
+
+ghost use Rattle.std.specs.Prelude.{◌≡◌, ◌++◌, All, IfOk, Ok, flat_map};
+ghost use Rattle.dimacs_col.specs.Lines.{lines_of};
+ghost use Rattle.transcripts.specs.Reading.{reading_of};
+ghost use Rattle.transcripts.specs.TranscriptText.{IsReadable, row_text, transcript_of};
+
+use entries::Entry;
+use interference::Memory;
+use node_api::PayloadText;
+use std::alloc::{AllocError, Global};
+use wire_texts::{push_numbered, push_wire};
+
+// Appends the line of an entry.
+fn push_row<T: PayloadText>(text: &mut Vec<u8>, row: &(u32, Entry<T>)) -> Result<(), AllocError>
+    ensures text { IfOk result (λ _. text.new.items ≡ text.old.items ++ row_text T.word_of T.number_of row.now) }
+    ensures readable { IfOk result (λ _. IsReadable T.word_of T.number_of T.payload_of row.now) }
+{
+    let (v, entry) = *row;
+    push_numbered(text, b"", u128::from(v))?;
+    match entry {
+        Entry::Pulse(pulse) => push_numbered(text, b" pulse ", u128::from(pulse))?,
+        Entry::Put(w, wire) => {
+            push_numbered(text, b" put ", u128::from(w))?;
+            push_wire(text, wire)?;
+        }
+        Entry::Take(w, wire) => {
+            push_numbered(text, b" take ", u128::from(w))?;
+            push_wire(text, wire)?;
+        }
+    }
+    text.push(b'\n')?;
+    Ok(())
+}
+
+// Appends the lines of entries.
+fn push_rows<T: PayloadText>(text: &mut Vec<u8>, rows: &[(u32, Entry<T>)]) -> Result<(), AllocError>
+    ensures text { IfOk result (λ _. text.new.items
+        ≡ text.old.items ++ flat_map (row_text T.word_of T.number_of) rows.now) }
+    ensures readable { IfOk result (λ _. All (IsReadable T.word_of T.number_of T.payload_of) rows.now) }
+{
+    for row in rows {
+        push_row(text, row)?;
+    }
+    Ok(())
+}
+
+/// The transcript of so many nodes: `transcript 1 NODES`, and a line for each entry, in the order given. Read by
+/// `read_transcript`, it is these entries.
+///
+/// # Errors
+///
+/// If memory is refused.
+pub fn transcript_text<T: PayloadText>(
+    alloc: Global,
+    nodes: u32,
+    rows: &[(u32, Entry<T>)],
+) -> Result<Vec<u8>, Memory>
+    ensures text { IfOk result (λ text. text.items ≡ transcript_of T.word_of T.number_of nodes rows.now) }
+    ensures reads_back { IfOk result (λ text. reading_of T.payload_of (lines_of text.items) ≡ Ok (nodes, rows.now)) }
+{
+    let mut text = Vec::new(alloc);
+    push_numbered(&mut text, b"transcript 1 ", u128::from(nodes))?;
+    text.push(b'\n')?;
+    push_rows(&mut text, rows)?;
+    Ok(text)
+}

@@ -1,0 +1,32 @@
+//! One wire.
+
+ghost use Rattle.std.specs.Prelude.{◌≡◌, ◌++◌, IfOk};
+ghost use Rattle.wire_texts.specs.WireText.{IsReadable, wire_text};
+
+use crate::numbered::push_numbered;
+use alpha_core::Wire;
+use node_api::PayloadText;
+use std::alloc::AllocError;
+
+/// Appends a wire, with a space before each of its words.
+///
+/// # Errors
+///
+/// If a growth is refused; `text` may then end in a beginning of the wire.
+pub fn push_wire<T: PayloadText>(text: &mut Vec<u8>, wire: Wire<T>) -> Result<(), AllocError>
+    ensures text { IfOk result (λ _. text.new.items ≡ text.old.items ++ wire_text T.word_of T.number_of wire) }
+    ensures readable { IfOk result (λ _. IsReadable T.word_of T.number_of T.payload_of wire) }
+{
+    match wire {
+        Wire::Payload(pulse, payload) => {
+            let (word, number) = payload.words();
+            push_numbered(text, b" payload ", u128::from(pulse))?;
+            text.push(b' ')?;
+            text.extend_from_slice(word.as_bytes())?;
+            push_numbered(text, b" ", number)
+        }
+        Wire::Ack(pulse) => push_numbered(text, b" ack ", u128::from(pulse)),
+        Wire::Safe(pulse) => push_numbered(text, b" safe ", u128::from(pulse)),
+        Wire::Close => text.extend_from_slice(b" close"),
+    }
+}
