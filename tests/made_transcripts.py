@@ -97,7 +97,7 @@ def with_mistake(source, mistake, lines):
     elif mistake == "left out":
         del own[at]
     else:
-        other = source.choice([i for i in (at - 1, at + 1, source.randrange(len(own))) if 0 <= i < len(own)])
+        other = source.choice([i for i in (at - 1, at + 1, source.randrange(len(own))) if 0 <= i < len(own) and i != at] or [at])
         own[at], own[other] = own[other], own[at]
     return lines | {v: own}
 

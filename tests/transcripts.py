@@ -245,7 +245,7 @@ def mistake_rows(play):
     note("400 transcripts with a mistake, beside a replay", not wrong, f"{len(wrong)}: {wrong[:1]}")
     note("all but swapped entries are refused", [accepted[mistake] for mistake in MISTAKES[:3]] == [0, 0, 0], accepted)
     note("swapped entries are refused or not", 0 < accepted["swapped"] < 100, accepted)
-    note("refusals of each kind", codes > {"X1", "NotReady", "NothingToPut", "LinkEmpty", "WrongWire"}, codes)
+    note("refusals of each kind", codes == {None, "X1", "NotReady", "NothingToPut", "LinkEmpty", "WrongWire", "NotWhole"}, codes)
 
 
 def every_order(net, entries):
