@@ -60,7 +60,7 @@ Found = namedtuple("Found", "made state left refusals")
 
 
 class Wrong(Exception):
-    """Why a text isn't the transcript of a whole run: (line or None, code, what is wrong)."""
+    """Why a text isn't the transcript of a whole run: (line, code, what is wrong)."""
 
     def __str__(self):
         line, code, what = self.args
@@ -270,6 +270,15 @@ def in_order(made, text):
     return b"".join(line + b"\n" for line in [head] + [lines[entry.line - 1] for entry in made])
 
 
+def network_in(data):
+    """The network of a text; most texts that `forestplan` refuses raise `ValueError` or `LookupError`."""
+    net = network_of(data)
+    problem_lines = [fields for fields in map(fields_of, data.split(b"\n")) if fields[:1] == [b"p"]]
+    if len(problem_lines) != 1 or any(v in neighbours for v, neighbours in net.neighbours.items()):
+        raise ValueError
+    return net
+
+
 def words_of_command():
     words = argparse.ArgumentParser(prog="check_transcript.py", description=HELP, epilog=MORE_HELP,
                                     formatter_class=argparse.RawDescriptionHelpFormatter)
@@ -285,7 +294,7 @@ def main():
     given = words.parse_args()
     try:
         with open(given.network, "rb") as file:
-            net = network_of(file.read())
+            net = network_in(file.read())
         with open(given.transcript or sys.stdin.fileno(), "rb") as file:
             text = file.read()
     except OSError as failed:

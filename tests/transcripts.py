@@ -306,6 +306,11 @@ def command_rows():
         note("a refusal", done == (1, b"", line), done)
         status, told, fault = command(["--help"], b"")
         note("help", (status, fault) == (0, b"") and b"forestplan transcript" in told, (status, told, fault))
+        for data in (b"", whole, b"p edge\n", b"p edge 2 1\ne 1 1\n", b"p edge 2 1\ne 1 3\n", b"p edge 2 1\ne 1 x\n", b"p a 1 0\np a 1 0\n"):
+            with open(network + "x", "wb") as file:
+                file.write(data)
+            status, told, fault = command([network + "x", transcript], b"")
+            note(f"the network {data[:30]}", (status, told) == (2, b"") and b"is no network" in fault, (status, told, fault))
         for words in ([], [folder], [network, folder], [network, transcript, "x"], ["--orders", network], [transcript + "x"]):
             status, told, _ = command(words, whole)
             note(f"the words {words}", (status, told) == (2, b""), (status, told))
