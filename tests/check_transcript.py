@@ -1,5 +1,5 @@
 #!/usr/bin/env python3
-"""Checks a transcript of nodes without a common clock, written from docs/DEFINITIONS.md, docs/FORMATS.md and docs/PLAN.md.
+"""Checks a transcript of nodes without a common clock. It is written from the pages in docs/ alone.
 
 A transcript has the entries of each node in that node's own order, and says nothing of the order between nodes. This program
 looks for an order of all entries that is a run, and demands that the run is whole. `--help` says how to call it."""
@@ -41,7 +41,8 @@ and what is wrong there, as
   NotWhole      all entries are a run, but it does not reach the end
   Nodes         the first line names another number of nodes than the network has
 
-Status: 0 right, 1 not right, 2 the command line is refused or a file can't be read.
+Status: 0 right, 1 not right, 2 the command line is refused, or a file can't be read
+or is no network.
 
 Example:
   ./forestplan transcript < examples/triangle.col > triangle.transcript
@@ -54,8 +55,8 @@ PAYLOADS = {b"hello": 2**64, b"label": 2**16, b"colour": 2**64, b"chosen": 2**16
 # `what` is the number of the pulse, or the wire. A pulse has no neighbour.
 Entry = namedtuple("Entry", "line vertex kind neighbour what")
 
-# What is found: the entries made, in this order, the state after them, and for each node that isn't through the code of its
-# next entry's refusal.
+# What a search finds: the entries made, in this order; the state after them; and of each node that isn't through, the entries
+# that are left, the next one last, and the code of that one's refusal.
 Found = namedtuple("Found", "made state left refusals")
 
 
@@ -202,7 +203,7 @@ def why_not_ready(found, entry):
     if p == node.last:
         return f"but {p} is the last"
     if not node.said:
-        return f"but {next(w for w, port in zip(neighbours, node.ports) if port.waits)} hasn't acknowledged its payload of {p}"
+        return f"but it hasn't taken ack {p} from {next(w for w, port in zip(neighbours, node.ports) if port.waits)}"
     for w, port in zip(neighbours, node.ports):
         if not port.safe:
             return f"but it hasn't taken safe {p} from {w}"
@@ -283,7 +284,7 @@ def words_of_command():
     words = argparse.ArgumentParser(prog="check_transcript.py", description=HELP, epilog=MORE_HELP,
                                     formatter_class=argparse.RawDescriptionHelpFormatter)
     words.add_argument("--order", action="store_true",
-                       help="instead of that line print the transcript in the order found, one that `forestplay replay` accepts")
+                       help="instead of that line print the transcript in the order found, in which it is a run line by line")
     words.add_argument("network", metavar="NETWORK.col", help="a network that `forestplan` reads without a fault")
     words.add_argument("transcript", nargs="?", metavar="TRANSCRIPT", help="default: standard input")
     return words
@@ -295,7 +296,7 @@ def main():
     try:
         with open(given.network, "rb") as file:
             net = network_in(file.read())
-        with open(given.transcript or sys.stdin.fileno(), "rb") as file:
+        with open(given.transcript or 0, "rb") as file:
             text = file.read()
     except OSError as failed:
         words.error(str(failed))
