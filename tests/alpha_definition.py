@@ -177,40 +177,62 @@ class NetState:
     """Every node at its start; `link[v, port]` holds what was put on the link out of v by that port and not taken."""
 
     def __init__(self, net):
-        self.net = net
+        self.neighbours = {v: ports_of(net, v) for v in net.neighbours}
+        self.port_to = {(v, w): port for v, ws in self.neighbours.items() for port, w in enumerate(ws)}
         self.nodes = {v: AlphaNode(net, v) for v in net.neighbours}
-        self.link = {(v, port): [] for v in net.neighbours for port in range(len(net.neighbours[v]))}
+        self.link = {(v, port): [] for (v, _), port in self.port_to.items()}
+
+    def link_to(self, v, port):
+        """What the link holds that comes to v by that port."""
+        w = self.neighbours[v][port]
+        return self.link[w, self.port_to[w, v]]
+
+    def carried(self, kind, v, port=None):
+        """What an event carries that is possible now: the number of the pulse, or the wire that is put or taken."""
+        if v not in self.nodes or port is not None and port >= len(self.nodes[v].ports):
+            raise Refused("NoSuch")
+        node = self.nodes[v]
+        if kind == "Pulse":
+            if not node.can_pulse():
+                raise Refused("NotReady")
+            return node.pulse_number + 1
+        wires = node.ports[port].out if kind == "Put" else self.link_to(v, port)
+        if not wires:
+            raise Refused("NothingToPut" if kind == "Put" else "LinkEmpty")
+        return wires[0]
 
     def step(self, kind, v, port=None):
         """An event; returns the wire that was put or taken."""
-        if v not in self.nodes or port is not None and port >= len(self.nodes[v].ports):
-            raise Refused("NoSuch")
+        wire = self.carried(kind, v, port)
         if kind == "Pulse":
             return self.nodes[v].pulse()
         if kind == "Put":
-            if not self.nodes[v].ports[port].out:
-                raise Refused("NothingToPut")
-            wire = self.nodes[v].ports[port].out.pop(0)
-            self.link[v, port].append(wire)
-            return wire
-        w = ports_of(self.net, v)[port]
-        link = self.link[w, ports_of(self.net, w).index(v)]
-        if not link:
-            raise Refused("LinkEmpty")
-        self.nodes[v].on_wire(port, link[0])
-        return link.pop(0)
+            self.link[v, port].append(self.nodes[v].ports[port].out.pop(0))
+        else:
+            self.nodes[v].on_wire(port, wire)
+            self.link_to(v, port).pop(0)
+        return wire
 
     def possible(self):
         """All events that are possible now."""
-        for v, node in self.nodes.items():
-            if node.can_pulse():
-                yield "Pulse", v, None
-            for port, other in enumerate(node.ports):
-                if other.out:
-                    yield "Put", v, port
-                w = ports_of(self.net, v)[port]
-                if self.link[w, ports_of(self.net, w).index(v)]:
-                    yield "Take", v, port
+        for v in self.nodes:
+            yield from self.possible_at(v)
+
+    def possible_at(self, v):
+        if self.nodes[v].can_pulse():
+            yield "Pulse", v, None
+        for port, other in enumerate(self.nodes[v].ports):
+            if other.out:
+                yield "Put", v, port
+            if self.link_to(v, port):
+                yield "Take", v, port
+
+
+def wire_words(wire):
+    """A wire as the texts of states and transcripts have it."""
+    if wire[0] == "Payload":
+        return f"payload {wire[1]} {wire[2][0].lower()} {wire[2][1]}"
+    return " ".join(map(str, wire)).lower()
 
 
 def text_of_wire(wire):

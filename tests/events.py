@@ -15,7 +15,7 @@ import subprocess
 import sys
 import tempfile
 
-from alpha_definition import NetState, Refused, last_pulse, ports_of
+from alpha_definition import NetState, Refused, last_pulse, ports_of, wire_words
 from plain_definition import colours, network_of
 from refused_memory import build_front, sweep
 
@@ -111,19 +111,13 @@ def worked_rows(program):
         expect(f"{fault} of {data[-40:]!r}", run(program, text(data)), refusal(fault))
 
 
-def wire_text(wire):
-    if wire[0] == "Payload":
-        return f" payload {wire[1]} {wire[2][0].lower()} {wire[2][1]}"
-    return f" {wire[0].lower()} {wire[1]}" if len(wire) > 1 else " close"
-
-
 def state_text(net, state, taken):
     lines = []
     for v, node in sorted(state.nodes.items()):
         is_last = node.pulse_number == last_pulse(net)
         lines.append(f"node {v} pulse {node.pulse_number}" + (f" channel {node.program.merged + 1}" if is_last else ""))
         for port, w in enumerate(ports_of(net, v)):
-            lines.append(f"link {v} {w} taken {taken[v, port]}" + "".join(map(wire_text, state.link[v, port])))
+            lines.append(f"link {v} {w} taken {taken[v, port]}" + "".join(" " + wire_words(wire) for wire in state.link[v, port]))
     return "".join(line + "\n" for line in lines).encode()
 
 
