@@ -2,7 +2,10 @@
 
 use crate::fake_streams::{NEVER, Reader, Writer};
 use serving::{Program, serve, serve_all};
+use std::alloc::Global;
+use std::sync::Wait;
 use std::test::Fail;
+use std::thread::Threads;
 
 const FORESTS: [&str; 2] = ["forestplan", "forests"];
 
@@ -118,6 +121,18 @@ fn a_failed_write_to_errors_changes_no_status(rt: HostRuntime) -> Result<(), Fai
     Ok(())
 }
 
+// Serves words of `forestplan`.
+fn serve_forestplan<T: Threads + Wait + Sync>(
+    rt: &T,
+    alloc: Global,
+    words: &[&str],
+    input: &mut Reader<'_>,
+    output: &mut Writer,
+    errors: &mut Writer,
+) -> u8 {
+    serve(rt, alloc, Program::Forestplan, words, input, output, errors)
+}
+
 // Help goes to output, a refusal to errors, and nothing is read. Where output takes six bytes of the help,
 // a stream failed.
 #[test]
@@ -134,15 +149,7 @@ fn declines_words(rt: HostRuntime) -> Result<(), Fail> {
         let mut output = Writer::new(alloc, NEVER, false);
         let mut errors = Writer::new(alloc, NEVER, false);
         assert_eq!(rt;
-            serve(
-                &rt,
-                alloc,
-                Program::Forestplan,
-                words,
-                &mut input,
-                &mut output,
-                &mut errors
-            ),
+            serve_forestplan(&rt, alloc, words, &mut input, &mut output, &mut errors),
             status
         );
         assert_eq!(rt; output.bytes.is_empty(), status == 2);
@@ -150,15 +157,7 @@ fn declines_words(rt: HostRuntime) -> Result<(), Fail> {
         if status == 0 {
             let mut full = Writer::new(alloc, 2, true);
             assert_eq!(rt;
-                serve(
-                    &rt,
-                    alloc,
-                    Program::Forestplan,
-                    words,
-                    &mut input,
-                    &mut full,
-                    &mut errors
-                ),
+                serve_forestplan(&rt, alloc, words, &mut input, &mut full, &mut errors),
                 4
             );
             assert_eq!(rt; full.bytes.len(), 6);
