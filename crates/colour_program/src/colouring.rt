@@ -26,7 +26,7 @@ pub struct Colouring {
 impl Model for Colouring {
     ghost use Rattle.colour_rules.specs.Node.{Node};
     ghost use Rattle.colour_rules.specs.Stored.{node_code};
-    ghost use Rattle.colour_rules.specs.Idle.{IsIdle};
+    ghost use Rattle.colour_rules.specs.Idle.{IsWaiting};
     ghost use Rattle.colour_rules.specs.Room.{HasRoom};
 
     ghost Value = { Node };
@@ -35,7 +35,7 @@ impl Model for Colouring {
 
     ghost view = { λ a. a.inner.value.node };
 
-    ghost invariant = { λ a. HasRoom a.inner.value.node a.inner.value.scratch × IsIdle a.inner.value.node a.idle };
+    ghost invariant = { λ a. HasRoom a.inner.value.node a.inner.value.scratch × IsWaiting a.inner.value.node a.idle };
 }
 
 impl Colouring {
@@ -88,6 +88,10 @@ impl NodeProgram for Colouring {
             return Ok(());
         }
         let NodeAndScratch { node, scratch } = &mut *self.inner;
+        if node.hear(self.idle, pulse, inbox) {
+            return Ok(());
+        }
+        inbox.rewind();
         self.idle = node.pulse(scratch, pulse, inbox, out)?;
         Ok(())
     }

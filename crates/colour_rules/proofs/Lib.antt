@@ -9,7 +9,7 @@ mod Labelling
 mod Phases
 mod Orienting
 pub mod Pairs
-mod Idling
+pub mod Idling
 mod Places
 mod Reading
 mod Rooms

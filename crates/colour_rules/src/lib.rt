@@ -22,6 +22,7 @@
 //! Limits: degree 1,023, and so 1,023 forests and colours 0 to 1,023. Only the two `make` take memory.
 #![tactic(auto)]
 
+mod hear;
 mod idle;
 pub mod laws;
 mod merge;

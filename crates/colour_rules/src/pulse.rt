@@ -3,7 +3,7 @@ ghost use Rattle.std.specs.Prelude.{◌≡◌, ◌≤◌, IfOk, MatchResult, Non
 ghost use Rattle.std.specs.List.{list_any};
 ghost use Rattle.node_api.specs.Boxes.{nothing, unread};
 ghost use Rattle.node_api.specs.Program.{Matches};
-ghost use Rattle.colour_rules.specs.Idle.{IsIdle};
+ghost use Rattle.colour_rules.specs.Idle.{IsIdle, IsWaiting};
 ghost use Rattle.colour_rules.specs.Node.{IsPhase, ports};
 ghost use Rattle.colour_rules.specs.Refusals.{BeginsWithIds, IsAccepted, first_refusal, ids_in, own_rule, without_port};
 ghost use Rattle.colour_rules.specs.Program.{done, next};
@@ -40,6 +40,7 @@ impl ColourNode {
         requires out { out.old ≡ nothing (ports self.old) }
         ensures answer { Matches result (next self.old pulse inbox.old.slots) (self.new, out.new) }
         ensures idle { IfOk result (IsIdle self.new) }
+        ensures waits { IfOk result (IsWaiting self.new) }
         ensures refused { OnErr result ((self.new ≡ self.old) × (out.new ≡ out.old)) }
         ensures inbox { inbox.new.slots ≡ inbox.old.slots }
         ensures room { HasRoom self.new scratch.new }
