@@ -7,20 +7,13 @@ use node_api::{Inbox, NodeProgram, Outbox, Refused};
 use std::alloc::Global;
 use std::marker::Model;
 
-// A node and what it writes on while it reads a pulse.
-#[derive(Drop)]
-struct NodeAndScratch {
-    node: ColourNode,
-    scratch: Scratch,
-}
-
 /// A node of the colouring, as a program of nodes. Contracts see the `Node` of `colour_rules`.
 #[derive(Drop)]
 pub struct Colouring {
     // The pulses of which the node knows already that it does nothing if nothing comes.
     idle: IdlePulses,
-    // Apart, since what runs the nodes passes by all of them at each pulse, and most are idle.
-    inner: Box<NodeAndScratch>,
+    node: ColourNode,
+    scratch: Scratch,
 }
 
 impl Model for Colouring {
@@ -33,9 +26,9 @@ impl Model for Colouring {
 
     ghost coded = { node_code };
 
-    ghost view = { λ a. a.inner.value.node };
+    ghost view = { λ a. a.node };
 
-    ghost invariant = { λ a. HasRoom a.inner.value.node a.inner.value.scratch × IsWaiting a.inner.value.node a.idle };
+    ghost invariant = { λ a. HasRoom a.node a.scratch × IsWaiting a.node a.idle };
 }
 
 impl Colouring {
@@ -43,7 +36,7 @@ impl Colouring {
     pub fn colour(&self) -> u16
         ensures { result ≡ self.now.merged }
     {
-        self.inner.node.colour()
+        self.node.colour()
     }
 }
 
@@ -65,15 +58,15 @@ impl NodeProgram for Colouring {
     fn make(alloc: Global, net: &Network, v: u32) -> Result<Self, Memory> {
         let node = ColourNode::make(alloc, net, v)?;
         let scratch = Scratch::make(alloc, net, v)?;
-        let inner = Box::new(alloc, NodeAndScratch { node, scratch })?;
         Ok(Colouring {
             idle: IdlePulses::none(),
-            inner,
+            node,
+            scratch,
         })
     }
 
     fn init(&mut self, out: &mut Outbox<Payload>) {
-        self.inner.node.greet(out);
+        self.node.greet(out);
     }
 
     fn pre_step(&mut self, _pulse: u32) {}
@@ -87,12 +80,11 @@ impl NodeProgram for Colouring {
         if self.idle.contains(pulse) && !inbox.has_next() {
             return Ok(());
         }
-        let NodeAndScratch { node, scratch } = &mut *self.inner;
-        if node.hear(self.idle, pulse, inbox) {
+        if self.node.hear(self.idle, pulse, inbox) {
             return Ok(());
         }
         inbox.rewind();
-        self.idle = node.pulse(scratch, pulse, inbox, out)?;
+        self.idle = self.node.pulse(&mut self.scratch, pulse, inbox, out)?;
         Ok(())
     }
 

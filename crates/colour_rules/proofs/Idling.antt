@@ -1,8 +1,6 @@
 -- A node whose turn it isn't, and that hears nothing, does nothing.
-use Rattle.std.proofs.Common.{◌≡◌, ◌≢◌, ℕ, zero, suc, ◌+◌, ◌-◌, ◌*◌, ◌<◌, ◌≤◌, ◌==◌, false, List, [], ◌∷◌, length, refl, ap, subst, sym, ◌∙◌, arith}
-use Rattle.std.specs.Prelude.{Option, None, Ok, slice_index}
-use Rattle.std.specs.Ordering.{nat_cmp}
-use Rattle.std.specs.FinSet.{FinSet}
+use Rattle.std.proofs.Common.{◌≡◌, ◌≢◌, ℕ, zero, suc, ◌+◌, ◌-◌, ◌*◌, ◌<◌, ◌≤◌, ◌==◌, Bool, true, false, List, [], ◌∷◌, length, refl, ap, subst, sym, ◌∙◌, arith}
+use Rattle.std.specs.Prelude.{Option, None, Ok, slice_index, if◌then◌else◌}
 use Rattle.colour_rules.specs.declared.idle.IdlePulses.{IdlePulses}
 use Rattle.colour_rules.specs.Idle.{IsIdle, IsWaiting, no_pulses}
 use Rattle.std.proofs.lemmas.Bool.Decides.{nat_tests}
@@ -12,7 +10,7 @@ use Rattle.colour_rules.specs.declared.payload.Payload.{Payload}
 use Rattle.colour_rules.specs.declared.phase.Phase.TheVariants.{Merge}
 use Rattle.colour_rules.specs.declared.phase.TheConstants.{FIRST_MERGE}
 use Rattle.colour_rules.specs.Node.{IsPhase, Node, phase_of, ports, steps}
-use Rattle.colour_rules.specs.Choice.{chooses, gathered, with_chosen}
+use Rattle.colour_rules.specs.Choice.{chooses, gathered, with_chosen, with_taken}
 use Rattle.colour_rules.specs.Refusals.{first_refusal, ports_refusal, refusal}
 use Rattle.colour_rules.specs.Program.{answered, done, next}
 use Rattle.colour_rules.proofs.Pairs.{pair_test, phase_merge}
@@ -77,19 +75,21 @@ idle-waiting node idle waiting p low high =
     rests node p idle.forest w.0 w.2 (is_later w.0 w.1) w.3
 
 -- a node that has taken in colours waits as before
-pub waits-on : (node : Node) (idle : IdlePulses) (chosen : FinSet nat_cmp) → IsWaiting node idle → IsWaiting (record node { chosen = chosen }) idle
-waits-on node idle chosen waiting = record { steps = waiting.steps }
+pub waits-on : (node : Node) (idle : IdlePulses) (slots : List (Option Payload)) (b : Bool) → IsWaiting node idle →
+    IsWaiting (if b then with_taken node slots else node) idle
+waits-on node idle slots true waiting = record { steps = waiting.steps }
+waits-on node idle slots false waiting = waiting
 
 -- a pulse of these that refuses nothing takes in what came
 pub hears : (node : Node) (idle : IdlePulses) (p : ℕ) (slots : List (Option Payload)) → IsWaiting node idle → idle.from ≤ p → p < idle.to →
     ((s : ℕ) → 0 < s → first_refusal node (Merge idle.forest s) slots ≡ None) →
-    next node p slots ≡ Ok (record node { chosen = with_chosen node.chosen slots }, nothing (ports node))
+    next node p slots ≡ Ok (with_taken node slots, nothing (ports node))
 hears node idle p slots waiting low high fine =
     let w = waiting.steps p low high in
     let f : ℕ = idle.forest in
     let s : ℕ = w.0 in
     let later : (s == 0) ≡ false = is_later s w.1 in
-    let here : Node = record node { chosen = with_chosen node.chosen slots } in
+    let here : Node = with_taken node slots in
     let gathers : here ≡ gathered node s slots = rw later refl in
     let wait : chooses (gathered node s slots) f s ≡ false = ap (λ (n : Node). chooses n f s) (sym gathers) ∙ w.3 in
     let none : refusal node (Merge f s) slots ≡ None = rw (fine s w.1, wait) refl in

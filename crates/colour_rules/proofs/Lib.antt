@@ -14,6 +14,7 @@ mod Places
 mod Reading
 mod Rooms
 mod Steps
+mod Taking
 mod Telling
 mod Turning
 mod Valid

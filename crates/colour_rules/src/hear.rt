@@ -1,11 +1,11 @@
 //! What a node does in the pulses in which it only takes in what comes.
-ghost use Rattle.std.specs.Prelude.{◌≡◌, ◌<◌, IsTrue, List, None, Ok, Some, false, length, slice_index_or, ℕ};
-ghost use Rattle.node_api.specs.Boxes.{nothing, unread};
+ghost use Rattle.std.specs.Prelude.{◌≡◌, ◌<◌, ◌≤◌, IfSome, IsTrue, Ok, false, if◌then◌else◌, length, slice_index_or, true};
+ghost use Rattle.node_api.specs.Boxes.{HasFrom, nothing, unread};
 ghost use Rattle.forests.specs.declared.numbering.Role.TheVariants.{Unknown};
-ghost use Rattle.colour_rules.specs.declared.phase.Phase.TheVariants.{Merge};
-ghost use Rattle.colour_rules.specs.Idle.{IsWaiting};
+ghost use Rattle.colour_rules.specs.Idle.{IsPassed, IsTaken, IsWaiting};
+ghost use Rattle.colour_rules.specs.Choice.{with_taken};
 ghost use Rattle.colour_rules.specs.Node.{ports};
-ghost use Rattle.colour_rules.specs.Refusals.{and_id, first_refusal, port_rule};
+ghost use Rattle.colour_rules.specs.Table.{is_merged};
 ghost use Rattle.colour_rules.specs.Program.{next};
 
 use crate::idle::IdlePulses;
@@ -29,7 +29,30 @@ impl ColourNode {
         ensures sizes { (ports self.new ≡ ports self.old) × (self.new.sizes ≡ self.old.sizes) }
         ensures inbox { inbox.new.slots ≡ inbox.old.slots }
     {
-        if !idle.contains(pulse) || !self.takes_all(idle.forest, inbox) {
+        if !idle.contains(pulse) || !inbox.has_next() {
+            return false;
+        }
+        self.hear_all(idle.forest, inbox)
+    }
+
+    // Takes in what came, which is something, if it may come at each step of a forest after the first.
+    fn hear_all(&mut self, forest: u16, inbox: &mut Inbox<Payload>) -> bool
+        requires unread { inbox.old ≡ unread inbox.old.slots }
+        requires ports { length inbox.old.slots ≡ ports self.old }
+        requires more { HasFrom inbox.old.slots inbox.old.cursor }
+        ensures accepted { IsTrue result → IsPassed self.old forest inbox.old.slots (ports self.old) }
+        ensures node { self.new ≡ (if result then with_taken self.old inbox.old.slots else self.old) }
+        ensures slots { inbox.new.slots ≡ inbox.old.slots }
+    {
+        let Some(first) = self.take_next(forest, inbox) else {
+            return false;
+        };
+        // Most payloads come alone.
+        if !inbox.has_next() {
+            self.chosen.add(first);
+            return true;
+        }
+        if !self.takes_rest(forest, inbox) {
             return false;
         }
         inbox.rewind();
@@ -37,37 +60,44 @@ impl ColourNode {
         true
     }
 
-    // Whether all that came may come at a step of a forest after its first.
-    fn takes_all(&self, forest: u16, inbox: &mut Inbox<Payload>) -> bool
-        requires unread { inbox.old ≡ unread inbox.old.slots }
+    // Whether what is still to be read may come at each step of a forest after the first.
+    fn takes_rest(&self, forest: u16, inbox: &mut Inbox<Payload>) -> bool
         requires ports { length inbox.old.slots ≡ ports self.now }
-        ensures accepted { IsTrue result →
-            (s : ℕ) → 0 < s → first_refusal self.now (Merge forest s) inbox.old.slots ≡ None }
+        requires within { inbox.old.cursor ≤ ports self.now }
+        requires passed { IsPassed self.now forest inbox.old.slots inbox.old.cursor }
+        ensures accepted { IsTrue result → IsPassed self.now forest inbox.old.slots (ports self.now) }
         ensures slots { inbox.new.slots ≡ inbox.old.slots }
     {
         while inbox.has_next() {
-            let payload = inbox.next();
-            if !self.takes(forest, inbox.sender(), payload) {
+            if self.take_next(forest, inbox).is_none() {
                 return false;
             }
         }
         true
     }
 
-    // Whether a payload may come from a port at a step of a forest after its first.
-    fn takes(&self, forest: u16, port: u32, payload: Payload) -> bool
-        requires { port < ports self.now }
-        ensures accepted { IsTrue result →
-            (s : ℕ) (earlier : List ℕ) → 0 < s →
-            let role = slice_index_or self.now.roles port Unknown in
-            port_rule self.now earlier (Merge forest s) role (Some payload) ≡ None }
-        ensures no_identifier { IsTrue result → (earlier : List ℕ) → and_id earlier (Some payload) ≡ earlier }
+    // Reads the next payload, and returns its colour if it may come at each step of a forest after the first.
+    fn take_next(&self, forest: u16, inbox: &mut Inbox<Payload>) -> Option<u16>
+        requires more { HasFrom inbox.old.slots inbox.old.cursor }
+        requires ports { length inbox.old.slots ≡ ports self.now }
+        requires passed { IsPassed self.now forest inbox.old.slots inbox.old.cursor }
+        ensures taken { IfSome result (λ colour. IsTaken self.now forest inbox.old colour inbox.new) }
+        ensures slots { inbox.new.slots ≡ inbox.old.slots }
     {
+        let payload = inbox.next();
+        let port = inbox.sender();
         match payload {
-            Payload::Chosen(colour) => {
-                colour <= self.greatest_degree && is_merged(forest, self.roles[port as usize])
-            }
-            _ => false,
+            Payload::Chosen(colour) if self.takes(forest, port, colour) => Some(colour),
+            _ => None,
         }
+    }
+
+    // Whether a colour may come from a port at each step of a forest after the first.
+    fn takes(&self, forest: u16, port: u32, colour: u16) -> bool
+        requires { port < ports self.now }
+        ensures low { IsTrue result → colour ≤ self.now.sizes.greatest_degree }
+        ensures merged { IsTrue result → is_merged forest (slice_index_or self.now.roles port Unknown) ≡ true }
+    {
+        colour <= self.greatest_degree && is_merged(forest, self.roles[port as usize])
     }
 }
