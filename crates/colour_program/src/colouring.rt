@@ -1,7 +1,7 @@
 //! The colouring as a program of nodes.
 ghost use Rattle.std.specs.Prelude.{◌≡◌};
 
-use colour_rules::{ColourNode, FIRST_MERGE, IdlePulses, Payload, Scratch};
+use colour_rules::{ColourNode, FIRST_MERGE, IdlePulses, Payload};
 use interference::{Memory, Network};
 use node_api::{Inbox, NodeProgram, Outbox, Refused};
 use std::alloc::Global;
@@ -13,14 +13,12 @@ pub struct Colouring {
     // The pulses of which the node knows already that it does nothing if nothing comes.
     idle: IdlePulses,
     node: ColourNode,
-    scratch: Scratch,
 }
 
 impl Model for Colouring {
     ghost use Rattle.colour_rules.specs.Node.{Node};
     ghost use Rattle.colour_rules.specs.Stored.{node_code};
     ghost use Rattle.colour_rules.specs.Idle.{IsWaiting};
-    ghost use Rattle.colour_rules.specs.Room.{HasRoom};
 
     ghost Value = { Node };
 
@@ -28,7 +26,7 @@ impl Model for Colouring {
 
     ghost view = { λ a. a.node };
 
-    ghost invariant = { λ a. HasRoom a.node a.scratch × IsWaiting a.node a.idle };
+    ghost invariant = { λ a. IsWaiting a.node a.idle };
 }
 
 impl Colouring {
@@ -57,11 +55,9 @@ impl NodeProgram for Colouring {
 
     fn make(alloc: Global, net: &Network, v: u32) -> Result<Self, Memory> {
         let node = ColourNode::make(alloc, net, v)?;
-        let scratch = Scratch::make(alloc, net, v)?;
         Ok(Colouring {
             idle: IdlePulses::none(),
             node,
-            scratch,
         })
     }
 
@@ -84,7 +80,7 @@ impl NodeProgram for Colouring {
             return Ok(());
         }
         inbox.rewind();
-        self.idle = self.node.pulse(&mut self.scratch, pulse, inbox, out)?;
+        self.idle = self.node.pulse(pulse, inbox, out)?;
         Ok(())
     }
 
