@@ -1,5 +1,5 @@
 //! The text of each kind of payload, at its greatest number and one beyond; and each call once.
-use colour_rules::{ColourNode, IdlePulses, Payload, Phase, Reduction, Scratch};
+use colour_rules::{ColourNode, IdlePulses, Payload, Phase, Reduction};
 use interference::Network;
 use node_api::{Inbox, Outbox, PayloadText};
 
@@ -53,12 +53,8 @@ fn a_node_begins(rt: HostRuntime) {
     ] {
         assert_eq!(rt; node.phase(pulse), phase, "at {pulse}");
     }
-    let mut scratch = Scratch::make(alloc, &net, 1).expect(&rt, "memory");
     let mut inbox = Inbox::new(alloc, 1).expect(&rt, "memory");
     inbox.put(0, Payload::Hello(2));
     out.clear();
-    assert_eq!(rt;
-        node.pulse(&mut scratch, 1, &mut inbox, &mut out),
-        Ok(IdlePulses::none())
-    );
+    assert_eq!(rt; node.pulse(1, &mut inbox, &mut out), Ok(IdlePulses::none()));
 }

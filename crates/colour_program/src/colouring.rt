@@ -1,41 +1,32 @@
 //! The colouring as a program of nodes.
 ghost use Rattle.std.specs.Prelude.{◌≡◌};
 
-use colour_rules::{ColourNode, FIRST_MERGE, IdlePulses, Payload, Scratch};
+use colour_rules::{ColourNode, FIRST_MERGE, IdlePulses, Payload};
 use interference::{Memory, Network};
 use node_api::{Inbox, NodeProgram, Outbox, Refused};
 use std::alloc::Global;
 use std::marker::Model;
-
-// A node and what it writes on while it reads a pulse.
-#[derive(Drop)]
-struct NodeAndScratch {
-    node: ColourNode,
-    scratch: Scratch,
-}
 
 /// A node of the colouring, as a program of nodes. Contracts see the `Node` of `colour_rules`.
 #[derive(Drop)]
 pub struct Colouring {
     // The pulses of which the node knows already that it does nothing if nothing comes.
     idle: IdlePulses,
-    // Apart, since what runs the nodes passes by all of them at each pulse, and most are idle.
-    inner: Box<NodeAndScratch>,
+    node: ColourNode,
 }
 
 impl Model for Colouring {
     ghost use Rattle.colour_rules.specs.Node.{Node};
     ghost use Rattle.colour_rules.specs.Stored.{node_code};
-    ghost use Rattle.colour_rules.specs.Idle.{IsIdle};
-    ghost use Rattle.colour_rules.specs.Room.{HasRoom};
+    ghost use Rattle.colour_rules.specs.Idle.{IsWaiting};
 
     ghost Value = { Node };
 
     ghost coded = { node_code };
 
-    ghost view = { λ a. a.inner.value.node };
+    ghost view = { λ a. a.node };
 
-    ghost invariant = { λ a. HasRoom a.inner.value.node a.inner.value.scratch × IsIdle a.inner.value.node a.idle };
+    ghost invariant = { λ a. IsWaiting a.node a.idle };
 }
 
 impl Colouring {
@@ -43,7 +34,7 @@ impl Colouring {
     pub fn colour(&self) -> u16
         ensures { result ≡ self.now.merged }
     {
-        self.inner.node.colour()
+        self.node.colour()
     }
 }
 
@@ -64,16 +55,14 @@ impl NodeProgram for Colouring {
 
     fn make(alloc: Global, net: &Network, v: u32) -> Result<Self, Memory> {
         let node = ColourNode::make(alloc, net, v)?;
-        let scratch = Scratch::make(alloc, net, v)?;
-        let inner = Box::new(alloc, NodeAndScratch { node, scratch })?;
         Ok(Colouring {
             idle: IdlePulses::none(),
-            inner,
+            node,
         })
     }
 
     fn init(&mut self, out: &mut Outbox<Payload>) {
-        self.inner.node.greet(out);
+        self.node.greet(out);
     }
 
     fn pre_step(&mut self, _pulse: u32) {}
@@ -87,8 +76,11 @@ impl NodeProgram for Colouring {
         if self.idle.contains(pulse) && !inbox.has_next() {
             return Ok(());
         }
-        let NodeAndScratch { node, scratch } = &mut *self.inner;
-        self.idle = node.pulse(scratch, pulse, inbox, out)?;
+        if self.node.hear(self.idle, pulse, inbox) {
+            return Ok(());
+        }
+        inbox.rewind();
+        self.idle = self.node.pulse(pulse, inbox, out)?;
         Ok(())
     }
 

@@ -1,5 +1,5 @@
-//! The colouring of a network as a program of nodes: the rounds of `colour_rules`, with
-//! scratch lists, behind the trait of `node_api`. `forestplan` prints its last colours as channels.
+//! The colouring of a network as a program of nodes: the rounds of `colour_rules`, behind
+//! the trait of `node_api`. `forestplan` prints its last colours as channels.
 //!
 //! Any engine of node programs runs it, as `run_rounds` of `sync_rounds` does. That its nodes end with
 //! the colours of the network, which differ on every edge and are 0 to Δ, is proved in `laws`. The rule

@@ -1,6 +1,8 @@
 -- A node whose turn it isn't, and that hears nothing, does nothing.
-use Rattle.std.proofs.Common.{◌≡◌, ◌≢◌, ℕ, zero, suc, ◌+◌, ◌-◌, ◌*◌, ◌<◌, ◌≤◌, ◌==◌, false, List, [], ◌∷◌, length, refl, ap, subst, sym, ◌∙◌, arith}
-use Rattle.std.specs.Prelude.{Option, None, Ok, slice_index}
+use Rattle.std.proofs.Common.{◌≡◌, ◌≢◌, ℕ, zero, suc, ◌+◌, ◌-◌, ◌*◌, ◌<◌, ◌≤◌, ◌==◌, Bool, true, false, List, [], ◌∷◌, length, refl, ap, subst, sym, ◌∙◌, arith}
+use Rattle.std.specs.Prelude.{Option, None, Ok, slice_index, if◌then◌else◌}
+use Rattle.colour_rules.specs.declared.idle.IdlePulses.{IdlePulses}
+use Rattle.colour_rules.specs.Idle.{IsIdle, IsWaiting, no_pulses}
 use Rattle.std.proofs.lemmas.Bool.Decides.{nat_tests}
 use Rattle.node_api.specs.Boxes.{nothing}
 use Rattle.forests.specs.declared.numbering.Role.{Role}
@@ -8,8 +10,8 @@ use Rattle.colour_rules.specs.declared.payload.Payload.{Payload}
 use Rattle.colour_rules.specs.declared.phase.Phase.TheVariants.{Merge}
 use Rattle.colour_rules.specs.declared.phase.TheConstants.{FIRST_MERGE}
 use Rattle.colour_rules.specs.Node.{IsPhase, Node, phase_of, ports, steps}
-use Rattle.colour_rules.specs.Choice.{chooses, gathered, with_chosen}
-use Rattle.colour_rules.specs.Refusals.{ports_refusal, refusal}
+use Rattle.colour_rules.specs.Choice.{chooses, gathered, with_chosen, with_taken}
+use Rattle.colour_rules.specs.Refusals.{first_refusal, ports_refusal, refusal}
 use Rattle.colour_rules.specs.Program.{answered, done, next}
 use Rattle.colour_rules.proofs.Pairs.{pair_test, phase_merge}
 use Rattle.colour_rules.proofs.Phases.{merge-pulse, phase-real}
@@ -50,16 +52,51 @@ module _ (node : Node) (p f s : ℕ) (phase : phase_of node.sizes p ≡ Merge f 
       (ap (λ r. answered r (done node (Merge f s) silence)) fine
       ∙ ap Ok (sym (waits-is node f s silence silence node (gathers_nothing node s later) (sym waits) refl)))
 
--- The pulses after one of the merging are idle, up to the node's next turn or the end of the forest.
-pub idle-until : (node : Node) (pulse f s end : ℕ) → Merge f s ≡ phase_of node.sizes pulse → end ≤ steps node.sizes →
+-- The pulses after one of the merging are waited through, up to the node's next turn or the end of the forest.
+pub waits-until : (node : Node) (pulse f s end : ℕ) → Merge f s ≡ phase_of node.sizes pulse → end ≤ steps node.sizes →
     ((t : ℕ) → s < t → t < end → chooses node f t ≡ false) → (p : ℕ) → pulse < p → p < pulse + (end - s) →
-    next node p (nothing (ports node)) ≡ Ok (node, nothing (ports node))
-idle-until node pulse f s end is within idle p low high =
+    (t : ℕ) × (0 < t) × (phase_of node.sizes p ≡ Merge f t) × (chooses node f t ≡ false)
+waits-until node pulse f s end is within idle p low high =
     let bounds : IsPhase node.sizes (Merge f s) = subst (IsPhase node.sizes) (sym is) (phase-real node.sizes pulse) in
     let here : pulse ≡ FIRST_MERGE + (f * steps node.sizes + s) = merge-pulse node.sizes pulse f s is in
     let t : ℕ = p - pulse + s in
     let there : p ≡ FIRST_MERGE + (f * steps node.sizes + t) = omega arith in
     let before : t < end = omega arith in
     let phase : phase_of node.sizes p ≡ Merge f t = ap (phase_of node.sizes) there ∙ phase_merge node.sizes f t bounds.0 (omega arith) in
-    let later : (t == 0) ≡ false = (let some : 0 < t = omega arith in grind (arith, nat_tests)) in
-    rests node p f t phase later (idle t (omega arith) before)
+    (t, omega arith, phase, idle t (omega arith) before)
+
+is_later : (s : ℕ) → 0 < s → (s == 0) ≡ false
+is_later s some = grind (arith, nat_tests)
+
+-- so they are idle
+pub idle-waiting : (node : Node) (idle : IdlePulses) → IsWaiting node idle → IsIdle node idle
+idle-waiting node idle waiting p low high =
+    let w = waiting.steps p low high in
+    rests node p idle.forest w.0 w.2 (is_later w.0 w.1) w.3
+
+-- a node that has taken in colours waits as before
+pub waits-on : (node : Node) (idle : IdlePulses) (slots : List (Option Payload)) (b : Bool) → IsWaiting node idle →
+    IsWaiting (if b then with_taken node slots else node) idle
+waits-on node idle slots true waiting = record { steps = waiting.steps }
+waits-on node idle slots false waiting = waiting
+
+-- a pulse of these that refuses nothing takes in what came
+pub hears : (node : Node) (idle : IdlePulses) (p : ℕ) (slots : List (Option Payload)) → IsWaiting node idle → idle.from ≤ p → p < idle.to →
+    ((s : ℕ) → 0 < s → first_refusal node (Merge idle.forest s) slots ≡ None) →
+    next node p slots ≡ Ok (with_taken node slots, nothing (ports node))
+hears node idle p slots waiting low high fine =
+    let w = waiting.steps p low high in
+    let f : ℕ = idle.forest in
+    let s : ℕ = w.0 in
+    let later : (s == 0) ≡ false = is_later s w.1 in
+    let here : Node = with_taken node slots in
+    let gathers : here ≡ gathered node s slots = rw later refl in
+    let wait : chooses (gathered node s slots) f s ≡ false = ap (λ (n : Node). chooses n f s) (sym gathers) ∙ w.3 in
+    let none : refusal node (Merge f s) slots ≡ None = rw (fine s w.1, wait) refl in
+    rw w.2
+    (ap (λ r. answered r (done node (Merge f s) slots)) none
+    ∙ ap Ok (sym (waits-is node f s slots (nothing (ports node)) here gathers (sym wait) refl)))
+
+-- no pulse is waited through
+pub waits-none : (node : Node) → IsWaiting node no_pulses
+waits-none node = record { steps = λ p low high. absurd (omega arith) }

@@ -9,11 +9,12 @@ mod Labelling
 mod Phases
 mod Orienting
 pub mod Pairs
-mod Idling
+pub mod Idling
 mod Places
 mod Reading
 mod Rooms
 mod Steps
+mod Taking
 mod Telling
 mod Turning
 mod Valid

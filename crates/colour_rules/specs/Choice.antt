@@ -15,6 +15,10 @@ with_chosen set [] = set
 with_chosen set (Some (Chosen c) ∷ slots) = with_chosen (insert set c) slots
 with_chosen set (slot ∷ slots) = with_chosen set slots
 
+-- a node that has put them into its set
+abbrev pub with_taken : Node → List (Option Payload) → Node
+with_taken node inbox = record node { chosen = with_chosen node.chosen inbox }
+
 -- every colour that came as chosen is n at most
 abbrev pub ChosenWithin : ℕ → List (Option Payload) → Type 0
 ChosenWithin n slots = (port c : ℕ) → at_port slots port ≡ Some (Chosen c) → c ≤ n

@@ -5,5 +5,4 @@ pub mod Refusals
 pub mod Program
 pub mod Stored
 pub mod Words
-pub mod Room
 pub mod Idle

@@ -96,8 +96,3 @@ pub record IsAccepted (node : Node) (phase : Phase) (slots : List (Option Payloa
   pub size : length slots ≡ ports node
   pub by_ports : first_refusal node phase slots ≡ None
   pub by_node : own_rule node phase slots ≡ None
-
--- The first numbers of a list, `count` of them, are the identifiers that came.
-pub record BeginsWithIds (ids : List ℕ) (count : ℕ) (slots : List (Option Payload)) : Type 0 where
-  pub within : count ≤ length ids
-  pub front : take count ids ≡ ids_in slots

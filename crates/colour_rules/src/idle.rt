@@ -1,17 +1,19 @@
-//! The pulses of the merging in which a node has nothing to do unless something comes.
+//! The pulses of the merging in which a node does nothing by itself, and only takes in what comes.
 ghost use Rattle.std.specs.Prelude.{◌≡◌, ◌<◌, ◌≤◌, ◌↔◌, ℕ, IsTrue, false};
 ghost use Rattle.colour_rules.specs.Choice.{chooses};
-ghost use Rattle.colour_rules.specs.Idle.{IsIdle, no_pulses};
+ghost use Rattle.colour_rules.specs.Idle.{IsWaiting, no_pulses};
 ghost use Rattle.colour_rules.specs.Node.{phase_of, steps};
 
 use crate::node::ColourNode;
 use crate::phase::Phase;
 
-/// Pulses in which a node does nothing if nothing comes: those from `from` on and before `to`.
+/// Pulses in which a node does nothing if nothing comes: those from `from` on and before `to`, in the merging
+/// of the forest `forest`.
 #[derive(Debug, Clone, Copy, PartialEq, Eq)]
 pub struct IdlePulses {
     pub from: u32,
     pub to: u32,
+    pub forest: u16,
 }
 
 impl IdlePulses {
@@ -19,7 +21,11 @@ impl IdlePulses {
     pub fn none() -> Self
         ensures { result ≡ no_pulses }
     {
-        Self { from: 0, to: 0 }
+        Self {
+            from: 0,
+            to: 0,
+            forest: 0,
+        }
     }
 
     /// Whether a pulse is among them.
@@ -35,7 +41,7 @@ impl ColourNode {
     // comes: up to its turn in the forest, or after it up to the next forest. None at other pulses.
     pub(crate) fn idle_after(&self, pulse: u32, phase: Phase) -> IdlePulses
         requires { phase ≡ phase_of self.now.sizes pulse }
-        ensures { IsIdle self.now result }
+        ensures { IsWaiting self.now result }
     {
         match phase {
             Phase::Merge(forest, step) => {
@@ -43,6 +49,7 @@ impl ColourNode {
                 IdlePulses {
                     from: pulse.saturating_add(1),
                     to: pulse.saturating_add(end - step),
+                    forest,
                 }
             }
             _ => IdlePulses::none(),

@@ -8,9 +8,8 @@
 //!
 //! ```text
 //! let mut node = ColourNode::make(alloc, &net, v)?;
-//! let mut scratch = Scratch::make(alloc, &net, v)?;
 //! node.greet(&mut out);                                              // pulse 0
-//! let idle = node.pulse(&mut scratch, pulse, &mut inbox, &mut out)?; // each later pulse
+//! let idle = node.pulse(pulse, &mut inbox, &mut out)?; // each later pulse
 //! ```
 //!
 //! A pulse that is not refused returns the pulses after it in which the node does nothing if nothing
@@ -19,9 +18,10 @@
 //! The forests are those of A. Panconesi and R. Rizzi, Some simple distributed algorithms for sparse
 //! networks, 2001. Merging them is this project's own.
 //!
-//! Limits: degree 1,023, and so 1,023 forests and colours 0 to 1,023. Only the two `make` take memory.
+//! Limits: degree 1,023, and so 1,023 forests and colours 0 to 1,023. Only `make` takes memory.
 #![tactic(auto)]
 
+mod hear;
 mod idle;
 pub mod laws;
 mod merge;
@@ -31,7 +31,6 @@ mod phase;
 mod ports;
 mod pulse;
 pub mod rules;
-mod scratch;
 mod table;
 mod tell;
 mod work;
@@ -40,4 +39,3 @@ pub use idle::IdlePulses;
 pub use node::ColourNode;
 pub use payload::Payload;
 pub use phase::{FIRST_MERGE, Phase, Reduction};
-pub use scratch::Scratch;

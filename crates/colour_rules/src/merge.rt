@@ -15,7 +15,7 @@ use forest_merge::{COLOURS, ChosenSet, has_free, least_free};
 use node_api::{Inbox, Outbox};
 
 // Puts the colours that came as chosen into a set.
-fn add_chosen(chosen: &mut ChosenSet, inbox: &mut Inbox<Payload>)
+pub(crate) fn add_chosen(chosen: &mut ChosenSet, inbox: &mut Inbox<Payload>)
     requires unread { inbox.old ≡ unread inbox.old.slots }
     requires colours { (port c : ℕ) → at_port inbox.old.slots port ≡ Some (Chosen c) → c < COLOURS }
     ensures chosen { chosen.new ≡ with_chosen chosen.old inbox.old.slots }

@@ -1,8 +1,10 @@
 //! The first rule that a port breaks.
-ghost use Rattle.std.specs.Prelude.{◌≡◌, ◌≤◌, ◌<◌, IfOk, MatchResult, None, Some, false, length, slice_index_or, take};
+ghost use Rattle.std.specs.Prelude.{◌≡◌, ◌≤◌, ◌<◌, IfOk, MatchResult, None, Some, false, length, slice_index_or, take, ℕ};
 ghost use Rattle.node_api.specs.Boxes.{HasFrom, unread};
 ghost use Rattle.forests.specs.declared.numbering.Role.{Role};
 ghost use Rattle.forests.specs.declared.numbering.Role.TheVariants.{Unknown};
+ghost use Rattle.colour_rules.specs.declared.payload.Payload.TheVariants.{Hello};
+ghost use Rattle.colour_rules.specs.declared.phase.Phase.TheVariants.{Orient};
 ghost use Rattle.colour_rules.specs.Node.{IsIn, ports};
 ghost use Rattle.colour_rules.specs.Table.{is_above, is_due, is_merged, value_rule};
 ghost use Rattle.colour_rules.specs.Refusals.{AreUndue, IsFirstMissing, Looked};
@@ -145,6 +147,7 @@ impl ColourNode {
         requires ports { length inbox.old.slots ≡ ports self.now }
         requires looked { Looked self.now phase inbox.old.slots from earlier.now }
         ensures slots { inbox.new.slots ≡ inbox.old.slots }
+        ensures hello { IfOk result (λ payload. (id : ℕ) → payload ≡ Hello id → phase ≡ Orient) }
         ensures later { (inbox.old.cursor < inbox.new.cursor) × (inbox.new.cursor ≤ ports self.now) }
         ensures answer { MatchResult result
             (λ payload. Looked self.now phase inbox.old.slots inbox.new.cursor (and_id earlier.now (Some payload)))
@@ -158,7 +161,7 @@ impl ColourNode {
     }
 
     // The first refusal of a port, by ascending port. If there is none, how many identifiers came,
-    // which are at the front of `identifiers`.
+    // which are at the front of `identifiers`: these come at Orient alone.
     pub(crate) fn look_at_ports(
         &self,
         phase: Phase,
@@ -167,13 +170,14 @@ impl ColourNode {
     ) -> Result<usize, Refused>
         requires unread { inbox.old ≡ unread inbox.old.slots }
         requires ports { length inbox.old.slots ≡ ports self.now }
-        requires room { length identifiers.old ≡ ports self.now }
+        requires room { phase ≡ Orient → length identifiers.old ≡ ports self.now }
         ensures slots { inbox.new.slots ≡ inbox.old.slots }
         ensures answer { MatchResult result
             (λ _. first_refusal self.now phase inbox.old.slots ≡ None)
             (λ refused. first_refusal self.now phase inbox.old.slots ≡ Some refused) }
         ensures came { IfOk result
             (λ count. (count ≤ length identifiers.new) × (take count identifiers.new ≡ ids_in inbox.old.slots)) }
+        ensures room { length identifiers.new ≡ length identifiers.old }
     {
         let ports = self.roles.len() as u32;
         let mut count = 0;

@@ -3,11 +3,11 @@ ghost use Rattle.std.specs.Prelude.{◌≡◌, ◌≤◌, IfOk, MatchResult, Non
 ghost use Rattle.std.specs.List.{list_any};
 ghost use Rattle.node_api.specs.Boxes.{nothing, unread};
 ghost use Rattle.node_api.specs.Program.{Matches};
-ghost use Rattle.colour_rules.specs.Idle.{IsIdle};
-ghost use Rattle.colour_rules.specs.Node.{IsPhase, ports};
-ghost use Rattle.colour_rules.specs.Refusals.{BeginsWithIds, IsAccepted, first_refusal, ids_in, own_rule, without_port};
+ghost use Rattle.colour_rules.specs.Idle.{IsIdle, IsWaiting};
+ghost use Rattle.colour_rules.specs.declared.phase.Phase.TheVariants.{Orient};
+ghost use Rattle.colour_rules.specs.Node.{IsPhase, phase_of, ports};
+ghost use Rattle.colour_rules.specs.Refusals.{IsAccepted, first_refusal, ids_in, own_rule, without_port};
 ghost use Rattle.colour_rules.specs.Program.{done, next};
-ghost use Rattle.colour_rules.specs.Room.{HasRoom};
 ghost use Rattle.colour_rules.specs.Table.{is_above};
 
 use crate::idle::IdlePulses;
@@ -16,8 +16,14 @@ use crate::payload::Payload;
 use crate::phase::{Phase, Reduction};
 use crate::ports::is_above;
 use crate::rules::{COLOUR_RANGE, FOREST_RANGE};
-use crate::scratch::Scratch;
+use interference::MAX_DEGREE;
 use node_api::{Inbox, Outbox, Refused};
+
+// How many ports a node has at most.
+const MAX_PORTS: usize = MAX_DEGREE as usize;
+
+// Up to how many ports a node has few, so that a short list on the stack serves.
+const FEW_PORTS: usize = 16;
 
 impl ColourNode {
     /// A pulse: reads what came, does the work of the phase and sends. Returns pulses after this one in
@@ -29,52 +35,77 @@ impl ColourNode {
     /// are then as before.
     pub fn pulse(
         &mut self,
-        scratch: &mut Scratch,
         pulse: u32,
         inbox: &mut Inbox<Payload>,
         out: &mut Outbox<Payload>,
     ) -> Result<IdlePulses, Refused>
-        requires room { HasRoom self.old scratch.old }
         requires rewound { inbox.old.cursor ≡ 0 }
         requires inbox { length inbox.old.slots ≡ ports self.old }
         requires out { out.old ≡ nothing (ports self.old) }
         ensures answer { Matches result (next self.old pulse inbox.old.slots) (self.new, out.new) }
         ensures idle { IfOk result (IsIdle self.new) }
+        ensures waits { IfOk result (IsWaiting self.new) }
         ensures refused { OnErr result ((self.new ≡ self.old) × (out.new ≡ out.old)) }
         ensures inbox { inbox.new.slots ≡ inbox.old.slots }
-        ensures room { HasRoom self.new scratch.new }
+    {
+        let ports = self.roles.len();
+        if self.phase(pulse) != Phase::Orient {
+            self.pulse_with(pulse, &mut [], inbox, out)
+        } else if ports <= FEW_PORTS {
+            let mut room = [0; FEW_PORTS];
+            self.pulse_with(pulse, &mut room[..ports], inbox, out)
+        } else {
+            let mut room = [0; MAX_PORTS];
+            self.pulse_with(pulse, &mut room[..ports], inbox, out)
+        }
+    }
+
+    // The same, with room for the identifiers of all ports if they come at this pulse.
+    fn pulse_with(
+        &mut self,
+        pulse: u32,
+        identifiers: &mut [u64],
+        inbox: &mut Inbox<Payload>,
+        out: &mut Outbox<Payload>,
+    ) -> Result<IdlePulses, Refused>
+        requires room { phase_of self.old.sizes pulse ≡ Orient → length identifiers.old ≡ ports self.old }
+        requires rewound { inbox.old.cursor ≡ 0 }
+        requires inbox { length inbox.old.slots ≡ ports self.old }
+        requires out { out.old ≡ nothing (ports self.old) }
+        ensures answer { Matches result (next self.old pulse inbox.old.slots) (self.new, out.new) }
+        ensures idle { IfOk result (IsIdle self.new) }
+        ensures waits { IfOk result (IsWaiting self.new) }
+        ensures refused { OnErr result ((self.new ≡ self.old) × (out.new ≡ out.old)) }
+        ensures inbox { inbox.new.slots ≡ inbox.old.slots }
     {
         let phase = self.phase(pulse);
-        let count = self.look_at_ports(phase, &mut scratch.identifiers, inbox)?;
+        let count = self.look_at_ports(phase, identifiers, inbox)?;
         inbox.rewind();
-        self.look_at_own(phase, &scratch.identifiers[..count], inbox)?;
+        self.look_at_own(phase, &identifiers[..count], inbox)?;
         inbox.rewind();
-        self.do_work(phase, count, scratch, inbox, out);
+        self.do_work(phase, &identifiers[..count], inbox, out);
         Ok(self.idle_after(pulse, phase))
     }
 
-    // The work of the phase, once nothing is refused.
+    // The work of the phase, once nothing is refused; `identifiers` are those that came.
     fn do_work(
         &mut self,
         phase: Phase,
-        count: usize,
-        scratch: &mut Scratch,
+        identifiers: &[u64],
         inbox: &mut Inbox<Payload>,
         out: &mut Outbox<Payload>,
     )
         requires accepted { IsAccepted self.old phase inbox.old.slots }
-        requires room { HasRoom self.old scratch.old }
         requires unread { inbox.old ≡ unread inbox.old.slots }
         requires out { out.old ≡ nothing (ports self.old) }
-        requires came { BeginsWithIds scratch.old.identifiers.items count inbox.old.slots }
+        requires came { identifiers.now ≡ ids_in inbox.old.slots }
         ensures node { (self.new, out.new) ≡ done self.old phase inbox.old.slots }
         ensures slots { inbox.new.slots ≡ inbox.old.slots }
-        ensures room { HasRoom self.new scratch.new }
     {
         match phase {
-            Phase::Orient => self.orient(&scratch.identifiers[..count], out),
+            Phase::Orient => self.orient(identifiers, out),
             Phase::Seed => self.seed(inbox, out),
-            Phase::Work(reduction) => self.work(reduction, &mut scratch.parent_colours, inbox, out),
+            Phase::Work(reduction) => self.work(reduction, inbox, out),
             Phase::Merge(forest, step) => self.merge(forest, step, inbox, out),
             Phase::Greet | Phase::Halted => {}
         }

@@ -16,8 +16,15 @@ use crate::payload::Payload;
 use crate::phase::Reduction;
 use cole_vishkin::bit_step;
 use forests::{Role, number_up};
+use interference::MAX_DEGREE;
 use node_api::{Inbox, Outbox};
 use shift_down::{drop_class, shift};
+
+// How many forests there are at most.
+const MAX_FORESTS: usize = MAX_DEGREE as usize;
+
+// Up to how many forests are few, so that a short list on the stack serves.
+const FEW_FORESTS: usize = 32;
 
 impl ColourNode {
     // Numbers the ports to higher identifiers, and sends each parent the forest; `identifiers` are the
@@ -69,6 +76,29 @@ impl ColourNode {
     pub(crate) fn work(
         &mut self,
         reduction: Reduction,
+        inbox: &mut Inbox<Payload>,
+        out: &mut Outbox<Payload>,
+    )
+        requires accepted { IsAccepted self.old (Work reduction) inbox.old.slots }
+        requires unread { inbox.old ≡ unread inbox.old.slots }
+        requires out { out.old ≡ nothing (ports self.old) }
+        ensures node { (self.new, out.new) ≡ done self.old (Work reduction) inbox.old.slots }
+        ensures slots { inbox.new.slots ≡ inbox.old.slots }
+    {
+        let forests = usize::from(self.forests);
+        if forests <= FEW_FORESTS {
+            let mut room = [None; FEW_FORESTS];
+            self.work_with(reduction, &mut room[..forests], inbox, out);
+        } else {
+            let mut room = [None; MAX_FORESTS];
+            self.work_with(reduction, &mut room[..forests], inbox, out);
+        }
+    }
+
+    // The same, with room for the colour of the parent in each forest.
+    fn work_with(
+        &mut self,
+        reduction: Reduction,
         parent_colours: &mut [Option<u64>],
         inbox: &mut Inbox<Payload>,
         out: &mut Outbox<Payload>,
@@ -79,7 +109,6 @@ impl ColourNode {
         requires out { out.old ≡ nothing (ports self.old) }
         ensures node { (self.new, out.new) ≡ done self.old (Work reduction) inbox.old.slots }
         ensures slots { inbox.new.slots ≡ inbox.old.slots }
-        ensures room { length parent_colours.new ≡ length parent_colours.old }
     {
         self.hear_parents(parent_colours, inbox);
         turn_all(

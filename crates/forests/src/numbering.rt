@@ -34,11 +34,15 @@ impl Role {
 // How many ports a node has at most.
 const MAX_PORTS: usize = MAX_DEGREE as usize;
 
+// Up to how many ports a node has few, so that a short list on the stack serves.
+const FEW_PORTS: usize = 16;
+
 // Writes the identifiers above `own` to the front, in their order, and returns how many they are.
-fn gather_higher(own: u64, ids: &[u64], higher: &mut [u64; MAX_PORTS]) -> usize
-    requires { length ids.now ≤ MAX_DEGREE }
-    ensures few { result ≤ MAX_DEGREE }
+fn gather_higher(own: u64, ids: &[u64], higher: &mut [u64]) -> usize
+    requires { length ids.now ≤ length higher.old }
+    ensures few { result ≤ length ids.now }
     ensures gathered { take result higher.new ≡ filter (nat_lt own) ids.now }
+    ensures room { length higher.new ≡ length higher.old }
 {
     let mut count = 0;
     for id in ids {
@@ -51,12 +55,13 @@ fn gather_higher(own: u64, ids: &[u64], higher: &mut [u64; MAX_PORTS]) -> usize
 }
 
 // Writes the identifiers above `own` to the front, ascending, and returns how many they are.
-fn order_higher(own: u64, ids: &[u64], higher: &mut [u64; MAX_PORTS]) -> usize
-    requires few { length ids.now ≤ MAX_DEGREE }
+fn order_higher(own: u64, ids: &[u64], higher: &mut [u64]) -> usize
+    requires room { length ids.now ≤ length higher.old }
     requires distinct { AllPairs (λ x y. x ≢ y) ids.now }
-    ensures few { result ≤ MAX_DEGREE }
+    ensures few { result ≤ length ids.now }
     ensures ordered { take result higher.new ≡ in_order (λ i. i) (filter (nat_lt own) ids.now) }
     ensures ascending { IsAscendingBy (λ i. i) (take result higher.new) }
+    ensures room { length higher.new ≡ length higher.old }
 {
     let count = gather_higher(own, ids, higher);
     higher[..count].sort_unstable();
@@ -76,6 +81,20 @@ fn role_among(higher: &[u64], id: u64) -> Role
     }
 }
 
+// Numbers the ports that lead to higher identifiers; there is room for these in `higher`.
+fn number_with(own: u64, ids: &[u64], higher: &mut [u64], roles: &mut [Role])
+    requires same_ports { length roles.old ≡ length ids.now }
+    requires few { length ids.now ≤ MAX_DEGREE }
+    requires room { length ids.now ≤ length higher.old }
+    requires distinct { AllPairs (λ x y. x ≢ y) ids.now }
+    ensures numbered { roles.new ≡ map (role_by own ids.now) ids.now }
+{
+    let count = order_higher(own, ids, higher);
+    for (port, id) in ids.iter().enumerate() {
+        roles[port] = role_among(&higher[..count], *id);
+    }
+}
+
 /// Numbers the ports of the node `own` that lead to higher identifiers by ascending identifier, as
 /// `Up(0)`, `Up(1)` and so on, and makes all others `Unknown`.
 ///
@@ -89,9 +108,9 @@ pub fn number_up(own: u64, ids: &[u64], roles: &mut [Role])
     requires others { All (λ id. id ≢ own) ids.now }
     ensures numbered { roles.new ≡ map (role_by own ids.now) ids.now }
 {
-    let mut higher = [0; MAX_PORTS];
-    let count = order_higher(own, ids, &mut higher);
-    for (port, id) in ids.iter().enumerate() {
-        roles[port] = role_among(&higher[..count], *id);
+    if ids.len() <= FEW_PORTS {
+        number_with(own, ids, &mut [0; FEW_PORTS], roles);
+    } else {
+        number_with(own, ids, &mut [0; MAX_PORTS], roles);
     }
 }

@@ -4,6 +4,7 @@ use Rattle.node_api.specs.Boxes.{HasFrom, nothing}
 use Rattle.colour_rules.specs.declared.payload.Payload.{Payload}
 use Rattle.colour_rules.specs.Node.{Node, ports}
 use Rattle.colour_rules.specs.Program.{next}
+use Rattle.colour_rules.proofs.Idling.{idle-waiting}
 use Rattle.colour_program.proofs.Quiet.{nothing-came}
 use Rattle.colour_program.proofs.colouring.ColouringNodeProgram.handle_messages.Goals as goal
 
@@ -17,5 +18,5 @@ returns-then-not-has_next-clause-answer c =
     let empty : slots ≡ nothing (ports node) = nothing-came slots quiet ∙ ap (λ (n : ℕ). nothing n) c.requires.inbox in
     let stays : next node c.args.pulse (nothing (ports node)) ≡ Ok (node, nothing (ports node)) =
     subst (λ (n : Node). next n c.args.pulse (nothing (ports n)) ≡ Ok (n, nothing (ports n))) c.self.view_is
-    (c.self.invariant.1 c.args.pulse covered.0 covered.1) in
+    (idle-waiting _ c.self.inside.idle c.self.invariant c.args.pulse covered.0 covered.1) in
     ap (next node c.args.pulse) empty ∙ (stays ∙ ap (λ (out : List (Option Payload)). Ok (node, out)) (sym c.requires.out))

@@ -48,6 +48,6 @@ returns-clause-answer c = (end (goal.at.returns-clause-answer c).After-none_due 
 
 pub returns-clause-came : goal.returns-clause-came
 returns-clause-came c = (
-  omega (arith, c.loop-identifiers.invariant.few, c.loop-identifiers.invariant.within, c.loop-identifiers.invariant.room),
+  c.loop-identifiers.invariant.fit,
   (end (goal.at.returns-clause-came c).After-none_due c.in_ok-none_due.ensures).1,
 )

@@ -9,8 +9,9 @@ invariant-loop-identifiers l =
       same : l.inbox.slots ≡ l.fn.inbox.slots;
       cursor : l.from ≡ l.inbox.cursor;
       within : l.from ≤ ports l.fn.self;
-      room : length l.identifiers ≡ ports l.fn.self;
+      room : length l.identifiers ≡ length l.fn.identifiers;
       few : l.count ≤ l.from;
+      fit : l.count ≤ length l.identifiers;
       looked : Looked l.fn.self l.fn.phase l.fn.inbox.slots l.from (take l.count l.identifiers);
     }
 

@@ -12,8 +12,8 @@ use Rattle.colour_rules.specs.contracts.node.ColourNode.{the_view}
 use Rattle.colour_rules.proofs.Valid.{IsValid, valid-seen, valid-colours}
 use Rattle.colour_rules.proofs.Working.{brought, ready, kept-below}
 use Rattle.colour_rules.proofs.Worked.{colours-are, kept-are, tells-on, tells-nothing}
-use Rattle.colour_rules.proofs.node.ColourNode.work.Goals as goal
-use Rattle.colour_rules.proofs.node.ColourNode.work.Goals.{After-turn_all}
+use Rattle.colour_rules.proofs.node.ColourNode.work_with.Goals as goal
+use Rattle.colour_rules.proofs.node.ColourNode.work_with.Goals.{After-turn_all}
 
 pub hear_parents-requires-clause-all : goal.hear_parents-requires-clause-all
 hear_parents-requires-clause-all c port f h up =

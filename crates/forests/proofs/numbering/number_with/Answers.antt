@@ -3,7 +3,7 @@ use Rattle.std.proofs.lemmas.List.{take_more_set, map_more}
 use Rattle.std.proofs.lemmas.List.Elements.{Contains-get_or}
 use Rattle.forests.specs.Forests.{role_by}
 use Rattle.forests.proofs.Roles.{role-is}
-use Rattle.forests.proofs.numbering.number_up.Goals as goal
+use Rattle.forests.proofs.numbering.number_with.Goals as goal
 
 pub loop-port-preserved : goal.loop-port-preserved
 loop-port-preserved c =

@@ -1,0 +1,17 @@
+use Rattle.std.proofs.Common.{refl, subst}
+use Rattle.node_api.specs.Boxes.{Reads}
+use Rattle.colour_rules.specs.declared.payload.Payload.{Payload}
+use Rattle.colour_rules.specs.declared.payload.Payload.TheVariants.{Chosen}
+use Rattle.colour_rules.proofs.Taking.{passed-more}
+use Rattle.colour_rules.proofs.node.ColourNode.take_next.Goals as goal
+
+pub returns-in-Chosen-clause-taken : goal.returns-in-Chosen-clause-taken
+returns-in-Chosen-clause-taken c =
+    let reads : Reads c.args.inbox.now (Chosen c.in-Chosen.colour) c.next-payload.new.self =
+    subst (λ (payload : Payload). Reads c.args.inbox.now payload c.next-payload.new.self) c.in-Chosen.is c.next-payload.ensures.reads in
+    record {
+      reads = reads;
+      low = c.if-takes.ensures.low refl;
+      passed = passed-more c.args.self.now c.args.forest c.args.inbox.now.slots c.requires.ports c.args.inbox.now c.next-payload.new.self c.sender-port.result
+          c.in-Chosen.colour refl c.sender-port.ensures.port reads (c.if-takes.ensures.low refl) (c.if-takes.ensures.merged refl) c.requires.passed;
+    }

@@ -1,0 +1,103 @@
+//! What a node does in the pulses in which it only takes in what comes.
+ghost use Rattle.std.specs.Prelude.{◌≡◌, ◌<◌, ◌≤◌, IfSome, IsTrue, Ok, false, if◌then◌else◌, length, slice_index_or, true};
+ghost use Rattle.node_api.specs.Boxes.{HasFrom, nothing, unread};
+ghost use Rattle.forests.specs.declared.numbering.Role.TheVariants.{Unknown};
+ghost use Rattle.colour_rules.specs.Idle.{IsPassed, IsTaken, IsWaiting};
+ghost use Rattle.colour_rules.specs.Choice.{with_taken};
+ghost use Rattle.colour_rules.specs.Node.{ports};
+ghost use Rattle.colour_rules.specs.Table.{is_merged};
+ghost use Rattle.colour_rules.specs.Program.{next};
+
+use crate::idle::IdlePulses;
+use crate::merge::add_chosen;
+use crate::node::ColourNode;
+use crate::payload::Payload;
+use crate::ports::is_merged;
+use node_api::Inbox;
+
+impl ColourNode {
+    /// A pulse at which the node only takes in what came, which is one of `idle`; nothing is sent, and the
+    /// pulses in which it waits stay the same. Returns false, and leaves the node as it was, if the pulse isn't
+    /// one of them or something came that may not come: then `pulse` says what is refused.
+    pub fn hear(&mut self, idle: IdlePulses, pulse: u32, inbox: &mut Inbox<Payload>) -> bool
+        requires waits { IsWaiting self.old idle }
+        requires rewound { inbox.old.cursor ≡ 0 }
+        requires inbox { length inbox.old.slots ≡ ports self.old }
+        ensures heard { IsTrue result → next self.old pulse inbox.old.slots ≡ Ok (self.new, nothing (ports self.old)) }
+        ensures waits { IsWaiting self.new idle }
+        ensures refused { result ≡ false → self.new ≡ self.old }
+        ensures sizes { (ports self.new ≡ ports self.old) × (self.new.sizes ≡ self.old.sizes) }
+        ensures inbox { inbox.new.slots ≡ inbox.old.slots }
+    {
+        if !idle.contains(pulse) || !inbox.has_next() {
+            return false;
+        }
+        self.hear_all(idle.forest, inbox)
+    }
+
+    // Takes in what came, which is something, if it may come at each step of a forest after the first.
+    fn hear_all(&mut self, forest: u16, inbox: &mut Inbox<Payload>) -> bool
+        requires unread { inbox.old ≡ unread inbox.old.slots }
+        requires ports { length inbox.old.slots ≡ ports self.old }
+        requires more { HasFrom inbox.old.slots inbox.old.cursor }
+        ensures accepted { IsTrue result → IsPassed self.old forest inbox.old.slots (ports self.old) }
+        ensures node { self.new ≡ (if result then with_taken self.old inbox.old.slots else self.old) }
+        ensures slots { inbox.new.slots ≡ inbox.old.slots }
+    {
+        let Some(first) = self.take_next(forest, inbox) else {
+            return false;
+        };
+        // Most payloads come alone.
+        if !inbox.has_next() {
+            self.chosen.add(first);
+            return true;
+        }
+        if !self.takes_rest(forest, inbox) {
+            return false;
+        }
+        inbox.rewind();
+        add_chosen(&mut self.chosen, inbox);
+        true
+    }
+
+    // Whether what is still to be read may come at each step of a forest after the first.
+    fn takes_rest(&self, forest: u16, inbox: &mut Inbox<Payload>) -> bool
+        requires ports { length inbox.old.slots ≡ ports self.now }
+        requires within { inbox.old.cursor ≤ ports self.now }
+        requires passed { IsPassed self.now forest inbox.old.slots inbox.old.cursor }
+        ensures accepted { IsTrue result → IsPassed self.now forest inbox.old.slots (ports self.now) }
+        ensures slots { inbox.new.slots ≡ inbox.old.slots }
+    {
+        while inbox.has_next() {
+            if self.take_next(forest, inbox).is_none() {
+                return false;
+            }
+        }
+        true
+    }
+
+    // Reads the next payload, and returns its colour if it may come at each step of a forest after the first.
+    fn take_next(&self, forest: u16, inbox: &mut Inbox<Payload>) -> Option<u16>
+        requires more { HasFrom inbox.old.slots inbox.old.cursor }
+        requires ports { length inbox.old.slots ≡ ports self.now }
+        requires passed { IsPassed self.now forest inbox.old.slots inbox.old.cursor }
+        ensures taken { IfSome result (λ colour. IsTaken self.now forest inbox.old colour inbox.new) }
+        ensures slots { inbox.new.slots ≡ inbox.old.slots }
+    {
+        let payload = inbox.next();
+        let port = inbox.sender();
+        match payload {
+            Payload::Chosen(colour) if self.takes(forest, port, colour) => Some(colour),
+            _ => None,
+        }
+    }
+
+    // Whether a colour may come from a port at each step of a forest after the first.
+    fn takes(&self, forest: u16, port: u32, colour: u16) -> bool
+        requires { port < ports self.now }
+        ensures low { IsTrue result → colour ≤ self.now.sizes.greatest_degree }
+        ensures merged { IsTrue result → is_merged forest (slice_index_or self.now.roles port Unknown) ≡ true }
+    {
+        colour <= self.greatest_degree && is_merged(forest, self.roles[port as usize])
+    }
+}
