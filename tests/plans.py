@@ -117,21 +117,19 @@ def refused_rows(program, queens):
 
 
 def thread_row(program, front, folder, words, title, network):
-    """Refuses thread 1, 2, .. until a run asks for fewer: the answer is the plan, or `threads`."""
+    """Refuses thread 1, 2, .. until a run asks for fewer: each answer is `threads`, and the last the plan."""
     name = f"each thread refused in turn: {' '.join(words)} of {title}"
     counted = os.path.join(folder, "threads")
     plan, refusal = (0, plan_text(network), b""), (4, b"", THREADS)
-    refusals = 0
     for k in range(1, 1000):
         if os.path.exists(counted):
             os.remove(counted)
         given = {"PATH": os.environ.get("PATH", ""), "LD_PRELOAD": front, "REFUSE": str(k), "COUNT": counted}
         got = answer_of(program, words, network, given)
-        if got not in (plan, refusal):
-            return name, False, f"thread {k}: {got}"
-        refusals += got == refusal
         with open(counted, encoding="ascii") as file:
             asked = int(file.read())
+        if got != (plan if asked < k else refusal):
+            return name, False, f"thread {k} of {asked}: {got}"
         if asked < k:
-            return name, refusals > 0 and got == plan, f"{refusals} refused of {asked}"
+            return name, k > 1, f"{asked} threads"
     return name, False, "still refused after 1000 threads"

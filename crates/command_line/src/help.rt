@@ -98,8 +98,8 @@ pub const PLAN: Help = Help {
 It is the very plan that `forestplan plain` prints, whatever the options are and
 whichever thread is faster. The nodes have no common clock: worker threads run
 them in any order, and Awerbuch's synchroniser alpha keeps each in step with its
-neighbours. A node makes its next round, here called a pulse, once each neighbour
-has said that all it sent at this one has been taken.
+neighbours. A node makes its next round, here called a pulse, once all that it
+sent at this one has been taken and each neighbour has said the same of its own.
 
   worker   a thread; it looks for a node that no other worker has, makes one turn
            of it, and looks for the next

@@ -108,7 +108,7 @@ fn meet_each<J: Wiring, P: NodeProgram, R: Wait>(
     Ok(all)
 }
 
-/// The links of each row meet their ends, which stand as they do.
+/// The links of each row meet their ends, given in the same rows and order.
 ///
 /// # Errors
 ///

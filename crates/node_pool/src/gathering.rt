@@ -18,8 +18,8 @@ use node_api::NodeProgram;
 use std::alloc::Global;
 use std::sync::Wait;
 
-/// What the nodes of a run, ascending, and its links leave, once all threads are joined. Every capacity that no link is
-/// above is one of the outcome.
+/// What the nodes of a run, ascending, and its links leave, once all threads are joined. The outcome's
+/// capacity may be any number that no link's capacity exceeds.
 ///
 /// # Errors
 ///

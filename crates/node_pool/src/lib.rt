@@ -9,8 +9,8 @@
 //! if outcome.is_whole() { .. outcome.actors() .. }
 //! ```
 //!
-//! Limits: `MAX_WORKERS` and `MAX_CAPACITY`. No turn takes memory. Nothing is promised of time, of fairness, that an
-//! outcome is whole, or that the call returns.
+//! Limits: `MAX_WORKERS` and `MAX_CAPACITY`. No turn can return out-of-memory. Nothing is promised of time, of fairness,
+//! that an outcome is whole, or that the call returns.
 #![tactic(auto)]
 
 mod gathering;
