@@ -1,8 +1,8 @@
 //! A node with the ends of its links: what moves from thread to thread, and what it does in a turn.
 //!
 //! A `Node` keeps as facts of its type that it fits the lists of its own ends: `NodeKept` of `alpha_laws`, over the
-//! lists that its ends put and took. So each turn of it, in whatever thread, keeps
-//! these facts, and asks nothing of its caller. `pool` lets workers make turns of all nodes of a run.
+//! lists that its ends put and took. So each turn of it, in whatever thread, keeps these facts, and asks
+//! nothing of its caller. `pool` lets workers make turns of all nodes of a run.
 //!
 //! ```text
 //! let mut node = Node::<J, Colouring>::start(alloc, &network, v, puts, takes)?;

@@ -1,3 +1,4 @@
 pub mod Ports
 pub mod Writes
 pub mod Replayed
+pub mod Decided

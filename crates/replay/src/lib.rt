@@ -16,6 +16,7 @@
 #![tactic(auto)]
 
 mod entry_event;
+pub mod laws;
 mod refused;
 mod replaying;
 mod same_wire;

@@ -19,10 +19,10 @@ pub enum ReplayRefused {
 }
 
 impl From<Memory> for ReplayRefused {
-    ghost use Rattle.net_core.specs.declared.refused.RunRefused.TheVariants as run_refused;
+    ghost use Rattle.net_core.specs.declared.refused.RunRefused.TheVariants.{Memory};
     ghost use Rattle.replay.specs.declared.refused.ReplayRefused.TheVariants.{Run};
 
-    ghost from_gives = { λ _ refused. refused ≡ Run run_refused.Memory };
+    ghost from_gives = { λ _ refused. refused ≡ Run Memory };
 
     fn from(_memory: Memory) -> ReplayRefused {
         ReplayRefused::Run(RunRefused::Memory)

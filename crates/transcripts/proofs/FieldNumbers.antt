@@ -77,7 +77,8 @@ pub parsed : {E : Type 0} (k : ℕ) (field bs : List ℕ) (r : Result ℕ E) →
 parsed k field bs r same plain is =
     by-result r (parse_plain own k field r (subst (λ b. ParsesUnsigned k 10 b r) same is) plain)
   where
-    by-result : {E : Type 0} (r : Result ℕ E) → OkIff r ((all_ascii_digits field ≡ true) × (0 < length field) × (digits_value 10 field < 2 ^ k)) (digits_value 10 field)
+    by-result : {E : Type 0} (r : Result ℕ E) →
+        OkIff r ((all_ascii_digits field ≡ true) × (0 < length field) × (digits_value 10 field < 2 ^ k)) (digits_value 10 field)
         → result_ok r ≡ below k field
     by-result (Ok n) ((e, some, low), value) = ap (λ v. Some v) value ∙ sym (below-digits k field e some low)
     by-result (Err e) never = sym (below-none k field never)

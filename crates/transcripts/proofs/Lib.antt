@@ -4,3 +4,4 @@ pub mod Payloads
 pub mod Readings
 pub mod Spaced
 pub mod Written
+pub mod Texts

@@ -155,8 +155,8 @@ module _ {M : Type 0} (word_of : M → List ℕ) (number_of' : M → ℕ) (paylo
       payload_in payload_of (word_of x ∷ decimal (number_of' x) ∷ []) ≡ Some x
   reads-payload x fits back =
       ap (option_and_then (λ number. option_and_then (only []) (payload_with payload_of (word_of x) number))) (wide-decimal (number_of' x) fits)
-      ∙ ap (option_and_then (only [])) (payload-text payload_of (word_of x) (number_of' x) (IsUtf8-from_ascii (word_of x) (letters-ascii (word_of x) (letters x).1))
-      ∙ back)
+      ∙ ap (option_and_then (only []))
+      (payload-text payload_of (word_of x) (number_of' x) (IsUtf8-from_ascii (word_of x) (letters-ascii (word_of x) (letters x).1)) ∙ back)
 
   reads-wire : (wire : Wire M) → IsReadableWire wire → wire_of payload_of (wire_words wire) ≡ Some wire
   reads-wire (Payload p x) h =

@@ -74,5 +74,5 @@ module _ {M : Type 0} (payload_of : List ℕ → ℕ → Option M) where
 -- how many nodes the first line says that there are: it is `transcript 1 NODES`
 abbrev pub header_of : Line → Option ℕ
 header_of line = with_next (λ first others. with_next (λ edition rest.
-    if bytes_eq first (codes "transcript") && bytes_eq edition (codes "1") then with_number (λ nodes left. only left nodes) rest
-    else None) others) line
+    if bytes_eq first (codes "transcript") && bytes_eq edition (codes "1")
+    then with_number (λ nodes left. only left nodes) rest else None) others) line

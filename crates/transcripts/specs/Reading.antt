@@ -1,6 +1,8 @@
 -- The reading of a transcript: the line `transcript 1 NODES`, and then an entry a line.
 use Rattle.std.specs.Prelude.{◌≡◌, ℕ, ◌+◌, Option, Some, None, option_map, Result, Ok, Err, List, [], ◌∷◌, ◌++◌}
+use Rattle.std.specs.Prelude.{filter, map}
 use Rattle.dimacs_col.specs.Lines.{Line}
+use Rattle.channel_plan.specs.Reading.{has_fields}
 use Rattle.transcripts.specs.TranscriptText.{Row}
 use Rattle.transcripts.specs.EntryLines.{header_of, row_of}
 use Rattle.transcripts.specs.declared.fault.TextFault.{TextFault}
@@ -11,8 +13,8 @@ abbrev pub Transcript : Type 0 → Type 0
 Transcript M = ℕ × List (Row M)
 
 module _ {M : Type 0} (payload_of : List ℕ → ℕ → Option M) where
-  -- What is known after a line: the nodes and the entries so far, or `None` before the first line. A line without a field
-  -- changes nothing. The whole is `None` for a line that is wrong there.
+  -- What is known after a line: the nodes and the entries so far, or `None` before the first line. A line without a
+  -- field changes nothing. The whole is `None` for a line that is wrong there.
   unfoldable pub known_after : Option (Transcript M) → Line → Option (Option (Transcript M))
   known_after known [] = Some known
   known_after None (word ∷ words) = option_map (λ nodes. Some (nodes, [])) (header_of (word ∷ words))
@@ -33,6 +35,14 @@ module _ {M : Type 0} (payload_of : List ℕ → ℕ → Option M) where
   -- the transcript that a text is, or the number of its first wrong line
   abbrev pub reading_of : List Line → Result (Transcript M) ℕ
   reading_of lines = read_from 1 None lines
+
+  -- the lines that have fields are the line `transcript 1 NODES` and then these entries
+  pub record IsTranscriptText (lines : List Line) (read : Transcript M) : Type 0 where
+    pub first : Line
+    pub body : List Line
+    pub lines_are : filter has_fields lines ≡ first ∷ body
+    pub nodes_are : header_of first ≡ Some read.0
+    pub rows_are : map (row_of payload_of) body ≡ map Some read.1
 
   -- the fault of lines that are no transcript: X1 with the first wrong line; that memory ran out says nothing of them
   abbrev pub IsFaultOfReading : List Line → TextFault → Type 0

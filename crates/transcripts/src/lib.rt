@@ -15,6 +15,7 @@
 
 mod entry_line;
 mod fault;
+pub mod laws;
 mod numbers;
 mod reading;
 mod writing;

@@ -14,17 +14,17 @@ use node_api::PayloadText;
 use std::alloc::{AllocError, Global};
 use std::marker::Model;
 
-// How many nodes there are, and the entries so far.
+// What the lines so far say: how many nodes there are, and the entries.
 #[derive(Drop)]
-struct Transcript<T> {
+struct Beginning<T> {
     nodes: u32,
     rows: Vec<(u32, Entry<T>)>,
 }
 
-impl<T> Model for Transcript<T> {
-    ghost use Rattle.transcripts.specs.Reading as reading;
+impl<T> Model for Beginning<T> {
+    ghost use Rattle.transcripts.specs.Reading.{Transcript};
 
-    ghost Value = { reading.Transcript T };
+    ghost Value = { Transcript T };
 
     ghost view = { λ a. (a.nodes, a.rows.items) };
 }
@@ -34,7 +34,7 @@ struct Reader<T> {
     // The number of the last line, from 1.
     line: usize,
     // What the lines so far say, once the first one came.
-    known: Option<Transcript<T>>,
+    known: Option<Beginning<T>>,
 }
 
 impl<T: PayloadText> Reader<T> {
@@ -71,7 +71,7 @@ impl<T: PayloadText> Reader<T> {
                 let Some(nodes) = header_of(first, fields) else {
                     return Err(TextFault::Syntax(self.line));
                 };
-                self.known = Some(Transcript {
+                self.known = Some(Beginning {
                     nodes,
                     rows: Vec::new(alloc),
                 });

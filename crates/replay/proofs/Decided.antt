@@ -1,0 +1,157 @@
+-- Entries decide their events (row-event, events-from), and so whether they are a replay (next-is, not-both).
+use Rattle.std.proofs.Common.{◌≡◌, ◌+◌, ◌∙◌, ℕ, suc, Bool, true, false, Option, Some, None, List, [], ◌∷◌, ◌++◌, map, slice_get, Result, Ok, Err}
+use Rattle.std.proofs.Common.{ap, refl, sym}
+use Rattle.std.specs.Option.{option_map}
+use Rattle.interference.specs.Net.{IsNetwork, Net, neighbour_of, port_to}
+use Rattle.interference.proofs.Neighbours.{port_to-is}
+use Rattle.node_api.specs.Program.{Program}
+use Rattle.alpha_core.specs.declared.wire.Wire.{Wire}
+use Rattle.alpha_core.specs.View.{port_at}
+use Rattle.entries.specs.declared.entry.Entry.TheVariants as entry
+use Rattle.net_core.specs.declared.event.Event.{Event}
+use Rattle.net_core.specs.declared.event.Event.TheVariants.{Pulse, Put, Take}
+use Rattle.net_core.specs.declared.refused.StepRefused.{StepRefused}
+use Rattle.net_core.specs.declared.refused.StepRefused.TheVariants.{NoSuch}
+use Rattle.net_core.specs.State.{State, link_to, node_of, start}
+use Rattle.net_core.specs.Step.{go_on, has_port, run_from, step}
+use Rattle.net_core.proofs.NetKept.{port_from}
+use Rattle.replay.specs.declared.refused.EntryRefused.{EntryRefused}
+use Rattle.replay.specs.declared.refused.EntryRefused.TheVariants.{Step, WrongWire}
+use Rattle.replay.specs.Laws.{ReplaysAreExact}
+use Rattle.replay.specs.Replays.{WhyNot}
+use Rattle.replay.specs.Rows.{Row, event_of, if_made, row_of, rows_from}
+
+head-is : {A : Type 0} (x y : A) (xs ys : List A) → x ∷ xs ≡ y ∷ ys → x ≡ y
+head-is x y xs ys e = cc
+
+tail-is : {A : Type 0} (x y : A) (xs ys : List A) → x ∷ xs ≡ y ∷ ys → xs ≡ ys
+tail-is x y xs ys e = cc
+
+module _ {S M E : Type 0} (program : Program S M E) (net : Net) (ok : IsNetwork net) where
+  abbrev events_of : List (Row M) → List Event
+  events_of rows = map (λ row. event_of net row) rows
+
+  put-there : (state next : State S M) (v i : ℕ) → step program net state (Put v i) ≡ Ok next → has_port net v i ≡ true
+  put-there state next v i e = by-test (has_port net v i) refl
+    where
+      by-test : (b : Bool) → has_port net v i ≡ b → has_port net v i ≡ true
+      by-test true t = t
+      by-test false t =
+          let no : step program net state (Put v i) ≡ Err NoSuch = rw t refl in
+          let wrong : ◌≡◌ {A = Result (State S M) StepRefused} (Err NoSuch) (Ok next) = sym no ∙ e in absurd cc
+
+  take-there : (state next : State S M) (v i : ℕ) → step program net state (Take v i) ≡ Ok next → has_port net v i ≡ true
+  take-there state next v i e = by-test (has_port net v i) refl
+    where
+      by-test : (b : Bool) → has_port net v i ≡ b → has_port net v i ≡ true
+      by-test true t = t
+      by-test false t =
+          let no : step program net state (Take v i) ≡ Err NoSuch = rw t refl in
+          let wrong : ◌≡◌ {A = Result (State S M) StepRefused} (Err NoSuch) (Ok next) = sym no ∙ e in absurd cc
+
+  back : (v i : ℕ) → has_port net v i ≡ true → port_to net v (neighbour_of net v i) ≡ i
+  back v i t = let there = port_from net v i t in port_to-is net ok v i there.0 there.1
+
+  put-row : (v i : ℕ) (row : Row M) (oldest : Option (Wire M)) → has_port net v i ≡ true →
+      option_map (λ wire. (v, entry.Put (neighbour_of net v i) wire)) oldest ≡ Some row → Put v i ≡ event_of net row
+  put-row v i row None t e = absurd cc
+  put-row v i row (Some wire) t e =
+      let same : ◌≡◌ {A = Row M} (v, entry.Put (neighbour_of net v i) wire) row = cc in
+      ap (λ k. Put v k) (sym (back v i t)) ∙ ap (λ r. event_of net r) same
+
+  take-row : (v i : ℕ) (row : Row M) (oldest : Option (Wire M)) → has_port net v i ≡ true →
+      option_map (λ wire. (v, entry.Take (neighbour_of net v i) wire)) oldest ≡ Some row → Take v i ≡ event_of net row
+  take-row v i row None t e = absurd cc
+  take-row v i row (Some wire) t e =
+      let same : ◌≡◌ {A = Row M} (v, entry.Take (neighbour_of net v i) wire) row = cc in
+      ap (λ k. Take v k) (sym (back v i t)) ∙ ap (λ r. event_of net r) same
+
+  -- an event that is possible is the one that its entry is of
+  row-event : (state next : State S M) (event : Event) (row : Row M) → step program net state event ≡ Ok next →
+      row_of program net state event ≡ Some row → event ≡ event_of net row
+  row-event state next (Pulse v) row made writes =
+      let same : ◌≡◌ {A = Row M} (v, entry.Pulse ((node_of program net state v).view.pulse + 1)) row = cc in ap (λ r. event_of net r) same
+  row-event state next (Put v i) row made writes =
+      put-row v i row (slice_get (port_at (node_of program net state v).view i).out 0) (put-there state next v i made) writes
+  row-event state next (Take v i) row made writes =
+      take-row v i row (slice_get (link_to net state.links v i).held 0) (take-there state next v i made) writes
+
+  -- the first event of a run, and the entry that it writes down
+  record First (k : ℕ) (event : Event) (events : List Event) (row : Row M) (rows : List (Row M)) (state last : State S M) : Type 0 where
+    next : State S M
+    made : step program net state event ≡ Ok next
+    writes : row_of program net state event ≡ Some row
+    is_run : run_from program net (suc k) events next ≡ Ok last
+    rows_are : rows_from program net next events ≡ map (λ r. Some r) rows
+
+  first : (k : ℕ) (event : Event) (events : List Event) (row : Row M) (rows : List (Row M)) (state last : State S M)
+      → run_from program net k (event ∷ events) state ≡ Ok last
+      → rows_from program net state (event ∷ events) ≡ map (λ r. Some r) (row ∷ rows) → First k event events row rows state last
+  first k event events row rows state last run are =
+      let behind = if_made (step program net state event) (λ n. rows_from program net n events) in
+      by-step (step program net state event) refl run (tail-is (row_of program net state event) (Some row) behind (map (λ r. Some r) rows) are)
+      (head-is (row_of program net state event) (Some row) behind (map (λ r. Some r) rows) are)
+    where
+      by-step : (r : Result (State S M) StepRefused) → step program net state event ≡ r
+          → go_on k r (λ n. run_from program net (suc k) events n) ≡ Ok last
+          → if_made r (λ n. rows_from program net n events) ≡ map (λ r. Some r) rows
+          → row_of program net state event ≡ Some row → First k event events row rows state last
+      by-step (Ok n) made run left here = record { next = n; made = made; writes = here; is_run = run; rows_are = left }
+      by-step (Err reason) made run left here = absurd cc
+
+  events-from : (k : ℕ) (events : List Event) (rows : List (Row M)) (state last : State S M) → run_from program net k events state ≡ Ok last →
+      rows_from program net state events ≡ map (λ r. Some r) rows → events ≡ events_of rows
+  events-from k [] [] state last run are = refl
+  events-from k [] (row ∷ rows) state last run are = absurd cc
+  events-from k (event ∷ events) [] state last run are = absurd cc
+  events-from k (event ∷ events) (row ∷ rows) state last run are =
+      let f = first k event events row rows state last run are in
+      ap (λ e. e ∷ events) (row-event state f.next event row f.made f.writes)
+      ∙ ap (λ es. event_of net row ∷ es) (events-from (suc k) events rows f.next last f.is_run f.rows_are)
+
+  -- what a replay says of the entry behind some others
+  next-is : (j k : ℕ) (events others : List Event) (before after : List (Row M)) (row : Row M) (state last reached : State S M)
+      → run_from program net k events state ≡ Ok last → rows_from program net state events ≡ map (λ r. Some r) (before ++ (row ∷ after))
+      → run_from program net j others state ≡ Ok reached → rows_from program net state others ≡ map (λ r. Some r) before
+      → (next : State S M) × (step program net reached (event_of net row) ≡ Ok next) × (row_of program net reached (event_of net row) ≡ Some row)
+  next-is j k [] others [] after row state last reached run are run' are' = absurd cc
+  next-is j k [] others (r ∷ before) after row state last reached run are run' are' = absurd cc
+  next-is j k (event ∷ events) (other ∷ others) [] after row state last reached run are run' are' = absurd cc
+  next-is j k (event ∷ events) [] [] after row state last reached run are run' are' =
+      let f = first k event events row after state last run are in
+      let same : state ≡ reached = cc in
+      let is = row-event state f.next event row f.made f.writes in (
+        f.next,
+        ap (λ s. step program net s (event_of net row)) (sym same) ∙ ap (λ e. step program net state e) (sym is) ∙ f.made,
+        ap (λ s. row_of program net s (event_of net row)) (sym same) ∙ ap (λ e. row_of program net state e) (sym is) ∙ f.writes,
+      )
+  next-is j k (event ∷ events) [] (r ∷ before) after row state last reached run are run' are' = absurd cc
+  next-is j k (event ∷ events) (other ∷ others) (r ∷ before) after row state last reached run are run' are' =
+      let f = first k event events r (before ++ (row ∷ after)) state last run are in
+      let o = first j other others r before state reached run' are' in
+      let both = row-event state f.next event r f.made f.writes ∙ sym (row-event state o.next other r o.made o.writes) in
+      let made : ◌≡◌ {A = Result (State S M) StepRefused} (Ok f.next) (Ok o.next) = sym f.made ∙ ap (λ e. step program net state e) both ∙ o.made in
+      let same : f.next ≡ o.next = cc in
+      next-is (suc j) (suc k) events others before after row f.next last reached f.is_run f.rows_are
+      (ap (λ s. run_from program net (suc j) others s) same ∙ o.is_run) (ap (λ s. rows_from program net s others) same ∙ o.rows_are)
+
+  refused-not : (reached next : State S M) (row : Row M) (reason : EntryRefused) → step program net reached (event_of net row) ≡ Ok next →
+      row_of program net reached (event_of net row) ≡ Some row → WhyNot program net reached row reason → ⊥
+  refused-not reached next row (Step reason) made writes why =
+      let wrong : ◌≡◌ {A = Result (State S M) StepRefused} (Ok next) (Err reason) = sym made ∙ why in absurd cc
+  refused-not reached next row WrongWire made writes why = why.2 writes
+
+  pub decided : ReplaysAreExact program net
+  decided = record {
+    events = λ rows last is. events-from 0 is.events rows (start program net) last is.is_run is.rows_are;
+    one_state = λ rows last other is same.
+        let events = events-from 0 is.events rows (start program net) last is.is_run is.rows_are
+        ∙ sym (events-from 0 same.events rows (start program net) other same.is_run same.rows_are) in
+        let ends = sym is.is_run ∙ ap (λ es. run_from program net 0 es (start program net)) events ∙ same.is_run in
+        cc;
+    not_both = λ rows last refused is stop.
+        let rows_are = is.rows_are ∙ ap (λ l. map (λ r. Some r) l) stop.splits in
+        let next = next-is 0 0 is.events stop.is_replay.events stop.before stop.after stop.row (start program net) last stop.reached is.is_run rows_are
+        stop.is_replay.is_run stop.is_replay.rows_are in
+        refused-not stop.reached next.0 stop.row stop.reason next.1 next.2 stop.why;
+  }

@@ -1,0 +1,11 @@
+//! What holds of every list of entries. Each law is a function that does nothing: its contract is the law.
+
+ghost use Rattle.node_api.specs.Program.{Program};
+ghost use Rattle.alpha_laws.specs.Laws.{OnEveryNetwork};
+ghost use Rattle.replay.specs.Laws.{ReplaysAreExact};
+
+/// Entries that are a replay stop nowhere, and lead to one state alone: the events of a replay are those that its
+/// entries are of. So what `replay` refuses is no replay.
+pub fn replays_are_exact<S, M, E>()
+    ensures law { (program : Program S M E) → OnEveryNetwork program (ReplaysAreExact program) }
+{}
