@@ -1,0 +1,119 @@
+//! One entry, made by the event that it is of.
+
+ghost use Rattle.std.specs.Prelude.{◌≡◌, ◌<◌, ◌≤◌, IfErr, IfNone, IfOk, IfSome};
+ghost use Rattle.interference.specs.Net.{IsVertex, degree_of, port_to};
+ghost use Rattle.entries.specs.declared.entry.Entry.TheVariants.{Pulse, Put, Take};
+ghost use Rattle.replay.specs.Replays.{IsMade, IsRefusedEntry};
+
+use crate::refused::EntryRefused;
+use crate::same_wire::carries;
+use alpha_core::Wire;
+use entries::Entry;
+use interference::Network;
+use net_core::{Event, NetState, StepRefused};
+use node_api::NodeProgram;
+
+// The port of a vertex that leads to a neighbour; `None` if it is none.
+fn port_to(net: &Network, v: u32, w: u32) -> Option<u32>
+    requires vertex { IsVertex net.now v }
+    ensures port { IfSome result (λ port. (port ≡ port_to net.now v w) × (port < degree_of net.now v)) }
+    ensures none { IfNone result (degree_of net.now v ≤ port_to net.now v w) }
+{
+    net.is_network();
+    match net.neighbours(v).binary_search(&w) {
+        Ok(port) => Some(port as u32),
+        Err(_) => None,
+    }
+}
+
+// Makes the next pulse of a vertex, which is to be this one.
+fn make_pulse<P: NodeProgram>(
+    state: &mut NetState<P>,
+    v: u32,
+    pulse: u32,
+) -> Result<(), EntryRefused>
+    requires vertex { IsVertex state.old.net v }
+    ensures made { IfOk result (λ _. IsMade P.program state.old (v, Pulse pulse) state.new) }
+    ensures refused { IfErr result (IsRefusedEntry P.program state.old (v, Pulse pulse)) }
+{
+    let next = state.pulse_of(v).checked_add(1);
+    state.step(Event::Pulse(v))?;
+    if next == Some(pulse) {
+        Ok(())
+    } else {
+        Err(EntryRefused::WrongWire)
+    }
+}
+
+// Puts the oldest wire for a neighbour on the link; it is to be this one.
+fn make_put<P: NodeProgram>(
+    state: &mut NetState<P>,
+    v: u32,
+    w: u32,
+    wire: Wire<P::Payload>,
+) -> Result<(), EntryRefused>
+    requires vertex { IsVertex state.old.net v }
+    ensures made { IfOk result (λ _. IsMade P.program state.old (v, Put w wire) state.new) }
+    ensures refused { IfErr result (IsRefusedEntry P.program state.old (v, Put w wire)) }
+{
+    let Some(port) = port_to(state.network(), v, w) else {
+        return Err(EntryRefused::Step(StepRefused::NoSuch));
+    };
+    state.is_simulation();
+    let oldest = state.node(v).front(port);
+    state.step(Event::Put(v, port))?;
+    if carries(oldest, wire) {
+        Ok(())
+    } else {
+        Err(EntryRefused::WrongWire)
+    }
+}
+
+// Takes the oldest wire of a neighbour from the link; it is to be this one.
+fn make_take<P: NodeProgram>(
+    state: &mut NetState<P>,
+    v: u32,
+    w: u32,
+    wire: Wire<P::Payload>,
+) -> Result<(), EntryRefused>
+    requires vertex { IsVertex state.old.net v }
+    ensures made { IfOk result (λ _. IsMade P.program state.old (v, Take w wire) state.new) }
+    ensures refused { IfErr result (IsRefusedEntry P.program state.old (v, Take w wire)) }
+{
+    let Some(port) = port_to(state.network(), v, w) else {
+        return Err(EntryRefused::Step(StepRefused::NoSuch));
+    };
+    let net = state.network();
+    let (_, held) = state.link(net.neighbour(v, port), net.back_port(v, port));
+    let oldest = held.first().copied();
+    state.step(Event::Take(v, port))?;
+    if carries(oldest, wire) {
+        Ok(())
+    } else {
+        Err(EntryRefused::WrongWire)
+    }
+}
+
+/// Makes the event of an entry of a vertex, which is to write down just this entry.
+///
+/// # Errors
+///
+/// The refusal of the event; `WrongWire` if it is possible, and writes down something else. What is left of the state
+/// then isn't said.
+pub(crate) fn make_entry<P: NodeProgram>(
+    state: &mut NetState<P>,
+    row: &(u32, Entry<P::Payload>),
+) -> Result<(), EntryRefused>
+    ensures made { IfOk result (λ _. IsMade P.program state.old row.now state.new) }
+    ensures refused { IfErr result (IsRefusedEntry P.program state.old row.now) }
+{
+    let (v, entry) = *row;
+    if v == 0 || state.network().nodes() < v {
+        return Err(EntryRefused::Step(StepRefused::NoSuch));
+    }
+    match entry {
+        Entry::Pulse(pulse) => make_pulse(state, v, pulse),
+        Entry::Put(w, wire) => make_put(state, v, w, wire),
+        Entry::Take(w, wire) => make_take(state, v, w, wire),
+    }
+}

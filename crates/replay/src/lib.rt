@@ -1,0 +1,24 @@
+//! Entries, replayed: what the nodes of a network wrote down of their events, played by the machine of `net_core`.
+//!
+//! `replay` takes entries, each with the vertex of its node, in the order of the events. It accepts exactly what the
+//! events of some list write down, and else names the first entry that can't be one, and why. So nothing is taken on
+//! trust: each pulse and each wire of an entry is compared with that of its event. `transcripts` reads such entries
+//! from a text.
+//!
+//! `specs/Rows.antt` has what an event writes down, `specs/Replays.antt` what a replay is and where it stops.
+//!
+//! ```text
+//! let entries = [(1, Entry::Put(2, Wire::Close)), (2, Entry::Take(1, Wire::Close))];
+//! let state = replay::<Greatest<0>>(alloc, &network, &entries)?;
+//! ```
+//!
+//! Limits: those of `interference`.
+#![tactic(auto)]
+
+mod entry_event;
+mod refused;
+mod replaying;
+mod same_wire;
+
+pub use refused::ReplayRefused;
+pub use replaying::replay;

@@ -1,0 +1,60 @@
+//! Why entries are refused.
+
+ghost use Rattle.std.specs.Prelude.{◌≡◌};
+ghost use Rattle.replay.specs.Replays.{at_entry};
+
+use interference::Memory;
+use net_core::{RunRefused, StepRefused};
+use thiserror::Error;
+
+/// Why `replay` refuses a list of entries: by the first that no event writes down where it stands.
+#[derive(Debug, Clone, Copy, PartialEq, Eq, Error)]
+pub enum ReplayRefused {
+    /// The event of an entry isn't possible. A neighbour that is none is `NoSuch`.
+    #[error("{0}")]
+    Run(RunRefused),
+    /// The event of the entry of this index, from 0, is possible, but has another pulse or wire.
+    #[error("entry {0}: the event has another pulse or wire")]
+    WrongWire(usize),
+}
+
+impl From<Memory> for ReplayRefused {
+    ghost use Rattle.net_core.specs.declared.refused.RunRefused.TheVariants as run_refused;
+    ghost use Rattle.replay.specs.declared.refused.ReplayRefused.TheVariants.{Run};
+
+    ghost from_gives = { λ _ refused. refused ≡ Run run_refused.Memory };
+
+    fn from(_memory: Memory) -> ReplayRefused {
+        ReplayRefused::Run(RunRefused::Memory)
+    }
+}
+
+/// Why one entry is refused.
+pub(crate) enum EntryRefused {
+    /// The event isn't possible.
+    Step(StepRefused),
+    /// It has another pulse or wire.
+    WrongWire,
+}
+
+impl From<StepRefused> for EntryRefused {
+    ghost use Rattle.replay.specs.declared.refused.EntryRefused.TheVariants.{Step};
+
+    ghost from_gives = { λ refused entry. entry ≡ Step refused };
+
+    fn from(refused: StepRefused) -> EntryRefused {
+        EntryRefused::Step(refused)
+    }
+}
+
+impl EntryRefused {
+    /// The refusal of a list whose entry of this index is refused so.
+    pub(crate) fn at(self, index: usize) -> ReplayRefused
+        ensures index { result ≡ at_entry index self }
+    {
+        match self {
+            EntryRefused::Step(refused) => ReplayRefused::Run(refused.at(index)),
+            EntryRefused::WrongWire => ReplayRefused::WrongWire(index),
+        }
+    }
+}
