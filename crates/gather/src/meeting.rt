@@ -16,10 +16,7 @@ use std::sync::Wait;
 // The links out of a vertex, with their ends.
 type Row<J: Wiring, P: NodeProgram> = (
     Vec<Link<P>>,
-    (
-        Vec<WiredPut<J, P::Payload>>,
-        Vec<WiredTake<J, P::Payload>>,
-    ),
+    (Vec<WiredPut<J, P::Payload>>, Vec<WiredTake<J, P::Payload>>),
 );
 
 // A link and its two ends meet.

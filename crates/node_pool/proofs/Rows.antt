@@ -1,10 +1,11 @@
 -- Rows by vertex and port, and what is read of them.
 use Rattle.std.proofs.Common.{◌≡◌, ℕ, zero, suc, ◌+◌, ◌-◌, ◌<◌, List, [], ◌∷◌, length, map, get_or, refl, sym, ap, ◌∙◌, subst, arith}
-use Rattle.std.proofs.Common.{Some, None, slice_get}
-use Rattle.std.specs.Prelude.{Option, option_map}
+use Rattle.std.proofs.Common.{Some, slice_get}
+use Rattle.std.specs.Prelude.{All, option_map}
 use Rattle.std.specs.List.{range_with_len}
 use Rattle.std.proofs.lemmas.List.{length-map}
 use Rattle.std.proofs.lemmas.List.FromFn.{length-range_with_len, get_or-range_with_len}
+use Rattle.std.proofs.lemmas.List.Elements.{All-map}
 use Rattle.std.proofs.lemmas.Option.{slice_get-map, slice_get-get_or, get_or_from_slice_get}
 use Rattle.crossing.proofs.ReadLists.{map-twice}
 use Rattle.crossing.specs.Rows.{row_at, thing_at, HasShape}
@@ -126,3 +127,16 @@ module _ (net : Net) where
           ∙ ap (λ l. slice_get l i) (are n.0) ∙ by_range (g (vertex_of n.0)) 0 (degree_of net (vertex_of n.0)) i below in
           let here : place x ≡ g (vertex_of n.0) (0 + i) = cc in
           here ∙ ap (λ u. g u (0 + i)) n.2 ∙ ap (λ j. g v j) (omega arith)
+
+module _ {R X Y Z : Type 0} (items : R → List X) (rows : List R) where
+  pub of_fields : (h : X → Y) (p : Y → Z) → map (λ row. map p row) (map (λ row. map h (items row)) rows) ≡ map (λ row. map (λ x. p (h x)) row) (map items rows)
+  of_fields h p = map-twice (λ row. map p row) (λ row. map h (items row)) rows ∙ map_same _ _ (λ row. map-twice p h (items row)) rows
+      ∙ sym (map-twice (λ row. map (λ x. p (h x)) row) items rows)
+
+module _ {R X Y : Type 0} (items : R → List X) (rows : List R) where
+  pub of_items : (f : X → Y) (all : List (List X)) → map items rows ≡ all → map (λ row. map f (items row)) rows ≡ map (λ row. map f row) all
+  of_items f all is = sym (map-twice (λ row. map f row) items rows) ∙ ap (map (λ row. map f row)) is
+
+  pub all_rows : (P : Y → Type 0) (h : X → Y) → All (λ row. All (λ x. P (h x)) (items row)) rows → All (λ row. All P row) (map (λ row. map h (items row)) rows)
+  all_rows P h all = All-map (λ row. All P row) (λ row. map h (items row)) rows
+      (λ k d lt. All-map P h (items (get_or rows k d)) (all k d lt))

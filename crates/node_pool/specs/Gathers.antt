@@ -1,5 +1,4 @@
 -- The value of what a run leaves.
-use Rattle.std.specs.Prelude.{List, map}
 use Rattle.gather.specs.declared.parts.Actor.{Actor}
 use Rattle.gather_laws.specs.Outcome.{Gathered}
 

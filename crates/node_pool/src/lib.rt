@@ -13,6 +13,7 @@
 //! outcome is whole, or that the call returns.
 #![tactic(auto)]
 
+mod gathering;
 mod outcome;
 mod run;
 

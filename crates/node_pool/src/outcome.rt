@@ -2,7 +2,7 @@
 
 ghost use Rattle.std.specs.Prelude.{◌≡◌, ◌≤◌, ◌<◌, ◌-◌, IfSome, length, map, slice_get};
 ghost use Rattle.gather.specs.Meets.{history_of};
-ghost use Rattle.gather_laws.specs.Outcome.{is_whole, link_in, row_in};
+ghost use Rattle.gather_laws.specs.Outcome.{all_drained, all_empty, is_whole, link_in, none_held, row_in};
 ghost use Rattle.node_pool.specs.Gathers.{gathered_of};
 
 use gather::Actor;
@@ -54,19 +54,49 @@ impl<P: NodeProgram> Outcome<P> {
         requires vertex { (1 ≤ vertex) × (vertex ≤ length self.now.nodes) }
         ensures pulse { IfSome (slice_get self.now.nodes (vertex - 1)) (λ g. result ≡ g.alpha.node.view.pulse) }
     {
-        self.actors[(vertex - 1) as usize].alpha.pulse_number()
+        self.actors[(vertex - 1) as usize].alpha().pulse_number()
+    }
+
+    // Whether every node is drained.
+    fn all_drained(&self) -> bool
+        ensures drained { result ≡ all_drained self.now.nodes }
+    {
+        for actor in self.actors.as_slice() {
+            if !actor.alpha().drained() {
+                return false;
+            }
+        }
+        true
+    }
+
+    // Whether every link is empty.
+    fn all_empty(&self) -> bool
+        ensures empty { result ≡ all_empty self.now.links }
+    {
+        for row in self.links.as_slice() {
+            if !none_held(row.as_slice()) {
+                return false;
+            }
+        }
+        true
     }
 
     /// Whether every node is drained, and every link is empty.
     pub fn is_whole(&self) -> bool
         ensures whole { result ≡ is_whole self.now }
     {
-        let mut whole = true;
-        for actor in self.actors.as_slice() {
-            if !actor.alpha.drained() {
-                whole = false;
-            }
-        }
-        whole
+        self.all_drained() && self.all_empty()
     }
+}
+
+// Whether no link of a row holds a wire.
+fn none_held<T>(row: &[Met<T>]) -> bool
+    ensures empty { result ≡ none_held (map history_of row.now) }
+{
+    for met in row {
+        if !met.held().is_empty() {
+            return false;
+        }
+    }
+    true
 }

@@ -1,19 +1,68 @@
 //! A run of workers, from a network to its outcome.
 
-ghost use Rattle.std.specs.Prelude.{◌≡◌, IfErr, IfOk, Result, Err};
+ghost use Rattle.std.specs.Prelude.{◌≡◌, ◌≢◌, ◌↔◌, IfErr, IfOk, IsTrue, Result, Err, map};
+ghost use Rattle.ends.specs.Tables.{tables_of};
 ghost use Rattle.gather_laws.specs.Outcome.{IsOutcome};
-ghost use Rattle.run_options.specs.Ranges.{AreInRange};
 ghost use Rattle.pool.specs.declared.fault.PoolFault.TheVariants.{BadOptions};
+ghost use Rattle.run_options.specs.Ranges.{AreInRange};
+ghost use Rattle.setup.specs.Makes.{AreMade};
 
+use crate::gathering::gathered;
 use crate::outcome::Outcome;
 use actor::Gate;
+use ends::{Links, Wiring};
 use interference::Network;
 use node_api::NodeProgram;
-use pool::PoolFault;
-use run_options::Options;
+use pool::{PoolFault, by_vertex, run_nodes};
+use run_options::{MAX_CAPACITY, MAX_WORKERS, Options};
+use setup::{Made, make_links, start_nodes};
 use std::alloc::Global;
+use std::marker::Brand;
 use std::sync::Wait;
 use std::thread::Threads;
+
+// Whether workers and capacity are in range.
+fn are_in_range(options: Options) -> bool
+    ensures { IsTrue result ↔ AreInRange options }
+{
+    1 <= options.workers
+        && options.workers <= MAX_WORKERS
+        && 1 <= options.capacity
+        && options.capacity <= MAX_CAPACITY
+}
+
+// Runs nodes over the links that were made, whose queues the run has picked.
+fn run_made<J: Wiring + Send + Sync, P: NodeProgram, G: Gate + Sync, R: Threads + Wait + Sync>(
+    rt: &R,
+    alloc: Global,
+    net: &Network,
+    options: Options,
+    gate: &G,
+    made: Made<P>,
+) -> Result<Outcome<P>, PoolFault>
+    requires network { J.net ≡ net.now }
+    requires tables { J.tables ≡ tables_of (map (λ row. row.items) made.links.items) }
+    requires made { AreMade net.now options.capacity (map (λ row. row.items) made.links.items)
+        (map (λ row. row.items) made.puts.items) (map (λ row. row.items) made.takes.items) }
+    requires options { AreInRange options }
+    ensures outcome { IfOk result (λ outcome. IsOutcome P.program net.now options.capacity outcome) }
+    ensures fault { IfErr result (λ fault. fault ≢ BadOptions) }
+{
+    let Made { links, puts, takes } = made;
+    let nodes = start_nodes::<J, P>(alloc, net, puts, takes)?;
+    let links = Links::<J, P>::new(links);
+    let nodes = run_nodes(
+        rt,
+        alloc,
+        &links,
+        gate,
+        nodes,
+        options.workers,
+        options.turns,
+    )?;
+    let nodes = by_vertex(alloc, nodes)?;
+    Ok(gathered(rt, alloc, net, links.into_rows(), nodes)?)
+}
 
 /// Runs all nodes of a network asynchronously, on worker threads with links between the nodes.
 ///
@@ -25,7 +74,7 @@ use std::thread::Threads;
 ///
 /// `BadOptions`, which is looked at first, exactly if the options are out of range; `Memory` if memory is refused;
 /// `Spawn` if a thread is, and those that had begun are joined. Nothing is left of the run.
-pub fn run_workers<P: NodeProgram + Send + Sync, G: Gate + Sync, R: Threads + Wait + Sync>(
+pub fn run_workers<P: NodeProgram, G: Gate + Sync, R: Threads + Wait + Sync>(
     rt: &R,
     alloc: Global,
     net: &Network,
@@ -37,6 +86,9 @@ pub fn run_workers<P: NodeProgram + Send + Sync, G: Gate + Sync, R: Threads + Wa
     ensures bad_options { IfErr result (λ fault. fault ≡ BadOptions → AreInRange options → ⊥) }
     ensures told_first { (AreInRange options → ⊥) → result ≡ Err BadOptions }
 {
-    for _ in rt.forever() {}
-    unreachable!()
+    if !are_in_range(options) {
+        return Err(PoolFault::BadOptions);
+    }
+    let made = make_links::<P>(alloc, net, options.capacity as usize)?;
+    run_made::<Brand, P, G, R>(rt, alloc, net, options, gate, made)
 }

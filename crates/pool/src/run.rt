@@ -168,12 +168,7 @@ fn all_places<J: Wiring, P: NodeProgram>(
 ///
 /// `Memory` if memory is refused, also for an entry of a node: its worker stops at once. `Spawn` if a thread is
 /// refused. The workers that had begun are joined.
-pub fn run_nodes<
-    J: Wiring + Send + Sync,
-    P: NodeProgram,
-    G: Gate + Sync,
-    R: Threads + Wait + Sync,
->(
+pub fn run_nodes<J: Wiring + Send + Sync, P: NodeProgram, G: Gate + Sync, R: Threads + Wait + Sync>(
     rt: &R,
     alloc: Global,
     links: &Links<J, P>,

@@ -1,0 +1,175 @@
+-- The nodes that were gathered, and the lists of their links, are an outcome.
+-- 1. What the links say was put and taken is what the ends of the nodes said (`put_is`, `taken_is`).
+-- 2. So the ends have met, no wire was set aside, and each node keeps its links with the lists of the links (`kept`).
+-- 3. So the nodes simulate the synchronous run; the rest is read of the rows (`is_outcome`).
+use Rattle.std.proofs.Common.{◌≡◌, ℕ, ◌-◌, ◌<◌, ◌≤◌, List, [], ◌++◌, length, map, get_or, sym, ap, ◌∙◌, subst, arith}
+use Rattle.std.proofs.Common.{Some, None, slice_get}
+use Rattle.std.specs.Prelude.{Option, All}
+use Rattle.std.proofs.lemmas.List.{length-map}
+use Rattle.std.proofs.lemmas.List.FromFn.{length-range_with_len}
+use Rattle.interference.specs.Net.{Net, IsNetwork, IsVertex, count_of, degree_of, neighbour_of, back_port_of, vertices}
+use Rattle.node_api.specs.Program.{Program, last_pulse_on}
+use Rattle.node_api.specs.Laws.{IsProgram}
+use Rattle.alpha_core.specs.declared.wire.Wire.{Wire}
+use Rattle.alpha_core.specs.View.{Alpha, Node, port_at}
+use Rattle.alpha_laws.specs.Kept.{AllKept, KeptAt, NodeKept}
+use Rattle.alpha_laws.specs.Simulates.{taken_over}
+use Rattle.alpha_laws.proofs.Across.{over}
+use Rattle.alpha_laws.proofs.Runs.{runs}
+use Rattle.alpha_laws.proofs.Claims.{simulates}
+use Rattle.actor.specs.declared.aside.Aside.{Aside}
+use Rattle.actor.specs.Node.{IsAside, by_port, reacted_to}
+use Rattle.crossing.specs.Rows.{AreCrossed, row_at}
+use Rattle.gather_laws.specs.Laws.{EndsHaveMet}
+use Rattle.gather_laws.specs.Outcome.{IsOutcome, Outcome, alpha_in, link_in, link_into, no_history, node_in, row_in, start_of}
+use Rattle.gather_laws.proofs.Asides.{met_simulate}
+use Rattle.node_pool.proofs.Rows.{some_there, get_map, row_map, get_field, node_of, as_many}
+
+module _ {S M E : Type 0} (program : Program S M E) (net : Net) where
+  -- a node and its lists, given in another way
+  kept_as : (v w : ℕ) (n m : Node S M) (o p : Option (Aside M)) (xs ys zs us : List (List (Wire M))) → v ≡ w → n ≡ m → o ≡ p → xs ≡ ys → zs ≡ us
+      → NodeKept program net v n (by_port xs) (by_port (reacted_to o zs)) → NodeKept program net w m (by_port ys) (by_port (reacted_to p us))
+  kept_as v w n m o p xs ys zs us vw nm op xy zu kept =
+      subst (λ w. NodeKept program net w m (by_port ys) (by_port (reacted_to p us))) vw
+      (subst (λ m. NodeKept program net v m (by_port ys) (by_port (reacted_to p us))) nm
+      (subst (λ p. NodeKept program net v n (by_port ys) (by_port (reacted_to p us))) op
+      (subst (λ ys. NodeKept program net v n (by_port ys) (by_port (reacted_to o us))) xy
+      (subst (λ us. NodeKept program net v n (by_port xs) (by_port (reacted_to o us))) zu kept))))
+
+  -- the lists are the same at each port
+  kept_by : (v : ℕ) (node : Node S M) (sent taken sent' taken' : ℕ → List (Wire M)) → ((i : ℕ) → i < degree_of net v → sent i ≡ sent' i)
+      → ((i : ℕ) → i < degree_of net v → taken i ≡ taken' i) → NodeKept program net v node sent taken → NodeKept program net v node sent' taken'
+  kept_by v node sent taken sent' taken' puts takes kept = record {
+    ports = record {
+      count = kept.ports.count;
+      within = kept.ports.within;
+      before_last = kept.ports.before_last;
+      each = λ i lt. subst (λ l. KeptAt program net v i node.view.pulse node.view.said (port_at node.view i) (l ++ (port_at node.view i).out) (taken' i))
+          (puts i lt)
+          (subst (λ l. KeptAt program net v i node.view.pulse node.view.said (port_at node.view i) (sent i ++ (port_at node.view i).out) l) (takes i lt)
+          (kept.ports.each i lt));
+    };
+    spoken = kept.spoken;
+    state = kept.state;
+  }
+
+-- What nodes say of themselves and their ends, and what was made of them and of their links.
+pub record AreGathered {S M E A F : Type 0} (program : Program S M E) (net : Net) (nodes : List A) (vertex : A → ℕ) (alpha : A → Alpha S M)
+    (aside : A → Option (Aside M)) (puts : A → List (List (Wire M))) (takes : A → List F) (taken : F → List (Wire M)) (crossed : List (List F))
+    (outcome : Outcome S M) : Type 0 where
+  pub last : (a : A) → (alpha a).last ≡ last_pulse_on program net
+  pub keeps : (a : A) → NodeKept program net (vertex a) (alpha a).node (by_port (puts a)) (by_port (reacted_to (aside a) (map taken (takes a))))
+  pub set_aside : (a : A) (x : Aside M) → aside a ≡ Some x → IsAside (last_pulse_on program net) (alpha a).node.view (map taken (takes a)) x
+  pub outs : (a : A) → length (puts a) ≡ degree_of net (vertex a)
+  pub ins : (a : A) → length (takes a) ≡ degree_of net (vertex a)
+  pub order : map vertex nodes ≡ vertices net
+  pub crosses : AreCrossed net (map takes nodes) crossed
+  pub vertices_are : map (λ g. g.vertex) outcome.nodes ≡ map vertex nodes
+  pub alphas_are : map (λ g. g.alpha) outcome.nodes ≡ map alpha nodes
+  pub puts_are : map (λ row. map (λ h. h.put) row) outcome.links ≡ map puts nodes
+  pub takens_are : map (λ row. map (λ h. h.taken) row) outcome.links ≡ map (λ row. map taken row) crossed
+  pub splits : All (λ row. All (λ h. h.put ≡ h.taken ++ h.held) row) outcome.links
+
+module _ {S M E A F : Type 0} (program : Program S M E) (laws : IsProgram program) (net : Net) (ok : IsNetwork net) (nodes : List A) (vertex : A → ℕ)
+    (alpha : A → Alpha S M) (aside : A → Option (Aside M)) (puts : A → List (List (Wire M))) (takes : A → List F) (taken : F → List (Wire M))
+    (crossed : List (List F)) (outcome : Outcome S M)
+    (are : AreGathered program net nodes vertex alpha aside puts takes taken crossed outcome) where
+  -- what the nodes say, by vertex
+  abbrev asides_at : ℕ → Option (Aside M)
+  asides_at v = get_or (map aside nodes) (v - 1) None
+
+  abbrev puts_at : ℕ → List (List (Wire M))
+  puts_at v = get_or (map puts nodes) (v - 1) []
+
+  abbrev takens_at : ℕ → List (List (Wire M))
+  takens_at v = get_or (map (λ a. map taken (takes a)) nodes) (v - 1) []
+
+  here : (v : ℕ) → IsVertex net v → (a : A) × (slice_get nodes (v - 1) ≡ Some a) × (vertex a ≡ v)
+  here v is = node_of net vertex nodes are.order v is
+
+  alpha_is : (v : ℕ) (is : IsVertex net v) → alpha_in program net outcome v ≡ alpha (here v is).0
+  alpha_is v is = ap (λ l. get_or l (v - 1) (start_of program net v)) are.alphas_are
+      ∙ get_map alpha nodes (v - 1) (here v is).0 (start_of program net v) (here v is).1
+
+  put_is : (v i : ℕ) → by_port (puts_at v) i ≡ (link_in outcome v i).put
+  put_is v i =
+      ap (λ rows. get_or (get_or rows (v - 1) []) i []) (sym are.puts_are)
+      ∙ ap (λ row. get_or row i []) (row_map (λ h. h.put) outcome.links (v - 1))
+      ∙ sym (get_field (λ h. h.put) (row_in outcome v) i no_history)
+
+  row_long : (v : ℕ) → IsVertex net v → length (row_in outcome v) ≡ degree_of net v
+  row_long v is =
+      let n = here v is in
+      sym (length-map (row_in outcome v) (λ h. h.put)) ∙ ap (λ l. length l) (sym (row_map (λ h. h.put) outcome.links (v - 1))
+      ∙ ap (λ rows. get_or rows (v - 1) []) are.puts_are ∙ get_map puts nodes (v - 1) n.0 [] n.1)
+      ∙ are.outs n.0 ∙ ap (λ u. degree_of net u) n.2
+
+  many : length outcome.links ≡ length nodes
+  many = sym (length-map outcome.links (λ row. map (λ h. h.put) row)) ∙ ap (λ l. length l) are.puts_are ∙ length-map nodes puts
+
+  -- what the end took that was made with the link
+  taken_is : (v i : ℕ) → IsVertex net v → i < degree_of net v → (link_in outcome v i).taken ≡ taken_over net (λ w j. by_port (takens_at w) j) v i
+  taken_is v i is lt =
+      let w = neighbour_of net v i in
+      let j = back_port_of net v i in
+      let n = here w (ok.vertices v i is lt) in
+      let there = some_there (row_at crossed v) i (omega (arith, lt, are.crosses.shape.row v is)) in
+      let at : slice_get (takes n.0) j ≡ Some there.0 =
+      ap (λ l. slice_get l j) (sym (get_map takes nodes (w - 1) n.0 [] n.1)) ∙ sym (are.crosses.at v i is lt) ∙ there.1 in
+      get_field (λ h. h.taken) (row_in outcome v) i no_history
+      ∙ ap (λ row. get_or row i []) (sym (row_map (λ h. h.taken) outcome.links (v - 1)))
+      ∙ ap (λ rows. get_or (get_or rows (v - 1) []) i []) are.takens_are
+      ∙ ap (λ row. get_or row i []) (row_map taken crossed (v - 1))
+      ∙ get_map taken (row_at crossed v) i there.0 [] there.1
+      ∙ sym (ap (λ l. get_or l j []) (get_map (λ a. map taken (takes a)) nodes (w - 1) n.0 [] n.1) ∙ get_map taken (takes n.0) j there.0 [] at)
+
+  split_is : (v i : ℕ) → IsVertex net v → i < degree_of net v → (link_in outcome v i).put ≡ (link_in outcome v i).taken ++ (link_in outcome v i).held
+  split_is v i is lt =
+      are.splits (v - 1) [] (omega (arith, is.0, is.1, many, as_many net vertex nodes are.order)) i no_history (omega (arith, lt, row_long v is))
+
+  met : EndsHaveMet program net (node_in program net outcome) asides_at puts_at takens_at (λ v i. (link_in outcome v i).held)
+  met = record {
+    each = λ v is.
+        let n = here v is in
+        kept_as program net (vertex n.0) v (alpha n.0).node (node_in program net outcome v) (aside n.0) (asides_at v) (puts n.0) (puts_at v)
+        (map taken (takes n.0)) (takens_at v) n.2 (ap (λ x. x.node) (sym (alpha_is v is))) (sym (get_map aside nodes (v - 1) n.0 None n.1))
+        (sym (get_map puts nodes (v - 1) n.0 [] n.1)) (sym (get_map (λ a. map taken (takes a)) nodes (v - 1) n.0 [] n.1)) (are.keeps n.0);
+    refused = λ v is x e.
+        let n = here v is in
+        subst (λ l. IsAside (last_pulse_on program net) (node_in program net outcome v).view l x)
+        (sym (get_map (λ a. map taken (takes a)) nodes (v - 1) n.0 [] n.1))
+        (subst (λ b. IsAside (last_pulse_on program net) b.node.view (map taken (takes n.0)) x) (sym (alpha_is v is))
+        (are.set_aside n.0 x (sym (get_map aside nodes (v - 1) n.0 None n.1) ∙ e)));
+    ports = λ v is.
+        let n = here v is in
+        ap (λ l. length l) (get_map (λ a. map taken (takes a)) nodes (v - 1) n.0 [] n.1) ∙ length-map (takes n.0) taken ∙ are.ins n.0
+        ∙ ap (λ u. degree_of net u) n.2;
+    splits = λ v i is lt. put_is v i ∙ split_is v i is lt ∙ ap (λ l. l ++ (link_in outcome v i).held) (taken_is v i is lt);
+  }
+
+  -- no wire was set aside, so each node keeps its links with what the links say
+  kept : AllKept program net (node_in program net outcome) (λ v i. (link_in outcome v i).put) (λ v i. (link_into net outcome v i).taken)
+      (λ v i. (link_in outcome v i).held)
+  kept = record {
+    each = λ v is.
+        kept_by program net v (node_in program net outcome v) (by_port (puts_at v)) (by_port (takens_at v)) _ _ (λ i lt. put_is v i)
+        (λ i lt. sym (taken_is (neighbour_of net v i) (back_port_of net v i) (ok.vertices v i is lt) (ok.symmetric v i is lt)
+        ∙ over net ok (λ w j. by_port (takens_at w) j) v i is lt))
+        (subst (λ o. NodeKept program net v (node_in program net outcome v) (by_port (puts_at v)) (by_port (reacted_to o (takens_at v))))
+        ((met_simulate program laws net ok (node_in program net outcome) asides_at puts_at takens_at (λ v i. (link_in outcome v i).held) met).0 v is)
+        (met.each v is));
+    splits = λ v i is lt.
+        ap (λ l. l ++ (link_in outcome v i).held) (over net ok (λ w j. (link_in outcome w j).taken) v i is lt) ∙ sym (split_is v i is lt);
+  }
+
+  pub is_outcome : (capacity : ℕ) → All (λ row. All (λ h. length h.held ≤ capacity) row) outcome.links → IsOutcome program net capacity outcome
+  is_outcome capacity room = record {
+    each_once = are.vertices_are ∙ are.order;
+    last = λ v is. ap (λ a. a.last) (alpha_is v is) ∙ are.last (here v is).0;
+    rows = many ∙ as_many net vertex nodes are.order ∙ sym (length-range_with_len 1 (count_of net));
+    row = row_long;
+    splits = split_is;
+    room = λ v i is lt.
+        room (v - 1) [] (omega (arith, is.0, is.1, many, as_many net vertex nodes are.order)) i no_history (omega (arith, lt, row_long v is));
+    simulates = simulates ok (runs program laws net ok) kept;
+  }

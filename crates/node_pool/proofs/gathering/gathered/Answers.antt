@@ -1,0 +1,93 @@
+use Rattle.std.proofs.Common.{◌≡◌, ◌≤◌, ◌++◌, Some, length, map, refl, sym, ◌∙◌, subst}
+use Rattle.std.specs.Prelude.{All}
+use Rattle.std.proofs.lemmas.List.{length-map}
+use Rattle.interference.specs.Net.{IsNetwork}
+use Rattle.actor.proofs.Lists.{as_long}
+use Rattle.crossing.proofs.ReadLists.{map-twice}
+use Rattle.crossing.specs.Rows.{AreCrossed, HasShape}
+use Rattle.ends.specs.Tables.{table_at, table_of}
+use Rattle.link_queue.specs.Ends.{held_of, put_list, taken_list}
+use Rattle.gather.proofs.Sides.{all_by}
+use Rattle.gather.specs.Meets.{history_of, put_of, taken_of}
+use Rattle.gather_laws.specs.Outcome.{IsOutcome, Outcome}
+use Rattle.node_pool.specs.Gathers.{gathered_of}
+use Rattle.node_pool.proofs.Rows.{all_rows, of_fields, of_items, shape_of}
+use Rattle.node_pool.proofs.Places.{links_meet, ends_meet}
+use Rattle.node_pool.proofs.Simulating.{is_outcome}
+use Rattle.node_pool.proofs.gathering.gathered.Goals as goal
+
+-- each node has an end that takes for each port
+pub crossed-requires : goal.crossed-requires
+crossed-requires g c =
+    let net = g.J.Wiring.net in
+    let nodes = c.args.nodes.items in
+    record {
+      shape = subst (λ rows. HasShape c.args.net.now rows) (sym c.in_ok-actors.ensures.takes)
+          (subst (λ net. HasShape net (map (λ n. n.takes.items) nodes)) c.requires.network
+          (shape_of net (λ n. n.vertex) nodes c.requires.nodes (λ n. n.takes.items) (λ n. as_long _ _ n.takes.items _ n.ins)));
+    }
+
+pub meet_rows-requires-clause-links : goal.meet_rows-requires-clause-links
+meet_rows-requires-clause-links g c κs within =
+    let net = g.J.Wiring.net in
+    let tables = g.J.Wiring.tables in
+    let nodes = c.args.nodes.items in
+    let ok = subst IsNetwork (sym c.requires.network) c.is_network.ensures in
+    of_items (λ row. row.items) c.in_ok-actors.field-0.puts.items (λ e. table_at tables e.vertex e.port) _ c.in_ok-actors.ensures.puts
+    ∙ links_meet net ok (λ n. n.vertex) nodes c.requires.nodes (λ n. n.puts.items) (λ e. (e.vertex, e.port)) (λ n. n.outs) tables table_of
+    (map (λ row. row.items) c.args.links.items) (sym c.requires.tables)
+    (subst (λ net. HasShape net (map (λ row. row.items) c.args.links.items)) (sym c.requires.network) c.requires.shape)
+    ∙ sym (of_items (λ row. row.items) c.args.links.items (λ link. Some (table_of link)) _ refl)
+
+pub meet_rows-requires-clause-takes : goal.meet_rows-requires-clause-takes
+meet_rows-requires-clause-takes g c κs within =
+    let net = g.J.Wiring.net in
+    let nodes = c.args.nodes.items in
+    let ok = subst IsNetwork (sym c.requires.network) c.is_network.ensures in
+    let crossed = map (λ row. row.items) c.in_ok-takes.takes.items in
+    let crosses = subst (λ rows. AreCrossed net rows crossed) c.in_ok-actors.ensures.takes
+    (subst (λ net. AreCrossed net (map (λ row. row.items) c.in_ok-actors.field-0.takes.items) crossed) (sym c.requires.network)
+    c.in_ok-takes.ensures.crossed) in
+    of_items (λ row. row.items) c.in_ok-takes.takes.items (λ e. (e.vertex, e.port)) _ refl
+    ∙ ends_meet net ok (λ n. n.vertex) nodes c.requires.nodes (λ n. n.puts.items) (λ e. (e.vertex, e.port)) (λ n. n.outs)
+    (λ n. n.takes.items) (λ e. (e.vertex, e.port)) (λ n. n.ins) crossed crosses
+    ∙ sym (of_items (λ row. row.items) c.in_ok-actors.field-0.puts.items (λ e. (e.vertex, e.port)) _ c.in_ok-actors.ensures.puts)
+
+pub returns : goal.returns
+returns g c =
+    let program = g.P.NodeProgram.program in
+    let net = g.J.Wiring.net in
+    let nodes = c.args.nodes.items in
+    let ok = subst IsNetwork (sym c.requires.network) c.is_network.ensures in
+    let crossed = map (λ row. row.items) c.in_ok-takes.takes.items in
+    let crosses = subst (λ rows. AreCrossed net rows crossed) c.in_ok-actors.ensures.takes
+    (subst (λ net. AreCrossed net (map (λ row. row.items) c.in_ok-actors.field-0.takes.items) crossed) (sym c.requires.network)
+    c.in_ok-takes.ensures.crossed) in
+    let mets = c.in_ok-links.links.items in
+    let actors = c.in_ok-actors.field-0.actors.items in
+    let met = c.in_ok-links.ensures.met in
+    let outcome : Outcome _ _ = record { nodes = map gathered_of actors; links = map (λ row. map history_of row.items) mets } in
+    record {
+      outcome = λ capacity below.
+          subst (λ net. IsOutcome program net capacity outcome) c.requires.network
+          (is_outcome program g.P.NodeProgram.laws net ok nodes (λ n. n.vertex) (λ n. n.alpha) (λ n. n.aside) (λ n. map (λ e. put_list e.end) n.puts.items)
+          (λ n. n.takes.items) (λ e. taken_list e.end) crossed outcome (record {
+            last = λ n. n.last;
+            keeps = λ n. n.keeps;
+            set_aside = λ n x e. n.set_aside x e;
+            outs = λ n. length-map n.puts.items (λ e. put_list e.end) ∙ as_long _ _ n.puts.items _ n.outs;
+            ins = λ n. as_long _ _ n.takes.items _ n.ins;
+            order = c.requires.nodes;
+            crosses = crosses;
+            vertices_are = map-twice (λ g. g.vertex) gathered_of actors ∙ c.in_ok-actors.ensures.vertices;
+            alphas_are = map-twice (λ g. g.alpha) gathered_of actors ∙ c.in_ok-actors.ensures.alphas;
+            puts_are = of_fields (λ row. row.items) mets history_of (λ h. h.put) ∙ met.puts_are
+                ∙ of_items (λ row. row.items) c.in_ok-actors.field-0.puts.items (λ e. put_list e.end) _ c.in_ok-actors.ensures.puts
+                ∙ map-twice (λ row. map (λ e. put_list e.end) row) (λ n. n.puts.items) nodes;
+            takens_are = of_fields (λ row. row.items) mets history_of (λ h. h.taken) ∙ met.takens_are
+                ∙ of_items (λ row. row.items) c.in_ok-takes.takes.items (λ e. taken_list e.end) _ refl;
+            splits = all_rows (λ row. row.items) mets (λ h. h.put ≡ h.taken ++ h.held) history_of
+                (all_by (λ mets. All (λ met. put_of met ≡ taken_of met ++ held_of met) mets) (λ row. row.items) mets met.splits);
+          }) capacity
+          (all_rows (λ row. row.items) mets (λ h. length h.held ≤ capacity) history_of (c.in_ok-links.ensures.room capacity below)));
+    }

@@ -1,0 +1,7 @@
+use Rattle.std.proofs.Common.{◌≡◌, drop, map}
+use Rattle.gather.specs.Meets.{history_of}
+use Rattle.gather_laws.specs.Outcome.{none_held}
+use Rattle.node_pool.proofs.outcome.none_held.Given as goal
+
+abbrev pub invariant-loop-met : goal.invariant-loop-met
+invariant-loop-met g l = none_held (map history_of l.row) ≡ none_held (map history_of (drop l.met-index l.row))

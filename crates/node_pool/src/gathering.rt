@@ -1,0 +1,50 @@
+//! The nodes and links of a run become its outcome.
+
+ghost use Rattle.std.specs.Prelude.{◌≡◌, ◌≤◌, ℕ, All, IfOk, map};
+ghost use Rattle.interference.specs.Net.{vertices};
+ghost use Rattle.crossing.specs.Rows.{HasShape};
+ghost use Rattle.link_queue.specs.Ends.{link_capacity};
+ghost use Rattle.ends.specs.Tables.{tables_of};
+ghost use Rattle.gather_laws.specs.Outcome.{IsOutcome};
+
+use crate::outcome::Outcome;
+use actor::Node;
+use crossing::crossed;
+use ends::Wiring;
+use gather::{Parts, apart, meet_rows};
+use interference::{Memory, Network};
+use link_queue::Link;
+use node_api::NodeProgram;
+use std::alloc::Global;
+use std::sync::Wait;
+
+/// What the nodes of a run, ascending, and its links leave, once all threads are joined.
+///
+/// # Errors
+///
+/// `Memory` if memory is refused.
+pub(crate) fn gathered<J: Wiring, P: NodeProgram, R: Wait>(
+    rt: &R,
+    alloc: Global,
+    net: &Network,
+    links: Vec<Vec<Link<P>>>,
+    nodes: Vec<Node<J, P>>,
+) -> Result<Outcome<P>, Memory>
+    requires network { J.net ≡ net.now }
+    requires tables { tables_of (map (λ row. row.items) links.items) ≡ J.tables }
+    requires shape { HasShape net.now (map (λ row. row.items) links.items) }
+    requires nodes { map (λ n. n.vertex) nodes.items ≡ vertices J.net }
+    ensures outcome { IfOk result (λ outcome. (capacity : ℕ)
+        → All (λ row. All (λ link. link_capacity link ≤ capacity) row.items) links.items
+        → IsOutcome P.program net.now capacity outcome) }
+{
+    net.is_network();
+    let Parts {
+        actors,
+        puts,
+        takes,
+    } = apart(alloc, nodes)?;
+    let takes = crossed(alloc, net, takes)?;
+    let links = meet_rows(rt, alloc, links, puts, takes)?;
+    Ok(Outcome { actors, links })
+}

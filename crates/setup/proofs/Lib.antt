@@ -1,0 +1,3 @@
+pub mod Growth
+pub mod MadeRows
+pub mod Descent
