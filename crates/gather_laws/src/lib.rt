@@ -3,8 +3,8 @@
 //! Each node keeps as a fact of its type that it fits the lists of its own ends (`actor`). A wire that was refused in
 //! the middle of a run is set aside, since no node can know by itself that none is. When all ends have met, the lists
 //! of both ends of each link show that none was, and that the nodes simulate the synchronous run, in the very record
-//! that lists of events have: `Simulates` of `alpha_laws`. `IsOutcome` of `specs/Outcome.antt` is what a run promises
-//! (`node_pool`).
+//! that lists of events have: `Simulates` of `alpha_laws`. `IsOutcome` of `specs/Outcome.antt` is what a run is to
+//! promise.
 //!
 //! ```text
 //! gather_laws::laws::met_nodes_simulate::<S, M, E>(); // brings the law into a proof

@@ -1,11 +1,14 @@
 -- What is made is what the nodes start with.
-use Rattle.std.specs.Prelude.{Option}
-use Rattle.std.proofs.Common.{◌≡◌, ℕ, zero, suc, ◌-◌, ◌<◌, List, [], ◌∷◌, length, map, get_or, sym, ap, ◌∙◌, subst, arith, Some, slice_get}
+use Rattle.std.specs.Prelude.{All, Option}
+use Rattle.std.proofs.Common.{◌≡◌, ℕ, zero, suc, ◌+◌, ◌-◌, ◌<◌, ◌≤◌, List, [], ◌∷◌, length, map, get_or, sym, ap, ◌∙◌, subst, arith, Some, slice_get}
+use Rattle.std.proofs.lemmas.List.{get_or-map, length-map}
+use Rattle.std.proofs.lemmas.Option.{slice_get-get_or}
 use Rattle.atomic_table.specs.Seated.{TableId}
 use Rattle.interference.specs.Net.{Net, IsNetwork, IsVertex, count_of, degree_of, neighbour_of, back_port_of}
 use Rattle.link_queue.specs.declared.ends.PutSide.{PutSide}
 use Rattle.link_queue.specs.declared.ends.TakeSide.{TakeSide}
 use Rattle.link_queue.specs.declared.link.Link.{Link}
+use Rattle.link_queue.specs.Ends.{link_capacity}
 use Rattle.link_rule.specs.declared.name.LinkName.{LinkName}
 use Rattle.ends.specs.Tables.{IsEndAt, table_of, tables_of, table_at}
 use Rattle.crossing.specs.Rows.{AreCrossed, row_at, thing_at}
@@ -63,6 +66,19 @@ module _ {P T : Type 0} (net : Net) (capacity : ℕ) (links : List (List (Link P
   } where
     queue : (v i : ℕ) (link : Link P T) (id : TableId) → thing_at links v i ≡ Some link → id ≡ table_of link → table_at tables v i ≡ Some id
     queue v i link id at is = ap (λ t. table_at t v i) (sym picked) ∙ at_maps table_of links (v - 1) i link at ∙ ap (λ t. Some t) (sym is)
+
+-- the links that were made hold no more than they were made for
+pub made_within : {P T R : Type 0} (net : Net) (capacity : ℕ) (f : R → List (Link P T)) (rows : List R) (puts : List (List (PutSide T)))
+    (takes : List (List (TakeSide T))) → AreMade net capacity (map f rows) puts takes
+    → All (λ row. All (λ link. link_capacity link ≤ capacity) (f row)) rows
+made_within net capacity f rows puts takes made k d lt i e lt' =
+    let row = get_or rows k d in
+    let vertex : IsVertex net (k + 1) = (omega arith, omega (arith, lt, length-map rows f, made.links_shape.count)) in
+    let here : k + 1 - 1 ≡ k = omega arith in
+    let at = ap (λ j. slice_get (get_or (map f rows) j []) i) here ∙ ap (λ l. slice_get l i) (get_or-map f rows k d [] lt)
+    ∙ slice_get-get_or (f row) i e lt' in
+    let is = made.capacities (k + 1) i (get_or (f row) i e) vertex at in
+    omega (arith, is)
 
 -- the ends of a run, by the vertices of the nodes that get them
 module _ {T : Type 0} (net : Net) (tables : List (List TableId)) (puts : List (List (PutSide T))) (takes : List (List (TakeSide T)))
