@@ -5,11 +5,15 @@
 //! nothing of its caller. `pool` lets workers make turns of all nodes of a run.
 //!
 //! ```text
-//! let mut node = Node::<J, Colouring>::start(alloc, &network, v, puts, takes)?;
-//! while node.turn(&rt, &links, &OpenGate, 0) {}
+//! let mut node = Node::<J, Colouring>::start(alloc, &network, v, puts, takes, false)?;
+//! while node.turn(&rt, &links, &OpenGate, 0)? {}
 //! ```
 //!
-//! No turn is given an allocator. Limits: those of `alpha_core` and `link_queue`.
+//! With a transcript a node writes down each of its events (`entries`), and keeps as a fact of its type that these are
+//! all that it did (`specs/Written.antt`). Each entry's place is reserved before its event; so a turn whose place is
+//! refused leaves the node as after its last event. Without a transcript no turn takes memory.
+//!
+//! Limits: those of `alpha_core` and `link_queue`.
 #![tactic(auto)]
 
 mod aside;
@@ -17,6 +21,7 @@ mod gate;
 mod node;
 mod order;
 mod turn;
+mod writing;
 
 pub use aside::Aside;
 pub use gate::{Gate, OpenGate};

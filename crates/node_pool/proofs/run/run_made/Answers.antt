@@ -1,6 +1,7 @@
 use Rattle.std.proofs.Common.{◌≤◌, map, sym, ◌∙◌, subst}
 use Rattle.std.specs.Prelude.{All}
 use Rattle.link_queue.specs.Ends.{link_capacity}
+use Rattle.gather_laws.specs.Outcome.{IsOutcome}
 use Rattle.setup.specs.Makes.{AreMade}
 use Rattle.setup.proofs.MadeRows.{made_are_new, made_within}
 use Rattle.node_pool.proofs.run.run_made.Goals as goal
@@ -22,7 +23,7 @@ gathered-requires-clause-tables g c κs within = c.into_rows.ensures.picked
 pub returns-clause-outcome : goal.returns-clause-outcome
 returns-clause-outcome g c =
     let capacity = c.args.options.capacity in
-    c.in_ok-gathered.ensures.outcome capacity
+    subst (λ t. IsOutcome g.P.NodeProgram.program c.args.net.now capacity t c.in_ok-gathered.field-0) c.requires.transcript (c.in_ok-gathered.ensures.outcome capacity
     (subst (λ rows. All (λ row. All (λ link. link_capacity link ≤ capacity) row.items) rows.items)
     (sym (c.into_rows.ensures.rows ∙ c.new-links.ensures.rows))
-    (made_within c.args.net.now capacity (λ row. row.items) c.args.made.links.items _ _ c.requires.made))
+    (made_within c.args.net.now capacity (λ row. row.items) c.args.made.links.items _ _ c.requires.made)))
