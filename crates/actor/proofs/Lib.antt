@@ -1,3 +1,5 @@
 pub mod Lists
 pub mod Kept
 pub mod Steps
+pub mod Written
+pub mod Writes

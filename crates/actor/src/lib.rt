@@ -5,11 +5,12 @@
 //! leave a node, and nothing is owed to a caller. `pool` lets workers make turns of all nodes of a run.
 //!
 //! ```text
-//! let mut node = Node::<J, Colouring>::start(alloc, &network, v, puts, takes)?;
-//! while node.turn(&rt, &links, &OpenGate, 0) {}
+//! let mut node = Node::<J, Colouring>::start(alloc, &network, v, puts, takes, false)?;
+//! while node.turn(&rt, &links, &OpenGate, 0)? {}
 //! ```
 //!
-//! No turn is given an allocator. Limits: those of `alpha_core` and `link_queue`.
+//! With a transcript a node writes down each of its events (`entries`), and keeps as a fact of its type that they are all
+//! that it did. Each entry's place is reserved before its event. Without a transcript no turn takes memory. Limits: those of `alpha_core` and `link_queue`.
 #![tactic(auto)]
 
 mod aside;
@@ -17,6 +18,7 @@ mod gate;
 mod node;
 mod order;
 mod turn;
+mod writing;
 
 pub use aside::Aside;
 pub use gate::{Gate, OpenGate};

@@ -1,19 +1,21 @@
 //! A node with its ends.
 
-ghost use Rattle.std.specs.Prelude.{◌≡◌, [], All, IfOk, Some, map};
+ghost use Rattle.std.specs.Prelude.{◌≡◌, ◌<◌, [], All, IfOk, Some, map};
 ghost use Rattle.std.proofs.Props.{props};
-ghost use Rattle.interference.specs.Net.{IsNetwork, IsVertex, degree_of};
+ghost use Rattle.interference.specs.Net.{IsNetwork, IsVertex, degree_of, neighbour_of};
 ghost use Rattle.node_api.specs.Program.{last_pulse_on};
 ghost use Rattle.alpha_core.specs.Program.{start_node};
 ghost use Rattle.alpha_laws.specs.Kept.{NodeKept};
 ghost use Rattle.link_queue.specs.Ends.{put_list, taken_list};
 ghost use Rattle.actor.specs.declared.aside.Aside.{Aside};
 ghost use Rattle.actor.specs.Node.{IsAside, by_port, links_in, links_out, reacted_to};
-ghost use Rattle.actor.specs.Props.{Follows-prop};
+ghost use Rattle.actor.specs.Props.{Follows-prop, Leads-prop};
+ghost use Rattle.actor.specs.Written.{IsTranscript};
 
 use crate::aside::Aside;
 use alpha_core::AlphaNode;
 use ends::{WiredPut, WiredTake, Wiring};
+use entries::Entry;
 use interference::{Memory, Network};
 use node_api::NodeProgram;
 use std::alloc::Global;
@@ -27,6 +29,9 @@ pub struct Node<J: Wiring, P: NodeProgram> {
     pub puts: Vec<WiredPut<J, P::Payload>>,
     pub takes: Vec<WiredTake<J, P::Payload>>,
     pub aside: Option<Aside<P::Payload>>,
+    /// Whether it writes down what it does.
+    pub transcript: bool,
+    pub entries: Vec<Entry<P::Payload>>,
     // It is a vertex of the network, with an end that puts and one that takes for each port.
     pub ghost network: { IsNetwork J.net },
     pub ghost is_vertex: { IsVertex J.net vertex },
@@ -40,11 +45,16 @@ pub struct Node<J: Wiring, P: NodeProgram> {
         (map (λ e. taken_list e.end) takes.items))) } by { Prim.hlevel (props, Follows-prop) },
     pub ghost set_aside: { (a : Aside P.Payload) → aside ≡ Some a →
         IsAside (last_pulse_on P.program J.net) alpha.node.view (map (λ e. taken_list e.end) takes.items) a },
+    // With a transcript, its entries are all that it did, and those lists.
+    pub ghost writes: { IsTranscript P.program J.net vertex transcript alpha.node
+        (by_port (map (λ e. put_list e.end) puts.items))
+        (by_port (reacted_to aside (map (λ e. taken_list e.end) takes.items))) entries.items
+    } by { Prim.hlevel (props, Leads-prop) },
 }
 
 impl<J: Wiring, P: NodeProgram> Node<J, P> {
-    /// The node of a vertex at pulse 0, with ends at which nothing was put or taken. Nothing else of a node takes
-    /// memory.
+    /// The node of a vertex at pulse 0, with ends at which nothing was put or taken. Without a transcript nothing else
+    /// of a node takes memory.
     ///
     /// # Errors
     ///
@@ -55,6 +65,7 @@ impl<J: Wiring, P: NodeProgram> Node<J, P> {
         vertex: u32,
         puts: Vec<WiredPut<J, P::Payload>>,
         takes: Vec<WiredTake<J, P::Payload>>,
+        transcript: bool,
     ) -> Result<Node<J, P>, Memory>
         requires network { J.net ≡ net.now }
         requires vertex { IsVertex net.now vertex }
@@ -63,6 +74,7 @@ impl<J: Wiring, P: NodeProgram> Node<J, P> {
         requires nothing_put { All (λ e. put_list e.end ≡ []) puts.items }
         requires nothing_taken { All (λ e. taken_list e.end ≡ []) takes.items }
         ensures vertex { IfOk result (λ node. node.vertex ≡ vertex) }
+        ensures transcript { IfOk result (λ node. node.transcript ≡ transcript) }
         ensures first { IfOk result (λ node. node.alpha.node ≡ start_node P.program net.now vertex) }
     {
         net.is_network();
@@ -74,6 +86,16 @@ impl<J: Wiring, P: NodeProgram> Node<J, P> {
             puts,
             takes,
             aside: None,
+            transcript,
+            entries: Vec::new(alloc),
         })
+    }
+
+    // The neighbour at a port.
+    pub(crate) fn neighbour(&self, port: u32) -> u32
+        requires port { port < self.now.degree }
+        ensures neighbour { result ≡ neighbour_of J.net self.now.vertex port }
+    {
+        self.takes[port as usize].vertex
     }
 }

@@ -1,12 +1,15 @@
 //! What a node does in a turn.
 
-ghost use Rattle.std.specs.Prelude.{◌≡◌, ◌<◌, IsTrue, None};
+ghost use Rattle.std.specs.Prelude.{◌≡◌, ◌<◌, IfErr, IsTrue, None};
 ghost use Rattle.alpha_core.specs.View.{can_take};
 
 use crate::aside::Aside;
 use crate::gate::Gate;
 use crate::node::Node;
+use crate::writing::{keep_room, write_down};
 use ends::{Links, Wiring};
+use entries::Entry;
+use interference::Memory;
 use node_api::NodeProgram;
 use std::sync::Wait;
 
@@ -18,136 +21,170 @@ const PUTS: u32 = 4;
 
 impl<J: Wiring, P: NodeProgram> Node<J, P> {
     // Takes a wire by a port, if there is one, and reacts to it. Returns whether there was one.
-    fn take_one<R: Wait>(&mut self, rt: &R, links: &Links<J, P>, port: u32) -> bool
+    fn take_one<R: Wait>(&mut self, rt: &R, links: &Links<J, P>, port: u32) -> Result<bool, Memory>
         requires port { port < self.old.degree }
         requires going { self.old.aside ≡ None }
         requires room { IsTrue (can_take self.old.alpha.node.view) }
         ensures same { (self.new.vertex ≡ self.old.vertex) × (self.new.degree ≡ self.old.degree) }
+        ensures transcript { self.new.transcript ≡ self.old.transcript }
+        ensures refused { IfErr result (λ _. IsTrue self.old.transcript) }
     {
+        let neighbour = self.neighbour(port);
+        keep_room(self.transcript, &mut self.entries)?;
         match links.take(rt, &mut self.takes[port as usize]) {
-            None => false,
+            None => Ok(false),
             Some(wire) => {
                 match self.alpha.on_wire(port, wire) {
-                    Ok(()) => {}
+                    Ok(()) => {
+                        let entry = Entry::Take(neighbour, wire);
+                        write_down(self.transcript, &mut self.entries, entry);
+                    }
                     Err(_) => self.aside = Some(Aside { port, wire }),
                 }
-                true
+                Ok(true)
             }
         }
     }
 
     // Takes by a port, at most `TAKES` wires. Returns whether it took one.
-    fn take_some<R: Wait>(&mut self, rt: &R, links: &Links<J, P>, port: u32) -> bool
+    fn take_some<R: Wait>(&mut self, rt: &R, links: &Links<J, P>, port: u32) -> Result<bool, Memory>
         requires port { port < self.old.degree }
         ensures same { (self.new.vertex ≡ self.old.vertex) × (self.new.degree ≡ self.old.degree) }
+        ensures transcript { self.new.transcript ≡ self.old.transcript }
+        ensures refused { IfErr result (λ _. IsTrue self.old.transcript) }
     {
         let mut took = false;
         for _ in 0..TAKES {
-            if self.aside.is_some() || !self.alpha.can_take() || !self.take_one(rt, links, port) {
+            if self.aside.is_some() || !self.alpha.can_take() || !self.take_one(rt, links, port)? {
                 break;
             }
             took = true;
         }
-        took
+        Ok(took)
     }
 
     // Takes by each port, ascending. Returns whether it took a wire.
-    fn take_all<R: Wait>(&mut self, rt: &R, links: &Links<J, P>) -> bool
+    fn take_all<R: Wait>(&mut self, rt: &R, links: &Links<J, P>) -> Result<bool, Memory>
         ensures same { (self.new.vertex ≡ self.old.vertex) × (self.new.degree ≡ self.old.degree) }
+        ensures transcript { self.new.transcript ≡ self.old.transcript }
+        ensures refused { IfErr result (λ _. IsTrue self.old.transcript) }
     {
         let mut took = false;
         for port in 0..self.degree {
-            if self.take_some(rt, links, port) {
+            if self.take_some(rt, links, port)? {
                 took = true;
             }
         }
-        took
+        Ok(took)
     }
 
     // Makes the next pulse, if the node can; its program doesn't refuse it. Returns whether it made one.
-    fn pulse(&mut self) -> bool
+    fn pulse(&mut self) -> Result<bool, Memory>
         requires going { self.old.aside ≡ None }
         ensures same { (self.new.vertex ≡ self.old.vertex) × (self.new.degree ≡ self.old.degree) }
+        ensures transcript { self.new.transcript ≡ self.old.transcript }
+        ensures refused { IfErr result (λ _. IsTrue self.old.transcript) }
         ensures going { self.new.aside ≡ None }
     {
         if !self.alpha.can_pulse() {
-            return false;
+            return Ok(false);
         }
+        keep_room(self.transcript, &mut self.entries)?;
         match self.alpha.pulse() {
-            Ok(()) => true,
+            Ok(()) => {
+                let entry = Entry::Pulse(self.alpha.pulse_number());
+                write_down(self.transcript, &mut self.entries, entry);
+                Ok(true)
+            }
             Err(_) => unreachable!(),
         }
     }
 
     // Puts the oldest wire of a port, if there is one and room for it. Returns whether it put one.
-    fn put_one<R: Wait>(&mut self, rt: &R, links: &Links<J, P>, port: u32) -> bool
+    fn put_one<R: Wait>(&mut self, rt: &R, links: &Links<J, P>, port: u32) -> Result<bool, Memory>
         requires port { port < self.old.degree }
         requires going { self.old.aside ≡ None }
         ensures same { (self.new.vertex ≡ self.old.vertex) × (self.new.degree ≡ self.old.degree) }
+        ensures transcript { self.new.transcript ≡ self.old.transcript }
+        ensures refused { IfErr result (λ _. IsTrue self.old.transcript) }
         ensures going { self.new.aside ≡ None }
     {
         let Some(wire) = self.alpha.front(port) else {
-            return false;
+            return Ok(false);
         };
+        let neighbour = self.neighbour(port);
+        keep_room(self.transcript, &mut self.entries)?;
         match links.put(rt, &mut self.puts[port as usize], wire) {
-            Err(_) => false,
+            Err(_) => Ok(false),
             Ok(()) => {
                 self.alpha.put_done(port);
-                true
+                let entry = Entry::Put(neighbour, wire);
+                write_down(self.transcript, &mut self.entries, entry);
+                Ok(true)
             }
         }
     }
 
     // Puts by a port, until nothing is left or the link is full. Returns whether it put a wire.
-    fn put_some<R: Wait>(&mut self, rt: &R, links: &Links<J, P>, port: u32) -> bool
+    fn put_some<R: Wait>(&mut self, rt: &R, links: &Links<J, P>, port: u32) -> Result<bool, Memory>
         requires port { port < self.old.degree }
         requires going { self.old.aside ≡ None }
         ensures same { (self.new.vertex ≡ self.old.vertex) × (self.new.degree ≡ self.old.degree) }
+        ensures transcript { self.new.transcript ≡ self.old.transcript }
+        ensures refused { IfErr result (λ _. IsTrue self.old.transcript) }
         ensures going { self.new.aside ≡ None }
     {
         let mut put = false;
         for _ in 0..PUTS {
-            if !self.put_one(rt, links, port) {
+            if !self.put_one(rt, links, port)? {
                 break;
             }
             put = true;
         }
-        put
+        Ok(put)
     }
 
     // Puts by each port, ascending. Returns whether it put a wire.
-    fn put_all<R: Wait>(&mut self, rt: &R, links: &Links<J, P>) -> bool
+    fn put_all<R: Wait>(&mut self, rt: &R, links: &Links<J, P>) -> Result<bool, Memory>
         requires going { self.old.aside ≡ None }
         ensures same { (self.new.vertex ≡ self.old.vertex) × (self.new.degree ≡ self.old.degree) }
+        ensures transcript { self.new.transcript ≡ self.old.transcript }
+        ensures refused { IfErr result (λ _. IsTrue self.old.transcript) }
         ensures going { self.new.aside ≡ None }
     {
         let mut put = false;
         for port in 0..self.degree {
-            if self.put_some(rt, links, port) {
+            if self.put_some(rt, links, port)? {
                 put = true;
             }
         }
-        put
+        Ok(put)
     }
 
     /// One turn: takes by each port, then one pulse if the node can make it, then puts by each port. Returns whether
     /// the node did anything, but false if it set a wire aside.
+    ///
+    /// # Errors
+    ///
+    /// `Memory` if memory for an entry is refused; the node is as after its last event.
     pub fn turn<R: Wait, G: Gate>(
         &mut self,
         rt: &R,
         links: &Links<J, P>,
         gate: &G,
         worker: u32,
-    ) -> bool
+    ) -> Result<bool, Memory>
         ensures vertex { self.new.vertex ≡ self.old.vertex }
+        ensures transcript { self.new.transcript ≡ self.old.transcript }
+        ensures refused { IfErr result (λ _. IsTrue self.old.transcript) }
     {
-        let took = self.take_all(rt, links);
+        let took = self.take_all(rt, links)?;
         gate.middle(rt, worker, self.vertex);
         if self.aside.is_some() {
-            return false;
+            return Ok(false);
         }
-        let pulsed = self.pulse();
-        let put = self.put_all(rt, links);
-        took || pulsed || put
+        let pulsed = self.pulse()?;
+        let put = self.put_all(rt, links)?;
+        Ok(took || pulsed || put)
     }
 }

@@ -1,5 +1,6 @@
 use Rattle.std.proofs.Common.{sym, ◌∙◌}
-use Rattle.actor.proofs.Steps.{answered, pulsed, never_refused}
+use Rattle.actor.proofs.Writes.{wrote_nothing, wrote_pulsed}
+use Rattle.actor.proofs.Steps.{pulsed, never_refused}
 use Rattle.actor.proofs.node.Node.pulse.Goals as goal
 
 pub unreachable-requires : goal.unreachable-requires
@@ -12,6 +13,21 @@ unreachable-requires g c =
 pub invariant_of-self : goal.invariant_of-self
 invariant_of-self g c =
     let old = c.args.self.now in
+    record {
+      network = old.network;
+      is_vertex = old.is_vertex;
+      ports = old.ports;
+      outs = old.outs;
+      ins = old.ins;
+      last = old.last;
+      keeps = old.keeps;
+      set_aside = old.set_aside;
+      writes = wrote_nothing _ _ c.keep_room.ensures.same old.writes;
+    }
+
+pub invariant_of-self-in-Ok : goal.invariant_of-self-in-Ok
+invariant_of-self-in-Ok g c =
+    let old = c.args.self.now in
     let program = g.P.NodeProgram.program in
     let net = g.J.Wiring.net in
     let laws = g.P.NodeProgram.laws in
@@ -22,9 +38,9 @@ invariant_of-self g c =
       ports = old.ports;
       outs = old.outs;
       ins = old.ins;
-      last = c.pulse.ensures.last ∙ old.last;
-      keeps = answered c.pulse.result c.pulse.ensures.pulse
-          (λ x made. pulsed program net laws old.network _ _ _ _ _ _ old.last old.is_vertex can made old.keeps)
-          (λ e why. never_refused program net laws old.network _ _ _ _ _ why.0 old.last old.is_vertex can why.2 old.keeps);
+      last = c.in-Ok.ensures.last ∙ old.last;
+      keeps = pulsed program net laws old.network _ _ _ _ _ _ old.last old.is_vertex can c.in-Ok.ensures.pulse old.keeps;
       set_aside = λ a e. absurd (let none = sym c.requires.going ∙ e in cc);
+      writes = wrote_pulsed program net _ _ _ _ _ _ _ _ _ _ _ old.last can c.in-Ok.ensures.pulse
+          c.pulse_number.ensures.pulse c.keep_room.ensures.same c.write_down.ensures.entries old.writes;
     }

@@ -4,6 +4,7 @@ use Rattle.link_queue.specs.Ends.{put_list, taken_list}
 use Rattle.actor.proofs.Lists.{same_all, get_map, as_long, at_place}
 use Rattle.actor.proofs.Kept.{may_put, legal_by_name}
 use Rattle.actor.proofs.Steps.{put_none, put_one}
+use Rattle.actor.proofs.Writes.{wrote_nothing, wrote_none_put, wrote_one_put}
 use Rattle.interference.specs.Net.{neighbour_of}
 use Rattle.alpha_core.specs.Program.{IsLegal}
 use Rattle.actor.proofs.node.Node.put_one.Goals as goal
@@ -34,6 +35,21 @@ put-requires-clause-legal g c κs within =
 pub invariant_of-self : goal.invariant_of-self
 invariant_of-self g c =
     let old = c.args.self.now in
+    record {
+      network = old.network;
+      is_vertex = old.is_vertex;
+      ports = old.ports;
+      outs = old.outs;
+      ins = old.ins;
+      last = old.last;
+      keeps = old.keeps;
+      set_aside = old.set_aside;
+      writes = wrote_nothing _ _ c.keep_room.ensures.same old.writes;
+    }
+
+pub invariant_of-self-in-Err : goal.invariant_of-self-in-Err
+invariant_of-self-in-Err g c =
+    let old = c.args.self.now in
     let at = c.in-Err.ensures in
     let is = c.index_mut.ensures.value in
     let outs = same_all (λ e. (e.vertex, e.port)) _ _ _ _ is (λ i. (at.place.0 i, at.place.1 i)) in
@@ -46,6 +62,8 @@ invariant_of-self g c =
       last = old.last;
       keeps = put_none g.P.NodeProgram.program g.J.Wiring.net (λ e. put_list e.end) (λ e. taken_list e.end) _ _ _ _ _ _ _ _ is at.unchanged old.keeps;
       set_aside = λ a e. absurd (let none = sym c.requires.going ∙ e in cc);
+      writes = wrote_none_put g.P.NodeProgram.program g.J.Wiring.net (λ e. put_list e.end) (λ e. taken_list e.end) _ _ _ _ _ _ _ _ _ _ _ is at.unchanged
+          c.keep_room.ensures.same old.writes;
     }
 
 pub invariant_of-self-in-Ok : goal.invariant_of-self-in-Ok
@@ -68,4 +86,7 @@ invariant_of-self-in-Ok g c =
       keeps = put_one g.P.NodeProgram.program net (λ e. put_list e.end) (λ e. taken_list e.end) _ _ _ _ _ _ _ _ _ _ count lt is at.put
           (sym c.in-Some.ensures.oldest) c.put_done.ensures.view c.put_done.ensures.state old.keeps;
       set_aside = λ a e. absurd (let none = sym c.requires.going ∙ e in cc);
+      writes = wrote_one_put g.P.NodeProgram.program net (λ e. put_list e.end) (λ e. taken_list e.end) _ _ old.network old.is_vertex _ _ _ _ _ _ _ _ _ _ _ _ _
+          count lt is at.put (sym c.in-Some.ensures.oldest) c.put_done.ensures.view c.put_done.ensures.state c.keep_room.ensures.same
+          c.neighbour-neighbour.ensures.neighbour c.write_down.ensures.entries old.writes;
     }

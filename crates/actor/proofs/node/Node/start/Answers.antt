@@ -9,6 +9,8 @@ use Rattle.link_queue.specs.Ends.{put_list, taken_list}
 use Rattle.actor.specs.Node.{by_port, links_in, links_out}
 use Rattle.actor.proofs.Lists.{none_at}
 use Rattle.actor.proofs.Kept.{node_same}
+use Rattle.actor.specs.Written.{IsTranscript}
+use Rattle.actor.proofs.Written.{starts_transcript}
 use Rattle.actor.proofs.node.Node.start.Goals as goal
 
 -- the network that the run picked is this one, at whose start the node keeps its empty links
@@ -33,4 +35,9 @@ invariant_of-result g c =
           taken) same (subst (λ n. NodeKept program c.args.net.now c.args.vertex n sent
           taken) (sym c.in_ok-alpha.ensures.node) kept);
       set_aside = λ a none. absurd cc;
+      writes = subst (λ net. IsTranscript program net c.args.vertex c.args.transcript c.in_ok-alpha.alpha.node sent taken c.new.result.items) same
+          (subst (λ n. IsTranscript program c.args.net.now c.args.vertex c.args.transcript n sent taken c.new.result.items) (sym c.in_ok-alpha.ensures.node)
+          (starts_transcript program c.args.net.now c.args.vertex c.args.transcript sent taken c.new.result.items
+          (none_at (λ e. put_list e.end) c.args.puts.items c.requires.nothing_put)
+          (none_at (λ e. taken_list e.end) c.args.takes.items c.requires.nothing_taken) c.new.ensures.items));
     }

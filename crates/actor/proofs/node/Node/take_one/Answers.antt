@@ -4,6 +4,7 @@ use Rattle.actor.specs.declared.aside.Aside.{Aside}
 use Rattle.link_queue.specs.Ends.{put_list, taken_list}
 use Rattle.actor.proofs.Lists.{same_all, as_long, at_place}
 use Rattle.actor.proofs.Kept.{legal_of_name}
+use Rattle.actor.proofs.Writes.{wrote_nothing, wrote_none_taken, wrote_taken, wrote_refused}
 use Rattle.actor.proofs.Steps.{took_none, took_one, took_refused, refused_is}
 use Rattle.interference.specs.Net.{neighbour_of, back_port_of}
 use Rattle.actor.proofs.node.Node.take_one.Goals as goal
@@ -19,6 +20,21 @@ index_mut-requires g c =
 pub invariant_of-self : goal.invariant_of-self
 invariant_of-self g c =
     let old = c.args.self.now in
+    record {
+      network = old.network;
+      is_vertex = old.is_vertex;
+      ports = old.ports;
+      outs = old.outs;
+      ins = old.ins;
+      last = old.last;
+      keeps = old.keeps;
+      set_aside = old.set_aside;
+      writes = wrote_nothing _ _ c.keep_room.ensures.same old.writes;
+    }
+
+pub invariant_of-self-in-None : goal.invariant_of-self-in-None
+invariant_of-self-in-None g c =
+    let old = c.args.self.now in
     let at = c.in-None.ensures in
     let is = c.index_mut.ensures.value in
     let ins = same_all (λ e. (e.vertex, e.port)) _ _ _ _ is (λ i. (at.place.0 i, at.place.1 i)) in
@@ -31,6 +47,8 @@ invariant_of-self g c =
       last = old.last;
       keeps = took_none g.P.NodeProgram.program g.J.Wiring.net (λ e. put_list e.end) (λ e. taken_list e.end) _ _ _ _ _ _ _ _ is at.unchanged old.keeps;
       set_aside = λ a e. absurd (let none = sym c.requires.going ∙ e in cc);
+      writes = wrote_none_taken g.P.NodeProgram.program g.J.Wiring.net (λ e. put_list e.end) (λ e. taken_list e.end) _ _ _ _ _ _ _ _ _ _ _ is at.unchanged
+          c.keep_room.ensures.same old.writes;
     }
 
 pub invariant_of-self-in-Ok : goal.invariant_of-self-in-Ok
@@ -57,6 +75,9 @@ invariant_of-self-in-Ok g c =
       keeps = took_one g.P.NodeProgram.program net (λ e. put_list e.end) (λ e. taken_list e.end) _ _ _ _ _ _ _ _ _ _ _ old.last count lt c.requires.going is
           at.taken legal c.in-Ok.ensures.reaction c.in-Ok.ensures.state old.keeps;
       set_aside = λ a e. absurd (let none = sym c.requires.going ∙ e in cc);
+      writes = wrote_taken g.P.NodeProgram.program net (λ e. put_list e.end) (λ e. taken_list e.end) _ _ old.network old.is_vertex _ _ _ _ _ _ _ _ _ _ _ _ _ _
+          old.last count lt c.requires.going is at.taken c.in-Ok.ensures.reaction c.in-Ok.ensures.state c.keep_room.ensures.same
+          c.neighbour-neighbour.ensures.neighbour c.write_down.ensures.entries old.writes;
     }
 
 pub invariant_of-self-in-Err : goal.invariant_of-self-in-Err
@@ -83,4 +104,6 @@ invariant_of-self-in-Err g c =
           c.requires.going is at.taken same old.keeps;
       set_aside = refused_is g.P.NodeProgram.program net (λ e. taken_list e.end) _ _ old.takes.items c.args.port c.index_mut.result.now c.take.new.end
           c.in-Some.wire aside _ _ old.last refl refl within is at.taken same c.in-Err.ensures.reaction;
+      writes = wrote_refused g.P.NodeProgram.program net (λ e. put_list e.end) (λ e. taken_list e.end) _ _ _ _ _ _ _ _ _ _ _ aside _ _ refl count lt
+          c.requires.going is at.taken same c.keep_room.ensures.same old.writes;
     }
