@@ -1,5 +1,5 @@
 -- What one call on an end, or on the node alone, leaves of the entries of a node with its ends.
-use Rattle.std.proofs.Common.{◌≡◌, ℕ, ◌<◌, List, [], ◌∷◌, ◌++◌, length, map, set, get_or, if◌then◌else◌, sym, ap, ◌∙◌, subst, arith}
+use Rattle.std.proofs.Common.{◌≡◌, ℕ, ◌<◌, List, [], ◌∷◌, ◌++◌, length, map, set, get_or, if◌then◌else◌, sym, subst, arith}
 use Rattle.std.proofs.Common.{Some, None, Ok, slice_get}
 use Rattle.std.specs.Prelude.{Bool, Option, IsTrue}
 use Rattle.interference.specs.Net.{Net, IsNetwork, IsVertex, degree_of, neighbour_of}
@@ -45,7 +45,8 @@ module _ {S M E X Y : Type 0} (program : Program S M E) (net : Net) (put : X →
       let within : i < length ys = omega arith in
       let writes' : Writes node xs ys None es' = subst (λ a. Writes node xs ys a es') going (subst (λ l. Writes node xs ys before l) (sym room) writes) in
       subst (λ n. Writes n xs (set ys i y) (Some aside) es') (sym same)
-      (subst (λ l. IsTranscript program net v t node (by_port (map put xs)) (by_port l) es') (sym (set_aside taken ys i x y w aside port within is more)) writes')
+      (subst (λ l. IsTranscript program net v t node (by_port (map put xs)) (by_port l) es')
+      (sym (set_aside taken ys i x y w aside port within is more)) writes')
 
   module _ (ok : IsNetwork net) (vertex : IsVertex net v) where
     -- a wire was taken, and the node reacted

@@ -1,6 +1,6 @@
 -- The entries of a node, as it writes one more down: they still lead to what it is, and have the lists that it put and took.
 use Rattle.std.proofs.Common.{◌≡◌, ℕ, suc, ◌+◌, ◌<◌, ◌==◌, true, false, if◌then◌else◌, List, [], ◌∷◌, ◌++◌, map, refl, sym, ap, ◌∙◌, subst, arith}
-use Rattle.std.proofs.Common.{zero, Some, None, Ok, Err, slice_get, append_assoc, ⊎_elim}
+use Rattle.std.proofs.Common.{zero, Some, None, Ok, Err, slice_get, ⊎_elim}
 use Rattle.std.specs.Prelude.{Bool, IsTrue, Option, Result, MatchResult, nat_lt, ◌&&◌, replicate}
 use Rattle.std.specs.List.{range_with_len}
 use Rattle.std.proofs.lemmas.Bool.{cases_eq, cases_Bool, eq-eqb, ne_eqb}
@@ -91,10 +91,14 @@ module _ {S M E : Type 0} (program : Program S M E) (net : Net) (v : ℕ) where
   leads_on [] ys from via to is rest = subst (λ n. Leads program net v ys n to) (sym is) rest
   leads_on (Pulse p ∷ xs) ys from via to is rest = (
     is.0,
-    (is.1.0, other_words (pulse program.next (last_pulse_on program net) from) (λ n. Leads program net v xs n via) (λ n. Leads program net v (xs ++ ys) n to)
-        (λ n more. leads_on xs ys n via to more rest) is.1.1),
+    (
+      is.1.0,
+      other_words (pulse program.next (last_pulse_on program net) from) (λ n. Leads program net v xs n via) (λ n. Leads program net v (xs ++ ys) n to)
+          (λ n more. leads_on xs ys n via to more rest) is.1.1,
+    ),
   )
-  leads_on (Put w x ∷ xs) ys from via to is rest = (is.0, (is.1.0, leads_on xs ys record from { view = put_done from.view (port_to net v w) } via to is.1.1 rest))
+  leads_on (Put w x ∷ xs) ys from via to is rest =
+      (is.0, (is.1.0, leads_on xs ys record from { view = put_done from.view (port_to net v w) } via to is.1.1 rest))
   leads_on (Take w x ∷ xs) ys from via to is rest = (
     is.0,
     other_words (reaction (last_pulse_on program net) from.view (port_to net v w) x) (λ u. Leads program net v xs record from { view = u } via)
@@ -129,8 +133,10 @@ module _ {S M E : Type 0} (program : Program S M E) (net : Net) (v : ℕ) where
         (sym (port_to-is net ok v i vertex lt)) (lt, (oldest, made)) in
         record {
           run = leads_on entries (Put to w ∷ []) (start_node program net v) node new is.run step;
-          puts_are = grown i w puts puts' (puts_in entries) (puts_in (entries ++ (Put to w ∷ []))) lt more (λ k. puts_more entries (Put to w ∷ []) k) is.puts_are;
-          takes_are = λ j lt'. takes_more entries (Put to w ∷ []) (neighbour_of net v j) ∙ append-nil (takes_in entries (neighbour_of net v j)) ∙ is.takes_are j lt';
+          puts_are = grown i w puts puts' (puts_in entries) (puts_in (entries ++ (Put to w ∷ []))) lt more
+              (λ k. puts_more entries (Put to w ∷ []) k) is.puts_are;
+          takes_are = λ j lt'. takes_more entries (Put to w ∷ []) (neighbour_of net v j)
+              ∙ append-nil (takes_in entries (neighbour_of net v j)) ∙ is.takes_are j lt';
           pulses_are = pulses_more entries (Put to w ∷ []) ∙ append-nil (pulses_in entries) ∙ is.pulses_are ∙ ap (λ u. range_with_len 1 u.pulse) (sym view);
         }
       where
@@ -149,8 +155,10 @@ module _ {S M E : Type 0} (program : Program S M E) (net : Net) (v : ℕ) where
         (lt, subst (λ r. MatchResult r (λ u. record node { view = u } ≡ new) (λ _. ⊥)) (sym reacts) made) in
         record {
           run = leads_on entries (Take from w ∷ []) (start_node program net v) node new is.run step;
-          puts_are = λ j lt'. puts_more entries (Take from w ∷ []) (neighbour_of net v j) ∙ append-nil (puts_in entries (neighbour_of net v j)) ∙ is.puts_are j lt';
-          takes_are = grown i w takens takens' (takes_in entries) (takes_in (entries ++ (Take from w ∷ []))) lt more (λ k. takes_more entries (Take from w ∷ []) k)
+          puts_are = λ j lt'. puts_more entries (Take from w ∷ []) (neighbour_of net v j)
+              ∙ append-nil (puts_in entries (neighbour_of net v j)) ∙ is.puts_are j lt';
+          takes_are = grown i w takens takens' (takes_in entries) (takes_in (entries ++ (Take from w ∷ []))) lt more
+              (λ k. takes_more entries (Take from w ∷ []) k)
               is.takes_are;
           pulses_are = pulses_more entries (Take from w ∷ []) ∙ append-nil (pulses_in entries) ∙ is.pulses_are
               ∙ ap (λ n. range_with_len 1 n) (sym (reaction_pulse (last_pulse_on program net) node.view new.view i w reacts));
@@ -167,7 +175,8 @@ module _ {S M E : Type 0} (program : Program S M E) (net : Net) (v : ℕ) where
         run = leads_on entries (Pulse p ∷ []) (start_node program net v) node new is.run step;
         puts_are = λ j lt. puts_more entries (Pulse p ∷ []) (neighbour_of net v j) ∙ append-nil (puts_in entries (neighbour_of net v j)) ∙ is.puts_are j lt;
         takes_are = λ j lt. takes_more entries (Pulse p ∷ []) (neighbour_of net v j) ∙ append-nil (takes_in entries (neighbour_of net v j)) ∙ is.takes_are j lt;
-        pulses_are = pulses_more entries (Pulse p ∷ []) ∙ ap (λ l. l ++ (p ∷ [])) is.pulses_are ∙ ap (λ k. range_with_len 1 node.view.pulse ++ (k ∷ [])) (let e : p ≡ 1 + node.view.pulse = omega (arith, number, next) in e)
+        pulses_are = pulses_more entries (Pulse p ∷ []) ∙ ap (λ l. l ++ (p ∷ [])) is.pulses_are
+            ∙ ap (λ k. range_with_len 1 node.view.pulse ++ (k ∷ [])) (let e : p ≡ 1 + node.view.pulse = omega (arith, number, next) in e)
             ∙ sym (range_more 1 node.view.pulse)
             ∙ ap (λ n. range_with_len 1 n) (sym next);
       }

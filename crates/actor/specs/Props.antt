@@ -41,7 +41,8 @@ module _ {S M E : Type 0} (states : IsSet S) (payloads : IsSet M) (program : Pro
       (matches-prop (pulse program.next (last_pulse_on program net) from)
       (λ node. Leads program net v entries node to) (λ node. Leads-prop entries node to)))
   Leads-prop (Put w wire ∷ entries) from to =
-      both-prop (Prim.hlevel props) (both-prop (Prim.hlevel (props, payloads)) (Leads-prop entries record from { view = put_done from.view (port_to net v w) } to))
+      both-prop (Prim.hlevel props) (both-prop (Prim.hlevel (props, payloads))
+      (Leads-prop entries record from { view = put_done from.view (port_to net v w) } to))
   Leads-prop (Take w wire ∷ entries) from to =
       both-prop (Prim.hlevel props)
       (matches-prop (reaction (last_pulse_on program net) from.view (port_to net v w) wire)

@@ -1,5 +1,5 @@
 -- What the entries of a node say of its run.
-use Rattle.std.specs.Prelude.{◌≡◌, ℕ, suc, ◌+◌, ◌<◌, ◌==◌, Bool, IsTrue, false, if◌then◌else◌, MatchResult, Some}
+use Rattle.std.specs.Prelude.{◌≡◌, ℕ, suc, ◌<◌, ◌==◌, Bool, IsTrue, false, if◌then◌else◌, MatchResult, Some}
 use Rattle.std.specs.Prelude.{List, [], ◌∷◌, slice_get}
 use Rattle.std.specs.List.{range_with_len}
 use Rattle.interference.specs.Net.{Net, degree_of, neighbour_of, port_to}
@@ -12,8 +12,8 @@ use Rattle.entries.specs.declared.entry.Entry.{Entry}
 use Rattle.entries.specs.declared.entry.Entry.TheVariants.{Pulse, Put, Take}
 
 -- The entries lead a node of v from one state to another: one after the other, the event of each is possible, and what
--- it says is what the event does. A pulse makes the next one; a put takes the oldest wire off the out-list of the port to
--- that neighbour; by a take the node reacts to the wire, and doesn't refuse it.
+-- it says is what the event does. A pulse makes the next one; a put takes the oldest wire off the out-list of the port
+-- to that neighbour; by a take the node reacts to the wire, and doesn't refuse it.
 abbrev pub Leads : {S M E : Type 0} → Program S M E → Net → ℕ → List (Entry M) → Node S M → Node S M → Type 0
 Leads program net v [] from to = from ≡ to
 Leads program net v (Pulse p ∷ entries) from to =

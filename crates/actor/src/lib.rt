@@ -9,8 +9,11 @@
 //! while node.turn(&rt, &links, &OpenGate, 0)? {}
 //! ```
 //!
-//! With a transcript a node writes down each of its events (`entries`), and keeps as a fact of its type that they are all
-//! that it did. Each entry's place is reserved before its event. Without a transcript no turn takes memory. Limits: those of `alpha_core` and `link_queue`.
+//! With a transcript a node writes down each of its events (`entries`), and keeps as a fact of its type that these are
+//! all that it did (`specs/Written.antt`). Each entry's place is reserved before its event; so a turn whose place is
+//! refused leaves the node as after its last event. Without a transcript no turn takes memory.
+//!
+//! Limits: those of `alpha_core` and `link_queue`.
 #![tactic(auto)]
 
 mod aside;

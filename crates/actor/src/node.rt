@@ -32,9 +32,11 @@ pub struct Node<J: Wiring, P: NodeProgram> {
     /// Whether it writes down what it does.
     pub transcript: bool,
     pub entries: Vec<Entry<P::Payload>>,
-    // It is a vertex of the network, with an end that puts and one that takes for each port.
+    // It is a vertex of the network, with an end that puts and one that takes for each port, and writes down what it
+    // does if the run's nodes do.
     pub ghost network: { IsNetwork J.net },
     pub ghost is_vertex: { IsVertex J.net vertex },
+    pub ghost recorded: { transcript ≡ J.transcript },
     pub ghost ports: { degree ≡ degree_of J.net vertex },
     pub ghost outs: { map (λ e. (e.vertex, e.port)) puts.items ≡ links_out J.net vertex },
     pub ghost ins: { map (λ e. (e.vertex, e.port)) takes.items ≡ links_in J.net vertex },
@@ -48,8 +50,7 @@ pub struct Node<J: Wiring, P: NodeProgram> {
     // With a transcript, its entries are all that it did, and those lists.
     pub ghost writes: { IsTranscript P.program J.net vertex transcript alpha.node
         (by_port (map (λ e. put_list e.end) puts.items))
-        (by_port (reacted_to aside (map (λ e. taken_list e.end) takes.items))) entries.items
-    } by { Prim.hlevel (props, Leads-prop) },
+        (by_port (reacted_to aside (map (λ e. taken_list e.end) takes.items))) entries.items } by { Prim.hlevel (props, Leads-prop) },
 }
 
 impl<J: Wiring, P: NodeProgram> Node<J, P> {
@@ -72,9 +73,9 @@ impl<J: Wiring, P: NodeProgram> Node<J, P> {
         requires outs { map (λ e. (e.vertex, e.port)) puts.items ≡ links_out net.now vertex }
         requires ins { map (λ e. (e.vertex, e.port)) takes.items ≡ links_in net.now vertex }
         requires nothing_put { All (λ e. put_list e.end ≡ []) puts.items }
+        requires transcript { J.transcript ≡ transcript }
         requires nothing_taken { All (λ e. taken_list e.end ≡ []) takes.items }
         ensures vertex { IfOk result (λ node. node.vertex ≡ vertex) }
-        ensures transcript { IfOk result (λ node. node.transcript ≡ transcript) }
         ensures first { IfOk result (λ node. node.alpha.node ≡ start_node P.program net.now vertex) }
     {
         net.is_network();

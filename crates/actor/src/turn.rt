@@ -26,8 +26,7 @@ impl<J: Wiring, P: NodeProgram> Node<J, P> {
         requires going { self.old.aside ≡ None }
         requires room { IsTrue (can_take self.old.alpha.node.view) }
         ensures same { (self.new.vertex ≡ self.old.vertex) × (self.new.degree ≡ self.old.degree) }
-        ensures transcript { self.new.transcript ≡ self.old.transcript }
-        ensures refused { IfErr result (λ _. IsTrue self.old.transcript) }
+        ensures refused { IfErr result (λ _. IsTrue J.transcript) }
     {
         let neighbour = self.neighbour(port);
         keep_room(self.transcript, &mut self.entries)?;
@@ -50,8 +49,7 @@ impl<J: Wiring, P: NodeProgram> Node<J, P> {
     fn take_some<R: Wait>(&mut self, rt: &R, links: &Links<J, P>, port: u32) -> Result<bool, Memory>
         requires port { port < self.old.degree }
         ensures same { (self.new.vertex ≡ self.old.vertex) × (self.new.degree ≡ self.old.degree) }
-        ensures transcript { self.new.transcript ≡ self.old.transcript }
-        ensures refused { IfErr result (λ _. IsTrue self.old.transcript) }
+        ensures refused { IfErr result (λ _. IsTrue J.transcript) }
     {
         let mut took = false;
         for _ in 0..TAKES {
@@ -66,8 +64,7 @@ impl<J: Wiring, P: NodeProgram> Node<J, P> {
     // Takes by each port, ascending. Returns whether it took a wire.
     fn take_all<R: Wait>(&mut self, rt: &R, links: &Links<J, P>) -> Result<bool, Memory>
         ensures same { (self.new.vertex ≡ self.old.vertex) × (self.new.degree ≡ self.old.degree) }
-        ensures transcript { self.new.transcript ≡ self.old.transcript }
-        ensures refused { IfErr result (λ _. IsTrue self.old.transcript) }
+        ensures refused { IfErr result (λ _. IsTrue J.transcript) }
     {
         let mut took = false;
         for port in 0..self.degree {
@@ -82,8 +79,7 @@ impl<J: Wiring, P: NodeProgram> Node<J, P> {
     fn pulse(&mut self) -> Result<bool, Memory>
         requires going { self.old.aside ≡ None }
         ensures same { (self.new.vertex ≡ self.old.vertex) × (self.new.degree ≡ self.old.degree) }
-        ensures transcript { self.new.transcript ≡ self.old.transcript }
-        ensures refused { IfErr result (λ _. IsTrue self.old.transcript) }
+        ensures refused { IfErr result (λ _. IsTrue J.transcript) }
         ensures going { self.new.aside ≡ None }
     {
         if !self.alpha.can_pulse() {
@@ -105,8 +101,7 @@ impl<J: Wiring, P: NodeProgram> Node<J, P> {
         requires port { port < self.old.degree }
         requires going { self.old.aside ≡ None }
         ensures same { (self.new.vertex ≡ self.old.vertex) × (self.new.degree ≡ self.old.degree) }
-        ensures transcript { self.new.transcript ≡ self.old.transcript }
-        ensures refused { IfErr result (λ _. IsTrue self.old.transcript) }
+        ensures refused { IfErr result (λ _. IsTrue J.transcript) }
         ensures going { self.new.aside ≡ None }
     {
         let Some(wire) = self.alpha.front(port) else {
@@ -130,8 +125,7 @@ impl<J: Wiring, P: NodeProgram> Node<J, P> {
         requires port { port < self.old.degree }
         requires going { self.old.aside ≡ None }
         ensures same { (self.new.vertex ≡ self.old.vertex) × (self.new.degree ≡ self.old.degree) }
-        ensures transcript { self.new.transcript ≡ self.old.transcript }
-        ensures refused { IfErr result (λ _. IsTrue self.old.transcript) }
+        ensures refused { IfErr result (λ _. IsTrue J.transcript) }
         ensures going { self.new.aside ≡ None }
     {
         let mut put = false;
@@ -148,8 +142,7 @@ impl<J: Wiring, P: NodeProgram> Node<J, P> {
     fn put_all<R: Wait>(&mut self, rt: &R, links: &Links<J, P>) -> Result<bool, Memory>
         requires going { self.old.aside ≡ None }
         ensures same { (self.new.vertex ≡ self.old.vertex) × (self.new.degree ≡ self.old.degree) }
-        ensures transcript { self.new.transcript ≡ self.old.transcript }
-        ensures refused { IfErr result (λ _. IsTrue self.old.transcript) }
+        ensures refused { IfErr result (λ _. IsTrue J.transcript) }
         ensures going { self.new.aside ≡ None }
     {
         let mut put = false;
@@ -175,8 +168,7 @@ impl<J: Wiring, P: NodeProgram> Node<J, P> {
         worker: u32,
     ) -> Result<bool, Memory>
         ensures vertex { self.new.vertex ≡ self.old.vertex }
-        ensures transcript { self.new.transcript ≡ self.old.transcript }
-        ensures refused { IfErr result (λ _. IsTrue self.old.transcript) }
+        ensures refused { IfErr result (λ _. IsTrue J.transcript) }
     {
         let took = self.take_all(rt, links)?;
         gate.middle(rt, worker, self.vertex);

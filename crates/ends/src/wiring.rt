@@ -2,22 +2,28 @@
 
 use std::marker::Brand;
 
-/// The network of a run, and the queues of its links. Each run picks them; no value is made.
+/// What is common to all links and nodes of a run. Each run picks these; no value is made.
 pub trait Wiring {
-    ghost use Rattle.std.specs.Prelude.{List};
+    ghost use Rattle.std.specs.Prelude.{Bool, List};
     ghost use Rattle.atomic_table.specs.Seated.{TableId};
     ghost use Rattle.interference.specs.Net.{Net};
 
+    /// The network.
     ghost net: { Net };
 
     /// Entry `v - 1` has the queues of the links out of vertex `v`, by port.
     ghost tables: { List (List TableId) };
+
+    /// Whether its nodes write down what they do.
+    ghost transcript: { Bool };
 }
 
 impl Wiring for Brand {
-    ghost use Rattle.std.specs.Prelude.{[]};
+    ghost use Rattle.std.specs.Prelude.{[], false};
 
     ghost net = { record { ids = []; ports = [] } };
 
     ghost tables = { [] };
+
+    ghost transcript = { false };
 }

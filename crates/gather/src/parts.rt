@@ -5,14 +5,16 @@ ghost use Rattle.std.specs.Prelude.{◌≡◌, IfOk, map};
 use actor::Node;
 use alpha_core::AlphaNode;
 use ends::{WiredPut, WiredTake, Wiring};
+use entries::Entry;
 use node_api::NodeProgram;
 use std::alloc::{AllocError, Global};
 
-/// A node after the run, with its vertex.
+/// A node after the run, with its vertex and its entries.
 #[derive(Drop)]
 pub struct Actor<P: NodeProgram> {
     vertex: u32,
     alpha: AlphaNode<P>,
+    entries: Vec<Entry<P::Payload>>,
 }
 
 impl<P: NodeProgram> Actor<P> {
@@ -28,6 +30,13 @@ impl<P: NodeProgram> Actor<P> {
         ensures alpha { result.now ≡ self.now.alpha }
     {
         &self.alpha
+    }
+
+    /// What it did, in order; empty without a transcript.
+    pub fn entries(&self) -> &[Entry<P::Payload>]
+        ensures entries { result.now ≡ self.now.entries.items }
+    {
+        self.entries.as_slice()
     }
 }
 
@@ -52,6 +61,8 @@ pub fn apart<J: Wiring, P: NodeProgram>(
         (λ parts. map (λ a. a.vertex) parts.actors.items ≡ map (λ n. n.vertex) nodes.items) }
     ensures alphas { IfOk result
         (λ parts. map (λ a. a.alpha) parts.actors.items ≡ map (λ n. n.alpha) nodes.items) }
+    ensures entries { IfOk result
+        (λ parts. map (λ a. a.entries.items) parts.actors.items ≡ map (λ n. n.entries.items) nodes.items) }
     ensures puts { IfOk result
         (λ parts. map (λ row. row.items) parts.puts.items ≡ map (λ n. n.puts.items) nodes.items) }
     ensures takes { IfOk result
@@ -68,8 +79,14 @@ pub fn apart<J: Wiring, P: NodeProgram>(
             puts: put_row,
             takes: take_row,
             aside: _,
+            transcript: _,
+            entries,
         } = node;
-        actors.push(Actor { vertex, alpha })?;
+        actors.push(Actor {
+            vertex,
+            alpha,
+            entries,
+        })?;
         puts.push(put_row)?;
         takes.push(take_row)?;
     }

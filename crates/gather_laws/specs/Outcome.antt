@@ -7,6 +7,8 @@ use Rattle.alpha_core.specs.declared.wire.Wire.{Wire}
 use Rattle.alpha_core.specs.View.{Alpha, Node, is_drained}
 use Rattle.alpha_core.specs.Program.{start_node}
 use Rattle.alpha_laws.specs.Simulates.{Simulates}
+use Rattle.entries.specs.declared.entry.Entry.{Entry}
+use Rattle.actor.specs.Written.{IsTranscript}
 
 -- One direction of a link after the run: all that was put on it, what was taken from it, and what it still holds.
 pub record History (M : Type 0) : Type 0 where
@@ -14,10 +16,11 @@ pub record History (M : Type 0) : Type 0 where
   pub taken : List (Wire M)
   pub held : List (Wire M)
 
--- A node after the run, with its vertex.
+-- A node after the run, with its vertex and its entries.
 pub record Gathered (S M : Type 0) : Type 0 where
   pub vertex : ℕ
   pub alpha : Alpha S M
+  pub entries : List (Entry M)
 
 -- Entry v - 1 of each list is of vertex v: its node, and the links out of it, by port.
 pub record Outcome (S M : Type 0) : Type 0 where
@@ -38,6 +41,10 @@ alpha_in program net outcome v = slice_index_or (map (λ g. g.alpha) outcome.nod
 -- the node of a vertex
 abbrev pub node_in : {S M E : Type 0} → Program S M E → Net → Outcome S M → ℕ → Node S M
 node_in program net outcome v = (alpha_in program net outcome v).node
+
+-- what the node of a vertex wrote down
+abbrev pub entries_in : {S M : Type 0} → Outcome S M → ℕ → List (Entry M)
+entries_in outcome v = slice_index_or (map (λ g. g.entries) outcome.nodes) (v - 1) []
 
 -- the links out of a vertex, by port
 abbrev pub row_in : {S M : Type 0} → Outcome S M → ℕ → List (History M)
@@ -70,9 +77,10 @@ all_empty (row ∷ rows) = none_held row && all_empty rows
 abbrev pub is_whole : {S M : Type 0} → Outcome S M → Bool
 is_whole outcome = all_drained outcome.nodes && all_empty outcome.links
 
--- What every run of workers leaves, over links of this capacity, whatever the threads did.
-pub record IsOutcome {S M E : Type 0} (program : Program S M E) (net : Net) (capacity : ℕ) (outcome : Outcome S M)
-    : Type 0 where
+-- What every run of workers leaves, over links of this capacity, with a transcript or without, whatever the threads
+-- did.
+pub record IsOutcome {S M E : Type 0} (program : Program S M E) (net : Net) (capacity : ℕ) (transcript : Bool)
+    (outcome : Outcome S M) : Type 0 where
   -- The nodes are 1 to n, each once, ascending, and each knows the last pulse.
   pub each_once : map (λ g. g.vertex) outcome.nodes ≡ vertices net
   pub last : (v : ℕ) → IsVertex net v → (alpha_in program net outcome v).last ≡ last_pulse_on program net
@@ -86,3 +94,8 @@ pub record IsOutcome {S M E : Type 0} (program : Program S M E) (net : Net) (cap
   -- The nodes simulate the synchronous run: each fits its links, what was put standing for what was sent.
   pub simulates : Simulates program net (node_in program net outcome) (λ v i. (link_in outcome v i).put)
       (λ v i. (link_into net outcome v i).taken)
+  -- With a transcript, the entries of a node are all that it did from its start to what it is, and those to and from a
+  -- neighbour are what was put on that link and taken from that one; without a transcript there are none.
+  pub written : (v : ℕ) → IsVertex net v
+      → IsTranscript program net v transcript (node_in program net outcome v) (λ i. (link_in outcome v i).put)
+      (λ i. (link_into net outcome v i).taken) (entries_in outcome v)

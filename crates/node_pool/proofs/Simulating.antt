@@ -4,7 +4,7 @@
 -- 3. So the nodes simulate the synchronous run; the rest is read of the rows (`is_outcome`).
 use Rattle.std.proofs.Common.{◌≡◌, ℕ, ◌-◌, ◌<◌, ◌≤◌, List, [], ◌++◌, length, map, get_or, sym, ap, ◌∙◌, subst, arith}
 use Rattle.std.proofs.Common.{Some, None, slice_get}
-use Rattle.std.specs.Prelude.{Option, All}
+use Rattle.std.specs.Prelude.{Bool, Option, All}
 use Rattle.std.proofs.lemmas.List.{length-map}
 use Rattle.std.proofs.lemmas.List.FromFn.{length-range_with_len}
 use Rattle.interference.specs.Net.{Net, IsNetwork, IsVertex, count_of, degree_of, neighbour_of, back_port_of, vertices}
@@ -19,9 +19,11 @@ use Rattle.alpha_laws.proofs.Runs.{runs}
 use Rattle.alpha_laws.proofs.Claims.{simulates}
 use Rattle.actor.specs.declared.aside.Aside.{Aside}
 use Rattle.actor.specs.Node.{IsAside, by_port, reacted_to}
+use Rattle.actor.specs.Written.{IsTranscript}
+use Rattle.entries.specs.declared.entry.Entry.{Entry}
 use Rattle.crossing.specs.Rows.{AreCrossed, row_at}
 use Rattle.gather_laws.specs.Laws.{EndsHaveMet}
-use Rattle.gather_laws.specs.Outcome.{IsOutcome, Outcome, alpha_in, link_in, link_into, no_history, node_in, row_in, start_of}
+use Rattle.gather_laws.specs.Outcome.{IsOutcome, Outcome, alpha_in, entries_in, link_in, link_into, no_history, node_in, row_in, start_of}
 use Rattle.gather_laws.proofs.Asides.{met_simulate}
 use Rattle.node_pool.proofs.Rows.{some_there, get_map, row_map, get_field, node_of, as_many}
 
@@ -36,7 +38,34 @@ module _ {S M E : Type 0} (program : Program S M E) (net : Net) where
       (subst (λ ys. NodeKept program net v n (by_port ys) (by_port (reacted_to o us))) xy
       (subst (λ us. NodeKept program net v n (by_port xs) (by_port (reacted_to o us))) zu kept))))
 
+  -- its entries, given in another way
+  written_as : (t : Bool) (v w : ℕ) (n m : Node S M) (o p : Option (Aside M)) (xs ys zs us : List (List (Wire M))) (es fs : List (Entry M))
+      → v ≡ w → n ≡ m → o ≡ p → xs ≡ ys → zs ≡ us → es ≡ fs → IsTranscript program net v t n (by_port xs) (by_port (reacted_to o zs)) es
+      → IsTranscript program net w t m (by_port ys) (by_port (reacted_to p us)) fs
+  written_as t v w n m o p xs ys zs us es fs vw nm op xy zu ef written =
+      subst (λ w. IsTranscript program net w t m (by_port ys) (by_port (reacted_to p us)) fs) vw
+      (subst (λ m. IsTranscript program net v t m (by_port ys) (by_port (reacted_to p us)) fs) nm
+      (subst (λ p. IsTranscript program net v t n (by_port ys) (by_port (reacted_to p us)) fs) op
+      (subst (λ ys. IsTranscript program net v t n (by_port ys) (by_port (reacted_to o us)) fs) xy
+      (subst (λ us. IsTranscript program net v t n (by_port xs) (by_port (reacted_to o us)) fs) zu
+      (subst (λ fs. IsTranscript program net v t n (by_port xs) (by_port (reacted_to o zs)) fs) ef written)))))
+
   -- the lists are the same at each port
+  written_by : (v : ℕ) (t : Bool) (node : Node S M) (sent taken sent' taken' : ℕ → List (Wire M)) (es : List (Entry M))
+      → ((i : ℕ) → i < degree_of net v → sent i ≡ sent' i) → ((i : ℕ) → i < degree_of net v → taken i ≡ taken' i)
+      → IsTranscript program net v t node sent taken es → IsTranscript program net v t node sent' taken' es
+  written_by v t node sent taken sent' taken' es puts takes is = record {
+    written = λ yes.
+        let all = is.written yes in
+        record {
+          run = all.run;
+          puts_are = λ i lt. all.puts_are i lt ∙ puts i lt;
+          takes_are = λ i lt. all.takes_are i lt ∙ takes i lt;
+          pulses_are = all.pulses_are;
+        };
+    none = is.none;
+  }
+
   kept_by : (v : ℕ) (node : Node S M) (sent taken sent' taken' : ℕ → List (Wire M)) → ((i : ℕ) → i < degree_of net v → sent i ≡ sent' i)
       → ((i : ℕ) → i < degree_of net v → taken i ≡ taken' i) → NodeKept program net v node sent taken → NodeKept program net v node sent' taken'
   kept_by v node sent taken sent' taken' puts takes kept = record {
@@ -56,24 +85,27 @@ module _ {S M E : Type 0} (program : Program S M E) (net : Net) where
 -- What nodes say of themselves and their ends, and what was made of them and of their links.
 pub record AreGathered {S M E A F : Type 0} (program : Program S M E) (net : Net) (nodes : List A) (vertex : A → ℕ) (alpha : A → Alpha S M)
     (aside : A → Option (Aside M)) (puts : A → List (List (Wire M))) (takes : A → List F) (taken : F → List (Wire M)) (crossed : List (List F))
-    (outcome : Outcome S M) : Type 0 where
+    (transcript : Bool) (entries : A → List (Entry M)) (outcome : Outcome S M) : Type 0 where
   pub last : (a : A) → (alpha a).last ≡ last_pulse_on program net
   pub keeps : (a : A) → NodeKept program net (vertex a) (alpha a).node (by_port (puts a)) (by_port (reacted_to (aside a) (map taken (takes a))))
   pub set_aside : (a : A) (x : Aside M) → aside a ≡ Some x → IsAside (last_pulse_on program net) (alpha a).node.view (map taken (takes a)) x
+  pub writes : (a : A) → IsTranscript program net (vertex a) transcript (alpha a).node (by_port (puts a))
+      (by_port (reacted_to (aside a) (map taken (takes a)))) (entries a)
   pub outs : (a : A) → length (puts a) ≡ degree_of net (vertex a)
   pub ins : (a : A) → length (takes a) ≡ degree_of net (vertex a)
   pub order : map vertex nodes ≡ vertices net
   pub crosses : AreCrossed net (map takes nodes) crossed
   pub vertices_are : map (λ g. g.vertex) outcome.nodes ≡ map vertex nodes
   pub alphas_are : map (λ g. g.alpha) outcome.nodes ≡ map alpha nodes
+  pub entries_are : map (λ g. g.entries) outcome.nodes ≡ map entries nodes
   pub puts_are : map (λ row. map (λ h. h.put) row) outcome.links ≡ map puts nodes
   pub takens_are : map (λ row. map (λ h. h.taken) row) outcome.links ≡ map (λ row. map taken row) crossed
   pub splits : All (λ row. All (λ h. h.put ≡ h.taken ++ h.held) row) outcome.links
 
 module _ {S M E A F : Type 0} (program : Program S M E) (laws : IsProgram program) (net : Net) (ok : IsNetwork net) (nodes : List A) (vertex : A → ℕ)
     (alpha : A → Alpha S M) (aside : A → Option (Aside M)) (puts : A → List (List (Wire M))) (takes : A → List F) (taken : F → List (Wire M))
-    (crossed : List (List F)) (outcome : Outcome S M)
-    (are : AreGathered program net nodes vertex alpha aside puts takes taken crossed outcome) where
+    (crossed : List (List F)) (transcript : Bool) (entries : A → List (Entry M)) (outcome : Outcome S M)
+    (are : AreGathered program net nodes vertex alpha aside puts takes taken crossed transcript entries outcome) where
   -- what the nodes say, by vertex
   abbrev asides_at : ℕ → Option (Aside M)
   asides_at v = get_or (map aside nodes) (v - 1) None
@@ -147,22 +179,42 @@ module _ {S M E A F : Type 0} (program : Program S M E) (laws : IsProgram progra
     splits = λ v i is lt. put_is v i ∙ split_is v i is lt ∙ ap (λ l. l ++ (link_in outcome v i).held) (taken_is v i is lt);
   }
 
+  none_aside : (v : ℕ) → IsVertex net v → asides_at v ≡ None
+  none_aside = (met_simulate program laws net ok (node_in program net outcome) asides_at puts_at takens_at (λ v i. (link_in outcome v i).held) met).0
+
+  -- what was taken from the link that comes by a port
+  taken_here : (v : ℕ) → IsVertex net v → (i : ℕ) → i < degree_of net v → by_port (takens_at v) i ≡ (link_into net outcome v i).taken
+  taken_here v is i lt =
+      sym (taken_is (neighbour_of net v i) (back_port_of net v i) (ok.vertices v i is lt) (ok.symmetric v i is lt)
+      ∙ over net ok (λ w j. by_port (takens_at w) j) v i is lt)
+
   -- no wire was set aside, so each node keeps its links with what the links say
   kept : AllKept program net (node_in program net outcome) (λ v i. (link_in outcome v i).put) (λ v i. (link_into net outcome v i).taken)
       (λ v i. (link_in outcome v i).held)
   kept = record {
     each = λ v is.
-        kept_by program net v (node_in program net outcome v) (by_port (puts_at v)) (by_port (takens_at v)) _ _ (λ i lt. put_is v i)
-        (λ i lt. sym (taken_is (neighbour_of net v i) (back_port_of net v i) (ok.vertices v i is lt) (ok.symmetric v i is lt)
-        ∙ over net ok (λ w j. by_port (takens_at w) j) v i is lt))
-        (subst (λ o. NodeKept program net v (node_in program net outcome v) (by_port (puts_at v)) (by_port (reacted_to o (takens_at v))))
-        ((met_simulate program laws net ok (node_in program net outcome) asides_at puts_at takens_at (λ v i. (link_in outcome v i).held) met).0 v is)
+        kept_by program net v (node_in program net outcome v) (by_port (puts_at v)) (by_port (takens_at v)) _ _ (λ i lt. put_is v i) (taken_here v is)
+        (subst (λ o. NodeKept program net v (node_in program net outcome v) (by_port (puts_at v)) (by_port (reacted_to o (takens_at v)))) (none_aside v is)
         (met.each v is));
     splits = λ v i is lt.
         ap (λ l. l ++ (link_in outcome v i).held) (over net ok (λ w j. (link_in outcome w j).taken) v i is lt) ∙ sym (split_is v i is lt);
   }
 
-  pub is_outcome : (capacity : ℕ) → All (λ row. All (λ h. length h.held ≤ capacity) row) outcome.links → IsOutcome program net capacity outcome
+  -- and its entries are those of what the links say
+  written : (v : ℕ) → IsVertex net v
+      → IsTranscript program net v transcript (node_in program net outcome v) (λ i. (link_in outcome v i).put) (λ i. (link_into net outcome v i).taken)
+      (entries_in outcome v)
+  written v is =
+      let n = here v is in
+      written_by program net v transcript (node_in program net outcome v) (by_port (puts_at v)) (by_port (takens_at v)) _ _ (entries_in outcome v)
+      (λ i lt. put_is v i) (taken_here v is)
+      (written_as program net transcript (vertex n.0) v (alpha n.0).node (node_in program net outcome v) (aside n.0) None (puts n.0) (puts_at v)
+      (map taken (takes n.0)) (takens_at v) (entries n.0) (entries_in outcome v) n.2 (ap (λ x. x.node) (sym (alpha_is v is)))
+      (sym (get_map aside nodes (v - 1) n.0 None n.1) ∙ none_aside v is) (sym (get_map puts nodes (v - 1) n.0 [] n.1))
+      (sym (get_map (λ a. map taken (takes a)) nodes (v - 1) n.0 [] n.1))
+      (sym (ap (λ l. get_or l (v - 1) []) are.entries_are ∙ get_map entries nodes (v - 1) n.0 [] n.1)) (are.writes n.0))
+
+  pub is_outcome : (capacity : ℕ) → All (λ row. All (λ h. length h.held ≤ capacity) row) outcome.links → IsOutcome program net capacity transcript outcome
   is_outcome capacity room = record {
     each_once = are.vertices_are ∙ are.order;
     last = λ v is. ap (λ a. a.last) (alpha_is v is) ∙ are.last (here v is).0;
@@ -172,4 +224,5 @@ module _ {S M E A F : Type 0} (program : Program S M E) (laws : IsProgram progra
     room = λ v i is lt.
         room (v - 1) [] (omega (arith, is.0, is.1, many, as_many net vertex nodes are.order)) i no_history (omega (arith, lt, row_long v is));
     simulates = simulates ok (runs program laws net ok) kept;
+    written = written;
   }

@@ -36,7 +36,7 @@ pub(crate) fn gathered<J: Wiring, P: NodeProgram, R: Wait>(
     requires nodes { map (λ n. n.vertex) nodes.items ≡ vertices J.net }
     ensures outcome { IfOk result (λ outcome. (capacity : ℕ)
         → All (λ row. All (λ link. link_capacity link ≤ capacity) row.items) links.items
-        → IsOutcome P.program net.now capacity outcome) }
+        → IsOutcome P.program net.now capacity J.transcript outcome) }
 {
     net.is_network();
     let Parts {

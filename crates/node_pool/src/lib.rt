@@ -4,13 +4,13 @@
 //! synchronous run, with each link's lists. `byte_functions` makes channel plans of it.
 //!
 //! ```text
-//! let options = Options { workers: 4, capacity: 4, turns: 1_000_000 };
+//! let options = Options { workers: 4, capacity: 4, turns: 1_000_000, transcript: false };
 //! let outcome = run_workers::<Colouring, OpenGate, _>(&rt, alloc, &network, options, &OpenGate)?;
 //! if outcome.is_whole() { .. outcome.actors() .. }
 //! ```
 //!
-//! Limits: `MAX_WORKERS` and `MAX_CAPACITY`. No turn takes memory. Nothing is promised of time, of fairness, that an
-//! outcome is whole, or that the call returns.
+//! Limits: `MAX_WORKERS` and `MAX_CAPACITY`. Without a transcript no turn takes memory. Nothing is promised of time, of
+//! fairness, that an outcome is whole, or that the call returns.
 #![tactic(auto)]
 
 mod gathering;

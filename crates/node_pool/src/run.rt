@@ -45,11 +45,13 @@ fn run_made<J: Wiring + Send + Sync, P: NodeProgram, G: Gate + Sync, R: Threads 
     requires made { AreMade net.now options.capacity (map (λ row. row.items) made.links.items)
         (map (λ row. row.items) made.puts.items) (map (λ row. row.items) made.takes.items) }
     requires options { AreInRange options }
-    ensures outcome { IfOk result (λ outcome. IsOutcome P.program net.now options.capacity outcome) }
+    requires transcript { J.transcript ≡ options.transcript }
+    ensures outcome { IfOk result
+        (λ outcome. IsOutcome P.program net.now options.capacity options.transcript outcome) }
     ensures fault { IfErr result (λ fault. fault ≢ BadOptions) }
 {
     let Made { links, puts, takes } = made;
-    let nodes = start_nodes::<J, P>(alloc, net, puts, takes)?;
+    let nodes = start_nodes::<J, P>(alloc, net, puts, takes, options.transcript)?;
     let links = Links::<J, P>::new(links);
     let nodes = run_nodes(
         rt,
@@ -81,7 +83,8 @@ pub fn run_workers<P: NodeProgram, G: Gate + Sync, R: Threads + Wait + Sync>(
     options: Options,
     gate: &G,
 ) -> Result<Outcome<P>, PoolFault>
-    ensures outcome { IfOk result (λ outcome. IsOutcome P.program net.now options.capacity outcome) }
+    ensures outcome { IfOk result
+        (λ outcome. IsOutcome P.program net.now options.capacity options.transcript outcome) }
     ensures in_range { IfOk result (λ _. AreInRange options) }
     ensures bad_options { IfErr result (λ fault. fault ≡ BadOptions → AreInRange options → ⊥) }
     ensures told_first { (AreInRange options → ⊥) → result ≡ Err BadOptions }

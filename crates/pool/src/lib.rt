@@ -10,8 +10,8 @@
 //! let nodes = by_vertex(alloc, nodes)?;                                           // ascending
 //! ```
 //!
-//! Limits: `MAX_WORKERS` of `run_options`. No turn takes memory. Nothing is promised of time, of fairness, or that a
-//! call returns.
+//! Limits: `MAX_WORKERS` of `run_options`. Without transcripts no turn takes memory. Nothing is promised of time, of
+//! fairness, or that a call returns.
 #![tactic(auto)]
 
 mod fault;

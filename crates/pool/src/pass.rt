@@ -8,6 +8,7 @@ use crate::hand::{AllNodes, Hand};
 use actor::Node;
 use crossbeam_queue::{Pass, RuledArrayQueue};
 use ends::Wiring;
+use interference::Memory;
 use node_api::NodeProgram;
 use std::thread::Promise;
 
@@ -25,11 +26,12 @@ pub struct Places<J: Wiring, P: NodeProgram> {
     pub ghost room: { length (vertices J.net) ≤ vec_capacity nodes },
 }
 
-/// What a worker hands back: its place at the pool, and the finished nodes.
+/// What a worker hands back: its place at the pool, the finished nodes, and whether all entries were written down.
 #[derive(Drop)]
 pub struct Worked<J: Wiring, P: NodeProgram> {
     pub pass: PoolPass<J, P>,
     pub kept: Vec<Box<Node<J, P>>>,
+    pub written: Result<(), Memory>,
     pub ghost out: { (pass.me.1 ≡ []) × ((view pass).parts ≡ 1)
         × ((view pass).out ≡ map (λ b. b.value.vertex) kept.items) },
 }

@@ -13,6 +13,7 @@ use crate::signals::Signals;
 use crate::worker::{Crew, work};
 use actor::{Gate, Node};
 use ends::{Links, Wiring};
+use interference::Memory;
 use node_api::NodeProgram;
 use run_options::MAX_WORKERS;
 use std::alloc::{AllocError, Global};
@@ -44,12 +45,12 @@ fn hire<J: Wiring, P: NodeProgram>(pool: &Pool<J, P>, chief: &mut Chief<J, P>) -
     pool.another::<Parts>(&mut chief.pass)
 }
 
-// A worker's place and nodes come back.
+// A worker's place and nodes come back, unless it was refused memory.
 fn settle<J: Wiring, P: NodeProgram>(
     pool: &Pool<J, P>,
     chief: Chief<J, P>,
     done: Worked<J, P>,
-) -> Result<Chief<J, P>, AllocError>
+) -> Result<Chief<J, P>, Memory>
     requires pool { chief.pass.table_id ≡ pool.now.table.shared.table_id }
     requires parts { 0 < (view chief.pass).parts }
     requires theirs { done.pass.table_id ≡ pool.now.table.shared.table_id }
@@ -60,7 +61,9 @@ fn settle<J: Wiring, P: NodeProgram>(
     let Worked {
         pass: other,
         kept: mut more,
+        written,
     } = done;
+    written?;
     kept.append(&mut more)?;
     pool.absorb::<Parts>(&mut pass, other);
     Ok(chief_of(pass, kept))
@@ -163,7 +166,8 @@ fn all_places<J: Wiring, P: NodeProgram>(
 ///
 /// # Errors
 ///
-/// `Memory` if memory is refused, `Spawn` if a thread is; the workers that had begun are joined.
+/// `Memory` if memory is refused, also for an entry of a node: its worker stops at once. `Spawn` if a thread is
+/// refused. The workers that had begun are joined.
 pub fn run_nodes<J: Wiring + Send + Sync, P: NodeProgram, G: Gate + Sync, R: Threads + Wait + Sync>(
     rt: &R,
     alloc: Global,

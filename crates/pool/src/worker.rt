@@ -10,6 +10,7 @@ use crate::pass::{Places, Pool, PoolPass, Worked};
 use crate::signals::Signals;
 use actor::{Gate, Node};
 use ends::{Links, Wiring};
+use interference::Memory;
 use node_api::NodeProgram;
 use std::sync::Wait;
 use std::thread;
@@ -27,16 +28,21 @@ pub(crate) struct Crew<'a, J: Wiring, P: NodeProgram, G: Gate> {
 fn worked<J: Wiring, P: NodeProgram>(
     pass: PoolPass<J, P>,
     kept: Vec<Box<Node<J, P>>>,
+    written: Result<(), Memory>,
 ) -> Worked<J, P>
     requires pass { (pass.me.1 ≡ []) × ((view pass).parts ≡ 1) }
     requires out { (view pass).out ≡ map (λ b. b.value.vertex) kept.items }
     ensures pass { result.pass ≡ pass }
 {
-    Worked { pass, kept }
+    Worked {
+        pass,
+        kept,
+        written,
+    }
 }
 
 // One look. A node that is found makes a turn, and goes back to the pool, or, if it is drained, to the finished
-// places. Returns whether a node was found and did something.
+// places. Returns whether a node was found and did something, or that memory for an entry of it was refused.
 fn look<J: Wiring, P: NodeProgram, R: Wait, G: Gate>(
     rt: &R,
     crew: &Crew<J, P, G>,
@@ -44,7 +50,7 @@ fn look<J: Wiring, P: NodeProgram, R: Wait, G: Gate>(
     worker: u32,
     pass: &mut PoolPass<J, P>,
     kept: &mut Vec<Box<Node<J, P>>>,
-) -> bool
+) -> Result<bool, Memory>
     requires pass { IsPassOf pool.now pass.old × ((view pass.old).parts ≡ 1) }
     requires out { (view pass.old).out ≡ map (λ b. b.value.vertex) kept.old.items }
     requires room { length (vertices J.net) ≤ ruled_capacity pool.now }
@@ -54,26 +60,26 @@ fn look<J: Wiring, P: NodeProgram, R: Wait, G: Gate>(
     ensures places { length (vertices J.net) ≤ vec_capacity kept.new }
 {
     let Some(mut node) = pool.pop_as::<Gets<J>, R>(rt, pass) else {
-        return false;
+        return Ok(false);
     };
     crew.gate.enter(rt, worker, node.vertex);
-    let moved = node.turn(rt, crew.links, crew.gate, worker);
+    let turned = node.turn(rt, crew.links, crew.gate, worker);
     crew.gate.leave(rt, worker, node.vertex);
+    if turned.is_err() || node.aside.is_some() {
+        crew.signals.fail();
+    }
     if node.alpha.drained() {
         crew.signals.finish();
         kept.push_reserved(node);
-        return moved;
-    }
-    if node.aside.is_some() {
-        crew.signals.fail();
+        return turned;
     }
     match pool.push_as::<Gives<J>, R>(rt, pass, node) {
-        Ok(()) => moved,
+        Ok(()) => turned,
         Err(_) => unreachable!(),
     }
 }
 
-/// At most so many looks.
+/// At most so many looks, and none after memory for an entry was refused.
 pub(crate) fn work<J: Wiring, P: NodeProgram, R: Wait, G: Gate>(
     rt: &R,
     crew: &Crew<J, P, G>,
@@ -88,13 +94,19 @@ pub(crate) fn work<J: Wiring, P: NodeProgram, R: Wait, G: Gate>(
     ensures pool { result.pass.table_id ≡ pool.now.table.shared.table_id }
 {
     let mut kept = places.nodes;
+    let mut written = Ok(());
     for _ in 0..turns {
         if crew.signals.is_over(crew.nodes) {
             break;
         }
-        if !look(rt, crew, pool, worker, &mut pass, &mut kept) {
-            thread::yield_now();
+        match look(rt, crew, pool, worker, &mut pass, &mut kept) {
+            Ok(true) => {}
+            Ok(false) => thread::yield_now(),
+            Err(memory) => {
+                written = Err(memory);
+                break;
+            }
         }
     }
-    worked(pass, kept)
+    worked(pass, kept, written)
 }

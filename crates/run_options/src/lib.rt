@@ -3,7 +3,7 @@
 //! `command_line` reads the options from words, and `node_pool` runs nodes by them.
 //!
 //! ```text
-//! let options = Options { workers: 4, capacity: 4, turns: 1_000_000_000 };
+//! let options = Options { workers: 4, capacity: 4, turns: 1_000_000_000, transcript: false };
 //! ```
 //!
 //! Limits: those below.
@@ -27,4 +27,6 @@ pub struct Options {
     pub capacity: u32,
     /// How often each worker looks for a node at most; a look that finds none counts.
     pub turns: u64,
+    /// Whether each node writes down what it puts, takes and does.
+    pub transcript: bool,
 }

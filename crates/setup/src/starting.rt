@@ -31,9 +31,11 @@ fn start_node<J: Wiring, P: NodeProgram>(
     v: u32,
     puts: Vec<PutEnd<P>>,
     takes: Vec<TakeEnd<P>>,
+    transcript: bool,
 ) -> Result<Box<Node<J, P>>, Memory>
     requires network { J.net ≡ net.now }
     requires vertex { IsVertex net.now v }
+    requires transcript { J.transcript ≡ transcript }
     requires puts { AreNewPutsFrom J.net J.tables v puts.items }
     requires takes { AreNewTakesTo J.net J.tables v takes.items }
     ensures vertex { IfOk result (λ node. node.value.vertex ≡ v) }
@@ -41,12 +43,13 @@ fn start_node<J: Wiring, P: NodeProgram>(
     net.is_network();
     let puts = wired_puts::<J, P>(alloc, v, puts)?;
     let takes = wired_takes::<J, P>(alloc, net, v, takes)?;
-    let node = Node::<J, P>::start(alloc, net, v, puts, takes)?;
+    let node = Node::<J, P>::start(alloc, net, v, puts, takes, transcript)?;
     Ok(Box::new(alloc, node)?)
 }
 
 /// All nodes of a run at pulse 0, from the last vertex down, each in a box with the ends of its links. The ends are
-/// given as `make_links` makes them: row `v - 1` has those of the links out of vertex `v`, by port.
+/// given as `make_links` makes them: row `v - 1` has those of the links out of vertex `v`, by port. With `transcript`
+/// the nodes write down what they do.
 ///
 /// # Errors
 ///
@@ -56,8 +59,10 @@ pub fn start_nodes<J: Wiring, P: NodeProgram>(
     net: &Network,
     puts: Vec<Vec<PutEnd<P>>>,
     takes: Vec<Vec<TakeEnd<P>>>,
+    transcript: bool,
 ) -> Result<Vec<Box<Node<J, P>>>, Memory>
     requires net { J.net ≡ net.now }
+    requires transcript { J.transcript ≡ transcript }
     requires ends { AreNewEnds J.net J.tables (map (λ row. row.items) puts.items) (map (λ row. row.items) takes.items) }
     ensures nodes { IfOk result (λ nodes. map (λ b. b.value.vertex) nodes.items ≡ reverse (vertices J.net)) }
 {
@@ -72,6 +77,7 @@ pub fn start_nodes<J: Wiring, P: NodeProgram>(
             count - k,
             last_row(&mut puts),
             last_row(&mut takes),
+            transcript,
         )?;
         nodes.push(node)?;
     }

@@ -13,6 +13,7 @@ returns g c =
     record {
       vertices = inv.vertices ∙ ap (map (λ n. n.vertex)) all;
       alphas = inv.alphas ∙ ap (map (λ n. n.alpha)) all;
+      entries = inv.entries ∙ ap (map (λ n. n.entries.items)) all;
       puts = inv.puts ∙ ap (map (λ n. n.puts.items)) all;
       takes = inv.takes ∙ ap (map (λ n. n.takes.items)) all;
     }

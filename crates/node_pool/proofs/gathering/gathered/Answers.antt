@@ -3,6 +3,8 @@ use Rattle.std.specs.Prelude.{All}
 use Rattle.std.proofs.lemmas.List.{length-map}
 use Rattle.interference.specs.Net.{IsNetwork}
 use Rattle.actor.proofs.Lists.{as_long}
+use Rattle.actor.specs.Node.{by_port, reacted_to}
+use Rattle.actor.specs.Written.{IsTranscript}
 use Rattle.crossing.proofs.ReadLists.{map-twice}
 use Rattle.crossing.specs.Rows.{AreCrossed, HasShape}
 use Rattle.ends.specs.Tables.{table_at, table_of}
@@ -69,18 +71,22 @@ returns g c =
     let outcome : Outcome _ _ = record { nodes = map gathered_of actors; links = map (λ row. map history_of row.items) mets } in
     record {
       outcome = λ capacity below.
-          subst (λ net. IsOutcome program net capacity outcome) c.requires.network
+          subst (λ net. IsOutcome program net capacity g.J.Wiring.transcript outcome) c.requires.network
           (is_outcome program g.P.NodeProgram.laws net ok nodes (λ n. n.vertex) (λ n. n.alpha) (λ n. n.aside) (λ n. map (λ e. put_list e.end) n.puts.items)
-          (λ n. n.takes.items) (λ e. taken_list e.end) crossed outcome (record {
+          (λ n. n.takes.items) (λ e. taken_list e.end) crossed g.J.Wiring.transcript (λ n. n.entries.items) outcome (record {
             last = λ n. n.last;
             keeps = λ n. n.keeps;
             set_aside = λ n x e. n.set_aside x e;
+            writes = λ n.
+                subst (λ t. IsTranscript program net n.vertex t n.alpha.node (by_port (map (λ e. put_list e.end) n.puts.items))
+                (by_port (reacted_to n.aside (map (λ e. taken_list e.end) n.takes.items))) n.entries.items) n.recorded n.writes;
             outs = λ n. length-map n.puts.items (λ e. put_list e.end) ∙ as_long _ _ n.puts.items _ n.outs;
             ins = λ n. as_long _ _ n.takes.items _ n.ins;
             order = c.requires.nodes;
             crosses = crosses;
             vertices_are = map-twice (λ g. g.vertex) gathered_of actors ∙ c.in_ok-actors.ensures.vertices;
             alphas_are = map-twice (λ g. g.alpha) gathered_of actors ∙ c.in_ok-actors.ensures.alphas;
+            entries_are = map-twice (λ g. g.entries) gathered_of actors ∙ c.in_ok-actors.ensures.entries;
             puts_are = of_fields (λ row. row.items) mets history_of (λ h. h.put) ∙ met.puts_are
                 ∙ of_items (λ row. row.items) c.in_ok-actors.field-0.puts.items (λ e. put_list e.end) _ c.in_ok-actors.ensures.puts
                 ∙ map-twice (λ row. map (λ e. put_list e.end) row) (λ n. n.puts.items) nodes;

@@ -2,6 +2,7 @@ use Rattle.std.proofs.Common.{◌≤◌, map, refl, sym, ◌∙◌, subst}
 use Rattle.std.specs.Prelude.{All}
 use Rattle.link_queue.specs.Ends.{link_capacity}
 use Rattle.gather.proofs.Sides.{all_by}
+use Rattle.gather_laws.specs.Outcome.{IsOutcome}
 use Rattle.setup.specs.Makes.{AreMade}
 use Rattle.node_pool.proofs.MadeEnds.{all_within, new_ends}
 use Rattle.node_pool.proofs.run.run_made.Goals as goal
@@ -23,8 +24,8 @@ gathered-requires-clause-tables g c κs within = c.into_rows.ensures.picked
 pub returns-clause-outcome : goal.returns-clause-outcome
 returns-clause-outcome g c =
     let capacity = c.args.options.capacity in
-    c.in_ok-gathered.ensures.outcome capacity
+    subst (λ t. IsOutcome g.P.NodeProgram.program c.args.net.now capacity t _) c.requires.transcript (c.in_ok-gathered.ensures.outcome capacity
     (subst (λ rows. All (λ row. All (λ link. link_capacity link ≤ capacity) row.items) rows.items)
     (sym (c.into_rows.ensures.rows ∙ c.new-links.ensures.rows))
     (all_by (λ row. All (λ link. link_capacity link ≤ capacity) row) (λ row. row.items) c.args.made.links.items
-    (all_within c.args.net.now capacity _ _ _ _ refl c.requires.made)))
+    (all_within c.args.net.now capacity _ _ _ _ refl c.requires.made))))

@@ -3,4 +3,4 @@ use Rattle.ends.specs.Tables.{tables_of}
 use Rattle.node_pool.proofs.run.run_workers.Given as goal
 
 abbrev pub ghosts-run_made : goal.ghosts-run_made
-ghosts-run_made g a = record { net = a.net.now; tables = tables_of (map (λ row. row.items) a.made.links.items) }
+ghosts-run_made g a = record { net = a.net.now; tables = tables_of (map (λ row. row.items) a.made.links.items); transcript = a.options.transcript }

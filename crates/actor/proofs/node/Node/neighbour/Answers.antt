@@ -1,4 +1,4 @@
-use Rattle.std.proofs.Common.{ℕ, ap, ◌∙◌, arith}
+use Rattle.std.proofs.Common.{ℕ, ap, arith}
 use Rattle.interference.specs.Net.{degree_of, neighbour_of, back_port_of}
 use Rattle.actor.proofs.Lists.{as_long, at_place}
 use Rattle.actor.proofs.node.Node.neighbour.Goals as goal
@@ -18,5 +18,5 @@ returns g c =
     let net = g.J.Wiring.net in
     record {
       neighbour = ap (λ (p : ℕ × ℕ). p.0) (at_place (λ e. (e.vertex, e.port)) (λ i. (neighbour_of net v i, back_port_of net v i)) c.args.self.now.takes.items
-      (degree_of net v) c.args.port _ c.args.self.now.ins (omega (arith, c.requires.port, c.args.self.now.ports)) c.index.ensures);
+          (degree_of net v) c.args.port _ c.args.self.now.ins (omega (arith, c.requires.port, c.args.self.now.ports)) c.index.ensures);
     }

@@ -16,6 +16,7 @@ invariant_of-self g c =
     record {
       network = old.network;
       is_vertex = old.is_vertex;
+      recorded = old.recorded;
       ports = old.ports;
       outs = old.outs;
       ins = old.ins;
@@ -35,6 +36,7 @@ invariant_of-self-in-Ok g c =
     record {
       network = old.network;
       is_vertex = old.is_vertex;
+      recorded = old.recorded;
       ports = old.ports;
       outs = old.outs;
       ins = old.ins;

@@ -38,6 +38,7 @@ invariant_of-self g c =
     record {
       network = old.network;
       is_vertex = old.is_vertex;
+      recorded = old.recorded;
       ports = old.ports;
       outs = old.outs;
       ins = old.ins;
@@ -56,6 +57,7 @@ invariant_of-self-in-Err g c =
     record {
       network = old.network;
       is_vertex = old.is_vertex;
+      recorded = old.recorded;
       ports = old.ports;
       outs = outs ∙ old.outs;
       ins = old.ins;
@@ -79,6 +81,7 @@ invariant_of-self-in-Ok g c =
     record {
       network = old.network;
       is_vertex = old.is_vertex;
+      recorded = old.recorded;
       ports = old.ports;
       outs = outs ∙ old.outs;
       ins = old.ins;

@@ -27,6 +27,7 @@ invariant_of-result g c =
     record {
       network = subst (λ net. IsNetwork net) same c.is_network.ensures;
       is_vertex = subst (λ net. IsVertex net c.args.vertex) same c.requires.vertex;
+      recorded = sym c.requires.transcript;
       ports = c.degree.ensures.value ∙ ap (λ net. degree_of net c.args.vertex) same;
       outs = c.requires.outs ∙ ap (λ net. links_out net c.args.vertex) same;
       ins = c.requires.ins ∙ ap (λ net. links_in net c.args.vertex) same;

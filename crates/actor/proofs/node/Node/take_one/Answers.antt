@@ -23,6 +23,7 @@ invariant_of-self g c =
     record {
       network = old.network;
       is_vertex = old.is_vertex;
+      recorded = old.recorded;
       ports = old.ports;
       outs = old.outs;
       ins = old.ins;
@@ -41,6 +42,7 @@ invariant_of-self-in-None g c =
     record {
       network = old.network;
       is_vertex = old.is_vertex;
+      recorded = old.recorded;
       ports = old.ports;
       outs = old.outs;
       ins = ins ∙ old.ins;
@@ -68,6 +70,7 @@ invariant_of-self-in-Ok g c =
     record {
       network = old.network;
       is_vertex = old.is_vertex;
+      recorded = old.recorded;
       ports = old.ports;
       outs = old.outs;
       ins = ins ∙ old.ins;
@@ -96,6 +99,7 @@ invariant_of-self-in-Err g c =
     record {
       network = old.network;
       is_vertex = old.is_vertex;
+      recorded = old.recorded;
       ports = old.ports;
       outs = old.outs;
       ins = ins ∙ old.ins;
