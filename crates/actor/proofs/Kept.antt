@@ -35,16 +35,16 @@ not_due last view i w e is = ⊎_elim
 
 module _ {S M R : Type 0} (program : Program S M R) (net : Net) where
   -- the lists are the same, port by port
-  pub node_same : (v : ℕ) (node : Node S M) (sent taken sent' taken' : ℕ → List (Wire M)) → ((i : ℕ) → sent i ≡ sent' i) → ((i : ℕ) → taken i ≡ taken' i)
-      → NodeKept program net v node sent taken → NodeKept program net v node sent' taken'
+  pub node_same : (v : ℕ) (node : Node S M) (sent taken sent' taken' : ℕ → List (Wire M)) → ((i : ℕ) → i < degree_of net v → sent i ≡ sent' i)
+      → ((i : ℕ) → i < degree_of net v → taken i ≡ taken' i) → NodeKept program net v node sent taken → NodeKept program net v node sent' taken'
   node_same v node sent taken sent' taken' puts takes kept = record {
     ports = record {
       count = kept.ports.count;
       within = kept.ports.within;
       before_last = kept.ports.before_last;
       each = λ i lt. subst (λ l. KeptAt program net v i node.view.pulse node.view.said (port_at node.view i) (l ++ (port_at node.view i).out) (taken' i))
-          (puts i)
-          (subst (λ l. KeptAt program net v i node.view.pulse node.view.said (port_at node.view i) (sent i ++ (port_at node.view i).out) l) (takes i)
+          (puts i lt)
+          (subst (λ l. KeptAt program net v i node.view.pulse node.view.said (port_at node.view i) (sent i ++ (port_at node.view i).out) l) (takes i lt)
           (kept.ports.each i lt));
     };
     spoken = kept.spoken;

@@ -11,12 +11,13 @@ use Rattle.interference.specs.Net.{Net, IsNetwork, IsVertex, count_of, degree_of
 use Rattle.node_api.specs.Program.{Program, last_pulse_on}
 use Rattle.node_api.specs.Laws.{IsProgram}
 use Rattle.alpha_core.specs.declared.wire.Wire.{Wire}
-use Rattle.alpha_core.specs.View.{Alpha, Node, port_at}
-use Rattle.alpha_laws.specs.Kept.{AllKept, KeptAt, NodeKept}
+use Rattle.alpha_core.specs.View.{Alpha, Node}
+use Rattle.alpha_laws.specs.Kept.{AllKept, NodeKept}
 use Rattle.alpha_laws.specs.Simulates.{taken_over}
 use Rattle.alpha_laws.proofs.Across.{over}
 use Rattle.alpha_laws.proofs.Runs.{runs}
 use Rattle.alpha_laws.proofs.Claims.{simulates}
+use Rattle.actor.proofs.Kept.{node_same}
 use Rattle.actor.specs.declared.aside.Aside.{Aside}
 use Rattle.actor.specs.Node.{IsAside, by_port, reacted_to}
 use Rattle.actor.specs.Written.{IsTranscript}
@@ -64,22 +65,6 @@ module _ {S M E : Type 0} (program : Program S M E) (net : Net) where
           pulses_are = all.pulses_are;
         };
     none = is.none;
-  }
-
-  kept_by : (v : ℕ) (node : Node S M) (sent taken sent' taken' : ℕ → List (Wire M)) → ((i : ℕ) → i < degree_of net v → sent i ≡ sent' i)
-      → ((i : ℕ) → i < degree_of net v → taken i ≡ taken' i) → NodeKept program net v node sent taken → NodeKept program net v node sent' taken'
-  kept_by v node sent taken sent' taken' puts takes kept = record {
-    ports = record {
-      count = kept.ports.count;
-      within = kept.ports.within;
-      before_last = kept.ports.before_last;
-      each = λ i lt. subst (λ l. KeptAt program net v i node.view.pulse node.view.said (port_at node.view i) (l ++ (port_at node.view i).out) (taken' i))
-          (puts i lt)
-          (subst (λ l. KeptAt program net v i node.view.pulse node.view.said (port_at node.view i) (sent i ++ (port_at node.view i).out) l) (takes i lt)
-          (kept.ports.each i lt));
-    };
-    spoken = kept.spoken;
-    state = kept.state;
   }
 
 -- What nodes say of themselves and their ends, and what was made of them and of their links.
@@ -193,7 +178,7 @@ module _ {S M E A F : Type 0} (program : Program S M E) (laws : IsProgram progra
       (λ v i. (link_in outcome v i).held)
   kept = record {
     each = λ v is.
-        kept_by program net v (node_in program net outcome v) (by_port (puts_at v)) (by_port (takens_at v)) _ _ (λ i lt. put_is v i) (taken_here v is)
+        node_same program net v (node_in program net outcome v) (by_port (puts_at v)) (by_port (takens_at v)) _ _ (λ i lt. put_is v i) (taken_here v is)
         (subst (λ o. NodeKept program net v (node_in program net outcome v) (by_port (puts_at v)) (by_port (reacted_to o (takens_at v)))) (none_aside v is)
         (met.each v is));
     splits = λ v i is lt.

@@ -18,7 +18,8 @@ use node_api::NodeProgram;
 use std::alloc::Global;
 use std::sync::Wait;
 
-/// What the nodes of a run, ascending, and its links leave, once all threads are joined.
+/// What the nodes of a run, ascending, and its links leave, once all threads are joined. Every capacity that no link is
+/// above is one of the outcome.
 ///
 /// # Errors
 ///

@@ -14,6 +14,6 @@ push_as-requires-clause-rule g c =
     let p : 0 < (view c.pop_as.new.pass).parts = (let q = ap (λ v. v.parts) e in omega arith) in (
       gives (λ b. b.value.vertex) (vertices g.J.Wiring.net) _ _ _ _ _ p
           (ap (λ v. v.out) e ∙ ap (λ n. (view c.args.pass.now).out ++ n.vertex ∷ []) (sym c.deref_mut.ensures.value)
-          ∙ ap (λ x. (view c.args.pass.now).out ++ x ∷ []) (sym c.turn-moved.ensures.vertex)),
+          ∙ ap (λ x. (view c.args.pass.now).out ++ x ∷ []) (sym c.turn-turned.ensures.vertex)),
       room (λ b. b.value.vertex) (vertices g.J.Wiring.net) _ _,
     )

@@ -22,8 +22,8 @@ invariant_of-result g c =
     let taken = by_port (map (λ e. taken_list e.end) c.args.takes.items) in
     let fresh = starts_keep program c.args.net.now (runs program g.P.NodeProgram.laws c.args.net.now c.is_network.ensures) c.args.vertex c.requires.vertex in
     let kept = node_same program c.args.net.now c.args.vertex (start_node program c.args.net.now c.args.vertex) (λ i. []) (λ i. [])
-    sent taken (none_at (λ e. put_list e.end) c.args.puts.items c.requires.nothing_put)
-    (none_at (λ e. taken_list e.end) c.args.takes.items c.requires.nothing_taken) fresh in
+    sent taken (λ i lt. none_at (λ e. put_list e.end) c.args.puts.items c.requires.nothing_put i)
+    (λ i lt. none_at (λ e. taken_list e.end) c.args.takes.items c.requires.nothing_taken i) fresh in
     record {
       network = subst (λ net. IsNetwork net) same c.is_network.ensures;
       is_vertex = subst (λ net. IsVertex net c.args.vertex) same c.requires.vertex;
