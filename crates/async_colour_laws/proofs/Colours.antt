@@ -46,4 +46,4 @@ module _ (net : Net) (ok : IsNetwork net) where
       halted_are_coloured _ _ _ (reached_simulates ok (runs colouring rounds_are_program net ok) state (events, is)) halted
 
   pub outcomes_coloured : HaltedOutcomesAreColoured net
-  outcomes_coloured capacity outcome is halted = halted_are_coloured _ _ _ is.simulates halted
+  outcomes_coloured capacity transcript outcome is halted = halted_are_coloured _ _ _ is.simulates halted

@@ -1,5 +1,5 @@
 -- Nodes of the colouring that have halted, and their colours.
-use Rattle.std.specs.Prelude.{◌≡◌, ◌≢◌, ℕ, ◌≤◌, IsTrue, List, Ok}
+use Rattle.std.specs.Prelude.{◌≡◌, ◌≢◌, ℕ, ◌≤◌, Bool, IsTrue, List, Ok}
 use Rattle.interference.specs.Net.{Net, IsVertex, IsEdge, greatest_degree_of}
 use Rattle.node_api.specs.Program.{Program, last_pulse_on}
 use Rattle.alpha_core.specs.declared.wire.Wire.{Wire}
@@ -40,6 +40,6 @@ HaltedRunsAreColoured net =
 -- and so do those that a run of workers leaves
 abbrev pub HaltedOutcomesAreColoured : Net → Type 0
 HaltedOutcomesAreColoured net =
-    (capacity : ℕ) (outcome : Outcome colour.Node Payload)
-    → IsOutcome colouring net capacity outcome → AllHalted colouring net (node_in colouring net outcome)
+    (capacity : ℕ) (transcript : Bool) (outcome : Outcome colour.Node Payload)
+    → IsOutcome colouring net capacity transcript outcome → AllHalted colouring net (node_in colouring net outcome)
     → AreColoured net (node_in colouring net outcome)

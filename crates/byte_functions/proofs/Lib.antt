@@ -6,3 +6,4 @@ pub mod Agreed
 pub mod Judging
 mod Playing
 mod Working
+mod Recording

@@ -1,5 +1,5 @@
 -- The plan and the faults of a run of workers.
-use Rattle.std.proofs.Common.{◌≡◌, ◌≢◌, ℕ, suc, ◌-◌, ◌<◌, ◌≤◌, List, map, length, get_or, refl, sym, ap, ◌∙◌, subst, arith, ⊎_elim, inl, inr}
+use Rattle.std.proofs.Common.{◌≡◌, ◌≢◌, Bool, ℕ, suc, ◌-◌, ◌<◌, ◌≤◌, List, map, length, get_or, refl, sym, ap, ◌∙◌, subst, arith, ⊎_elim, inl, inr}
 use Rattle.std.specs.Prelude.{◌⊎◌}
 use Rattle.std.proofs.lemmas.Bool.{cases_lt}
 use Rattle.std.proofs.lemmas.List.{get_or-map, length-map, same_lists}
@@ -21,7 +21,8 @@ use Rattle.colour_laws.specs.Colours.{colours}
 use Rattle.byte_functions.specs.Answers.{IsPlainAnswer, ReadsAs}
 use Rattle.byte_functions.specs.Plans.{IsChannelPlan}
 use Rattle.byte_functions.specs.Texts.{colours_text}
-use Rattle.byte_functions.specs.Workers.{IsFaultOfPool, IsFaultOfWorkers}
+use Rattle.byte_functions.specs.Workers.{IsFaultOfPool, IsFaultOfRun, IsFaultOfWorkers}
+use Rattle.byte_functions.specs.declared.fault.PlanFault.{PlanFault}
 use Rattle.byte_functions.specs.declared.fault.PlanFault.TheVariants as plan
 
 -- ---- the faults
@@ -47,9 +48,27 @@ pool-fault o pool.Memory only first = in_range o (λ out. let e : pool.Memory �
 pool-fault o pool.Spawn only first = in_range o (λ out. let e : pool.Spawn ≡ pool.BadOptions = first out in cc)
 pool-fault o pool.BadOptions only first = only refl
 
-pub workers-fault : (input : List ℕ) (net : Net) (o : Options) (fault : PoolFault) → ReadsAs input (λ read. IsNetwork read × (net ≡ read))
-    → IsFaultOfPool o fault → IsFaultOfWorkers o input (plan.Pool fault)
-workers-fault input net o fault (nodes, edges, graph, (ok, e)) is = ((nodes, edges, graph, ok), is)
+-- whether a run has a transcript is nothing to the ranges
+pub with_transcript : (o : Options) (transcript : Bool) → AreInRange o
+    → AreInRange (record { workers = o.workers; capacity = o.capacity; turns = o.turns; transcript = transcript })
+with_transcript o transcript is =
+    record { some_worker = is.some_worker; workers = is.workers; some_capacity = is.some_capacity; capacity = is.capacity }
+
+pub without_transcript : (o : Options) (transcript : Bool)
+    → AreInRange (record { workers = o.workers; capacity = o.capacity; turns = o.turns; transcript = transcript }) → AreInRange o
+without_transcript o transcript is =
+    record { some_worker = is.some_worker; workers = is.workers; some_capacity = is.some_capacity; capacity = is.capacity }
+
+-- a network was read, and the fault of its run is that of the input
+pub workers-fault : (input : List ℕ) (net : Net) (o : Options) (fault : PlanFault) → ReadsAs input (λ read. IsNetwork read × (net ≡ read))
+    → IsFaultOfRun o fault → IsFaultOfWorkers o input fault
+workers-fault input net o (plan.Pool fault) (nodes, edges, graph, (ok, e)) is = ((nodes, edges, graph, ok), is)
+workers-fault input net o plan.Stopped (nodes, edges, graph, (ok, e)) is = ((nodes, edges, graph, ok), is)
+workers-fault input net o (plan.Col fault) read is = absurd is
+workers-fault input net o (plan.Net fault) read is = absurd is
+workers-fault input net o (plan.Check fault) read is = absurd is
+workers-fault input net o (plan.Event fault) read is = absurd is
+workers-fault input net o plan.Memory read is = absurd is
 
 -- ---- the plan
 pub is-network : (input : List ℕ) (net : Net) → ReadsAs input (λ read. IsNetwork read × (net ≡ read)) → IsNetwork net

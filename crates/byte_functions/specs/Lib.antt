@@ -5,3 +5,4 @@ pub mod Answers
 pub mod Verdicts
 pub mod EventAnswers
 pub mod Workers
+pub mod Transcripts

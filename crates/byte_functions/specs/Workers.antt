@@ -1,4 +1,4 @@
--- The faults of a plan that is made by worker threads.
+-- The faults of runs of worker threads.
 use Rattle.std.specs.Prelude.{ℕ, List}
 use Rattle.dimacs_col.specs.Lines.{lines_of}
 use Rattle.dimacs_col.specs.Reading.{IsFault}
@@ -19,7 +19,17 @@ IsFaultOfPool options pool.Memory = AreInRange options
 IsFaultOfPool options pool.Spawn = AreInRange options
 IsFaultOfPool options pool.BadOptions = AreInRange options → ⊥
 
--- The fault of an input of `plan`: of the network text, or else of the run. When a run is stopped isn't promised.
+-- The fault of a run in which not every node was done. When a run is stopped isn't promised.
+abbrev pub IsFaultOfRun : Options → PlanFault → Type 0
+IsFaultOfRun options (plan.Col fault) = ⊥
+IsFaultOfRun options (plan.Net fault) = ⊥
+IsFaultOfRun options (plan.Pool fault) = IsFaultOfPool options fault
+IsFaultOfRun options (plan.Check fault) = ⊥
+IsFaultOfRun options (plan.Event fault) = ⊥
+IsFaultOfRun options plan.Stopped = AreInRange options
+IsFaultOfRun options plan.Memory = ⊥
+
+-- The fault of an input of `plan` and of `transcript`: of the network text, or else of the run.
 abbrev pub IsFaultOfWorkers : Options → List ℕ → PlanFault → Type 0
 IsFaultOfWorkers options input (plan.Col fault) = IsFault (lines_of input) fault
 IsFaultOfWorkers options input (plan.Net fault) = ReadsAs input (λ net. IsFaultOf net fault)

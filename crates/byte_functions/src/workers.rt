@@ -1,9 +1,12 @@
-//! The channel plan by worker threads.
+//! Runs of worker threads, and the channel plan that they find.
 
-ghost use Rattle.std.specs.Prelude.{IfOk, IfErr};
+ghost use Rattle.std.specs.Prelude.{◌≡◌, true, IfOk, IfErr};
+ghost use Rattle.interference.specs.Net.{IsNetwork};
 ghost use Rattle.run_options.specs.Ranges.{AreInRange};
+ghost use Rattle.colour_rules.specs.Program.{colouring};
+ghost use Rattle.gather_laws.specs.Outcome.{IsOutcome, is_whole};
 ghost use Rattle.byte_functions.specs.Answers.{IsPlainAnswer};
-ghost use Rattle.byte_functions.specs.Workers.{IsFaultOfWorkers};
+ghost use Rattle.byte_functions.specs.Workers.{IsFaultOfRun, IsFaultOfWorkers};
 
 use crate::answer::network_of_text;
 use crate::fault::PlanFault;
@@ -13,14 +16,48 @@ use colour_laws::laws::colours_are_proper;
 use colour_program::Colouring;
 use colour_rules::Payload;
 use gather_laws::laws::whole_outcomes_are_complete;
+use interference::Network;
 use node_api::Refused;
-use node_pool::{Gate, Options, run_workers};
+use node_pool::{Gate, Options, Outcome, run_workers};
 use std::alloc::Global;
 use std::sync::Wait;
 use std::thread::Threads;
 
+/// What workers leave that run the nodes of the colouring until all are done, with a transcript or without, whatever
+/// the options say of it.
+///
+/// # Errors
+/// `Pool` with the fault of the run; `Stopped` if not every node was done within the turns.
+pub(crate) fn whole_run<G: Gate + Sync, R: Threads + Wait + Sync>(
+    rt: &R,
+    alloc: Global,
+    network: &Network,
+    options: Options,
+    transcript: bool,
+    gate: &G,
+) -> Result<Outcome<Colouring>, PlanFault>
+    ensures outcome { IfOk result
+        (λ outcome. IsOutcome colouring network.now options.capacity transcript outcome) }
+    ensures whole { IfOk result (λ outcome. is_whole outcome ≡ true) }
+    ensures in_range { IfOk result (λ _. AreInRange options) }
+    ensures fault { IfErr result (IsFaultOfRun options) }
+{
+    let run = Options {
+        workers: options.workers,
+        capacity: options.capacity,
+        turns: options.turns,
+        transcript,
+    };
+    let outcome = run_workers::<Colouring, G, R>(rt, alloc, network, run, gate)?;
+    if !outcome.is_whole() {
+        return Err(PlanFault::Stopped);
+    }
+    Ok(outcome)
+}
+
 /// The channel plan of the network that a DIMACS text describes, as `plain_bytes` gives it. The nodes find their
-/// colours asynchronously, on worker threads with links between the nodes.
+/// colours asynchronously, on worker threads with links between the nodes. The run has no transcript, whatever the
+/// options say.
 ///
 /// It is not promised that the call returns, nor that any number of turns is enough.
 ///
@@ -43,9 +80,6 @@ pub fn plan_bytes<G: Gate + Sync, R: Threads + Wait + Sync>(
     whole_outcomes_are_complete::<Colouring, Payload, Refused>();
     halted_nodes_are_coloured();
     let network = network_of_text(alloc, input)?;
-    let outcome = run_workers::<Colouring, G, R>(rt, alloc, &network, options, gate)?;
-    if !outcome.is_whole() {
-        return Err(PlanFault::Stopped);
-    }
+    let outcome = whole_run(rt, alloc, &network, options, false, gate)?;
     Ok(text_of_nodes(alloc, outcome.actors())?)
 }

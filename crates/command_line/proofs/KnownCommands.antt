@@ -22,7 +22,7 @@ use Rattle.command_line.specs.declared.program.Program.TheVariants.{Forestplan, 
 use Rattle.command_line.specs.declared.request.Declined.{Declined}
 use Rattle.command_line.specs.declared.request.Declined.TheVariants as given
 use Rattle.command_line.specs.declared.request.Request.{Request}
-use Rattle.command_line.specs.declared.request.Request.TheVariants.{Check, Events, Forests, Plain, Plan}
+use Rattle.command_line.specs.declared.request.Request.TheVariants.{Check, Events, Forests, Plain, Plan, Transcript}
 
 pub line_is_free : (program : Program) → is_simple_and_free (line program) ≡ true
 unfolding clap_on_literals
@@ -59,20 +59,24 @@ found test ws (x ∷ xs) all none h = go (test x) none h (found test ws xs all.1
     go false none h rest = rest none h
 
 -- a run of workers has the options that its rows have
-run_is_good : (rows : List Row) (o : Options) → options_of rows ≡ Some o → AreInRange o → IsGood (named (codes "plan") rows)
-run_is_good rows o read range = (Plan o, ap (option_map Plan) read, range)
+plan_has_request : (s : Shape) → s.name ≡ codes "plan" → s.rules ≡ run_rules → HasRequest s
+plan_has_request s name rules words none =
+    let found = run_found s words rules none false in
+    let good : IsGood (named (codes "plan") (rows_after s.rules [] words)) = (Plan found.0, ap (option_map Plan) found.1, found.2) in
+    subst (λ t. IsGood (named t (rows_after s.rules [] words))) (sym name) good
 
-run_has_request : (s : Shape) → s.name ≡ codes "plan" → s.rules ≡ run_rules → HasRequest s
-run_has_request s name rules words none =
-    let found = run_found s words rules none in
-    subst (λ t. IsGood (named t (rows_after s.rules [] words))) (sym name) (run_is_good (rows_after s.rules [] words) found.0 found.1 found.2)
+transcript_has_request : (s : Shape) → s.name ≡ codes "transcript" → s.rules ≡ run_rules → HasRequest s
+transcript_has_request s name rules words none =
+    let found = run_found s words rules none true in
+    let good : IsGood (named (codes "transcript") (rows_after s.rules [] words)) = (Transcript found.0, ap (option_map Transcript) found.1, found.2) in
+    subst (λ t. IsGood (named t (rows_after s.rules [] words))) (sym name) good
 
 -- a command that was entered is one of those listed
 pub entered_known : (program : Program) (stop : Option (Text × List Text)) → entered_fault (built (line program)) stop ≡ []
     → is_some (entered (built (line program)) stop) ≡ true → IsGood (choice_of (entered (built (line program)) stop))
 entered_known program None none h = cc
 entered_known Forestplan (Some p) none h = found (λ x. answers_to p.0 (label_of x)) p.1 (built (line Forestplan)).subs
-    ((λ words e. (Forests, refl, tt)), ((λ words e. (Plain, refl, tt)), (run_has_request _ refl refl, ((λ words e. (Check, refl, tt)), tt)))) none h
+    ((λ words e. (Forests, refl, tt)), ((λ words e. (Plain, refl, tt)), (plan_has_request _ refl refl, (transcript_has_request _ refl refl, ((λ words e. (Check, refl, tt)), tt))))) none h
 entered_known Forestplay (Some p) none h = found (λ x. answers_to p.0 (label_of x)) p.1 (built (line Forestplay)).subs
     ((λ words e. (Events, refl, tt)), tt) none h
 

@@ -1,5 +1,5 @@
 -- If clap finds no fault in the words of a command with the options of a run, these are in range.
-use Rattle.std.proofs.Common.{◌≡◌, ◌^◌, true, false, List, [], ◌∷◌, ◌++◌, Some, inl, inr, cond, codes, fold, arith, refl, sym, subst}
+use Rattle.std.proofs.Common.{◌≡◌, ◌^◌, Bool, true, false, List, [], ◌∷◌, ◌++◌, Some, inl, inr, cond, codes, fold, arith, refl, sym, subst}
 use Rattle.std.specs.List.{AllByRecursion}
 use Rattle.std.specs.Str.{bytes_eq}
 use Rattle.clap.specs.Faults.{level_fault}
@@ -30,8 +30,8 @@ run_expected : AllByRecursion (Expected parser_at) run_rules
 run_expected = ((refl, refl, inl (refl, refl)), ((refl, refl, inl (refl, refl)), ((refl, refl, inl (refl, refl)), ((refl, refl, inr refl), tt))))
 
 pub run_found : (s : Shape) (words : List Text) → s.rules ≡ run_rules → level_fault s [] nothing_held words false [] ≡ []
-    → (o : Options) × (options_of (rows_after s.rules [] words) ≡ Some o) × AreInRange o
-run_found s words is none =
+    → (transcript : Bool) → (o : Options) × (options_of transcript (rows_after s.rules [] words) ≡ Some o) × AreInRange o
+run_found s words is none transcript =
     let rows = rows_after s.rules [] words in
     let before = (settled s.rules (walk s.rules [] nothing_held words).held).rows in
     let all : AllPassed parser_at rows = level_all parser_at s (subst (AllByRecursion (Expected parser_at)) (sym is) run_expected) words none in
@@ -47,7 +47,7 @@ run_found s words is none =
     let workers = number_found parser_at rows (codes "workers") 1 MAX_WORKERS (2 ^ 32) (last (codes "workers") has_workers) all refl (omega arith) in
     let capacity = number_found parser_at rows (codes "capacity") 1 MAX_CAPACITY (2 ^ 32) (last (codes "capacity") has_capacity) all refl (omega arith) in
     let turns = number_found parser_at rows (codes "turns") 0 MAX_TURNS (2 ^ 64) (last (codes "turns") has_turns) all refl (omega arith) in (
-      record { workers = workers.0; capacity = capacity.0; turns = turns.0 },
+      record { workers = workers.0; capacity = capacity.0; turns = turns.0; transcript = transcript },
       rw (workers.1, capacity.1, turns.1) refl,
       record { some_worker = workers.2; workers = workers.3; some_capacity = capacity.2; capacity = capacity.3 },
     )

@@ -1,5 +1,5 @@
 -- What the words of a command line ask for.
-use Rattle.std.specs.Prelude.{◌≡◌, ◌≢◌, List, [], ◌∷◌, Option, Some, None, if◌then◌else◌, codes, option_and_then}
+use Rattle.std.specs.Prelude.{◌≡◌, ◌≢◌, List, [], ◌∷◌, Option, Some, None, false, true, if◌then◌else◌, codes, option_and_then}
 use Rattle.std.specs.Prelude.{option_map}
 use Rattle.std.specs.Str.{bytes_eq}
 use Rattle.clap.specs.Words.{Row, Text, fault_of, subcommand_of}
@@ -13,14 +13,15 @@ use Rattle.command_line.specs.declared.program.Program.{Program}
 use Rattle.command_line.specs.declared.request.Declined.{Declined}
 use Rattle.command_line.specs.declared.request.Declined.TheVariants as declined
 use Rattle.command_line.specs.declared.request.Request.{Request}
-use Rattle.command_line.specs.declared.request.Request.TheVariants.{Check, Events, Forests, Plain, Plan}
+use Rattle.command_line.specs.declared.request.Request.TheVariants.{Check, Events, Forests, Plain, Plan, Transcript}
 
 -- what the command of a name asks for, given the values of its options; each command is a line
 abbrev pub named : Text → List Row → Option Request
 named name rows =
     if bytes_eq name (codes "forests") then Some Forests
     else if bytes_eq name (codes "plain") then Some Plain
-    else if bytes_eq name (codes "plan") then option_map Plan (options_of rows)
+    else if bytes_eq name (codes "plan") then option_map Plan (options_of false rows)
+    else if bytes_eq name (codes "transcript") then option_map Transcript (options_of true rows)
     else if bytes_eq name (codes "check") then Some Check
     else if bytes_eq name (codes "events") then Some Events
     else None
@@ -28,6 +29,7 @@ named name rows =
 -- a run of workers has options in range
 abbrev pub IsInRange : Request → Type 0
 IsInRange (Plan options) = AreInRange options
+IsInRange (Transcript options) = AreInRange options
 IsInRange _ = Unit {0}
 
 -- what the command that was found asks for

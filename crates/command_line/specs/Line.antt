@@ -26,7 +26,9 @@ with_network_commands program =
 
 -- the commands that run workers, which have options
 abbrev pub with_worker_commands : App → App
-with_worker_commands program = with_subcommand program (with_run_options (new_app (codes "plan"))).top
+with_worker_commands program =
+    let with_plan : App = with_subcommand program (with_run_options (new_app (codes "plan"))).top in
+    with_subcommand with_plan (with_run_options (new_app (codes "transcript"))).top
 
 -- all of these, and the one that checks a plan
 abbrev pub with_plan_commands : App → App

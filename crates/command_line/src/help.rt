@@ -37,7 +37,7 @@ Status, and what standard error then holds:
   0  done, or help was asked for    nothing
   1  the input is refused           one line, as above
   2  the command line is refused    several lines
-  3  plan ran out of turns          forestplan: stopped
+  3  the turns were used up         forestplan: stopped
   4  a thread could not be started  forestplan: threads
      memory ran out                 forestplan: memory
      a read or a write failed       forestplan: stream
@@ -144,6 +144,54 @@ Example: a single look, so that two of the three nodes have no turn
     forestplan plan --workers 1 --turns 1
 reports
   forestplan: stopped",
+};
+
+pub const TRANSCRIPT: Help = Help {
+    about: "Prints what each node did while plan found its channel",
+    long_about: "Prints what each node did while plan found its channel.
+
+The nodes run as by `forestplan plan`, on threads without a common clock, and
+each writes down what it puts on its links, what it takes from them, and the
+pulses that it makes. `forestplan plan --help` says what these are. Transcripts
+differ from run to run, since now one thread is faster and now another. With
+`--workers 1` they do not: then two runs on one graph print the same bytes.
+
+A long run is silent until all nodes are done.",
+    format: "Input: a graph in the DIMACS format, as `p edge NODES EDGES` and then `e V W`.
+
+Output, a line each:
+  transcript 1 NODES   the first line
+  V pulse P            node V made pulse P
+  V put W WIRE         V put a wire on its link to its neighbour W
+  V take W WIRE        V took a wire from the link of its neighbour W
+First come all lines of node 1 in the order in which it did them, then those of
+node 2, and so on. They do not say what two nodes did first. A WIRE is one of
+  payload P WORD NUMBER  what is sent at pulse P
+  ack P                  what the other sent at pulse P has been taken
+  safe P                 all that was sent at pulse P has been taken
+  close                  the last wire
+So `1 put 2 payload 0 hello 1` says that node 1 put its greeting for node 2 on
+the link, before its first pulse.
+
+Each wire has two lines, one where it was put and one where it was taken, and
+each node a line for each pulse. With D as the greatest number of neighbours of
+a vertex, and U as that of neighbours above it, N nodes and P messages on E edges
+make behind the first line
+  2 (2 P + 2 E (R + 1)) + N R    lines, where R = 12 + 3 U (D + 1)
+A run that is cut off by --turns prints none: it reports `forestplan: stopped`
+(status 3).
+
+Example: two transmitters, out of reach of each other
+  printf 'p edge 2 0\\n' | forestplan transcript
+prints 25 lines
+  transcript 1 2
+  1 pulse 1
+  1 pulse 2
+  ...
+  1 pulse 12
+  2 pulse 1
+  ...
+  2 pulse 12",
 };
 
 pub const WORKERS: &'static str = "How many threads run the nodes, 1 to 64";

@@ -65,7 +65,9 @@ fn with_worker_commands<'a>(alloc: Global, program: Command<'a>) -> Result<Comma
     ensures local { IfOk result (λ c. (out-Command c).has_globals ≡ false) }
 {
     let plan = with_run_options(alloc, command(alloc, "plan", help::PLAN))?;
-    with_command(program, plan)
+    let program = with_command(program, plan)?;
+    let transcript = with_run_options(alloc, command(alloc, "transcript", help::TRANSCRIPT))?;
+    with_command(program, transcript)
 }
 
 // All of these, and the command that checks a plan.

@@ -71,9 +71,9 @@ fn great_number(matches: &ArgMatches<'_>, name: &str) -> Option<u64>
     matches.get_one::<u64>(name)
 }
 
-/// The options that a command has, from the words or by default.
-pub fn options_of(matches: &ArgMatches<'_>) -> Option<Options>
-    ensures { result ≡ options_of (rows_of (found_of matches.now)) }
+/// The options that a command has, from the words or by default, for a run with a transcript or without.
+pub fn options_of(matches: &ArgMatches<'_>, transcript: bool) -> Option<Options>
+    ensures { result ≡ options_of transcript (rows_of (found_of matches.now)) }
 {
     let workers = small_number(matches, "workers")?;
     let capacity = small_number(matches, "capacity")?;
@@ -82,5 +82,6 @@ pub fn options_of(matches: &ArgMatches<'_>) -> Option<Options>
         workers,
         capacity,
         turns,
+        transcript,
     })
 }

@@ -21,6 +21,8 @@ pub enum Request {
     Plain,
     /// The same plan, by nodes that worker threads run without a common clock.
     Plan(Options),
+    /// What each node put, took and did in such a run.
+    Transcript(Options),
     /// The verdict on a channel plan of a network.
     Check,
     /// The state that events lead to.
@@ -44,7 +46,8 @@ fn request_named(name: &str, matches: &ArgMatches<'_>) -> Option<Request>
     match name {
         "forests" => Some(Request::Forests),
         "plain" => Some(Request::Plain),
-        "plan" => Some(Request::Plan(options_of(matches)?)),
+        "plan" => Some(Request::Plan(options_of(matches, false)?)),
+        "transcript" => Some(Request::Transcript(options_of(matches, true)?)),
         "check" => Some(Request::Check),
         "events" => Some(Request::Events),
         _ => None,

@@ -1,6 +1,6 @@
 -- A whole outcome is that of a complete run. Each node is drained, so it is halted and all of its ports are closed; so it has
 -- taken Close from each link, and what it took is complete; and since no link holds a wire, that is all that was put.
-use Rattle.std.proofs.Common.{◌≡◌, ℕ, zero, suc, ◌-◌, ◌<◌, true, List, [], ◌∷◌, ◌++◌, map, length, get_or, refl, sym, ap, ◌∙◌, subst, arith}
+use Rattle.std.proofs.Common.{◌≡◌, ℕ, zero, suc, ◌-◌, ◌<◌, Bool, true, List, [], ◌∷◌, ◌++◌, map, length, get_or, refl, sym, ap, ◌∙◌, subst, arith}
 use Rattle.std.proofs.lemmas.Bool.{and_parts, eqb-true}
 use Rattle.std.proofs.lemmas.List.{append-nil, length-map}
 use Rattle.std.proofs.lemmas.List.FromFn.{length-range_with_len}
@@ -56,8 +56,8 @@ closed_at [] i d e lt = absurd (omega arith)
 closed_at (port ∷ ports) zero d e lt = (and_parts _ _ e).0
 closed_at (port ∷ ports) (suc i) d e lt = closed_at ports i d (and_parts _ _ e).1 (omega arith)
 
-module _ {S M E : Type 0} (program : Program S M E) (net : Net) (ok : IsNetwork net) (capacity : ℕ) (outcome : Outcome S M)
-    (is : IsOutcome program net capacity outcome) (whole : is_whole outcome ≡ true) where
+module _ {S M E : Type 0} (program : Program S M E) (net : Net) (ok : IsNetwork net) (capacity : ℕ) (transcript : Bool) (outcome : Outcome S M)
+    (is : IsOutcome program net capacity transcript outcome) (whole : is_whole outcome ≡ true) where
   abbrev last : ℕ
   last = last_pulse_on program net
 

@@ -1,5 +1,5 @@
 -- What a run of workers leaves if it is whole.
-use Rattle.std.specs.Prelude.{◌≡◌, ℕ, ◌<◌, true, IsTrue, []}
+use Rattle.std.specs.Prelude.{◌≡◌, ℕ, ◌<◌, Bool, true, IsTrue, []}
 use Rattle.interference.specs.Net.{Net, IsVertex, degree_of, neighbour_of}
 use Rattle.node_api.specs.Program.{Program, last_pulse_on}
 use Rattle.alpha_core.specs.View.{is_halted}
@@ -21,5 +21,6 @@ pub record IsCompleteRun {S M E : Type 0} (program : Program S M E) (net : Net) 
 
 -- Every outcome that is whole is that of a complete run.
 abbrev pub WholeOutcomesAreComplete : {S M E : Type 0} → Program S M E → Net → Type 0
-WholeOutcomesAreComplete {S} {M} program net = (capacity : ℕ) (outcome : Outcome S M)
-    → IsOutcome program net capacity outcome → is_whole outcome ≡ true → IsCompleteRun program net outcome
+WholeOutcomesAreComplete {S} {M} program net =
+    (capacity : ℕ) (transcript : Bool) (outcome : Outcome S M)
+    → IsOutcome program net capacity transcript outcome → is_whole outcome ≡ true → IsCompleteRun program net outcome

@@ -3,7 +3,7 @@ use Rattle.std.proofs.Common.{◌≡◌, ◌⊎◌, ℕ, List, None, Ok, Err, in
 use Rattle.command_line.specs.Line.{name_of}
 use Rattle.command_line.specs.declared.program.Program.{Program}
 use Rattle.command_line.specs.declared.request.Request.{Request}
-use Rattle.command_line.specs.declared.request.Request.TheVariants.{Check, Events, Forests, Plain, Plan}
+use Rattle.command_line.specs.declared.request.Request.TheVariants.{Check, Events, Forests, Plain, Plan, Transcript}
 use Rattle.serving.specs.Answers.{MayAnswer}
 use Rattle.byte_functions.specs.Faults.{fault_line, fault_status}
 use Rattle.command_line.specs.Asked.{request_of}
@@ -22,6 +22,7 @@ memory-may : (request : Request) (input : List ℕ) → MayAnswer request input 
 memory-may Forests input = tt
 memory-may Plain input = tt
 memory-may (Plan options) input = (tt, λ e. cc)
+memory-may (Transcript options) input = (tt, λ e. cc)
 memory-may Check input = tt
 memory-may Events input = tt
 

@@ -3,18 +3,20 @@ use Rattle.std.specs.Prelude.{◌≢◌, ℕ, List, Result, Ok, Err}
 use Rattle.pool.specs.declared.fault.PoolFault.TheVariants.{BadOptions}
 use Rattle.byte_functions.specs.Answers.{IsFaultOfText, IsForestsAnswer, IsPlainAnswer}
 use Rattle.byte_functions.specs.EventAnswers.{IsEventsAnswer, IsFaultOfEvents}
+use Rattle.byte_functions.specs.Transcripts.{IsTranscriptAnswer}
 use Rattle.byte_functions.specs.Verdicts.{IsCheckAnswer, IsFaultOfCheck}
 use Rattle.byte_functions.specs.Workers.{IsFaultOfWorkers}
 use Rattle.byte_functions.specs.declared.fault.PlanFault.{PlanFault}
 use Rattle.byte_functions.specs.declared.fault.PlanFault.TheVariants.{Pool}
 use Rattle.command_line.specs.declared.request.Request.{Request}
-use Rattle.command_line.specs.declared.request.Request.TheVariants.{Check, Events, Forests, Plain, Plan}
+use Rattle.command_line.specs.declared.request.Request.TheVariants.{Check, Events, Forests, Plain, Plan, Transcript}
 
 -- the answer of each command to a good input, a line for each
 abbrev pub IsGoodAnswer : Request → List ℕ → List ℕ → Type 0
 IsGoodAnswer Forests input answer = IsForestsAnswer input answer
 IsGoodAnswer Plain input answer = IsPlainAnswer input answer
 IsGoodAnswer (Plan options) input answer = IsPlainAnswer input answer
+IsGoodAnswer (Transcript options) input answer = IsTranscriptAnswer input answer
 IsGoodAnswer Check input answer = IsCheckAnswer input answer
 IsGoodAnswer Events input answer = IsEventsAnswer input answer
 
@@ -23,6 +25,7 @@ abbrev pub IsFaultAnswer : Request → List ℕ → PlanFault → Type 0
 IsFaultAnswer Forests input fault = IsFaultOfText input fault
 IsFaultAnswer Plain input fault = IsFaultOfText input fault
 IsFaultAnswer (Plan options) input fault = IsFaultOfWorkers options input fault × (fault ≢ Pool BadOptions)
+IsFaultAnswer (Transcript options) input fault = IsFaultOfWorkers options input fault × (fault ≢ Pool BadOptions)
 IsFaultAnswer Check input fault = IsFaultOfCheck input fault
 IsFaultAnswer Events input fault = IsFaultOfEvents input fault
 

@@ -6,14 +6,15 @@ ghost use Rattle.serving.specs.Answers.{MayAnswer};
 
 use byte_functions::{
     OpenGate, PlanFault, check_bytes, events_bytes, forest_bytes, plain_bytes, plan_bytes,
+    transcript_bytes,
 };
 use command_line::Request;
 use std::alloc::Global;
 use std::sync::Wait;
 use std::thread::Threads;
 
-/// The answer of a command to its input; each command is a line. `Plan` alone starts threads, and isn't promised to
-/// return.
+/// The answer of a command to its input; each command is a line. `Plan` and `Transcript` start threads, and
+/// aren't promised to return.
 ///
 /// # Errors
 /// The fault of the input, or of memory.
@@ -31,6 +32,7 @@ pub fn answer_bytes<T: Threads + Wait + Sync>(
         Request::Forests => forest_bytes(alloc, input),
         Request::Plain => plain_bytes(alloc, input),
         Request::Plan(options) => plan_bytes(rt, alloc, input, options, &OpenGate),
+        Request::Transcript(options) => transcript_bytes(rt, alloc, input, options, &OpenGate),
         Request::Check => check_bytes(alloc, input),
         Request::Events => events_bytes(alloc, input),
     }
