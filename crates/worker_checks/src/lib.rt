@@ -1,5 +1,5 @@
-//! The tests of nodes on worker threads, and of the plan that they make: what no contract says. Each run ends by a count
-//! of looks, on every schedule.
+//! The tests of nodes on worker threads, and of the plan that they make: what no contract says. Each run ends by a
+//! count of looks, on every schedule.
 #![tactic(auto)]
 
 #[cfg(test)]

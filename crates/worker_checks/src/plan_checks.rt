@@ -21,6 +21,7 @@ fn options(workers: u32, capacity: u32, turns: u64) -> Options {
         workers,
         capacity,
         turns,
+        transcript: false,
     }
 }
 
@@ -57,6 +58,7 @@ fn plans_by_workers(rt: HostRuntime) -> Result<(), Fail> {
             workers,
             capacity,
             turns,
+            transcript: _,
         } = options;
         match (plan_bytes(&rt, alloc, text, options, &OpenGate), wanted) {
             (Ok(answer), Ok(plan)) => {
