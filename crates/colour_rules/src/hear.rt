@@ -1,5 +1,6 @@
 //! What a node does in the pulses in which it only takes in what comes.
-ghost use Rattle.std.specs.Prelude.{◌≡◌, ◌<◌, ◌≤◌, IfSome, IsTrue, Ok, false, if◌then◌else◌, length, slice_index_or, true};
+ghost use Rattle.std.specs.Prelude.{◌≡◌, ◌<◌, ◌≤◌, IfSome, IsTrue, Ok, false, if◌then◌else◌, length, true};
+ghost use Rattle.std.specs.Prelude.{slice_index_or};
 ghost use Rattle.node_api.specs.Boxes.{HasFrom, nothing, unread};
 ghost use Rattle.forests.specs.declared.numbering.Role.TheVariants.{Unknown};
 ghost use Rattle.colour_rules.specs.Idle.{IsPassed, IsTaken, IsWaiting};

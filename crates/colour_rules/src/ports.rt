@@ -1,5 +1,6 @@
 //! The first rule that a port breaks.
-ghost use Rattle.std.specs.Prelude.{◌≡◌, ◌≤◌, ◌<◌, IfOk, MatchResult, None, Some, false, length, slice_index_or, take, ℕ};
+ghost use Rattle.std.specs.Prelude.{◌≡◌, ◌≤◌, ◌<◌, IfOk, MatchResult, None, Some, false, length, take, ℕ};
+ghost use Rattle.std.specs.Prelude.{slice_index_or};
 ghost use Rattle.node_api.specs.Boxes.{HasFrom, unread};
 ghost use Rattle.forests.specs.declared.numbering.Role.{Role};
 ghost use Rattle.forests.specs.declared.numbering.Role.TheVariants.{Unknown};
