@@ -201,6 +201,7 @@ def help_rows():
                         (["forests", "--help"], "forests_help"), (["forests", "-h"], "forests_help_short"),
                         (["plain", "--help"], "plain_help"), (["plain", "-h"], "plain_help_short"),
                         (["plan", "--help"], "plan_help"), (["plan", "-h"], "plan_help_short"),
+                        (["transcript", "--help"], "transcript_help"), (["transcript", "-h"], "transcript_help_short"),
                         (["check", "--help"], "check_help"), (["check", "-h"], "check_help_short")]:
         with open(os.path.join(TOP, "tests", "texts", name + ".txt"), "rb") as file:
             wanted = file.read()
@@ -210,7 +211,7 @@ def help_rows():
 def refused_words_rows():
     """Each text whole. The first line is the fault, then maybe a tip, the usage of what was named, and where help is."""
     program, forests, plain, plan = "forestplan <COMMAND>", "forestplan forests", "forestplan plain", "forestplan plan [OPTIONS]"
-    none = "'forestplan' requires a subcommand but one was not provided|  [subcommands: forests, plain, plan, check]"
+    none = "'forestplan' requires a subcommand but one was not provided|  [subcommands: forests, plain, plan, transcript, check]"
     like_both = "||  tip: some similar subcommands exist: 'plain', 'plan'"
     like_workers = "||  tip: a similar argument exists: '--workers'"
     of_plan = "||  tip: 'plan --workers' exists"
@@ -220,7 +221,6 @@ def refused_words_rows():
         (["help"], "unrecognized subcommand 'help'", program),
         (["plann"], "unrecognized subcommand 'plann'" + like_both, program),
         (["--workers", "1", "plan"], "unexpected argument '--workers' found" + of_plan, program),
-        (["transcript"], "unrecognized subcommand 'transcript'", program),
         (["--version"], "unexpected argument '--version' found", program),
         (["forests", "extra"], "unexpected argument 'extra' found", forests),
         (["forests", "plain"], "unexpected argument 'plain' found", forests),
