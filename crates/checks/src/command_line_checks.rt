@@ -27,6 +27,7 @@ fn is_run(alloc: Global, words: &[&str], workers: u32, capacity: u32, turns: u64
         workers,
         capacity,
         turns,
+        transcript: false,
     };
     parse(alloc, Program::Forestplan, words).is_ok_and(|request| request == Request::Plan(options))
 }

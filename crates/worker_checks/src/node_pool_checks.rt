@@ -4,6 +4,7 @@ use crate::meeting::Meeting;
 use crate::runs::{each_holds, greatest, path, small, triangle};
 use alpha_core::Wire;
 use colour_program::{Colouring, Payload};
+use entries::Entry;
 use interference::Network;
 use node_pool::{OpenGate, Options, PoolFault, run_workers};
 use std::alloc::Global;
@@ -24,6 +25,7 @@ fn two_workers_are_in_turns_at_once(rt: HostRuntime) -> Result<(), Fail> {
         workers: 2,
         capacity: 4,
         turns: 1_000_000_000,
+        transcript: false,
     };
     let outcome = run_workers::<Colouring, Meeting, _>(&rt, alloc, &net, options, &gate)?;
     assert!(rt; gate.saw_two_at_once(PULSES));
@@ -31,7 +33,7 @@ fn two_workers_are_in_turns_at_once(rt: HostRuntime) -> Result<(), Fail> {
     Ok(())
 }
 
-// One look of one worker: node 1 puts its two greetings, and nothing else happens.
+// One look of one worker: node 1 puts its two greetings, writes that down, and nothing else happens.
 #[test]
 fn one_look_leaves_a_run_that_is_not_whole(rt: HostRuntime) -> Result<(), Fail> {
     let alloc: Global = rt.alloc();
@@ -40,17 +42,22 @@ fn one_look_leaves_a_run_that_is_not_whole(rt: HostRuntime) -> Result<(), Fail> 
         workers: 1,
         capacity: 4,
         turns: 1,
+        transcript: true,
     };
     let outcome = run_workers::<Colouring, OpenGate, _>(&rt, alloc, &net, options, &OpenGate)?;
     assert!(rt; !outcome.is_whole());
+    let hello = Wire::Payload(0, Payload::Hello(1));
+    let puts = [Entry::Put(2, hello), Entry::Put(3, hello)];
     let mut vertices = 0u32;
     for actor in outcome.actors() {
         vertices = vertices.wrapping_add(1);
         assert_eq!(rt; actor.node(), vertices);
         assert_eq!(rt; actor.alpha().pulse_number(), 0);
+        let entries = if vertices == 1 { 2 } else { 0 };
+        assert!(rt; actor.entries() == &puts[..entries]);
     }
     assert_eq!(rt; vertices, 3);
-    let greeting = [Wire::Payload(0, Payload::Hello(1))];
+    let greeting = [hello];
     for v in 1..net.nodes() + 1 {
         let put = if v == 1 { 1 } else { 0 };
         assert!(rt; each_holds(&net, &outcome, v, &greeting[..put]));
@@ -109,6 +116,7 @@ fn options_out_of_range_are_refused_first(rt: HostRuntime) -> Result<(), Fail> {
             workers,
             capacity,
             turns: 1,
+            transcript: false,
         };
         let run = run_workers::<Greatest<1>, OpenGate, _>(&rt, alloc, &net, options, &OpenGate);
         assert!(rt; run.err() == Some(PoolFault::BadOptions));
@@ -117,6 +125,7 @@ fn options_out_of_range_are_refused_first(rt: HostRuntime) -> Result<(), Fail> {
         workers: 64,
         capacity: 64,
         turns: 0,
+        transcript: false,
     };
     let outcome = run_workers::<Greatest<1>, OpenGate, _>(&rt, alloc, &net, options, &OpenGate)?;
     assert!(rt; !outcome.is_whole());

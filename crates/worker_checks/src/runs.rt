@@ -59,6 +59,7 @@ pub fn greatest<const D: u32, R: Threads + Wait + Sync>(
         workers,
         capacity,
         turns: 100_000_000,
+        transcript: false,
     };
     let outcome = run_workers::<Greatest<D>, OpenGate, R>(rt, alloc, net, options, &OpenGate)?;
     if !outcome.is_whole() {
