@@ -111,9 +111,12 @@ def refused_rows(program, queens):
         rows = [thread_row(program, threads, folder, plan_words(workers, 4), name, network)
                 for workers, name, network in [(1, "triangle", TRIANGLE), (4, "triangle", TRIANGLE), (4, "queen5_5", queens),
                                                (64, "triangle", TRIANGLE)]]
-        # To start a thread takes memory of the system's own; where that is refused, the thread is.
-        return rows + [sweep(program, growths, ["plan", "--workers", "1"], TRIANGLE, (0, TRIANGLE_PLAN, b""),
-                             or_else=(4, b"", THREADS))]
+        # To start a thread takes memory of the system's own; where that is refused, the thread is. With one worker the
+        # transcript is the same each time; that it is right is for transcripts.py.
+        words = ["transcript", "--workers", "1"]
+        for one, wanted in [(["plan", "--workers", "1"], (0, TRIANGLE_PLAN, b"")), (words, answer_of(program, words, TRIANGLE))]:
+            rows.append(sweep(program, growths, one, TRIANGLE, wanted, or_else=(4, b"", THREADS)))
+        return rows
 
 
 def thread_row(program, front, folder, words, title, network):

@@ -5,6 +5,7 @@ ghost use Rattle.clap.specs.Words.{app_of, new_app, with_subcommand};
 ghost use Rattle.clap.specs.declared.builder.command.Command.TheViews.{out-Command};
 ghost use Rattle.command_line.specs.Line.{line, with_network_commands, with_plan_commands, with_play_commands};
 ghost use Rattle.command_line.specs.Line.{with_worker_commands, without_commands};
+ghost use Rattle.command_line.specs.RunOptions.{with_run_options};
 
 use crate::help;
 use crate::help::Help;
@@ -58,15 +59,23 @@ fn with_network_commands<'a>(alloc: Global, program: Command<'a>) -> Result<Comm
     with_command(program, command(alloc, "plain", help::PLAIN))
 }
 
-// The commands that run workers, which take options.
+// A command that runs workers, which takes options.
+fn worker_command<'a>(alloc: Global, name: &'a str, help: Help) -> Result<Command<'a>, AllocError>
+    ensures shape { IfOk result (λ c. app_of c ≡ with_run_options (new_app name.entry.now)) }
+    ensures local { IfOk result (λ c. (out-Command c).has_globals ≡ false) }
+{
+    with_run_options(alloc, command(alloc, name, help))
+}
+
+// The commands that run workers.
 fn with_worker_commands<'a>(alloc: Global, program: Command<'a>) -> Result<Command<'a>, AllocError>
     requires { (out-Command program).has_globals ≡ false }
     ensures shape { IfOk result (λ c. app_of c ≡ with_worker_commands (app_of program.entry)) }
     ensures local { IfOk result (λ c. (out-Command c).has_globals ≡ false) }
 {
-    let plan = with_run_options(alloc, command(alloc, "plan", help::PLAN))?;
+    let plan = worker_command(alloc, "plan", help::PLAN)?;
     let program = with_command(program, plan)?;
-    let transcript = with_run_options(alloc, command(alloc, "transcript", help::TRANSCRIPT))?;
+    let transcript = worker_command(alloc, "transcript", help::TRANSCRIPT)?;
     with_command(program, transcript)
 }
 

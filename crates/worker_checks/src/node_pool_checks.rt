@@ -33,7 +33,7 @@ fn two_workers_are_in_turns_at_once(rt: HostRuntime) -> Result<(), Fail> {
     Ok(())
 }
 
-// One look of one worker: node 1 puts its two greetings, and nothing else happens.
+// One look of one worker: node 1 puts its two greetings, writes that down, and nothing else happens.
 #[test]
 fn one_look_leaves_a_run_that_is_not_whole(rt: HostRuntime) -> Result<(), Fail> {
     let alloc: Global = rt.alloc();
@@ -53,8 +53,8 @@ fn one_look_leaves_a_run_that_is_not_whole(rt: HostRuntime) -> Result<(), Fail> 
         vertices = vertices.wrapping_add(1);
         assert_eq!(rt; actor.node(), vertices);
         assert_eq!(rt; actor.alpha().pulse_number(), 0);
-        let written = if vertices == 1 { 2 } else { 0 };
-        assert!(rt; actor.entries() == puts[..written]);
+        let entries = if vertices == 1 { 2 } else { 0 };
+        assert!(rt; actor.entries() == &puts[..entries]);
     }
     assert_eq!(rt; vertices, 3);
     let greeting = [hello];
@@ -125,7 +125,7 @@ fn options_out_of_range_are_refused_first(rt: HostRuntime) -> Result<(), Fail> {
         workers: 64,
         capacity: 64,
         turns: 0,
-        transcript: true,
+        transcript: false,
     };
     let outcome = run_workers::<Greatest<1>, OpenGate, _>(&rt, alloc, &net, options, &OpenGate)?;
     assert!(rt; !outcome.is_whole());

@@ -1,8 +1,8 @@
-//! Plans by worker threads, from bytes to bytes.
+//! Plans and transcripts by worker threads, from bytes to bytes.
 
 use crate::meeting::Meeting;
 use crate::node_pool_checks::PULSES;
-use byte_functions::{OpenGate, Options, PlanFault, PoolFault, plan_bytes};
+use byte_functions::{OpenGate, Options, PlanFault, PoolFault, plan_bytes, transcript_bytes};
 use dimacs_col::ColFault;
 use std::test::Fail;
 
@@ -27,8 +27,8 @@ fn options(workers: u32, capacity: u32, turns: u64) -> Options {
 
 const OUT_OF_RANGE: Result<&[u8], PlanFault> = Err(PlanFault::Pool(PoolFault::BadOptions));
 
-// Text, workers, capacity, turns, and the answer. The faults of a text come before those of the options, and these
-// before those of a run.
+// Text, workers, capacity, turns, and the answer. The faults of a text come before those of the options, and these before
+// those of a run.
 #[test]
 fn plans_by_workers(rt: HostRuntime) -> Result<(), Fail> {
     let alloc = rt.alloc();
@@ -81,5 +81,46 @@ fn two_workers_make_a_plan_at_once(rt: HostRuntime) -> Result<(), Fail> {
     let plan = plan_bytes(&rt, rt.alloc(), TRIANGLE, options(2, 4, AMPLE), &gate)?;
     assert!(rt; gate.saw_two_at_once(PULSES));
     assert!(rt; plan.as_slice() == TRIANGLE_PLAN);
+    Ok(())
+}
+
+// Two nodes without an edge, each with twelve pulses.
+const APART: &[u8] = b"p edge 2 0\n";
+
+const APART_TRANSCRIPT: &[u8] = b"transcript 1 2\n\
+1 pulse 1\n1 pulse 2\n1 pulse 3\n1 pulse 4\n1 pulse 5\n1 pulse 6\n\
+1 pulse 7\n1 pulse 8\n1 pulse 9\n1 pulse 10\n1 pulse 11\n1 pulse 12\n\
+2 pulse 1\n2 pulse 2\n2 pulse 3\n2 pulse 4\n2 pulse 5\n2 pulse 6\n\
+2 pulse 7\n2 pulse 8\n2 pulse 9\n2 pulse 10\n2 pulse 11\n2 pulse 12\n";
+
+// Nodes that send each other nothing have one transcript, for any number of workers.
+#[test]
+fn transcripts_by_workers(rt: HostRuntime) -> Result<(), Fail> {
+    let alloc = rt.alloc();
+    for (text, options, wanted) in [
+        (APART, options(1, 4, AMPLE), Ok(APART_TRANSCRIPT)),
+        (APART, options(2, 4, AMPLE), Ok(APART_TRANSCRIPT)),
+        (APART, options(4, 1, AMPLE), Ok(APART_TRANSCRIPT)),
+        (TRIANGLE, options(1, 4, 1), Err(PlanFault::Stopped)),
+        (TRIANGLE, options(0, 4, 0), OUT_OF_RANGE),
+    ] {
+        let workers = options.workers;
+        match (transcript_bytes(&rt, alloc, text, options, &OpenGate), wanted) {
+            (Ok(answer), Ok(transcript)) => {
+                assert!(rt; answer.as_slice() == transcript, "{workers}")
+            }
+            (Err(fault), Err(refusal)) => assert_eq!(rt; fault, refusal, "{workers}"),
+            _ => assert!(rt; false, "{workers}"),
+        }
+    }
+    Ok(())
+}
+
+#[test]
+fn two_workers_make_a_transcript_at_once(rt: HostRuntime) -> Result<(), Fail> {
+    let gate = Meeting::new();
+    let transcript = transcript_bytes(&rt, rt.alloc(), TRIANGLE, options(2, 4, AMPLE), &gate)?;
+    assert!(rt; gate.saw_two_at_once(PULSES));
+    assert!(rt; transcript.as_slice().starts_with(b"transcript 1 3\n"));
     Ok(())
 }
