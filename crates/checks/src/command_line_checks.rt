@@ -127,3 +127,17 @@ fn declines_other_words(rt: HostRuntime) -> Result<(), Fail> {
     }
     Ok(())
 }
+
+#[test]
+fn reads_the_options_of_a_transcript(rt: HostRuntime) -> Result<(), Fail> {
+    let options = Options {
+        workers: 1,
+        capacity: 4,
+        turns: 2,
+        transcript: true,
+    };
+    let words = ["p", "transcript", "--workers=1", "--turns=2"];
+    let request = parse(rt.alloc(), Program::Forestplan, &words);
+    assert!(rt; request.is_ok_and(|request| request == Request::Transcript(options)));
+    Ok(())
+}
