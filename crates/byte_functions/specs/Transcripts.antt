@@ -1,5 +1,5 @@
 -- The text of what the nodes of a run of workers did.
-use Rattle.std.specs.Prelude.{◌≡◌, ℕ, Bool, true, List, flat_map, map}
+use Rattle.std.specs.Prelude.{◌≡◌, ℕ, true, List, flat_map, map}
 use Rattle.interference.specs.Net.{Net, IsNetwork, count_of}
 use Rattle.colour_rules.specs.declared.payload.Payload.{Payload}
 use Rattle.colour_rules.specs.Node as colour

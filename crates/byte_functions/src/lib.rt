@@ -2,8 +2,8 @@
 //! an answer, and the report of each fault. It names no stream, no command line and no system, so that a test or
 //! another program calls the same functions.
 //!
-//! `serving` calls `forest_bytes`, `plain_bytes`, `plan_bytes`, `transcript_bytes`, `check_bytes` or `events_bytes` for a
-//! command, and `fault_report` if they fail.
+//! `serving` calls `forest_bytes`, `plain_bytes`, `plan_bytes`, `transcript_bytes`, `check_bytes` or `events_bytes` for
+//! a command, and `fault_report` if they fail.
 //!
 //! ```
 //! let text = b"p edge 3 3\ne 1 2\ne 1 3\ne 2 3\n";

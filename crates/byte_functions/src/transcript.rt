@@ -43,10 +43,7 @@ fn push_rows(
 }
 
 // The entries of nodes, each behind its vertex, in the order of the nodes.
-fn rows_of(
-    alloc: Global,
-    actors: &[Actor<Colouring>],
-) -> Result<Vec<(u32, Entry<Payload>)>, Memory>
+fn rows_of(alloc: Global, actors: &[Actor<Colouring>]) -> Result<Vec<(u32, Entry<Payload>)>, Memory>
     ensures { IfOk result (λ rows. rows.items ≡ flat_map (λ actor. rows_in (gathered_of actor)) actors.now) }
 {
     let mut rows = Vec::with_capacity(alloc, entry_count(actors))?;

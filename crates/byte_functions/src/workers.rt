@@ -1,7 +1,6 @@
 //! Runs of worker threads, and the channel plan that they find.
 
 ghost use Rattle.std.specs.Prelude.{◌≡◌, true, IfOk, IfErr};
-ghost use Rattle.interference.specs.Net.{IsNetwork};
 ghost use Rattle.run_options.specs.Ranges.{AreInRange};
 ghost use Rattle.colour_rules.specs.Program.{colouring};
 ghost use Rattle.gather_laws.specs.Outcome.{IsOutcome, is_whole};

@@ -105,7 +105,10 @@ fn transcripts_by_workers(rt: HostRuntime) -> Result<(), Fail> {
         (TRIANGLE, options(0, 4, 0), OUT_OF_RANGE),
     ] {
         let workers = options.workers;
-        match (transcript_bytes(&rt, alloc, text, options, &OpenGate), wanted) {
+        match (
+            transcript_bytes(&rt, alloc, text, options, &OpenGate),
+            wanted,
+        ) {
             (Ok(answer), Ok(transcript)) => {
                 assert!(rt; answer.as_slice() == transcript, "{workers}")
             }
