@@ -6,7 +6,7 @@ error and status byte by byte. The last line is 'N passed, M failed'.
       PROGRAM   default: the script `forestplay` at the top, which builds the program first
       BINARY    the program as the second compiler builds it; its rows are left out if it isn't named
 
-Expected answers are worked by hand (docs/LESSONS.md has the run of the triangle), or come from the definitions in
+Expected answers are worked by hand (docs/TUTORIAL.md has the run of the triangle), or come from the definitions in
 alpha_definition.py; none is taken from the program."""
 import argparse
 import os
@@ -27,7 +27,7 @@ EDGE = "p edge 2 1|e 1 2|"
 TRIANGLE = "p edge 3 3|e 1 2|e 1 3|e 2 3|"
 ALL_PUT = "put 1 0|put 1 1|put 2 0|put 2 1|put 3 0|put 3 1|"
 ALL_TAKE = ALL_PUT.replace("put", "take")
-# Events 31 to 47 of docs/LESSONS.md.
+# Events 31 to 47 of docs/TUTORIAL.md.
 LATER = ("take 1 0|take 1 1|pulse 1|put 1 1|take 3 0|take 3 0|put 1 0|take 2 0|take 2 0|put 2 0|take 1 0|put 3 0|take 1 1|put 1 1|"
          "take 3 0|take 3 1|pulse 3|")
 TALLY = {"passed": 0, "failed": 0}

@@ -3,15 +3,16 @@
 
   pages.py [PROGRAM PLAY]      default: the programs as `./forestplan` and `./forestplay` build them
 
-- Each command shown, a line `$ ..` with `./forestplan` or `./forestplay`, is run at the top of the repository; what stands
-  under it, in the same columns, has to be its output (notes behind two blanks are left out), or its refusal.
-- Each table of docs/LESSONS.md is worked out from the definitions (plain_definition.py, alpha_definition.py), not from
-  the program.
+- Each command shown, a line `$ ..`, is run at the top of the repository, by bash; what stands under it, in the same columns,
+  has to be its output (notes behind two blanks are left out), or its refusal.
+- Each table of docs/TUTORIAL.md is worked out from the definitions (plain_definition.py, alpha_definition.py), not from
+  the program; and so is what its answers say of small networks and of a row of six.
 - These definitions fit together: on small networks the rounds, and any order of events, end with the colours.
 - Each excerpt of code, a fence whose first line names its file, has its lines in that file, in this order.
 - README.md names each crate. Each file named in backquotes exists, each link leads to a page and a heading, and each
   function and clause that a row of docs/PROMISES.md names is in the code.
 """
+import itertools
 import os
 import random
 import re
@@ -41,7 +42,7 @@ def lines_of(page):
 def shown_commands(lines):
     """(line number, command, lines shown under it), of each command in an indented block."""
     for number, line in enumerate(lines):
-        found = re.match(r"^( {4}.*?)\$ (.*\./forestpla[ny] .*)$", line)
+        found = re.match(r"^( {4}.*?)\$ (.+)$", line)
         if not found:
             continue
         column, shown = len(found.group(1)), []
@@ -55,7 +56,7 @@ def shown_commands(lines):
 def check_commands(page, programs):
     for number, command, shown in shown_commands(lines_of(page)):
         words = command.replace("./forestplan", programs[0]).replace("./forestplay", programs[1])
-        done = subprocess.run(["sh", "-c", words], cwd=TOP, capture_output=True, timeout=LIMIT)
+        done = subprocess.run(["bash", "-c", words], cwd=TOP, capture_output=True, timeout=LIMIT)
         wanted = "".join(line + "\n" for line in shown)
         good = [(0, wanted.encode(), b""), (1, b"", wanted.encode()), (3, b"", wanted.encode())]
         note(f"{page}:{number} {command}", (done.returncode, done.stdout, done.stderr) in good, f"shown {wanted!r}, got {done}")
@@ -134,8 +135,16 @@ def check_definitions():
     note("rounds and events of 40 small networks end with the colours", not wrong, wrong[:1])
 
 
-def lesson_table(title, rows):
-    """What the rows of a lesson's table have to be, behind the first cell of each; None for a table that is no lesson's."""
+def greatest_colours(digits):
+    """The greatest colour after each of four bit steps from numbers of so many digits: in place i and its own digit, 1."""
+    for _ in range(4):
+        greatest = 2 * (digits - 1) + 1
+        yield str(greatest)
+        digits = greatest.bit_length()
+
+
+def tutorial_table(title, rows):
+    """What the rows of a table have to be, behind the first cell of each; None for a table that isn't worked out."""
     found = re.match(r"Forest (\d+) of `(.*)`, pulse by pulse:", title)
     if found:
         net, f = example(found.group(2)), int(found.group(1))
@@ -153,21 +162,54 @@ def lesson_table(title, rows):
         for row in rows[2:]:
             net = example(row[0].strip("`"))
             last = 12 + 3 * net.forest_count * (net.greatest_degree + 1)
-            channels = max(colours(net).values(), default=-1) + 1
-            wanted.append([str(x) for x in (len(net.neighbours), net.greatest_degree, net.forest_count, last, channels)])
+            wanted.append([str(x) for x in (len(net.neighbours), net.greatest_degree, net.forest_count, last, channels_of(net))])
         return wanted
+    if rows[0][0].startswith("identifiers"):
+        return [rows[0][1:]] + [list(greatest_colours(int(row[0].split()[0]))) for row in rows[2:]]
     return None
 
 
-def check_lessons():
+def channels_of(net):
+    return max(colours(net).values(), default=-1) + 1
+
+
+def check_tutorial():
     count = 0
-    for number, title, rows in tables_of(lines_of("docs/LESSONS.md")):
-        wanted = lesson_table(title, rows)
+    for number, title, rows in tables_of(lines_of("docs/TUTORIAL.md")):
+        wanted = tutorial_table(title, rows)
         if wanted is not None:
             count += 1
             got = [row[1:1 + len(wanted[0])] for row in rows[:1] + rows[2:]]
-            note(f"docs/LESSONS.md:{number}", got == wanted, f"wanted {wanted}")
-    note("tables of the lessons", count >= 5, count)
+            note(f"docs/TUTORIAL.md:{number}", got == wanted, f"wanted {wanted}")
+    note("tables of the tutorial", count == 6, count)
+    check_too_many()
+    check_row_of_six()
+
+
+def fewest_colours(nodes, edges):
+    return next(k for k in range(nodes + 1) for c in itertools.product(range(k), repeat=nodes)
+                if all(c[v - 1] != c[w - 1] for v, w in edges))
+
+
+def check_too_many():
+    """Of the networks of up to four nodes, these two alone take a channel more than is needed."""
+    found = []
+    for nodes in range(1, 5):
+        pairs = list(itertools.combinations(range(1, nodes + 1), 2))
+        for edges in itertools.chain(*(itertools.combinations(pairs, r) for r in range(len(pairs) + 1))):
+            net = Network({v: v for v in range(1, nodes + 1)}, set(edges))
+            if channels_of(net) > fewest_colours(nodes, edges):
+                found.append(edges)
+    note("networks with a channel too many", found == [((1, 3), (1, 4), (2, 4)), ((1, 4), (2, 3), (2, 4))], found)
+
+
+def check_row_of_six():
+    """If node 1 makes no pulse and the others do all that they can, they come as far as the tutorial says."""
+    state = NetState(example("examples/chain6.col"))
+    while event := next((event for event in state.possible() if event[:2] != ("Pulse", 1)), None):
+        state.step(*event)
+    pulses = [node.pulse_number for _, node in sorted(state.nodes.items())]
+    note("pulses of a row of six with node 1 at rest", pulses == [0, 1, 2, 3, 4, 5], pulses)
 
 
 def heading_anchor(line):
@@ -178,7 +220,7 @@ def heading_anchor(line):
 def check_names(page):
     lines = lines_of(page)
     for number, line in enumerate(lines, 1):
-        for name in re.findall(r"`((?:crates|docs|tests|bench|examples|wrong-bodies)/[\w./-]+)`", line):
+        for name in re.findall(r"`((?:crates|docs|tests|tools|bench|examples|wrong-bodies)/[\w./-]+)`", line):
             if "NAME" not in name:
                 note(f"{page}:{number} {name}", os.path.exists(os.path.join(TOP, name)), "there is no such file")
         for target in re.findall(r"\]\(([^)]*)\)", line):
@@ -273,7 +315,7 @@ def main():
         check_names(page)
         check_excerpts(page)
     check_crates()
-    check_lessons()
+    check_tutorial()
     check_definitions()
     check_promises()
     print(f"{TALLY['passed']} passed, {TALLY['failed']} failed")
