@@ -7,6 +7,7 @@ ghost use Rattle.node_api.specs.Run.{state_at, outbox_at, inbox_at, last_states,
 ghost use Rattle.sync_rounds.specs.Lists.{Lists, empty_inbox};
 
 use crate::delivery::deliver;
+use crate::rounds::Rounds;
 use interference::{Memory, Network};
 use node_api::{Inbox, NodeProgram, Outbox};
 use std::alloc::Global;
@@ -19,13 +20,15 @@ use std::alloc::Global;
 pub fn run_rounds<P: NodeProgram>(alloc: Global, net: &Network) -> Result<Vec<P>, Memory>
     ensures states { IfOk result (λ nodes. nodes.items ≡ last_states P.program net.now) }
 {
-    let (mut nodes, mut inboxes, mut outs) = start::<P>(alloc, net)?;
-    rounds(net, P::last_pulse(net), &mut nodes, &mut inboxes, &mut outs);
-    Ok(nodes)
+    let mut rounds = Rounds::<P>::start(alloc, net)?;
+    for _done in 0..P::last_pulse(net) {
+        rounds.step();
+    }
+    Ok(rounds.into_nodes())
 }
 
 // All nodes after pulse 0, with what they sent and empty inboxes.
-fn start<P: NodeProgram>(
+pub(crate) fn start<P: NodeProgram>(
     alloc: Global,
     net: &Network,
 ) -> Result<(Vec<P>, Vec<Inbox<P::Payload>>, Vec<Outbox<P::Payload>>), Memory>
@@ -49,24 +52,25 @@ fn start<P: NodeProgram>(
     Ok((nodes, inboxes, outs))
 }
 
-// The pulses 1 to `last` of all nodes.
-fn rounds<P: NodeProgram>(
+// The pulse after `done` of all nodes, on what was sent at `done`.
+pub(crate) fn round<P: NodeProgram>(
     net: &Network,
-    last: u32,
+    done: u32,
     nodes: &mut [P],
     inboxes: &mut [Inbox<P::Payload>],
     outs: &mut [Outbox<P::Payload>],
 )
-    requires nodes { Lists (count_of net.now) (state_at P.program net.now 0) nodes.old }
+    requires done { done + 1 < 2 ^ 32 }
+    requires nodes { Lists (count_of net.now) (state_at P.program net.now done) nodes.old }
     requires inboxes { Lists (count_of net.now) (empty_inbox net.now) inboxes.old }
-    requires outs { Lists (count_of net.now) (outbox_at P.program net.now 0) outs.old }
-    ensures nodes { Lists (count_of net.now) (state_at P.program net.now last) nodes.new }
+    requires outs { Lists (count_of net.now) (outbox_at P.program net.now done) outs.old }
+    ensures nodes { Lists (count_of net.now) (state_at P.program net.now (done + 1)) nodes.new }
+    ensures inboxes { Lists (count_of net.now) (empty_inbox net.now) inboxes.new }
+    ensures outs { Lists (count_of net.now) (outbox_at P.program net.now (done + 1)) outs.new }
 {
     net.is_network();
-    for done in 0..last {
-        deliver(net, outs, inboxes);
-        pulse_all(net, done, nodes, inboxes, outs);
-    }
+    deliver(net, outs, inboxes);
+    pulse_all(net, done, nodes, inboxes, outs);
 }
 
 // The pulse after `done` of all nodes. It leaves the inboxes empty.
