@@ -36,6 +36,13 @@ impl Colouring {
     {
         self.node.colour()
     }
+
+    /// The node of the colouring.
+    pub fn node(&self) -> &ColourNode
+        ensures { result.now ≡ self.now }
+    {
+        &self.node
+    }
 }
 
 impl NodeProgram for Colouring {

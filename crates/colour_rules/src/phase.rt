@@ -1,9 +1,12 @@
 //! The phase of a pulse: the one place where the number of a pulse means something.
-ghost use Rattle.std.specs.Prelude.{◌≡◌, ◌≤◌};
+ghost use Rattle.std.specs.Prelude.{◌≡◌, ◌≤◌, ◌+◌, ◌/◌, ◌%◌};
+ghost use Rattle.node_api.specs.Program.{sizes_of};
 ghost use Rattle.colour_rules.specs.Node.{IsPhase, phase_of, steps};
 ghost use Rattle.colour_rules.specs.Program.{is_last};
 
 use crate::node::ColourNode;
+use interference::Network;
+use std::marker::Model;
 
 /// The pulse of the first step of the merging.
 pub const FIRST_MERGE: u32 = 13;
@@ -40,10 +43,42 @@ pub enum Phase {
     Halted,
 }
 
-impl ColourNode {
-    // How many steps the merging of a forest takes.
-    pub(crate) fn steps(&self) -> u32
-        ensures { result ≡ steps self.now.sizes }
+/// What the phases depend on. Contracts see the sizes of the network, as `node_api` has them.
+#[derive(Drop)]
+pub struct Schedule {
+    pub(crate) nodes: u32,
+    pub(crate) greatest_degree: u16,
+    pub(crate) forests: u16,
+}
+
+impl Model for Schedule {
+    ghost use Rattle.std.specs.Prelude.{◌≤◌};
+    ghost use Rattle.interference.specs.declared.limits.TheConstants.{MAX_DEGREE};
+    ghost use Rattle.node_api.specs.Program.{Sizes};
+
+    ghost Value = { Sizes };
+
+    ghost view = { λ a. record { nodes = a.nodes; greatest_degree = a.greatest_degree; forests = a.forests } };
+
+    ghost invariant = { λ a. (a.greatest_degree ≤ MAX_DEGREE) × (a.forests ≤ MAX_DEGREE) };
+}
+
+impl Schedule {
+    /// The schedule of the rounds on a network.
+    pub fn of(net: &Network) -> Schedule
+        ensures { result ≡ sizes_of net.now }
+    {
+        net.is_network();
+        Schedule {
+            nodes: net.nodes(),
+            greatest_degree: net.greatest_degree() as u16,
+            forests: net.forest_count() as u16,
+        }
+    }
+
+    /// How many steps the merging of a forest takes.
+    pub fn steps(&self) -> u32
+        ensures { result ≡ steps self.now }
     {
         3 * (u32::from(self.greatest_degree) + 1)
     }
@@ -51,8 +86,8 @@ impl ColourNode {
     /// The phase of a pulse: greeting, orienting, seeding, ten pulses of work on the colours of the
     /// forests, the merging of one forest after another, and after the last pulse `Halted`.
     pub fn phase(&self, pulse: u32) -> Phase
-        ensures phase { result ≡ phase_of self.now.sizes pulse }
-        ensures real { IsPhase self.now.sizes result }
+        ensures phase { result ≡ phase_of self.now pulse }
+        ensures real { IsPhase self.now result }
     {
         match pulse {
             0 => Phase::Greet,
@@ -72,7 +107,7 @@ impl ColourNode {
     // The phase of a pulse after the work on the colours.
     fn merge_phase(&self, pulse: u32) -> Phase
         requires { FIRST_MERGE ≤ pulse }
-        ensures { result ≡ phase_of self.now.sizes pulse }
+        ensures { result ≡ phase_of self.now pulse }
     {
         let steps = self.steps();
         let done = pulse - FIRST_MERGE;
@@ -81,5 +116,42 @@ impl ColourNode {
         } else {
             Phase::Halted
         }
+    }
+
+    /// The three-colour and the old colour of the nodes that choose at a step of the merging of a forest.
+    pub fn pair(&self, step: u32) -> (u32, u32)
+        ensures three { result.0 ≡ step / (self.now.greatest_degree + 1) }
+        ensures old { result.1 ≡ step % (self.now.greatest_degree + 1) }
+    {
+        let colours = u32::from(self.greatest_degree) + 1;
+        (step / colours, step % colours)
+    }
+}
+
+impl ColourNode {
+    // The schedule of the node's network.
+    fn schedule(&self) -> Schedule
+        ensures { result ≡ self.now.sizes }
+    {
+        Schedule {
+            nodes: self.nodes,
+            greatest_degree: self.greatest_degree,
+            forests: self.forests,
+        }
+    }
+
+    // How many steps the merging of a forest takes.
+    pub(crate) fn steps(&self) -> u32
+        ensures { result ≡ steps self.now.sizes }
+    {
+        self.schedule().steps()
+    }
+
+    /// The phase of a pulse.
+    pub fn phase(&self, pulse: u32) -> Phase
+        ensures phase { result ≡ phase_of self.now.sizes pulse }
+        ensures real { IsPhase self.now.sizes result }
+    {
+        self.schedule().phase(pulse)
     }
 }
