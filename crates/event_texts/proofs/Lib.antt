@@ -1,6 +1,5 @@
 mod Numbers
 mod Splitting
 mod Readings
-mod Ranges
 mod Within
 mod Scripts

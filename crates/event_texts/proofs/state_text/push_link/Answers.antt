@@ -4,7 +4,7 @@ use Rattle.interference.specs.Net.{neighbour_of}
 use Rattle.net_core.specs.State.{link_at}
 use Rattle.wire_texts.specs.WireText.{numbered}
 use Rattle.event_texts.specs.StateText.{colour_wire_text}
-use Rattle.event_texts.proofs.Ranges.{behind}
+use Rattle.wire_texts.proofs.Ranges.{behind}
 use Rattle.event_texts.proofs.state_text.push_link.Goals as goal
 
 pub returns : goal.returns

@@ -2,7 +2,7 @@ use Rattle.std.proofs.Common.{◌≡◌, ◌+◌, arith}
 use Rattle.interference.specs.Net.{neighbour_of}
 use Rattle.net_core.specs.State.{link_at}
 use Rattle.event_texts.specs.StateText.{link_text}
-use Rattle.event_texts.proofs.Ranges.{texts-more}
+use Rattle.wire_texts.proofs.Ranges.{texts-more}
 use Rattle.event_texts.proofs.state_text.push_links.Goals as goal
 
 pub loop-port-preserved : goal.loop-port-preserved
