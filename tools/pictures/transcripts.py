@@ -1,0 +1,181 @@
+"""The transcript of a run (docs/FORMATS.md): entries by node, each take beside its put, and a place in time for each.
+
+A text is read only if some order of its entries is a run of the colouring on its network. Nodes are replayed one by one (a
+node's entries decide what it may do next), and a take may only come after its put; an entry that can come next can always
+come later too, so going on wherever one can finds an order if there is one."""
+from alpha import Impossible, Node, words_of
+from colouring import Rounds
+from networks import fields_of, whole
+from wrong import Wrong, wrong_line
+
+PAYLOADS = {"hello", "label", "colour", "chosen"}
+
+
+class Entry:
+    """What a node did: `kind` is `pulse`, `put` or `take`; `wire` is (kind, pulse, payload) of a put or take; `mate` is the
+    put of a take, and back; `x` the length of the longest chain of entries that ends here; `during` the node's pulse."""
+
+    __slots__ = ("line", "vertex", "kind", "neighbour", "wire", "pulse", "mate", "x", "during")
+
+    def __init__(self, line, vertex, kind, neighbour, wire, pulse):
+        self.line, self.vertex, self.kind, self.neighbour, self.wire, self.pulse = line, vertex, kind, neighbour, wire, pulse
+        self.mate = self.x = None
+        self.during = 0
+
+    def title(self):
+        """An arrow's title: from whom to whom, and the transcript's words of the wire."""
+        return f"{self.vertex} to {self.neighbour}: {words_of(self.wire)}"
+
+
+class Run:
+    """`entries[v]` in v's order; `last` is R; `whole`, whether every node is through with its last pulse."""
+
+    def __init__(self, network, name, entries, rounds):
+        self.network, self.name, self.entries, self.rounds = network, name, entries, rounds
+        self.last, self.whole = rounds.last, False
+
+    def all(self):
+        return (entry for v in self.network.vertices for entry in self.entries[v])
+
+    def puts(self, kind=None):
+        return (entry for entry in self.all() if entry.kind == "put" and kind in (None, entry.wire[0]))
+
+    def ticks(self, v):
+        """{pulse: x} of v, with pulse 0 at 0."""
+        return {0: 0} | {entry.pulse: entry.x for entry in self.entries[v] if entry.kind == "pulse"}
+
+
+def wire_of(fields):
+    """(kind, pulse, payload) of the words of a wire, or None."""
+    if fields == ["close"]:
+        return "close", None, None
+    if len(fields) == 2 and fields[0] in ("ack", "safe") and whole(fields[1]) is not None:
+        return fields[0], whole(fields[1]), None
+    if len(fields) == 4 and fields[0] == "payload" and fields[2] in PAYLOADS and None not in map(whole, fields[1::2]):
+        return "payload", whole(fields[1]), (fields[2], whole(fields[3]))
+    return None
+
+
+def entry_of(name, line, fields, network):
+    """The entry of a line."""
+    vertex, kind = whole(fields[0]), fields[1] if len(fields) > 1 else ""
+    if vertex not in network.vertices:
+        raise wrong_line(name, line, f"`{fields[0]}` is no node of {network.name}")
+    if kind == "pulse" and len(fields) == 3 and whole(fields[2]) is not None:
+        return Entry(line, vertex, kind, None, None, whole(fields[2]))
+    wire = wire_of(fields[3:])
+    if kind not in ("put", "take") or wire is None:
+        raise wrong_line(name, line, "no entry of a transcript (X1)")
+    if whole(fields[2]) not in network.neighbours[vertex]:
+        raise wrong_line(name, line, f"`{fields[2]}` is no neighbour of {vertex} in {network.name}")
+    return Entry(line, vertex, kind, whole(fields[2]), wire, wire[1])
+
+
+def read_entries(text, name, network):
+    """The entries of each node, in its order."""
+    entries, begun = {v: [] for v in network.vertices}, False
+    for line, raw in enumerate(text.split("\n"), 1):
+        fields = [field for field in fields_of(raw) if field]
+        if not fields:
+            continue
+        if begun:
+            entry = entry_of(name, line, fields, network)
+            entries[entry.vertex].append(entry)
+        elif fields != ["transcript", "1", str(network.nodes)]:
+            raise wrong_line(name, line, f"no line `transcript 1 {network.nodes}` (X1)")
+        begun = True
+    if not begun:
+        raise wrong_line(name, 1, "no line `transcript 1 ..` (X1)")
+    return entries
+
+
+def match(entries, name):
+    """Gives each take its put: the k-th of a link is the k-th."""
+    puts, takes = {}, {}
+    for listed in entries.values():
+        for entry in listed:
+            if entry.kind == "put":
+                puts.setdefault((entry.vertex, entry.neighbour), []).append(entry)
+            elif entry.kind == "take":
+                takes.setdefault((entry.neighbour, entry.vertex), []).append(entry)
+    for link, taken in takes.items():
+        put = puts.get(link, [])
+        for k, take in enumerate(taken):
+            if k >= len(put) or put[k].wire != take.wire:
+                raise wrong_line(name, take.line, f"{link[0]} never puts {words_of(take.wire)} there")
+            take.mate, put[k].mate = put[k], take
+
+
+def identifiers_of(network, entries):
+    """What the vertices call themselves in their greetings."""
+    found = {v: v for v in network.vertices}
+    for v, listed in entries.items():
+        for entry in listed:
+            if entry.kind == "put" and entry.wire[0] == "payload" and entry.wire[2][0] == "hello":
+                found[v] = entry.wire[2][1]
+                break
+    return found
+
+
+def sends_of(rounds):
+    """{vertex: {pulse: {neighbour: payload}}} of the rounds."""
+    sends = {v: {} for v in rounds.network.vertices}
+    for pulse in rounds.pulses:
+        for v, w, word, number in pulse.puts:
+            sends[v].setdefault(pulse.number, {})[w] = word, number
+    return sends
+
+
+def make(node, entry, name):
+    """One entry at its node."""
+    try:
+        if entry.kind == "pulse":
+            node.make_pulse(entry.pulse)
+        elif entry.kind == "put":
+            node.put(entry.neighbour, entry.wire)
+        else:
+            node.take(entry.neighbour, entry.wire)
+    except Impossible as why:
+        raise wrong_line(name, entry.line, f"node {entry.vertex}: {why}") from None
+    entry.during = node.pulse
+
+
+def set_in_time(run):
+    """Gives each entry its x: one more than the entry before it at its node, and more than its put if it is a take."""
+    done, last = dict.fromkeys(run.entries, 0), dict.fromkeys(run.entries, 0)
+    left, moved = sum(map(len, run.entries.values())), True
+    while moved:
+        moved = False
+        for v, listed in run.entries.items():
+            while done[v] < len(listed):
+                entry = listed[done[v]]
+                if entry.kind == "take" and entry.mate.x is None:
+                    break
+                entry.x = last[v] = 1 + max(last[v], entry.mate.x if entry.kind == "take" else 0)
+                done[v], left, moved = done[v] + 1, left - 1, True
+    if left:
+        line = min(listed[done[v]].line for v, listed in run.entries.items() if done[v] < len(listed))
+        raise wrong_line(run.name, line, "no order of the entries is a run: this one would have to come before itself")
+
+
+def nodes_of(run):
+    """A fresh node for each vertex, to be replayed."""
+    sends = sends_of(run.rounds)
+    return {v: Node(run.network.neighbours[v], run.last, sends[v]) for v in run.network.vertices}
+
+
+def read_transcript(text, name, network):
+    """The run that a transcript tells of, or what is wrong with it."""
+    entries = read_entries(text, name, network)
+    identifiers = identifiers_of(network, entries)
+    if len(set(identifiers.values())) < network.nodes:
+        raise Wrong(f"{name}: two nodes have one identifier")
+    run = Run(network, name, entries, Rounds(network, identifiers))
+    match(entries, name)
+    nodes = nodes_of(run)
+    for v, listed in entries.items():
+        for entry in listed:
+            make(nodes[v], entry, name)
+    set_in_time(run)
+    run.whole = all(node.is_through() for node in nodes.values())
+    return run

@@ -1,0 +1,15 @@
+"""What ends a drawing before anything is drawn; the door writes it as one line on standard error."""
+
+
+class Wrong(Exception):
+    """A text is wrong, or a network is too large for a kind."""
+
+
+def wrong_line(name, line, what):
+    return Wrong(f"{name} line {line}: {what}")
+
+
+def at_most(kind, count, what, limit, instead):
+    """Refuses what would be no picture any more, and names the kind to use."""
+    if count > limit:
+        raise Wrong(f"{kind} draws at most {limit} {what}, and here are {count}: use {instead}")
