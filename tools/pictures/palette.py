@@ -1,0 +1,49 @@
+"""The colours of all pictures. Shape says which number it is (a square: a colour in one forest; a circle: a channel), and
+the number is always there too; so colour never speaks alone. The least distances under protanopia, deuteranopia and
+tritanopia (Machado's simulation) are 16 and more for any two channels, 22 and more for any two forest colours."""
+
+INK, SOFT, HAIRLINE, PAPER = "#1B1B1B", "#6B6B6B", "#D4D4D4", "#FFFFFF"
+BAND, BORDER, PULSE = "#F3EFE4", "#B7A98A", "#7A6A45"
+WRONG = "#CC0000"
+FONT = "DejaVu Sans, Verdana, Arial, sans-serif"
+
+# Okabe and Ito, reordered: 1 to 4 stay far apart for everyone.
+CHANNEL_HUES = ["#0072B2", "#E69F00", "#009E73", "#F0E442", "#CC79A7", "#56B4E9", "#D55E00", "#444444"]
+
+# Tol, medium contrast: 3, 4 and 5 are the pale twins of 0, 1 and 2, and are the ones that are dropped.
+FOREST_COLOURS = ["#004488", "#997700", "#994455", "#6699CC", "#EECC66", "#EE99AA"]
+ALONE = "#DDDDDD"
+
+WIRES = {"payload": "#0072B2", "ack": "#9A9A9A", "safe": "#D55E00", "close": "#111111"}
+
+DARK_FILLS = {"#0072B2", "#444444", "#004488", "#994455", "#997700"}
+
+
+def text_on(fill):
+    """The colour of a number on a fill."""
+    return PAPER if fill in DARK_FILLS else INK
+
+
+def channel_hue(channel):
+    return CHANNEL_HUES[(channel - 1) % len(CHANNEL_HUES)]
+
+
+def is_ring(channel):
+    """Channels 9 to 16 are rings of the same hues, 17 to 24 full again, and so on."""
+    return (channel - 1) // len(CHANNEL_HUES) % 2 == 1
+
+
+def digits(number):
+    """How many binary digits a number has."""
+    return max(1, number.bit_length())
+
+
+def grey(number):
+    """The level of the square of a number that is no colour yet: the more digits, the darker."""
+    level = 235 - min(140, 7 * digits(number))
+    return f"#{level:02X}{level:02X}{level:02X}", INK if level > 130 else PAPER
+
+
+def short(number):
+    """A number as a square has room for: `64d` is one of 64 binary digits."""
+    return str(number) if number < 1000 else f"{digits(number)}d"

@@ -1,0 +1,140 @@
+"""The rounds strip: a block for each forest, a row for each node, a column for each pulse; squares while it is coloured,
+circles where channels are chosen."""
+from colouring import LAST_COLOUR
+from marks import alone_chip, channel_circle, colour_square, number_square
+from palette import FOREST_COLOURS, INK, SOFT, channel_hue
+from svg import Svg, text_width
+from wrong import Wrong, at_most
+
+LIMIT, LIMIT_OF_ROWS = 100, 400
+COLUMN, ROW, LEFT, TOP = 27, 27, 112, 78
+FULL_STEPS = 40
+HEAD, FOOT = 56, 30
+GROUPS = [(2, 2, "start"), (3, 6, "bit steps"), (7, 8, "drop 5"), (9, 10, "drop 4"), (11, 12, "drop 3")]
+MERGES = LEFT + 11 * COLUMN + 34
+
+
+def draw(rounds, only=None):
+    network = rounds.network
+    at_most("rounds", network.nodes, "nodes", LIMIT, "forests")
+    forests = list(range(rounds.forests)) if only is None else [only]
+    if not set(forests) <= set(range(rounds.forests)) or not forests:
+        raise Wrong(f"{network.name} has {rounds.forests} forests, counted from 0")
+    at_most("rounds", len(forests) * network.nodes, "rows", LIMIT_OF_ROWS, "rounds --forest F, one forest at a time")
+    steps = columns_of(rounds, forests)
+    is_full = all(len(steps[f]) == 3 * rounds.width for f in forests)
+    most = max(map(len, steps.values()))
+    column = 21 if is_full or most > 12 else COLUMN
+    width = max(MERGES + most * column + 90, 860)
+    block = network.nodes * ROW + HEAD + FOOT
+    svg = Svg(width, TOP + len(forests) * block - FOOT + 18, f"Rounds of {network.name}")
+    svg.heading(f"{network.name}: six colours at pulse 6, three at pulse 12, the plan at pulse {rounds.last}")
+    legend(svg)
+    for number, forest in enumerate(forests):
+        strip = Strip(svg, rounds, forest, TOP + number * block, steps[forest], column)
+        strip.colours()
+        strip.merge(is_full)
+    return svg.document()
+
+
+def columns_of(rounds, forests):
+    """The merge steps shown of each forest: all of them, or, if that are many, those at which some node chooses."""
+    steps = {f: [pulse for pulse in rounds.pulses if pulse.step and pulse.step[0] == f] for f in forests}
+    if sum(map(len, steps.values())) > FULL_STEPS:
+        return {f: [pulse for pulse in pulses if pulse.chosen] for f, pulses in steps.items()}
+    return steps
+
+
+def legend(svg):
+    y = 50
+    for colour in range(6):
+        colour_square(svg, 28 + 17 * colour, y, 7.5, colour, mark="legend")
+    svg.text(130, y + 4, "square: colour in the forest; 3, 4, 5 are dropped", 11.5, SOFT)
+    svg.rect(452, y - 7.5, 15, 15, "#D6D6D6", round_by=2)
+    svg.text(474, y + 4, "still a name", 11.5, SOFT)
+    channel_circle(svg, 574, y, 8, 1, mark="legend")
+    svg.text(588, y + 4, "circle: the node chooses this channel", 11.5, SOFT)
+
+
+class Strip:
+    """The block of one forest, with its upper edge at `top`."""
+
+    def __init__(self, svg, rounds, forest, top, steps, column):
+        self.svg, self.rounds, self.forest, self.top = svg, rounds, forest, top
+        self.steps, self.column, self.nodes = steps, column, rounds.network.nodes
+
+    def row(self, v):
+        """The middle of v's row."""
+        return self.top + HEAD + (v - 1) * ROW + ROW / 2
+
+    def colours(self):
+        """Left: the colour of each node after each of the pulses 2 to 12."""
+        svg = self.svg
+        svg.text(20, self.top + 20, f"forest {self.forest}", 13.5, INK, bold=True)
+        for first, last, words in GROUPS:
+            x1, x2 = LEFT + (first - 2) * COLUMN + 2, LEFT + (last - 1) * COLUMN - 2
+            svg.text((x1 + x2) / 2, self.top + 34, words, 10, INK, "middle")
+            svg.line(x1, self.top + 39, x2, self.top + 39, "#9A9A9A", 1)
+        for pulse in range(2, LAST_COLOUR + 1):
+            svg.text(LEFT + (pulse - 1.5) * COLUMN, self.top + 51, pulse, 9, SOFT, "middle")
+        for v in self.rounds.network.vertices:
+            y, parent = self.row(v), self.rounds.parents.get((v, self.forest))
+            if v % 2 == 1:
+                svg.rect(16, y - ROW / 2, svg.width - 32, ROW, "#FAF8F2")
+            svg.text(46, y + 4.5, v, 12, INK, "end", bold=True)
+            svg.text(54, y + 4.5, f"→ {parent}" if parent else "root", 10, SOFT)
+        with svg.group("colours", f"forest {self.forest}"):
+            for v in self.rounds.network.vertices:
+                self.colours_of(v)
+
+    def colours_of(self, v):
+        is_alone = not self.rounds.in_forest(v, self.forest)
+        for number in range(2, LAST_COLOUR + 1):
+            colour = self.rounds.pulses[number].colours[v, self.forest]
+            x, y = LEFT + (number - 1.5) * COLUMN, self.row(v)
+            if number > 2 and is_alone:
+                alone_chip(self.svg, x, y, COLUMN / 2 - 8)
+            elif number > 2 and colour < len(FOREST_COLOURS):
+                colour_square(self.svg, x, y, COLUMN / 2 - 2.5, colour)
+            else:
+                number_square(self.svg, x, y, COLUMN / 2 - 2.5, colour)
+
+    def merge(self, is_full):
+        """Right: who chooses at which step, with a pale line of the channel that each node has before and after."""
+        svg, top = self.svg, self.top
+        words = f"merge of forest {self.forest}"
+        svg.text(MERGES, top + 20, words, 13.5, INK, bold=True)
+        if not is_full:
+            svg.text(MERGES + text_width(words, 13.5) + 22, top + 20, "(steps at which some node chooses)", 10, SOFT)
+        self.step_heads()
+        end = MERGES + len(self.steps) * self.column
+        svg.text(end + 24, top + 51, "after", 9, SOFT, "middle")
+        before = self.rounds.merged_after(self.forest - 1)
+        with svg.group("choices", f"forest {self.forest}"):
+            for v in self.rounds.network.vertices:
+                self.choices_of(v, before.get(v), end)
+
+    def step_heads(self):
+        """Pulse numbers, and the three-colour whose turn it is."""
+        svg, before = self.svg, None
+        for index, pulse in enumerate(self.steps):
+            x, colour = MERGES + index * self.column, pulse.step[1]
+            if colour != before:
+                if index:
+                    svg.line(x, self.top + 26, x, self.top + HEAD + self.nodes * ROW, "#C4C4C4", 1)
+                svg.rect(x + 3, self.top + 25, 12, 12, FOREST_COLOURS[colour], round_by=2)
+                svg.text(x + 9, self.top + 34.5, colour, 9.5, "#FFFFFF", "middle", bold=True)
+            before = colour
+            svg.text(x + self.column / 2, self.top + 51, pulse.number, 8 if pulse.number < 100 else 7, SOFT, "middle")
+
+    def choices_of(self, v, channel, end):
+        svg, y, x0 = self.svg, self.row(v), MERGES
+        chosen = [(MERGES + (index + 0.5) * self.column, pulse) for index, pulse in enumerate(self.steps) if v in pulse.chosen]
+        for x, pulse in chosen:
+            if channel is not None:
+                svg.line(x0, y, x, y, channel_hue(channel + 1), 3, opacity="0.35")
+            channel, x0 = pulse.chosen[v], x
+        svg.line(x0, y, end + 12, y, channel_hue(channel + 1), 3, opacity="0.35")
+        for x, pulse in chosen:
+            channel_circle(svg, x, y, min(self.column, ROW) / 2 - 1, pulse.chosen[v] + 1, mark="choice")
+        channel_circle(svg, end + 24, y, 11, channel + 1, mark="after")

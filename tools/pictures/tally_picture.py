@@ -1,0 +1,62 @@
+"""What it costs to have no clock: the wires by pulse, under the identity that counts them."""
+from palette import SOFT, WIRES
+from svg import Svg, text_width
+from wrong import Wrong
+
+LEFT, TOP, HEIGHT = 64, 100, 230
+ORDER = ("safe", "ack", "payload", "close")
+WIDEST = 1040
+
+
+def draw(run):
+    if not run.whole:
+        raise Wrong(f"{run.name}: the run is not whole, so its wires can't be tallied")
+    last, edges = run.last, len(run.network.edges)
+    counts = {kind: [0] * (last + 1) for kind in ORDER}
+    for put in run.puts():
+        counts[put.wire[0]][last if put.wire[1] is None else put.wire[1]] += 1
+    totals = {kind: sum(counts[kind]) for kind in ORDER}
+    wires = sum(totals.values())
+    if wires != 2 * totals["payload"] + 2 * edges * (last + 1):
+        raise Wrong(f"{run.name}: the wires of a whole run are 2 · payloads + 2 · edges · (R + 1), and here they aren't")
+    bar = max(WIDEST / (last + 1) if last > WIDEST / 4 else 4, min(26, WIDEST / (last + 1)))
+    width = max(LEFT + bar * (last + 1) + 30, 900)
+    svg = Svg(width, TOP + HEIGHT + 76, f"Wires of {run.name}")
+    svg.heading(f"{wires} wires = 2 · {totals['payload']} payloads + 2 · {edges} edges · ({last} + 1)",
+                f"{run.name}: in every whole run of a network, wires = 2 · payloads + 2 · edges · (R + 1), R being the last pulse")
+    legend(svg, totals)
+    draw_bars(svg, counts, bar, width)
+    svg.text(LEFT, TOP + HEIGHT + 36, "pulse that the wire speaks of (close stands at R)", 11, SOFT)
+    svg.text(20, TOP + HEIGHT + 60, f"The rounds need {totals['payload']} payloads. Without a clock each is acknowledged, and each node says "
+             "safe to each neighbour at each pulse before R, and close at R.", 11.5, SOFT)
+    return svg.document()
+
+
+def legend(svg, totals):
+    x = 20
+    for kind in ("payload", "ack", "safe", "close"):
+        words = f"{kind} {totals[kind]}"
+        svg.rect(x, 66, 12, 12, WIRES[kind])
+        svg.text(x + 18, 76, words, 11.5)
+        x += 44 + text_width(words, 11.5)
+
+
+def draw_bars(svg, counts, bar, width):
+    pulses = len(counts["safe"])
+    top = max(1, max(sum(counts[kind][pulse] for kind in ORDER) for pulse in range(pulses)))
+    step = next(size * 10 ** power for power in range(9) for size in (1, 2, 5) if top / (size * 10 ** power) <= 6)
+    for mark in range(0, top + 1, step):
+        y = TOP + HEIGHT - mark / top * HEIGHT
+        svg.line(LEFT, y, width - 20, y, "#E4E4E4", 1)
+        svg.text(LEFT - 8, y + 4, mark, 10, SOFT, "end")
+    every = next(size for size in (1, 2, 5, 10, 20, 50, 100, 200, 500, 1000, 10 ** 9) if bar * size > 17)
+    for pulse in range(pulses):
+        y, x = TOP + HEIGHT, LEFT + pulse * bar
+        for kind in ORDER:
+            height = counts[kind][pulse] / top * HEIGHT
+            if height:
+                y -= height
+                with svg.group(kind, f"pulse {pulse}: {kind} {counts[kind][pulse]}"):
+                    svg.rect(x + min(1, bar * 0.1), y, bar - 2 * min(1, bar * 0.1), height, WIRES[kind])
+        if pulse % every == 0:
+            svg.text(x + bar / 2, TOP + HEIGHT + 14, pulse, 9, SOFT, "middle")
