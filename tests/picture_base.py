@@ -1,0 +1,92 @@
+"""What the tests of pictures share: how a picture is drawn, and the texts that it is drawn from, by the definitions."""
+import os
+import random
+import subprocess
+
+from alpha_definition import Colouring, last_pulse, ports_of
+from made_transcripts import made_transcript, transcript_text
+from plain_definition import network_of
+
+TOP = os.path.dirname(os.path.dirname(os.path.abspath(__file__)))
+DOOR = os.path.join(TOP, "picture")
+LIMIT = 60
+SEED = 2026
+TALLY = {"passed": 0, "failed": 0}
+
+
+def note(name, good, what=""):
+    TALLY["passed" if good else "failed"] += 1
+    if not good:
+        print(f"FAILED {name}: {str(what)[:2000]}")
+
+
+def call(words, data=b"", **more):
+    done = subprocess.run([DOOR, *words], input=data, capture_output=True, timeout=LIMIT, **more)
+    return done.returncode, done.stdout, done.stderr
+
+
+def example(name):
+    with open(os.path.join(TOP, "examples", name), "rb") as file:
+        return file.read()
+
+
+def examples():
+    names = sorted(os.listdir(os.path.join(TOP, "examples")))
+    return {name.removesuffix(".col"): example(name) for name in names if name.endswith(".col")}
+
+
+class Drawing:
+    """`draw(KIND, network, text, option..)` is the picture of a text, both given as bytes."""
+
+    def __init__(self, folder):
+        self.folder = folder
+
+    def file(self, name, data):
+        path = os.path.join(self.folder, name)
+        with open(path, "wb") as file:
+            file.write(data)
+        return path
+
+    def run(self, kind, network, text, *options, **more):
+        option = {"plan": "--plan", "matrix": "--plan", "run": "--transcript", "overview": "--transcript", "node": "--transcript",
+                  "tally": "--transcript"}.get(kind, "--rounds")
+        return call([kind, self.file("net.col", network), option, self.file("text", text), *map(str, options)], **more)
+
+    def __call__(self, kind, network, text, *options):
+        status, picture, fault = self.run(kind, network, text, *options)
+        if status:
+            raise AssertionError(f"{kind} is refused: {fault.decode()}")
+        return picture.decode()
+
+
+def rounds_text(net):
+    """The text of rounds (docs/FORMATS.md) by the definitions."""
+    last, width = last_pulse(net), net.greatest_degree + 1
+    lines = [f"rounds 1 {len(net.neighbours)} {net.greatest_degree} {net.forest_count} {last}"]
+    nodes = {v: Colouring(net, v) for v in net.neighbours}
+    sent = {v: nodes[v].greet() for v in nodes}
+    for p in range(last + 1):
+        step = p - 13
+        phase = "greet orient seed step step step step shift drop shift drop shift drop".split()[p] if p <= 12 else (
+            f"merge {step // (3 * width)} {step % (3 * width) // width} {step % width}")
+        lines.append(f"pulse {p} {phase}")
+        if p:
+            inboxes = {v: [sent[w][ports_of(net, w).index(v)] for w in ports_of(net, v)] for v in nodes}
+            sent = {v: nodes[v].next(p, inboxes[v]) for v in nodes}
+        for v, node in nodes.items():
+            if 2 <= p <= 12:
+                lines += [f"{v} colour {f} {c}" for f, c in enumerate(node.colours)]
+            if p > 12 and (node.colours[step // (3 * width)], node.old) == divmod(step % (3 * width), width):
+                lines.append(f"{v} chose {node.merged}")
+            lines += [f"{v} put {w} payload {p} {sent[v][port][0].lower()} {sent[v][port][1]}"
+                      for port, w in enumerate(ports_of(net, v)) if sent[v][port]]
+    return "".join(line + "\n" for line in lines).encode()
+
+
+def transcript(network, seed, capacity=4):
+    net = network_of(network)
+    return transcript_text(len(net.neighbours), made_transcript(random.Random(f"{SEED} {seed}"), net, capacity))
+
+
+def transcript_by(program, network, workers):
+    return subprocess.run([program, "transcript", "--workers", workers], input=network, capture_output=True, timeout=LIMIT).stdout

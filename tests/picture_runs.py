@@ -1,0 +1,196 @@
+"""Pictures of runs without a clock, counted beside their transcripts and alpha_definition.py."""
+import re
+from collections import Counter
+
+from alpha_definition import NetState, last_pulse
+from check_transcript import find_order, read
+from picture_base import note
+from picture_marks import ends, marks, number, parsed, texts, title, titles
+from plain_definition import network_of
+
+WIRES = ("payload", "ack", "safe", "close")
+
+
+def entries_of(text):
+    """{vertex: fields of each entry in its order}."""
+    found = {}
+    for line in text.decode().split("\n")[1:]:
+        if line:
+            found.setdefault(int(line.split()[0]), []).append(line.split())
+    return found
+
+
+def takes_of(text):
+    """The arrows' titles that a transcript has: one for each take."""
+    return Counter(f"{f[2]} to {f[0]}: {' '.join(f[3:])}" for own in entries_of(text).values() for f in own if f[1] == "take")
+
+
+def whole_run_rows(draw, name, network, text):
+    """Of a run that is drawn whole: an arrow for each take, a bar for each payload up to the tick that reads it."""
+    last = last_pulse(network_of(network))
+    root = parsed(draw("run", network, text, "--pulses", f"0..{last}", "--only", "payload,ack,safe,close"))
+    arrows = {kind: marks(root, kind) for kind in WIRES}
+    note(f"run of {name}: an arrow for each take", Counter(title(group) for kind in WIRES for group in arrows[kind]) == takes_of(text))
+    lines = [(title(group), *ends(next(mark for mark in group if mark.tag.endswith("line")))) for kind in WIRES for group in arrows[kind]]
+    note(f"run of {name}: arrows point right", all(start[0] < end[0] for _, start, end in lines))
+    rows = sorted({ends(mark)[0][1] for mark in marks(root, "tick")})
+    ticks = [sorted(ends(mark)[0][0] for mark in marks(root, "tick") if ends(mark)[0][1] == y) for y in rows]
+    note(f"run of {name}: a tick for each pulse", [len(row) for row in ticks] == [last + 1] * len(entries_of(text)), ticks)
+    bars_rows(f"run of {name}", root, rows, ticks)
+    order_rows(f"run of {name}", lines, rows, ticks, text)
+
+
+def bars_rows(name, root, rows, ticks):
+    """Bars and payloads come in the same order: each bar from the arrow's tip to the tick after its pulse."""
+    wrong = []
+    for bar, group in zip(marks(root, "bar"), marks(root, "payload")):
+        from_to, pulse = title(group).split(":")[0].split(" to "), int(title(group).split()[4])
+        (x1, y), (x2, _) = ends(bar)
+        row = ticks[int(from_to[1]) - 1]
+        tip = max(ends(mark)[0][0] for mark in group.iter() if mark.tag.endswith("path"))
+        if abs(rows[int(from_to[1]) - 1] + 10 - y) > 0.2 or abs(row[pulse + 1] - x2) > 0.2 or abs(tip - x1) > 0.2 or x1 > x2:
+            wrong.append((title(group), x1, x2))
+    count = len(marks(root, "bar")), len(marks(root, "payload"))
+    note(f"{name}: each payload is kept till the tick that reads it", not wrong and count[0] == count[1], wrong or count)
+
+
+def order_rows(name, lines, rows, ticks, text):
+    """On each node's line the ticks and the beginnings of its arrows come in the transcript's order."""
+    wrong = []
+    for v, own in entries_of(text).items():
+        y = rows[v - 1] + 10
+        starts = sorted((start[0], words.split(": ")[0].split(" to ")[1] + " " + words.split(": ")[1])
+                        for words, start, _ in lines if abs(start[1] - y) < 0.2)
+        puts = [f"{f[2]} {' '.join(f[3:])}" for f in own if f[1] == "put"]
+        if [words for _, words in starts] != puts:
+            wrong.append((v, starts[:3], puts[:3]))
+        before = Counter()
+        for f in own:
+            before[f[1]] += 1
+            if f[1] == "put" and ticks[v - 1][before["pulse"]] > starts[before["put"] - 1][0] + 0.2:
+                wrong.append((v, f))
+    note(f"{name}: each node's entries are in its order", not wrong, wrong[:2])
+
+
+def window_rows(draw, name, network, text, first, last):
+    """A few pulses: the lower half has each payload put in them once, from its pulse to the next; the ticks are theirs."""
+    picture = draw("run", network, text, "--pulses", f"{first}..{last}")
+    root, payloads = parsed(picture), Counter()
+    for own in entries_of(text).values():
+        payloads.update(f"{f[0]} to {f[2]}: {' '.join(f[3:])}" for f in own
+                        if f[1] == "put" and f[3] == "payload" and first <= int(f[4]) <= last)
+    note(f"window of {name}: the lower half", Counter(titles(root, "round")) == payloads)
+    ticks = sum(first <= int(f[2]) <= last + 1 for own in entries_of(text).values() for f in own if f[1] == "pulse")
+    ticks += len(entries_of(text)) * (first == 0)
+    note(f"window of {name}: ticks", len(marks(root, "tick")) == ticks, len(marks(root, "tick")))
+    bands = len(marks(root, "band"))
+    note(f"window of {name}: bands", bands == last - first + 1, bands)
+    lower = marks(root, "lower")[0]
+    columns = sorted({round(ends(mark)[0][0], 1) for group in marks(lower, "round") for mark in group if mark.tag.endswith("line")})
+    note(f"window of {name}: payloads begin at their pulses", len(columns) <= last - first + 1, columns)
+    return picture[picture.index('<g class="lower"'):]
+
+
+def overview_rows(draw, name, network, text):
+    last, own = last_pulse(network_of(network)), entries_of(text)
+    root = parsed(draw("overview", network, text))
+    rows = sorted({ends(mark)[0][1] for mark in marks(root, "tick")})
+    ticks = [[ends(mark)[0][0] for mark in marks(root, "tick") if ends(mark)[0][1] == y] for y in rows]
+    note(f"overview of {name}: ticks", [len(row) for row in ticks] == [last + 1] * len(own), [len(row) for row in ticks])
+    note(f"overview of {name}: they ascend", all(row == sorted(row) for row in ticks))
+    note(f"overview of {name}: bands", len(marks(root, "band")) == last + 1, len(marks(root, "band")))
+
+
+class Replayed:
+    """A transcript replayed by the definitions: counts of the steps, and the levels of one node's ports after each entry."""
+
+    def __init__(self, network, text, watched):
+        net = network_of(network)
+        state, (_, entries) = NetState(net), read(text)
+        self.steps, self.levels = Counter(), []
+        for entry in find_order(net, entries).made:
+            node, v = state.nodes[entry.vertex], entry.vertex
+            port = None if entry.neighbour is None else state.port_to[v, entry.neighbour]
+            before = stage_of(node), [level_of(p) for p in node.ports]
+            state.step(entry.kind, v, port)
+            after = stage_of(node), [level_of(p) for p in node.ports]
+            cause = "pulse" if entry.kind == "Pulse" else entry.what[0].lower()
+            if entry.kind == "Pulse" or entry.kind == "Take" and before[0] != after[0]:
+                self.steps[f"{before[0]} to {after[0]} by {cause}"] += 1
+            if entry.kind == "Pulse" or entry.kind == "Take" and cause in ("payload", "safe"):
+                for at in range(len(node.ports)) if port is None else [port]:
+                    self.steps[f"{before[1][at]} to {after[1][at]} by {cause}"] += 1
+            if v == watched:
+                self.levels.append((node.pulse_number, entry, after[1]))
+
+
+def stage_of(node):
+    if node.pulse_number == node.last:
+        return "last"
+    return "asks" if not node.said else "ready" if all(port.safe for port in node.ports) else "safe"
+
+
+def level_of(port):
+    """(safes, whether the next pulse's payload is here) above the node's own pulse."""
+    safes = port.safe + port.early_safe
+    paid = (port.present, port.early)[safes] is not None if safes < 2 else False
+    return safes, paid
+
+
+def node_rows(draw, name, network, text, v, first, last):
+    replayed = Replayed(network, text, v)
+    shown = Counter()
+    for words in titles(parsed(draw("node", network, text)), "step"):
+        step, count = words.rsplit(": ", 1)
+        shown[step] += int(count)
+    # The drawing has an arrow for each step that can be; `Counter` compares steps made no time as absent.
+    note(f"automaton of {name}", shown == replayed.steps, (shown - replayed.steps, replayed.steps - shown))
+    root = parsed(draw("node", network, text, "--vertex", v, "--pulses", f"{first}..{last}"))
+    moments = [moment for moment in replayed.levels if first <= moment[0] <= last]
+    for kind in ("put", "take"):
+        wanted = Counter(f"{kind} {entry.what[0].lower()}" for _, entry, _ in moments if entry.kind == kind.title())
+        note(f"timing of {name}: {kind}s", Counter(titles(root, kind)) == wanted, titles(root, kind))
+    ticks = sum(entry.kind == "Pulse" for _, entry, _ in moments)
+    note(f"timing of {name}: ticks", len(marks(root, "tick")) == ticks, len(marks(root, "tick")))
+    for at, lane in enumerate(marks(root, "lane")):
+        heights = [safes + paid / 2 for safes, paid in (levels[at] for _, _, levels in moments)]
+        ys = [float(y) for y in re.findall(r"M [0-9.]+ ([0-9.]+)|V ([0-9.]+)", lane.get("d")) for y in y if y]
+        wanted = [high for k, high in enumerate(heights) if k == 0 or high != heights[k - 1]]
+        base = ys[0] + 17 * wanted[0]
+        note(f"timing of {name}: lane {at}", [round((base - y) / 17, 1) for y in ys] == wanted, wanted)
+    note(f"timing of {name}: a lane for each port", len(marks(root, "lane")) == len(moments[0][2]))
+
+
+def tally_rows(draw, name, network, text):
+    net, root = network_of(network), parsed(draw("tally", network, text))
+    last = last_pulse(net)
+    counts = Counter()
+    for own in entries_of(text).values():
+        counts.update((f[3], last if f[3] == "close" else int(f[4])) for f in own if f[1] == "put")
+    shown = {}
+    for kind in WIRES:
+        for group in marks(root, kind):
+            pulse, count = map(int, re.fullmatch(rf"pulse (\d+): {kind} (\d+)", title(group)).groups())
+            shown[kind, pulse] = count
+    note(f"tally of {name}: a bar for each kind and pulse", shown == dict(counts))
+    heights = [(number(group[1], "height"), int(title(group).split()[-1])) for kind in WIRES for group in marks(root, kind)]
+    unit = sum(height for height, _ in heights) / sum(count for _, count in heights)
+    note(f"tally of {name}: bars as high as their counts", all(abs(height - unit * count) < 0.2 for height, count in heights), heights)
+    total, payloads = sum(counts.values()), sum(count for (kind, _), count in counts.items() if kind == "payload")
+    said = f"{total} wires = 2 · {payloads} payloads + 2 · {len(net.number)} edges · ({last} + 1)"
+    note(f"tally of {name}: its title", texts(root)[0] == said and total == 2 * payloads + 2 * len(net.number) * (last + 1), texts(root)[0])
+
+
+def run_rows(draw, name, network, texts_of, v):
+    """All pictures of some runs of one network; the lower half is the same for all of them."""
+    last = last_pulse(network_of(network))
+    lower = set()
+    for which, text in texts_of.items():
+        label = f"{name}, {which}"
+        if len(network_of(network).neighbours) <= 12:
+            lower.add(window_rows(draw, label, network, text, 0, min(3, last)))
+        overview_rows(draw, label, network, text)
+        tally_rows(draw, label, network, text)
+        node_rows(draw, label, network, text, v, 0, min(4, last))
+    if lower:
+        note(f"the lower half of {name} is the same for each of {len(texts_of)} runs", len(lower) == 1 < len(texts_of))

@@ -1,0 +1,208 @@
+#!/usr/bin/env python3
+"""Tests of `./picture`. The last line is 'N passed, M failed'.
+
+  pictures.py [--program PROGRAM] [--play PLAY]
+      PROGRAM   has the command `transcript`
+      PLAY      has the command `rounds`; the rows of a program that isn't named are left out
+
+Each picture is counted against its text by other means: what it has to show comes from the text, or from the definitions in
+plain_definition.py and alpha_definition.py, and from nothing of tools/pictures."""
+import argparse
+import os
+import random
+import re
+import subprocess
+import sys
+import tempfile
+
+import check_transcript
+from made_transcripts import MISTAKES, made_transcript, transcript_text, with_mistake
+from picture_base import LIMIT, SEED, TALLY, TOP, Drawing, call, example, examples, note, rounds_text, transcript, transcript_by
+from picture_maps import bits_rows, forests_rows, matrix_rows, plan_rows, player_rows, rounds_rows
+from picture_marks import gap
+from picture_runs import run_rows, whole_run_rows
+from plain_definition import network_of, plan_text
+
+EDGE, ROW = b"p edge 2 1\ne 1 2\n", b"p edge 4 3\ne 1 2\ne 2 3\ne 3 4\n"
+APART = b"p edge 5 3\ne 1 2\ne 2 3\ne 1 3\n"
+
+
+def refused_rows(draw):
+    """A wrong text is refused in one line, and nothing is drawn."""
+    star, petersen = examples()["star"], examples()["petersen"]
+    plan = plan_text(petersen)
+    plans = [b"", b"plan\n", plan[5:], plan + b"1 2\n", plan.replace(b"3 1", b"3 5"), plan.replace(b"3 1", b"3 0"),
+             plan.replace(b"3 1", b"3 x"), plan.replace(b"10 3", b"11 3"), plan.replace(b"10 3\n", b""),
+             plan.replace(b"3 1", b"3 1 1"), plan + b"x\n"]
+    for number_of, text in enumerate(plans):
+        for kind in ("plan", "matrix"):
+            refused(f"{kind} of wrong plan {number_of}", draw.run(kind, petersen, text))
+    refused("plan of one that is not proper", draw.run("plan", petersen, plan.replace(b"3 1", b"3 2")), b"matrix draws such a plan")
+    networks = [b"", b"e 1 2\n", b"p edge 2\n", b"p edge 2 1\ne 1 3\n", b"p edge 2 1\ne 1 1\n", b"p edge 2 1\nq 1 2\n",
+                b"p edge 2 1\ne 1 2\np edge 2 1\n",
+                b"p edge 20001 0\n", b"p edge 0 0\n", b"p edge 2 1\ne 1 x\n", b"p edge 2 1\ne 1\n"]
+    for number_of, network in enumerate(networks):
+        refused(f"wrong network {number_of}", draw.run("plan", network, b"plan\n"))
+    source = random.Random(SEED)
+    lines = rounds_text(network_of(star)).split(b"\n")
+    for kind in ("forests", "rounds", "bits", "player"):
+        for change in (b"", b"star", b"9 chose 0", b"9 colour 0 1", b"pulse 13 merge 0 0 1", b"1 put 9 payload 0 hello 2"):
+            at = source.randrange(1, len(lines) - 1)
+            changed = [change if k == at else line for k, line in enumerate(lines)]
+            refused(f"{kind} of rounds with {change} for {lines[at]}", draw.run(kind, star, b"\n".join(changed)))
+        refused(f"{kind} of half the rounds", draw.run(kind, star, b"\n".join(lines[:100])))
+    for number_of in range(24):
+        kind, mistake = ("run", "overview", "node", "tally")[number_of % 4], MISTAKES[number_of // 4 % 4]
+        mistake_row(draw, source, f"{kind} of a transcript, {mistake} ({number_of})", kind, mistake)
+
+
+def mistake_row(draw, source, name, kind, mistake):
+    """Each mistake that keeps the text from being the beginning of a run; a text that is cut off is one."""
+    net = network_of(APART)
+    lines = made_transcript(source, net, 4)
+    while True:
+        text = transcript_text(5, with_mistake(source, mistake, lines))
+        try:
+            if check_transcript.find_order(net, check_transcript.read(text)[1]).left:
+                break
+        except check_transcript.Wrong:
+            break
+    refused(name, draw.run(kind, APART, text))
+
+
+def refused(name, done, words=b""):
+    status, picture, fault = done
+    note(f"refused: {name}", (status, picture) == (1, b"") and re.fullmatch(rb"picture: [^\n]+\n", fault) and words in fault, done)
+
+
+def circle_of(nodes):
+    return (f"p edge {nodes} {nodes}\n" + "".join(f"e {v} {v % nodes + 1}\n" for v in range(1, nodes + 1))
+            + "".join(f"c at {v} {v} {v * v % 7}\n" for v in range(1, nodes + 1))).encode()
+
+
+def size_rows(draw):
+    """Above its size a kind refuses and names the kind to use."""
+    for kind, nodes, instead in (("plan", 401, b"use matrix"), ("matrix", 2001, b"check"), ("forests", 401, b"use matrix"),
+                                 ("rounds", 101, b"use forests"), ("player", 41, b"use rounds")):
+        network = circle_of(nodes)
+        text = plan_text(network) if kind in ("plan", "matrix") else rounds_text(network_of(network))
+        refused(f"{kind} of {nodes} nodes", draw.run(kind, network, text), instead)
+    for kind, nodes, instead in (("run", 13, b"use overview"), ("overview", 101, b"use tally")):
+        network = f"p edge {nodes} 0\n".encode()
+        lines = "".join(f"{v} pulse {p}\n" for v in range(1, nodes + 1) for p in range(1, 13))
+        refused(f"{kind} of {nodes} nodes", draw.run(kind, network, f"transcript 1 {nodes}\n{lines}".encode()), instead)
+
+
+def word_rows(draw):
+    """The command line, help, places that aren't given, and the same bytes twice."""
+    for words in ([], ["plan"], ["map", "x"], ["plan", "x", "y"], ["run", "x", "--pulses", "3"], ["run", "x", "--only", "hello"],
+                  ["bits", "x", "--vertex", "y"]):
+        status, picture, _ = call(words)
+        note(f"the words {words}", (status, picture) == (2, b""))
+    status, told, fault = call(["--help"])
+    kinds = re.findall(r"^  ([a-z]+) {2,}", told.decode().split("positional")[0], re.M)
+    note("help", (status, fault, len(kinds)) == (0, b"", 10), kinds)
+    for kind in kinds:
+        status, told, fault = call([kind, "--help"])
+        note(f"help of {kind}", (status, fault) == (0, b"") and f"  ./picture {kind} examples/".encode() in told, told)
+    refused("a file that isn't there", call(["plan", os.path.join(draw.folder, "nowhere.col")]))
+    network = example("petersen.col")
+    texts_of = {"plan": plan_text(network), "forests": rounds_text(network_of(network)), "tally": transcript(network, "twice")}
+    for kind, text in texts_of.items():
+        once, again = (draw.run(kind, network, text, env=dict(os.environ, PYTHONHASHSEED=seed)) for seed in "12")
+        note(f"{kind}: the same bytes twice", once == again and once[0] == 0)
+    bare = os.path.join(draw.folder, "bin")
+    os.mkdir(bare)
+    for tool in ("bash", "dirname"):
+        os.symlink(f"/usr/bin/{tool}" if os.path.exists(f"/usr/bin/{tool}") else f"/bin/{tool}", os.path.join(bare, tool))
+    os.symlink(sys.executable, os.path.join(bare, "python3"))
+    plain = b"".join(line + b"\n" for line in network.split(b"\n") if not line.startswith(b"c at"))
+    some = plain + b"c at 1 0 0\n"
+    for name, data, said in (("given", network, b""), ("none", plain, b"on a circle"), ("some", some, b"for 1 of 10 vertices")):
+        status, picture, fault = draw.run("plan", data, plan_text(network), env={"PATH": bare})
+        note(f"places: {name}", status == 0 and picture and said in fault and bool(said) == fault.startswith(b"picture: "), fault)
+
+
+def stored_rows(play):
+    """Each stored picture is what the command of docs/pictures/README.md draws today."""
+    folder = os.path.join(TOP, "docs", "pictures")
+    with open(os.path.join(folder, "README.md"), encoding="utf-8") as file:
+        commands = re.findall(r"^    \./picture (.*) > docs/pictures/(\S+)$", file.read(), re.M)
+    stored = sorted(name for name in os.listdir(folder) if name.endswith((".svg", ".html")))
+    note("each stored picture has its command", stored == sorted(name for _, name in commands), stored)
+    for words, name in commands:
+        words = words.split()
+        option, text = stored_text(words, example(words[1].removeprefix("examples/")), play)
+        status, picture, fault = call(words + option, text, cwd=TOP)
+        with open(os.path.join(folder, name), "rb") as file:
+            note(f"stored: {name}", (status, picture) == (0, file.read()), fault or "drawn anew it differs")
+
+
+def stored_text(words, network, play):
+    """The option and the text that stand for the program's; nothing if the command names a stored one."""
+    if any(word in ("--plan", "--rounds", "--transcript") for word in words):
+        return [], b""
+    if words[0] in ("plan", "matrix"):
+        return ["--plan", "-"], plan_text(network)
+    wanted = rounds_text(network_of(network))
+    if play:
+        done = subprocess.run([play, "rounds"], input=network, capture_output=True, timeout=LIMIT)
+        note(f"rounds of {words[1]}", (done.returncode, done.stdout) == (0, wanted), done.stderr)
+    return ["--rounds", "-"], wanted
+
+
+def place_rows():
+    """What the examples say of their places, and that each says what it shows."""
+    for name, network in examples().items():
+        places = {int(v): (float(x), float(y)) for v, x, y in re.findall(rb"c at (\d+) (\S+) (\S+)", network)}
+        note(f"{name} has a place for each vertex", sorted(places) == sorted(network_of(network).neighbours))
+        note(f"{name} says what it shows", re.match(rb"c [A-Z][^\n]{20,}", network))
+        if name == "disk100":
+            joined = {frozenset((v, w)) for v in places for w in places if v < w and gap(places[v], places[w]) < 170}
+            note("disk100: two are less than 170 apart just if they interfere", joined == set(network_of(network).number))
+
+
+def main():
+    words = argparse.ArgumentParser()
+    words.add_argument("--program", metavar="PROGRAM")
+    words.add_argument("--play", metavar="PLAY")
+    given = words.parse_args()
+    program, play = (path and os.path.abspath(path) for path in (given.program, given.play))
+    with tempfile.TemporaryDirectory() as folder:
+        draw, all_of = Drawing(folder), examples()
+        for name, network in (all_of | {"two": EDGE, "a row": ROW, "one apart": APART}).items():
+            plan_rows(draw, name, network)
+            matrix_rows(draw, name, network)
+            forests_rows(draw, name, network)
+        matrix_rows(draw, "all on channel 1", all_of["petersen"], lambda network: b"plan\n" + b"".join(b"%d 1\n" % v for v in range(1, 11)))
+        for name in ("petersen", "triangle", "star", "four_cycle", "path", "chain6"):
+            rounds_rows(draw, name, all_of[name])
+        rounds_rows(draw, "queen5_5", all_of["queen5_5"], "--forest", 1)
+        for name, v in (("petersen", 6), ("queen5_5", 5), ("star", 1)):
+            bits_rows(draw, name, all_of[name], v)
+        with open(os.path.join(TOP, "docs", "pictures", "long_ids.rounds"), "rb") as file:
+            text = file.read()
+        names = {int(v): int(name) for v, name in re.findall(rb"^(\d+) put \d+ payload 0 hello (\d+)", text, re.M)}
+        bits_rows(draw, "long_ids", all_of["chain6"], 1, text, names)
+        for name in ("triangle", "four_cycle", "petersen"):
+            player_rows(draw, name, all_of[name])
+        for name, network in (("two", EDGE), ("path", all_of["path"]), ("chain6", all_of["chain6"])):
+            for seed in (1, 2):
+                whole_run_rows(draw, f"{name}, made {seed}", network, transcript(network, seed, seed))
+        whole_run_rows(draw, "chain6_slow", all_of["chain6"], example("chain6_slow.transcript"))
+        for name, network, v in (("triangle", all_of["triangle"], 1), ("petersen", all_of["petersen"], 4), ("a ring", circle_of(14), 3)):
+            runs = {f"made {seed}": transcript(network, seed, seed) for seed in (1, 4)}
+            if program:
+                runs |= {f"{workers} workers": transcript_by(program, network, workers) for workers in "24"}
+            run_rows(draw, name, network, runs, v)
+        refused_rows(draw)
+        size_rows(draw)
+        word_rows(draw)
+    place_rows()
+    stored_rows(play)
+    print(f"{TALLY['passed']} passed, {TALLY['failed']} failed")
+    return 1 if TALLY["failed"] else 0
+
+
+if __name__ == "__main__":
+    sys.exit(main())
