@@ -1,7 +1,8 @@
 //! Transcripts: the entries of nodes as text, written and read.
 //!
 //! A transcript is a line `transcript 1 NODES`, and then a line for each entry. `transcript_text` writes it, and
-//! `read_transcript` reads what anybody wrote; what the first wrote, the second reads as the same entries.
+//! `read_transcript` reads what anybody wrote; what the first wrote, the second reads as the same entries. `push_row` writes
+//! one entry, for texts that have other lines too.
 //!
 //! ```text
 //! let rows = [(1, Entry::Put(2, Wire::Close)), (2, Entry::Take(1, Wire::Close))];
@@ -22,4 +23,4 @@ mod writing;
 
 pub use fault::TextFault;
 pub use reading::read_transcript;
-pub use writing::transcript_text;
+pub use writing::{push_row, transcript_text};

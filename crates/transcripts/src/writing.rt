@@ -11,8 +11,12 @@ use node_api::PayloadText;
 use std::alloc::{AllocError, Global};
 use wire_texts::{push_numbered, push_wire};
 
-// Appends the line of an entry.
-fn push_row<T: PayloadText>(text: &mut Vec<u8>, row: &(u32, Entry<T>)) -> Result<(), AllocError>
+/// Appends the line of an entry, behind the vertex of its node.
+///
+/// # Errors
+///
+/// If a growth is refused; `text` may then end in a beginning of the line.
+pub fn push_row<T: PayloadText>(text: &mut Vec<u8>, row: &(u32, Entry<T>)) -> Result<(), AllocError>
     ensures text { IfOk result (λ _. text.new.items ≡ text.old.items ++ row_text T.word_of T.number_of row.now) }
     ensures readable { IfOk result (λ _. IsReadable T.word_of T.number_of T.payload_of row.now) }
 {

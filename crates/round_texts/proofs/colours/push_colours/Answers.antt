@@ -1,0 +1,10 @@
+use Rattle.std.proofs.Common.{◌≡◌, ◌+◌, arith}
+use Rattle.round_texts.specs.ColoursText.{colour_text}
+use Rattle.wire_texts.proofs.Ranges.{texts-more}
+use Rattle.round_texts.proofs.colours.push_colours.Goals as goal
+
+pub loop-forest-preserved : goal.loop-forest-preserved
+loop-forest-preserved c =
+    let same : 0 + c.loop-forest.forest ≡ c.loop-forest.forest = omega arith in
+    texts-more (colour_text c.args.v c.args.node.now) 0 c.loop-forest.forest c.loop-forest.forest c.args.text.now.items c.loop-forest.text.items
+    c.push_colour.new.text.items same c.loop-forest.invariant c.in_ok-push_colour.ensures

@@ -1,0 +1,57 @@
+-- The neighbour of a port has that port; so the text has the lines of the neighbours up to the port.
+use Rattle.std.proofs.Common.{◌≡◌, ◌∙◌, ◌+◌, ◌<◌, ◌++◌, ◌∷◌, [], ℕ, List, Option, Some, ap, append-nil, arith, flat_map, length, refl, subst, sym, take}
+use Rattle.std.proofs.lemmas.List.{flat_map_more, take_more}
+use Rattle.interference.specs.Net.{Net, IsNetwork, IsVertex, degree_of, neighbour_of, neighbours, port_to}
+use Rattle.interference.proofs.Neighbours.{port_to-is}
+use Rattle.node_api.specs.Boxes.{at_port, nothing}
+use Rattle.round_texts.specs.PutsText.{put_text, puts_text}
+use Rattle.round_texts.proofs.Quiet.{quiet_text}
+use Rattle.round_texts.proofs.puts.push_puts.Goals as goal
+use Rattle.round_texts.proofs.puts.push_puts.Goals.{in-Some+in_ok-push_row, in_default}
+
+-- the lines of the neighbours up to a port, and what is put behind them
+one_more : {M : Type 0} (word_of : M → List ℕ) (number_of : M → ℕ) (net : Net) (p v port : ℕ) (out : List (Option M)) (front so_far next : List ℕ)
+    → IsNetwork net → IsVertex net v → port < degree_of net v
+    → so_far ≡ front ++ flat_map (λ w. put_text word_of number_of p v w (at_port out (port_to net v w))) (take port (neighbours net v))
+    → next ≡ so_far ++ put_text word_of number_of p v (neighbour_of net v port) (at_port out port)
+    → next ≡ front ++ flat_map (λ w. put_text word_of number_of p v w (at_port out (port_to net v w))) (take (port + 1) (neighbours net v))
+one_more word_of number_of net p v port out front so_far next ok vertex below e is =
+    let f : ℕ → List ℕ = λ w. put_text word_of number_of p v w (at_port out (port_to net v w)) in
+    let ws = neighbours net v in
+    let w = neighbour_of net v port in
+    is
+    ∙ ap (λ k. so_far ++ put_text word_of number_of p v w (at_port out k)) (sym (port_to-is net ok v port vertex below))
+    ∙ ap (λ t. t ++ f w) e
+    ∙ flat_map_more f front (take port ws) w
+    ∙ ap (λ l. front ++ flat_map f l) (sym (take_more ws port 0 below))
+
+pub returns-then-is_quiet : goal.returns-then-is_quiet
+returns-then-is_quiet g c =
+    let m = g.T.PayloadText in
+    let text = c.args.text.now.items in
+    sym (ap (λ out. text ++ puts_text m.word_of m.number_of c.args.net.now c.args.pulse c.args.v out) (c.if-is_quiet.ensures.nothing.0 refl)
+    ∙ ap (λ t. text ++ t) (quiet_text m.word_of m.number_of c.args.net.now c.args.pulse c.args.v (length c.args.out.now)) ∙ append-nil text)
+
+pub loop-port-preserved : goal.loop-port-preserved
+loop-port-preserved g c =
+    let m = g.T.PayloadText in
+    let net = c.args.net.now in
+    let port = c.loop-port.port in
+    let out = c.args.out.now in
+    let so_far = c.loop-port.text.items in
+    let below = subst (λ (n : ℕ). port < n) c.degree-port-end.ensures.value c.loop-port-test.true in
+    one_more m.word_of m.number_of net c.args.pulse c.args.v port out c.args.text.now.items so_far c.match-get.text.items c.is_network.ensures
+    c.requires.vertex below c.loop-port.invariant
+    (elim c.match-get.branch [
+      | in-Some+in_ok-push_row w ↦
+          ap (λ t. t.items) w.text-is
+          ∙ w.in_ok-push_row.ensures.text
+          ∙ ap (λ k. so_far ++ put_text m.word_of m.number_of c.args.pulse c.args.v k (Some w.in-Some.payload)) w.neighbour.ensures.value
+          ∙ ap (λ sent. so_far ++ put_text m.word_of m.number_of c.args.pulse c.args.v (neighbour_of net c.args.v port) sent)
+          (sym w.in-Some.is ∙ c.get.ensures.payload)
+      | in_default w ↦
+          ap (λ t. t.items) w.text-is
+          ∙ sym (append-nil so_far)
+          ∙ ap (λ sent. so_far ++ put_text m.word_of m.number_of c.args.pulse c.args.v (neighbour_of net c.args.v port) sent)
+          (sym w.in_default.is ∙ c.get.ensures.payload)
+    ])

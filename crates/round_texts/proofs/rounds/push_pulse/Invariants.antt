@@ -1,0 +1,8 @@
+use Rattle.std.proofs.Common.{◌≡◌, ◌++◌, flat_map}
+use Rattle.std.specs.List.{range_with_len}
+use Rattle.round_texts.specs.RoundsText.{pulse_line, vertex_text}
+use Rattle.round_texts.proofs.rounds.push_pulse.Given as goal
+
+abbrev pub invariant-loop-i : goal.invariant-loop-i
+invariant-loop-i l = l.text.items
+    ≡ (l.fn.text.items ++ pulse_line l.rounds.net l.rounds.pulse) ++ flat_map (vertex_text l.rounds.net l.rounds.pulse) (range_with_len 1 l.i)

@@ -1,0 +1,13 @@
+use Rattle.std.proofs.Common.{◌≡◌, ◌+◌, ◌++◌, flat_map}
+use Rattle.std.specs.List.{range_with_len}
+use Rattle.sync_rounds.specs.Rounds.{AtPulse}
+use Rattle.round_texts.specs.RoundsText.{head_line, pulse_text}
+use Rattle.round_texts.proofs.rounds.rounds_text.Given as goal
+
+abbrev pub invariant-loop-done : goal.invariant-loop-done
+invariant-loop-done l =
+    let here : AtPulse = record { net = l.net; pulse = l._done } in
+    record {
+      rounds : l.rounds ≡ here;
+      text : l.text.items ≡ head_line l.net ++ flat_map (pulse_text l.net) (range_with_len 0 (l._done + 1));
+    }

@@ -1,0 +1,3 @@
+pub mod PutsText
+pub mod ColoursText
+pub mod RoundsText
