@@ -4,5 +4,6 @@ pub mod Faults
 pub mod Answers
 pub mod Verdicts
 pub mod EventAnswers
+pub mod RoundAnswers
 pub mod Workers
 pub mod Transcripts
