@@ -211,15 +211,17 @@ def whole_run(source, net):
 def help_rows(program):
     """Each help text whole, as tests/texts/ has it, and the refusals of words."""
     for words, name in [(["--help"], "forestplay_help"), (["-h"], "forestplay_help_short"),
-                        (["events", "--help"], "events_help"), (["events", "-h"], "events_help_short")]:
+                        (["events", "--help"], "events_help"), (["events", "-h"], "events_help_short"),
+                        (["rounds", "--help"], "rounds_help"), (["rounds", "-h"], "rounds_help_short")]:
         with open(os.path.join(TOP, "tests", "texts", name + ".txt"), "rb") as file:
             wanted = file.read()
         expect(f"help by {words}", run(program, b"no network", words), (0, wanted, b""))
     rows = [
-        ([], "'forestplay' requires a subcommand but one was not provided|  [subcommands: events]", "forestplay <COMMAND>"),
+        ([], "'forestplay' requires a subcommand but one was not provided|  [subcommands: events, rounds]", "forestplay <COMMAND>"),
         (["plain"], "unrecognized subcommand 'plain'", "forestplay <COMMAND>"),
         (["help"], "unrecognized subcommand 'help'", "forestplay <COMMAND>"),
         (["events", "extra"], "unexpected argument 'extra' found", "forestplay events"),
+        (["rounds", "extra"], "unexpected argument 'extra' found", "forestplay rounds"),
         ([b"\xff"], "unrecognized subcommand '\N{REPLACEMENT CHARACTER}'", "forestplay <COMMAND>"),
     ]
     for words, fault, usage in rows:

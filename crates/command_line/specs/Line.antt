@@ -37,7 +37,9 @@ with_plan_commands program =
 
 -- the commands for lessons
 abbrev pub with_play_commands : App → App
-with_play_commands program = with_subcommand program (new_app (codes "events")).top
+with_play_commands program =
+    let with_events : App = with_subcommand program (new_app (codes "events")).top in
+    with_subcommand with_events (new_app (codes "rounds")).top
 
 -- the whole command line of a program
 abbrev pub line : Program → App

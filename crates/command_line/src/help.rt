@@ -234,14 +234,14 @@ prints
 };
 
 pub const FORESTPLAY: Help = Help {
-    about: "Plays by hand what nodes do to find a channel plan, for lessons",
-    long_about: "Plays by hand what nodes do to find a channel plan, for lessons.
+    about: "Plays what nodes do to find a channel plan, for lessons",
+    long_about: "Plays what nodes do to find a channel plan, for lessons.
 
 The program reads a graph from standard input, in which the nodes are the
-vertices, and behind it what happens, and writes where that leads. A fault of
-the input is one line on standard error, a refused command line is several, and
-standard output then stays empty. If a write fails, standard output holds a
-beginning of the answer.",
+vertices, and but for `rounds` behind it what happens, and writes where that
+leads. A fault of the input is one line on standard error, a refused command line
+is several, and standard output then stays empty. If a write fails, standard
+output holds a beginning of the answer.",
     format: "The graph is read as by forestplan, and its faults are the same, reported as
 `forestplay: F6 line 2`: see `forestplan --help`.
 
@@ -297,4 +297,31 @@ prints
   link 1 2 taken 1
   node 2 pulse 0
   link 2 1 taken 0 payload 0 hello 2",
+};
+
+pub const ROUNDS: Help = Help {
+    about: "Prints the rounds in which the nodes find their channels",
+    long_about: "Prints the rounds in which the nodes find their channels.
+
+The nodes look for the channels that `forestplan plain` prints, and all make a
+pulse at once: a node reads what its neighbours sent at the pulse before, and
+sends at this one. Nodes without a common clock send the very same payloads,
+whatever the threads do: see `forestplan transcript`.",
+    format: "Input: a graph in the DIMACS format, as `p edge NODES EDGES` and then `e V W`.
+
+Output, a line each:
+  rounds 1 N DELTA U R   how many vertices there are, neighbours of one at most,
+                         and forests, and the last pulse
+  pulse P PHASE          for each pulse from 0 to R: greet, orient, seed, step,
+                         shift or drop, and from pulse 13 on merge F K J: now
+                         those choose whose colour in forest F is K, and who had
+                         colour J before this forest
+and behind the line of a pulse, for each vertex V, ascending:
+  V colour F C           at pulses 2 to 12, for each forest F: V's colour in it
+  V chose C              V has chosen colour C, which is channel C + 1
+  V put W payload P WORD NUMBER
+                         for each neighbour W to which V sends: what it sends
+
+Example: two nodes
+  printf 'p edge 2 1\\ne 1 2\\n' | forestplay rounds",
 };

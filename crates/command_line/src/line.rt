@@ -96,7 +96,8 @@ fn with_play_commands<'a>(alloc: Global, program: Command<'a>) -> Result<Command
     ensures shape { IfOk result (λ c. app_of c ≡ with_play_commands (app_of program.entry)) }
     ensures local { IfOk result (λ c. (out-Command c).has_globals ≡ false) }
 {
-    with_command(program, command(alloc, "events", help::EVENTS))
+    let program = with_command(program, command(alloc, "events", help::EVENTS))?;
+    with_command(program, command(alloc, "rounds", help::ROUNDS))
 }
 
 /// The whole command line of a program.

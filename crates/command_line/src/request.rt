@@ -27,6 +27,8 @@ pub enum Request {
     Check,
     /// The state that events lead to.
     Events,
+    /// The rounds of a network, pulse by pulse.
+    Rounds,
 }
 
 /// Why words ask for no command, and what is said of them.
@@ -50,6 +52,7 @@ fn request_named(name: &str, matches: &ArgMatches<'_>) -> Option<Request>
         "transcript" => Some(Request::Transcript(options_of(matches, true)?)),
         "check" => Some(Request::Check),
         "events" => Some(Request::Events),
+        "rounds" => Some(Request::Rounds),
         _ => None,
     }
 }
