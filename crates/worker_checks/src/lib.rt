@@ -1,5 +1,5 @@
-//! The tests of nodes on worker threads, and of the plan that they make: what no contract says. Each run ends by a
-//! count of looks, on every schedule.
+//! The tests of nodes on worker threads, of the plan and the transcript that they make, and of entries, their texts and
+//! their replay: what no contract says. Each run of workers ends by a count of looks, on every schedule.
 #![tactic(auto)]
 
 #[cfg(test)]
@@ -9,4 +9,8 @@ mod node_pool_checks;
 #[cfg(test)]
 mod plan_checks;
 #[cfg(test)]
+mod replay_checks;
+#[cfg(test)]
 mod runs;
+#[cfg(test)]
+mod transcript_checks;

@@ -27,8 +27,8 @@ fn options(workers: u32, capacity: u32, turns: u64) -> Options {
 
 const OUT_OF_RANGE: Result<&[u8], PlanFault> = Err(PlanFault::Pool(PoolFault::BadOptions));
 
-// Text, workers, capacity, turns, and the answer. The faults of a text come before those of the options, and these before
-// those of a run.
+// Text, workers, capacity, turns, and the answer. The faults of a text come before those of the options, and these
+// before those of a run.
 #[test]
 fn plans_by_workers(rt: HostRuntime) -> Result<(), Fail> {
     let alloc = rt.alloc();
