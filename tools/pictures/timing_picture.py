@@ -72,7 +72,7 @@ class Timing:
         svg.text(LEFT - 12, TOP + 27, "said safe", 11, SOFT, "end")
         for (_, awaits), first, end in self.stretches(lambda moment: (moment.pulse, moment.awaits)):
             if awaits:
-                high = 4.5 * awaits
+                high = min(4.5, 24 / len(self.moments[0].heights)) * awaits
                 svg.rect(self.x(first), TOP - 2 - high, self.x(end) - self.x(first), high + 4, "#BDBDBD", mark="awaits")
         for (_, said), first, end in self.stretches(lambda moment: (moment.pulse, moment.said)):
             if said:
