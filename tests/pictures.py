@@ -24,6 +24,8 @@ from picture_runs import run_rows, whole_run_rows
 from plain_definition import network_of, plan_text
 
 EDGE, ROW = b"p edge 2 1\ne 1 2\n", b"p edge 4 3\ne 1 2\ne 2 3\ne 3 4\n"
+ALL_JOINED = b"p edge 8 28\n" + b"".join(
+    b"e %d %d\nc at %d %d %d\n" % (v, w, v, v, v * v) for v in range(1, 9) for w in range(1, 9) if v != w)
 APART = b"p edge 5 3\ne 1 2\ne 2 3\ne 1 3\n"
 
 
@@ -184,8 +186,8 @@ def main():
             text = file.read()
         names = {int(v): int(name) for v, name in re.findall(rb"^(\d+) put \d+ payload 0 hello (\d+)", text, re.M)}
         bits_rows(draw, "long_ids", all_of["chain6"], 1, text, names)
-        for name in ("triangle", "four_cycle", "petersen"):
-            player_rows(draw, name, all_of[name])
+        for name, network in (("triangle", all_of["triangle"]), ("petersen", all_of["petersen"]), ("all joined", ALL_JOINED)):
+            player_rows(draw, name, network)
         for name, network in (("two", EDGE), ("path", all_of["path"]), ("chain6", all_of["chain6"])):
             for seed in (1, 2):
                 whole_run_rows(draw, f"{name}, made {seed}", network, transcript(network, seed, seed))

@@ -4,9 +4,8 @@ from palette import FOREST_COLOURS, INK, PAPER, SOFT
 from places import bends, box_height, fit, label_places, places_of
 from colouring import LAST_COLOUR
 from svg import Svg, text_width
-from wrong import Wrong, at_most
+from wrong import Wrong
 
-LIMIT = 400
 MOST_COLUMNS, PANEL, SPACE, GAP, LEFT, TOP = 6, 250, 26, 120, 20, 128
 FAINT = "#E6E6E6"
 
@@ -35,7 +34,6 @@ class Sheet:
 
 def draw(rounds):
     network = rounds.network
-    at_most("forests", network.nodes, "nodes", LIMIT, "matrix")
     if rounds.forests == 0:
         raise Wrong(f"{network.name} has no edge, so no forest: use plan")
     sheet = Sheet(rounds)

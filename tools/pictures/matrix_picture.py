@@ -3,15 +3,12 @@ from marks import channel_circle
 from palette import INK, PAPER, SOFT, WRONG, channel_hue
 from plans import clashes
 from svg import Svg
-from wrong import at_most
 
-LIMIT = 2000
 LARGEST_SIDE = 1180
 TOP = 104
 
 
 def draw(network, plan):
-    at_most("matrix", network.nodes, "nodes", LIMIT, "`forestplan check`, which says whether the plan is proper")
     wrong = clashes(network, plan)
     order = sorted(network.vertices, key=lambda v: (plan[v], v))
     cell = min(max(4, min(24, 640 // network.nodes)), LARGEST_SIDE / network.nodes)

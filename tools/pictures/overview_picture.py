@@ -2,14 +2,11 @@
 from palette import BAND, BORDER, INK, PAPER, PULSE, SOFT
 from run_picture import polygon
 from svg import Svg
-from wrong import at_most
 
-LIMIT = 100
 LEFT, TOP, WIDTH = 64, 92, 1120
 
 
 def draw(run):
-    at_most("overview", run.network.nodes, "nodes", LIMIT, "tally")
     nodes = run.network.vertices
     row = min(22, max(7, 1000 / len(nodes)))
     ticks = {v: run.ticks(v) for v in nodes}

@@ -19,6 +19,7 @@ import timing_picture
 from networks import read_network, stem
 from plans import read_plan
 from rounds import read_rounds
+from sizes import check_size
 from transcripts import read_transcript
 from wrong import Wrong
 
@@ -76,7 +77,7 @@ KINDS = {
              "  ./picture node examples/petersen.col --vertex 1 > petersen-timing.svg"),
     "tally": ("The wires of a run by pulse, under the identity that counts them.", "Any network; the run has to be whole.",
               "./picture tally examples/petersen.col > petersen-tally.svg"),
-    "player": ("A page with a slider: the network at each pulse.", "At most 40 nodes. With --frame N, frame N alone as SVG.",
+    "player": ("A page with a slider: the network at each pulse.", "At most 40 nodes. Of more than 200 frames, only merges in which some node chooses.\nWith --frame N, frame N alone as SVG.",
                "./picture player examples/petersen.col > petersen.html"),
 }
 OF_PLAN, OF_ROUNDS, OF_RUN = ("plan", "matrix"), ("forests", "rounds", "bits", "player"), ("run", "overview", "node", "tally")
@@ -153,6 +154,7 @@ def drawn(given):
     """The picture of a kind."""
     network_text = file_text(given.network)
     network = read_network(network_text, given.network)
+    check_size(given.kind, network)
     text = told(given, network_text.encode())
     name = given.text or {"plan": "the plan", "rounds": "the rounds"}.get(given.kind, f"the text of {network.name}")
     if given.kind in OF_PLAN:

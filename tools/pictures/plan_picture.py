@@ -4,14 +4,12 @@ from palette import PAPER, SOFT
 from places import bends, box_height, fit, label_places, places_of
 from plans import clashes
 from svg import Svg, text_width
-from wrong import Wrong, at_most
+from wrong import Wrong
 
-LIMIT = 400
 LARGEST_NUMBERED = 40
 
 
 def draw(network, plan):
-    at_most("plan", network.nodes, "nodes", LIMIT, "matrix")
     clash = clashes(network, plan)
     if clash:
         v, w = clash[0]

@@ -6,10 +6,9 @@ from marks import channel_circle, colour_square, draw_edge, number_square
 from palette import INK, PAPER, SOFT, WIRES, short
 from places import bends, fit, label_places, middle, places_of
 from svg import Svg, escaped
-from wrong import Wrong, at_most
+from wrong import Wrong
 
-LIMIT = 40
-MOST_FRAMES = 700
+FULL_FRAMES = 200
 SIZE, RADIUS = 560, 15
 SAY = {
     "greet": "Every node tells its neighbours its identifier.",
@@ -61,9 +60,7 @@ class Film:
 
     def __init__(self, rounds):
         network = rounds.network
-        at_most("player", network.nodes, "nodes", LIMIT, "rounds")
         self.rounds, self.network = rounds, network
-        at_most("player", len(self.scenes()), "frames", MOST_FRAMES, "rounds")
         self.places = fit(places_of(network), SIZE, SIZE, 60)
         self.bend = bends(self.places, network.edges, RADIUS + 1)
         self.labels = label_places(self.places, network.edges, self.bend, RADIUS + 14)
@@ -73,10 +70,12 @@ class Film:
             self.merged[pulse.number] = now
 
     def scenes(self):
-        """(pulse, forest) of each frame."""
+        """(pulse, forest) of each frame; of many, only the merge pulses in which some node chooses."""
         scenes = [(pulse, 0) for pulse in range(SEED)]
         scenes += [(pulse, f) for f in range(self.rounds.forests) for pulse in range(SEED, LAST_COLOUR + 1)]
-        return scenes + [(pulse.number, pulse.step[0]) for pulse in self.rounds.pulses if pulse.step]
+        merges = [pulse for pulse in self.rounds.pulses if pulse.step]
+        is_full = len(scenes) + len(merges) <= FULL_FRAMES
+        return scenes + [(pulse.number, pulse.step[0]) for pulse in merges if is_full or pulse.chosen]
 
     def caption(self, number, forest):
         pulse = self.rounds.pulses[number]

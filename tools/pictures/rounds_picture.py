@@ -6,7 +6,7 @@ from palette import FOREST_COLOURS, INK, SOFT, channel_hue
 from svg import Svg, text_width
 from wrong import Wrong, at_most
 
-LIMIT, LIMIT_OF_ROWS = 100, 400
+MOST_ROWS = 400
 COLUMN, ROW, LEFT, TOP = 27, 27, 112, 78
 FULL_STEPS = 40
 HEAD, FOOT = 56, 30
@@ -16,11 +16,10 @@ MERGES = LEFT + 11 * COLUMN + 34
 
 def draw(rounds, only=None):
     network = rounds.network
-    at_most("rounds", network.nodes, "nodes", LIMIT, "forests")
     forests = list(range(rounds.forests)) if only is None else [only]
     if not set(forests) <= set(range(rounds.forests)) or not forests:
         raise Wrong(f"{network.name} has {rounds.forests} forests, counted from 0")
-    at_most("rounds", len(forests) * network.nodes, "rows", LIMIT_OF_ROWS, "rounds --forest F, one forest at a time")
+    at_most("rounds", len(forests) * network.nodes, "rows", MOST_ROWS, "rounds --forest F, one forest at a time")
     steps = columns_of(rounds, forests)
     is_full = all(len(steps[f]) == 3 * rounds.width for f in forests)
     most = max(map(len, steps.values()))

@@ -10,7 +10,6 @@ from palette import BAND, BORDER, INK, PAPER, PULSE, SOFT, WIRES
 from svg import Svg, text_width
 from wrong import Wrong, at_most
 
-LIMIT = 12
 LEFT, TOP, WIDTH = 64, 136, 1214
 KINDS = ("payload", "ack", "safe", "close")
 NAMES = {"payload": "payload", "ack": "acknowledgement", "safe": "safe", "close": "close"}
@@ -59,7 +58,6 @@ def window_of(run, pulses):
 
 
 def draw(run, pulses=None, kinds=None):
-    at_most("run", run.network.nodes, "nodes", LIMIT, "overview")
     kinds = kinds or (KINDS if run.network.nodes <= MOST_NODES_OF_ALL_KINDS else ("payload",))
     first, last = window_of(run, pulses)
     window = Window(run, first, last)
@@ -211,7 +209,7 @@ def draw_rounds(svg, run, first, last, top, row_height):
                 round_arrow(svg, x_of(put.wire[1]), y_of(put.vertex), x_of(put.wire[1] + 1), y_of(put.neighbour))
         for v in nodes:
             for pulse in range(first, last + 2):
-                svg.line(x_of(pulse), y_of(v) - 8, x_of(pulse), y_of(v) + 8, INK, 3)
+                svg.line(x_of(pulse), y_of(v) - 8, x_of(pulse), y_of(v) + 8, INK, 3, mark="slot")
         svg.text(20, height + 56, f"{len(puts)} payloads, all that are put in these pulses. Draw another run, with other workers: "
                  "the upper half changes, this half does not.", 11.5, SOFT)
 
