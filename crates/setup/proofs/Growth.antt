@@ -1,12 +1,21 @@
 -- Lists and rows of lists that get longer, or shorter, at their end.
 use Rattle.std.proofs.Common.{◌≡◌, ℕ, zero, suc, ◌+◌, ◌-◌, ◌<◌, ◌≤◌, List, [], ◌∷◌, ◌++◌, length, map, get_or, refl, sym, ap, ◌∙◌, subst, arith}
 use Rattle.std.proofs.Common.{Some, slice_get, ◌⊎◌, inl, inr, ⊎_elim}
+use Rattle.std.specs.Prelude.{All}
 use Rattle.std.specs.List.{range_with_len}
 use Rattle.std.proofs.lemmas.Bool.{cases_eq}
 use Rattle.std.proofs.lemmas.List.{length-map, length_push, map-append}
+use Rattle.std.proofs.lemmas.List.Elements.{All-nil, All-push}
 use Rattle.std.proofs.lemmas.Option.{slice_get-get_or}
 use Rattle.crossing.specs.Rows.{row_at}
 use Rattle.crossing.proofs.ReadLists.{at_old, at_new, range_next}
+
+module _ {A : Type 0} (P : A → Type 0) where
+  pub all_none : (new : List A) → new ≡ [] → All P new
+  all_none new e = subst (λ l. All P l) (sym e) (All-nil P)
+
+  pub all_more : (xs new : List A) (x : A) → new ≡ xs ++ x ∷ [] → All P xs → P x → All P new
+  all_more xs new x e before is = subst (λ l. All P l) (sym e) (All-push P xs x before is)
 
 module _ {A : Type 0} where
   -- a place that holds a thing is in the list

@@ -1,7 +1,8 @@
 //! The nodes of a network, each with the ends of its links.
 
-ghost use Rattle.std.specs.Prelude.{◌≡◌, ◌∷◌, ◌++◌, ◌<◌, [], IfOk, map, reverse, vec_len};
+ghost use Rattle.std.specs.Prelude.{◌≡◌, ◌∷◌, ◌++◌, ◌<◌, [], All, IfOk, map, reverse, vec_len};
 ghost use Rattle.interference.specs.Net.{IsVertex, vertices};
+ghost use Rattle.alpha_core.specs.Program.{start_node};
 ghost use Rattle.setup.specs.News.{AreNewEnds, AreNewPutsFrom, AreNewTakesTo};
 
 use crate::wires::{wired_puts, wired_takes};
@@ -39,6 +40,7 @@ fn start_node<J: Wiring, P: NodeProgram>(
     requires puts { AreNewPutsFrom J.net J.tables v puts.items }
     requires takes { AreNewTakesTo J.net J.tables v takes.items }
     ensures vertex { IfOk result (λ node. node.value.vertex ≡ v) }
+    ensures first { IfOk result (λ node. node.value.alpha.node ≡ start_node P.program net.now v) }
 {
     net.is_network();
     let puts = wired_puts::<J, P>(alloc, v, puts)?;
@@ -65,6 +67,8 @@ pub fn start_nodes<J: Wiring, P: NodeProgram>(
     requires transcript { J.transcript ≡ transcript }
     requires ends { AreNewEnds J.net J.tables (map (λ row. row.items) puts.items) (map (λ row. row.items) takes.items) }
     ensures nodes { IfOk result (λ nodes. map (λ b. b.value.vertex) nodes.items ≡ reverse (vertices J.net)) }
+    ensures first { IfOk result
+        (λ nodes. All (λ b. b.value.alpha.node ≡ start_node P.program net.now b.value.vertex) nodes.items) }
 {
     let mut puts = puts;
     let mut takes = crossed(alloc, net, takes)?;

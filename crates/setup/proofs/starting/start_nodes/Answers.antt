@@ -3,9 +3,10 @@ use Rattle.std.specs.Prelude.{reverse}
 use Rattle.std.specs.List.{range_with_len}
 use Rattle.std.proofs.lemmas.List.{length-map, length_push}
 use Rattle.interference.specs.Net.{IsNetwork, count_of, vertices}
+use Rattle.alpha_core.specs.Program.{start_node}
 use Rattle.crossing.specs.Rows.{AreCrossed}
 use Rattle.setup.specs.News.{AreNewPutsFrom, AreNewTakesTo}
-use Rattle.setup.proofs.Growth.{last_says, rows_less}
+use Rattle.setup.proofs.Growth.{all_more, all_none, last_says, rows_less}
 use Rattle.setup.proofs.MadeRows.{puts_from, takes_to}
 use Rattle.setup.proofs.Descent.{one_down}
 use Rattle.setup.proofs.starting.start_nodes.Goals as goal
@@ -29,6 +30,7 @@ loop-k-init g c =
       takes = λ u low le. takes_to net tables puts takes c.requires.ends all ok crossed u (low, omega (arith, le, count));
       started = ap (λ l. map (λ b. b.value.vertex) l ++ reverse (range_with_len 1 (c.nodes-count.result - 0))) c.new-nodes.ensures.items
           ∙ ap (λ k. reverse (range_with_len 1 k)) left;
+      first = all_none (λ b. b.value.alpha.node ≡ start_node g.P.NodeProgram.program c.args.net.now b.value.vertex) _ c.new-nodes.ensures.items;
     }
 
 pub start_node-requires-clause-puts : goal.start_node-requires-clause-puts
@@ -70,4 +72,7 @@ loop-k-preserved g c =
           c.last_row-in-loop-k.result n m next takes_long takes_off inv.takes;
       started = one_down (λ b. b.value.vertex) c.loop-k.nodes.items c.push.new.self.items c.in_ok-node.node m n
           (reverse (vertices g.J.Wiring.net)) c.in_ok-push.ensures.items c.in_ok-node.ensures.vertex next inv.started;
+      first = all_more (λ b. b.value.alpha.node ≡ start_node g.P.NodeProgram.program c.args.net.now b.value.vertex) c.loop-k.nodes.items _ c.in_ok-node.node
+          c.in_ok-push.ensures.items inv.first
+          (c.in_ok-node.ensures.first ∙ ap (λ v. start_node g.P.NodeProgram.program c.args.net.now v) (sym c.in_ok-node.ensures.vertex));
     }

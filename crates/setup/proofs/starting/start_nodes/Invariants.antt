@@ -1,7 +1,8 @@
 use Rattle.std.proofs.Common.{◌≡◌, ◌-◌, ◌≤◌, ◌++◌, ℕ, map, vec_len}
-use Rattle.std.specs.Prelude.{reverse}
+use Rattle.std.specs.Prelude.{All, reverse}
 use Rattle.std.specs.List.{range_with_len}
 use Rattle.interference.specs.Net.{vertices}
+use Rattle.alpha_core.specs.Program.{start_node}
 use Rattle.crossing.specs.Rows.{row_at}
 use Rattle.setup.specs.News.{AreNewPutsFrom, AreNewTakesTo}
 use Rattle.setup.proofs.starting.start_nodes.Given as goal
@@ -15,4 +16,5 @@ invariant-loop-k g l = record {
   takes : (u : ℕ) → 1 ≤ u → u ≤ l.count - l.k
       → AreNewTakesTo g.J.Wiring.net g.J.Wiring.tables u (row_at (map (λ row. row.items) l.takes.items) u);
   started : map (λ b. b.value.vertex) l.nodes.items ++ reverse (range_with_len 1 (l.count - l.k)) ≡ reverse (vertices g.J.Wiring.net);
+  first : All (λ b. b.value.alpha.node ≡ start_node g.P.NodeProgram.program l.net b.value.vertex) l.nodes.items;
 }
