@@ -15,12 +15,9 @@
 #![tactic(auto)]
 
 mod fault;
-mod hand;
 mod order;
 mod pass;
 mod run;
-mod signals;
-mod worker;
 
 pub use fault::PoolFault;
 pub use order::by_vertex;

@@ -3,14 +3,11 @@
 ghost use Rattle.std.specs.Prelude.{◌≡◌, ◌≢◌, ◌<◌, ◌≤◌, ◌+◌, [], map, reverse, vec_len, length, IfOk, IfErr};
 ghost use Rattle.interference.specs.Net.{vertices};
 ghost use Rattle.crossbeam_queue.specs.Passes.{IsPassOf, ruled_capacity, view};
-ghost use Rattle.pool.specs.Hands.{AreSame, all_parts, hand};
+ghost use Rattle.worker.specs.Hands.{AreSame, all_parts, hand};
 ghost use Rattle.pool.specs.declared.fault.PoolFault.TheVariants.{BadOptions};
 
 use crate::fault::PoolFault;
-use crate::hand::{Gets, Gives, Parts};
-use crate::pass::{Chief, OfPool, Places, Pool, PoolPass, Worked};
-use crate::signals::Signals;
-use crate::worker::{Crew, work};
+use crate::pass::{Chief, OfPool};
 use actor::{Gate, Node};
 use ends::{Links, Wiring};
 use interference::Memory;
@@ -20,8 +17,9 @@ use std::alloc::{AllocError, Global};
 use std::sync::Wait;
 use std::thread;
 use std::thread::Threads;
+use worker::{Crew, Gets, Gives, Parts, Places, Pool, PoolPass, Signals, Worked, work};
 
-// The place of who starts the workers.
+// The pass of who starts the workers.
 fn chief_of<J: Wiring, P: NodeProgram>(
     pass: PoolPass<J, P>,
     kept: Vec<Box<Node<J, P>>>,
@@ -34,7 +32,7 @@ fn chief_of<J: Wiring, P: NodeProgram>(
     Chief { pass, kept }
 }
 
-// A place for one more worker.
+// A pass for one more worker.
 fn hire<J: Wiring, P: NodeProgram>(pool: &Pool<J, P>, chief: &mut Chief<J, P>) -> PoolPass<J, P>
     requires pool { chief.old.pass.table_id ≡ pool.now.table.shared.table_id }
     requires parts { 1 < (view chief.old.pass).parts }
@@ -45,7 +43,7 @@ fn hire<J: Wiring, P: NodeProgram>(pool: &Pool<J, P>, chief: &mut Chief<J, P>) -
     pool.another::<Parts>(&mut chief.pass)
 }
 
-// A worker's place and nodes come back, unless it was refused memory.
+// A worker's pass and nodes come back, unless it was refused memory.
 fn settle<J: Wiring, P: NodeProgram>(
     pool: &Pool<J, P>,
     chief: Chief<J, P>,

@@ -3,7 +3,7 @@
 ghost use Rattle.std.specs.Prelude.{◌≡◌, ◌≤◌, [], length, map, vec_capacity};
 ghost use Rattle.interference.specs.Net.{vertices};
 ghost use Rattle.crossbeam_queue.specs.Passes.{IsPassOf, ruled_capacity, view};
-ghost use Rattle.pool.specs.Hands.{hand};
+ghost use Rattle.worker.specs.Hands.{hand};
 
 use crate::hand::{Gets, Gives};
 use crate::pass::{Places, Pool, PoolPass, Worked};
@@ -17,11 +17,11 @@ use std::thread;
 
 /// What all workers share besides the pool.
 #[derive(Drop)]
-pub(crate) struct Crew<'a, J: Wiring, P: NodeProgram, G: Gate> {
-    pub(crate) links: &'a Links<J, P>,
-    pub(crate) gate: &'a G,
-    pub(crate) signals: &'a Signals,
-    pub(crate) nodes: u64,
+pub struct Crew<'a, J: Wiring, P: NodeProgram, G: Gate> {
+    pub links: &'a Links<J, P>,
+    pub gate: &'a G,
+    pub signals: &'a Signals,
+    pub nodes: u64,
 }
 
 // What a worker hands back.
@@ -80,7 +80,7 @@ fn look<J: Wiring, P: NodeProgram, R: Wait, G: Gate>(
 }
 
 /// At most so many looks, and none after memory for an entry was refused.
-pub(crate) fn work<J: Wiring, P: NodeProgram, R: Wait, G: Gate>(
+pub fn work<J: Wiring, P: NodeProgram, R: Wait, G: Gate>(
     rt: &R,
     crew: &Crew<J, P, G>,
     pool: &Pool<J, P>,

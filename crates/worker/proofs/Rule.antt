@@ -6,8 +6,8 @@ use mathlib.Core.Option as option
 use lib.ListN.{get_elem?}
 use Rattle.crossbeam_queue.specs.Fifo.{Pushes, Pops, Forks, Merges, Learns}
 use Rattle.crossbeam_queue.proofs.Lists.{at_set, at_snoc}
-use Rattle.pool.specs.declared.hand.Hand.{Hand}
-use Rattle.pool.specs.Hands.{hand, weigh, total, all_parts, AreSame, IdleIsEmpty, EachOnce, KnowsAll}
+use Rattle.worker.specs.declared.hand.Hand.{Hand}
+use Rattle.worker.specs.Hands.{hand, weigh, total, all_parts, AreSame, IdleIsEmpty, EachOnce, KnowsAll}
 
 pub weigh-append : (h : ℕ → ℕ) (xs ys : List ℕ) → weigh h (xs ++ ys) ≡ weigh h xs + weigh h ys
 weigh-append h [] ys = omega arith

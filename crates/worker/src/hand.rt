@@ -25,7 +25,7 @@ pub struct AllNodes<J> {
 impl<J: Wiring, P: NodeProgram> Protocol<Box<Node<J, P>>, Hand> for AllNodes<J> {
     ghost use Rattle.std.specs.Prelude.{map, reverse};
     ghost use Rattle.interference.specs.Net.{vertices};
-    ghost use Rattle.pool.specs.Hands.{EachOnce, all_parts, hand};
+    ghost use Rattle.worker.specs.Hands.{EachOnce, all_parts, hand};
 
     ghost holds = { λ items views. EachOnce (vertices J.net) (map (λ b. b.value.vertex) items) views };
 
@@ -38,7 +38,7 @@ pub struct Parts;
 
 impl Split<Hand> for Parts {
     ghost use Rattle.std.specs.Prelude.{[], ◌-◌};
-    ghost use Rattle.pool.specs.Hands.{hand};
+    ghost use Rattle.worker.specs.Hands.{hand};
 
     ghost left = { λ v. hand (v.parts - 1) v.out };
 
@@ -47,7 +47,7 @@ impl Split<Hand> for Parts {
 
 impl Join<Hand> for Parts {
     ghost use Rattle.std.specs.Prelude.{[], ◌+◌, ◌++◌};
-    ghost use Rattle.pool.specs.Hands.{hand};
+    ghost use Rattle.worker.specs.Hands.{hand};
 
     ghost both = { λ v w. hand (v.parts + w.parts) (v.out ++ w.out) };
 
@@ -80,7 +80,7 @@ pub struct Gets<J> {
 impl<J: Wiring, P: NodeProgram> Outcome<Box<Node<J, P>>, Hand> for Gets<J> {
     ghost use Rattle.std.specs.Prelude.{◌≡◌, ◌<◌, [], ◌∷◌, ◌++◌, length};
     ghost use Rattle.interference.specs.Net.{vertices};
-    ghost use Rattle.pool.specs.Hands.{hand};
+    ghost use Rattle.worker.specs.Hands.{hand};
 
     ghost then = { λ v x w. (w ≡ hand v.parts (v.out ++ x.value.vertex ∷ []))
         × (length v.out < length (vertices J.net)) };
@@ -89,7 +89,7 @@ impl<J: Wiring, P: NodeProgram> Outcome<Box<Node<J, P>>, Hand> for Gets<J> {
 impl<J: Wiring, P: NodeProgram> Lesson<Box<Node<J, P>>, Hand> for Gets<J> {
     ghost use Rattle.std.specs.Prelude.{map};
     ghost use Rattle.interference.specs.Net.{vertices};
-    ghost use Rattle.pool.specs.Hands.{KnowsAll};
+    ghost use Rattle.worker.specs.Hands.{KnowsAll};
 
     ghost fact = { λ v items. KnowsAll (vertices J.net) v (map (λ b. b.value.vertex) items) };
 }

@@ -1,8 +1,9 @@
 use Rattle.std.proofs.Common.{◌<◌, ◌++◌, ◌∷◌, [], arith, ap, sym, ◌∙◌}
 use Rattle.crossbeam_queue.specs.Passes.{view}
 use Rattle.interference.specs.Net.{vertices}
-use Rattle.pool.proofs.Rule.{gets, gives, learns, room}
-use Rattle.pool.proofs.worker.look.Goals as goal
+use Rattle.std.proofs.lemmas.Grind.{common_steps}
+use Rattle.worker.proofs.Rule.{gets, gives, learns, room}
+use Rattle.worker.proofs.looks.look.Goals as goal
 
 pub pop_as-requires-clause-rule : goal.pop_as-requires-clause-rule
 pop_as-requires-clause-rule g c =
@@ -17,3 +18,6 @@ push_as-requires-clause-rule g c =
           ∙ ap (λ x. (view c.args.pass.now).out ++ x ∷ []) (sym c.turn-turned.ensures.vertex)),
       room (λ b. b.value.vertex) (vertices g.J.Wiring.net) _ _,
     )
+
+pub returns-then-drained-clause-out : goal.returns-then-drained-clause-out
+returns-then-drained-clause-out g c = grind (arith, common_steps)

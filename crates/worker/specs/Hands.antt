@@ -2,7 +2,7 @@
 use Rattle.std.specs.Prelude.{◌≡◌, ℕ, ◌+◌, List, [], ◌∷◌}
 use mathlib.Core.Option as option
 use lib.ListN.{get_elem?}
-use Rattle.pool.specs.declared.hand.Hand.{Hand}
+use Rattle.worker.specs.declared.hand.Hand.{Hand}
 use Rattle.run_options.specs.declared.TheConstants.{MAX_WORKERS}
 
 -- what a pass of the pool knows: its parts of the right to know the whole, and the vertices of the nodes that are out
