@@ -14,7 +14,7 @@ use Rattle.colour_rules.specs.declared.phase.Phase.{Phase}
 use Rattle.colour_rules.specs.declared.phase.Phase.TheVariants.{Merge}
 use Rattle.colour_rules.specs.Node.{Node, ports}
 use Rattle.colour_rules.specs.Choice.{with_chosen}
-use Rattle.colour_rules.specs.Idle.{IsPassed, IsTaken}
+use Rattle.colour_rules.specs.Idle.{IsPassed}
 use Rattle.colour_rules.specs.Table.{is_merged}
 use Rattle.colour_rules.specs.Refusals.{Looked, and_id, first_refusal, port_rule}
 use Rattle.colour_rules.proofs.Reading.{Next, next-is, none-left, taken_in, with_chosen-fold}

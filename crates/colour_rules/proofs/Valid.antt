@@ -7,7 +7,7 @@ use Rattle.colour_rules.specs.Node.{Node, HasForests, AreBelow, ports}
 use Rattle.colour_rules.specs.contracts.node.ColourNode.{the_view, the_invariant}
 use Rattle.colour_rules.specs.declared.node.ColourNode.TheInside.{Inside}
 
--- the invariant of a node's fields, said of the node
+-- the invariant of a node's fields, but for the room of its set, said of the node
 abbrev pub IsValid : Node → Type 0
 IsValid node =
     (node.sizes.greatest_degree ≤ MAX_DEGREE) × (node.sizes.forests ≤ MAX_DEGREE) × (length node.roles ≤ MAX_DEGREE)
@@ -17,7 +17,7 @@ IsValid node =
 
 -- and so of each node that is seen
 pub valid-seen : (inside : Inside) (node : Node) → the_view inside ≡ node → the_invariant inside → IsValid node
-valid-seen inside node e h = subst IsValid e h
+valid-seen inside node e h = subst IsValid e (h.0, h.1, h.2, h.3, h.4, h.5, h.6, h.7, h.8)
 
 -- a node with other roles for its ports
 pub valid-roles : (node : Node) (roles : List Role) → IsValid node → length roles ≡ ports node → HasForests node.sizes.forests roles →

@@ -6,3 +6,4 @@ pub mod Program
 pub mod Stored
 pub mod Words
 pub mod Idle
+pub mod Chosen

@@ -1,6 +1,6 @@
 -- What a node refuses: the first broken rule, by ascending port and then its own.
 use Rattle.std.specs.Prelude.{◌≡◌, ℕ, suc, ◌<◌, ◌≤◌, true, false, List, [], ◌∷◌, ◌++◌, Option, Some, None}
-use Rattle.std.specs.Prelude.{if◌then◌else◌, nat_lt, count_by, slice_index_or, drop, length, take}
+use Rattle.std.specs.Prelude.{if◌then◌else◌, nat_lt, count_by, slice_index_or, drop, length}
 use Rattle.std.specs.List.{list_any}
 use Rattle.std.specs.Option.{option_or}
 use Rattle.node_api.specs.declared.program.Refused.{Refused}

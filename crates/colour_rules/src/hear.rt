@@ -10,7 +10,6 @@ ghost use Rattle.colour_rules.specs.Table.{is_merged};
 ghost use Rattle.colour_rules.specs.Program.{next};
 
 use crate::idle::IdlePulses;
-use crate::merge::add_chosen;
 use crate::node::ColourNode;
 use crate::payload::Payload;
 use crate::ports::is_merged;
@@ -57,7 +56,7 @@ impl ColourNode {
             return false;
         }
         inbox.rewind();
-        add_chosen(&mut self.chosen, inbox);
+        self.chosen.add_all(inbox);
         true
     }
 

@@ -21,6 +21,7 @@
 //! Limits: degree 1,023, and so 1,023 forests and colours 0 to 1,023. Only `make` takes memory.
 #![tactic(auto)]
 
+mod chosen;
 mod hear;
 mod idle;
 pub mod laws;

@@ -1,5 +1,7 @@
 //! A step of the merging of a forest with those before it.
-ghost use Rattle.std.specs.Prelude.{◌≡◌, ◌<◌, ◌≤◌, ℕ, Some, None, [], true, if◌then◌else◌, length};
+ghost use Rattle.std.specs.Prelude.{◌≡◌, ◌<◌, ◌≤◌, ◌*◌, ◌↔◌, ℕ, IsTrue, Some, None, [], true, if◌then◌else◌, length};
+ghost use Rattle.std.specs.FinSet.{contains};
+ghost use Rattle.forest_merge.specs.Free.{HasFree};
 ghost use Rattle.node_api.specs.Boxes.{at_port, nothing, unread};
 ghost use Rattle.colour_rules.specs.declared.payload.Payload.TheVariants.{Chosen};
 ghost use Rattle.colour_rules.specs.declared.phase.Phase.TheVariants.{Merge};
@@ -11,13 +13,13 @@ ghost use Rattle.colour_rules.specs.Program.{done};
 use crate::node::ColourNode;
 use crate::payload::Payload;
 use crate::rules::COLOUR_RANGE;
-use forest_merge::{COLOURS, ChosenSet, has_free, least_free};
+use forest_merge::ChosenSet;
 use node_api::{Inbox, Outbox};
 
 // Puts the colours that came as chosen into a set.
-pub(crate) fn add_chosen(chosen: &mut ChosenSet, inbox: &mut Inbox<Payload>)
+pub(crate) fn add_chosen<const N: usize>(chosen: &mut ChosenSet<N>, inbox: &mut Inbox<Payload>)
     requires unread { inbox.old ≡ unread inbox.old.slots }
-    requires colours { (port c : ℕ) → at_port inbox.old.slots port ≡ Some (Chosen c) → c < COLOURS }
+    requires colours { (port c : ℕ) → at_port inbox.old.slots port ≡ Some (Chosen c) → c < 64 * N }
     ensures chosen { chosen.new ≡ with_chosen chosen.old inbox.old.slots }
     ensures slots { inbox.new.slots ≡ inbox.old.slots }
 {
@@ -59,23 +61,18 @@ impl ColourNode {
         if !self.chooses(forest, step) {
             return false;
         }
-        let chosen = self.chosen_with(step, inbox);
-        !has_free(&chosen, self.greatest_degree)
+        !self.has_free_at(step, inbox)
     }
 
-    // What neighbours have chosen in the forest, with what came at this step of it.
-    fn chosen_with(&self, step: u32, inbox: &mut Inbox<Payload>) -> ChosenSet
+    // Whether neighbours have left a colour free in the forest, with what came at this step of it.
+    fn has_free_at(&self, step: u32, inbox: &mut Inbox<Payload>) -> bool
         requires unread { inbox.old ≡ unread inbox.old.slots }
         requires colours { ChosenWithin self.now.sizes.greatest_degree inbox.old.slots }
-        ensures chosen { result ≡ (gathered self.now step inbox.old.slots).chosen }
+        ensures free { let here = gathered self.now step inbox.old.slots in
+            IsTrue result ↔ HasFree self.now.sizes.greatest_degree (contains here.chosen) }
         ensures slots { inbox.new.slots ≡ inbox.old.slots }
     {
-        if step == 0 {
-            return ChosenSet::new();
-        }
-        let mut chosen = self.chosen.copy();
-        add_chosen(&mut chosen, inbox);
-        chosen
+        step == 0 || self.chosen.has_free_with(self.greatest_degree, inbox)
     }
 
     // A step of the merging: the first of a forest begins with the colour so far, the others take in what
@@ -100,7 +97,7 @@ impl ColourNode {
         let is_turn = self.chooses(forest, step);
         self.gather(step, inbox);
         if is_turn {
-            self.merged = least_free(&self.chosen, self.greatest_degree);
+            self.merged = self.chosen.least_free(self.greatest_degree);
             if step + 1 != self.steps() {
                 self.tell_chosen(forest, out);
             }
@@ -118,7 +115,7 @@ impl ColourNode {
             self.colour_before = self.merged;
             self.chosen.clear();
         } else {
-            add_chosen(&mut self.chosen, inbox);
+            self.chosen.add_all(inbox);
         }
     }
 }

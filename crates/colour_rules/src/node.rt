@@ -5,8 +5,8 @@ ghost use Rattle.node_api.specs.Boxes.{nothing};
 ghost use Rattle.node_api.specs.Program.{own_of};
 ghost use Rattle.colour_rules.specs.Node.{greet, made, ports};
 
+use crate::chosen::ChosenColours;
 use crate::payload::Payload;
-use forest_merge::ChosenSet;
 use forests::Role;
 use interference::{Memory, Network};
 use node_api::Outbox;
@@ -28,12 +28,14 @@ pub struct ColourNode {
     // The merged colour before the forest that is being merged, and now: 0 to the greatest degree.
     pub(crate) colour_before: u16,
     pub(crate) merged: u16,
-    pub(crate) chosen: ChosenSet,
+    // With room for the colours 0 to the greatest degree.
+    pub(crate) chosen: ChosenColours,
 }
 
 impl Model for ColourNode {
-    ghost use Rattle.std.specs.Prelude.{◌≡◌, ◌≤◌, length};
+    ghost use Rattle.std.specs.Prelude.{◌≡◌, ◌<◌, ◌≤◌, length};
     ghost use Rattle.interference.specs.declared.limits.TheConstants.{MAX_DEGREE};
+    ghost use Rattle.colour_rules.specs.Chosen.{chosen_in, room_of};
     ghost use Rattle.colour_rules.specs.Node.{AreBelow, HasForests, Node};
     ghost use Rattle.colour_rules.specs.Stored.{node_code};
 
@@ -49,14 +51,15 @@ impl Model for ColourNode {
       before = a.before.items;
       colour_before = a.colour_before;
       merged = a.merged;
-      chosen = a.chosen;
+      chosen = chosen_in a.chosen;
     } };
 
     ghost invariant = { λ a. (a.greatest_degree ≤ MAX_DEGREE) × (a.forests ≤ MAX_DEGREE)
         × (length a.roles.items ≤ MAX_DEGREE)
         × (length a.colours.items ≡ a.forests) × (length a.before.items ≡ a.forests)
         × HasForests a.forests a.roles.items × AreBelow 6 a.before.items
-        × (a.colour_before ≤ a.greatest_degree) × (a.merged ≤ a.greatest_degree) };
+        × (a.colour_before ≤ a.greatest_degree) × (a.merged ≤ a.greatest_degree)
+        × (a.greatest_degree < room_of a.chosen) };
 }
 
 impl ColourNode {
@@ -77,6 +80,7 @@ impl ColourNode {
         let roles = vec![in alloc; Role::Unknown; degree]?;
         let colours = vec![in alloc; 0; forests as usize]?;
         let before = vec![in alloc; 0; forests as usize]?;
+        let chosen = ChosenColours::make(alloc, greatest_degree)?;
         Ok(ColourNode {
             id: net.id(v),
             nodes: net.nodes(),
@@ -87,7 +91,7 @@ impl ColourNode {
             before,
             colour_before: 0,
             merged: 0,
-            chosen: ChosenSet::new(),
+            chosen,
         })
     }
 

@@ -1,27 +1,30 @@
 //! The set of colours that neighbours have chosen.
 
-ghost use Rattle.std.specs.Prelude.{◌≡◌, ◌<◌, ℕ, true, false};
+ghost use Rattle.std.specs.Prelude.{◌≡◌, ◌<◌, ◌≤◌, ◌*◌, ℕ, true, false};
 ghost use Rattle.std.specs.FinSet.{contains, empty, insert};
 
 use std::marker::Model;
 
-/// How many colours a `ChosenSet` has room for: the colours from 0 and below this.
+/// How many colours the greatest `ChosenSet` has room for: the colours from 0 and below this.
 pub const COLOURS: u16 = 1024;
 
 /// How many words hold one bit for each colour.
-const WORDS: usize = COLOURS as usize / 64;
+pub const WORDS: usize = COLOURS as usize / 64;
 
-/// A set of colours from 0 and below `COLOURS`, in fixed bits: it takes no memory of its own.
+/// A set of colours from 0 and below 64 times `N`, in fixed bits: it takes no memory of its own. `N` is at most
+/// `WORDS`.
 #[derive(Drop)]
-pub struct ChosenSet {
-    words: [u64; WORDS],
+pub struct ChosenSet<const N: usize> {
+    words: [u64; N],
 }
 
-impl Model for ChosenSet {
+impl<const N: usize> Model for ChosenSet<N> {
+    ghost use Rattle.std.specs.Prelude.{◌≤◌, length};
     ghost use Rattle.std.specs.FinSet.{FinSet, code};
     ghost use Rattle.std.specs.Ordering.{nat_cmp};
     ghost use Rattle.std.specs.Coded.{coded_ℕ};
     ghost use Rattle.forest_merge.specs.Words.{colours_of};
+    ghost use Rattle.forest_merge.specs.declared.chosen.TheConstants.{WORDS};
 
     ghost Value = { FinSet nat_cmp };
 
@@ -29,15 +32,18 @@ impl Model for ChosenSet {
 
     // bit b of word w is the colour 64 * w + b
     ghost view = { λ a. colours_of a.words };
+
+    ghost invariant = { λ a. N ≤ WORDS };
 }
 
-impl ChosenSet {
-    /// The empty set, with room for the colours 0 to 1,023.
+impl<const N: usize> ChosenSet<N> {
+    /// The empty set, with room for the colours below 64 times `N`.
     pub fn new() -> Self
+        requires room { N ≤ WORDS }
         ensures empty { result ≡ empty }
-        ensures room { COLOURS ≡ 1024 }
+        ensures most { COLOURS ≡ 1024 }
     {
-        Self { words: [0; WORDS] }
+        Self { words: [0; N] }
     }
 
     /// A set of the same colours.
@@ -51,12 +57,12 @@ impl ChosenSet {
     pub fn clear(&mut self)
         ensures { self.new ≡ empty }
     {
-        self.words = [0; WORDS];
+        self.words.fill(0);
     }
 
     /// Puts a colour into the set; one that is there already stays.
     pub fn add(&mut self, colour: u16)
-        requires { colour < COLOURS }
+        requires { colour < 64 * N }
         ensures { self.new ≡ insert self.old colour }
     {
         self.words[colour as usize / 64] |= 1 << (colour % 64);
@@ -64,13 +70,13 @@ impl ChosenSet {
 
     /// Whether a colour is in the set.
     pub fn has(&self, colour: u16) -> bool
-        requires { colour < COLOURS }
+        requires { colour < 64 * N }
         ensures { result ≡ contains self.now colour }
     {
         self.words[colour as usize / 64] & (1 << (colour % 64)) != 0
     }
 
-    // The least colour that is not in the set: `COLOURS` if the set is full.
+    // The least colour that is not in the set: the first that it has no room for if it is full.
     pub(crate) fn first_free(&self) -> u16
         ensures free { contains self.now result ≡ false }
         ensures first { (c : ℕ) → c < result → contains self.now c ≡ true }
@@ -80,6 +86,6 @@ impl ChosenSet {
                 return (i * 64) as u16 + word.trailing_ones() as u16;
             }
         }
-        COLOURS
+        (N * 64) as u16
     }
 }

@@ -14,7 +14,7 @@
 //! let (forest, three, old) = step_of(step, delta); // whose turn a step is
 //! ```
 //!
-//! A set holds colours below `COLOURS` only. Nothing here takes memory or refuses.
+//! A set of `N` words holds colours below `64 * N`, at most `COLOURS`. Nothing here takes memory or refuses.
 #![tactic(auto)]
 
 mod chosen;
@@ -22,6 +22,6 @@ mod free;
 pub mod laws;
 mod step;
 
-pub use chosen::{COLOURS, ChosenSet};
+pub use chosen::{COLOURS, ChosenSet, WORDS};
 pub use free::{has_free, least_free};
 pub use step::step_of;

@@ -1,11 +1,10 @@
 -- The plan: the set so far with the payloads that are still to be read is the set that is wanted (the invariant's
 -- `rest`); a payload that is read moves from the one to the other, and at the end none is left.
-use Rattle.std.proofs.Common.{◌≡◌, ◌-◌, ◌<◌, ℕ, List, refl, ap, sym, ◌∙◌, arith}
+use Rattle.std.proofs.Common.{◌≡◌, ◌-◌, ◌*◌, ◌<◌, ℕ, List, refl, ap, sym, ◌∙◌, arith}
 use Rattle.std.specs.Prelude.{Option, Some, IsTrue, false}
 use Rattle.std.specs.Ordering.{nat_cmp}
 use Rattle.std.specs.FinSet.{FinSet}
 use Rattle.node_api.specs.Boxes.{at_port, fold_rest}
-use Rattle.forest_merge.specs.declared.chosen.TheConstants.{COLOURS}
 use Rattle.node_api.proofs.Reading.{fold_rest-read, fold_rest-end}
 use Rattle.colour_rules.specs.declared.payload.Payload.{Payload}
 use Rattle.colour_rules.specs.declared.payload.Payload.TheVariants.{Chosen}
@@ -13,25 +12,25 @@ use Rattle.colour_rules.proofs.Reading.{taken_in, taken_in-other, with_chosen-fo
 use Rattle.colour_rules.proofs.merge.add_chosen.Goals as goal
 
 pub loop-inbox-init : goal.loop-inbox-init
-loop-inbox-init c = record {
+loop-inbox-init g c = record {
   same = refl;
   rest = ap (fold_rest taken_in c.args.chosen.now) c.requires.unread ∙ with_chosen-fold c.args.chosen.now 0 c.args.inbox.now.slots;
 }
 
 pub add-requires : goal.add-requires
-add-requires c =
+add-requires g c =
     let l = c.loop-inbox in
     let there : at_port c.args.inbox.now.slots (c.next.new.self.cursor - 1) ≡ Some (Chosen c.in-Chosen.colour) =
     ap (λ (slots : List (Option Payload)). at_port slots (c.next.new.self.cursor - 1)) (sym l.invariant.same) ∙
     (read-is l.inbox c.next.result c.next.new.self c.next.ensures.reads ∙ ap Some c.in-Chosen.is) in
-    let low : c.in-Chosen.colour < COLOURS = c.requires.colours (c.next.new.self.cursor - 1) c.in-Chosen.colour there in
+    let low : c.in-Chosen.colour < 64 * g.row.N = c.requires.colours (c.next.new.self.cursor - 1) c.in-Chosen.colour there in
     omega arith
 
 pub loop-inbox-smaller-in-Chosen : goal.loop-inbox-smaller-in-Chosen
-loop-inbox-smaller-in-Chosen c = read-less c.loop-inbox.inbox c.next.result c.next.new.self c.next.ensures.reads
+loop-inbox-smaller-in-Chosen g c = read-less c.loop-inbox.inbox c.next.result c.next.new.self c.next.ensures.reads
 
 pub loop-inbox-preserved-in-Chosen : goal.loop-inbox-preserved-in-Chosen
-loop-inbox-preserved-in-Chosen c =
+loop-inbox-preserved-in-Chosen g c =
     let l = c.loop-inbox in
     let port : ℕ = c.next.new.self.cursor - 1 in
     record {
@@ -42,10 +41,10 @@ loop-inbox-preserved-in-Chosen c =
     }
 
 pub loop-inbox-smaller : goal.loop-inbox-smaller
-loop-inbox-smaller c = read-less c.loop-inbox.inbox c.next.result c.next.new.self c.next.ensures.reads
+loop-inbox-smaller g c = read-less c.loop-inbox.inbox c.next.result c.next.new.self c.next.ensures.reads
 
 pub loop-inbox-preserved : goal.loop-inbox-preserved
-loop-inbox-preserved c =
+loop-inbox-preserved g c =
     record {
       same = c.next.ensures.reads.same ∙ c.loop-inbox.invariant.same;
       rest =
@@ -56,8 +55,8 @@ loop-inbox-preserved c =
     }
 
 pub returns-clause-chosen : goal.returns-clause-chosen
-returns-clause-chosen c = sym (fold_rest-end taken_in c.loop-inbox.inbox c.loop-inbox.chosen (λ h. let e : IsTrue false =
+returns-clause-chosen g c = sym (fold_rest-end taken_in c.loop-inbox.inbox c.loop-inbox.chosen (λ h. let e : IsTrue false =
     c.loop-inbox-test.ensures.more.1 h in (cc))) ∙ c.loop-inbox.invariant.rest
 
 pub returns-clause-slots : goal.returns-clause-slots
-returns-clause-slots c = c.loop-inbox.invariant.same
+returns-clause-slots g c = c.loop-inbox.invariant.same

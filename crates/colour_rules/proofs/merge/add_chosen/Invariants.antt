@@ -5,11 +5,11 @@ use Rattle.colour_rules.proofs.Reading.{taken_in}
 use Rattle.colour_rules.proofs.merge.add_chosen.Given as goal
 
 abbrev pub invariant-loop-inbox : goal.invariant-loop-inbox
-invariant-loop-inbox l =
+invariant-loop-inbox g l =
     record {
       same : l.inbox.slots ≡ l.fn.inbox.slots;
       rest : fold_rest taken_in l.chosen l.inbox ≡ with_chosen l.fn.chosen l.fn.inbox.slots;
     }
 
 abbrev pub decreases-loop-inbox : goal.decreases-loop-inbox
-decreases-loop-inbox l = length l.inbox.slots - l.inbox.cursor
+decreases-loop-inbox g l = length l.inbox.slots - l.inbox.cursor

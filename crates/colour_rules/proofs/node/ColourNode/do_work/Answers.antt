@@ -4,7 +4,7 @@ use Rattle.std.specs.Prelude.{None}
 use Rattle.std.specs.List.{All, AllPairs}
 use Rattle.colour_rules.specs.declared.phase.Phase.{Phase}
 use Rattle.colour_rules.specs.Node.{IsPhase}
-use Rattle.colour_rules.specs.Refusals.{IsAccepted, first_refusal, ids_in}
+use Rattle.colour_rules.specs.Refusals.{IsAccepted, first_refusal}
 use Rattle.colour_rules.specs.Program.{done}
 use Rattle.colour_rules.proofs.Bounds.{labels-within, chosen-within}
 use Rattle.colour_rules.proofs.Hellos.{OnlyHellos, only_hellos, oriented-is}

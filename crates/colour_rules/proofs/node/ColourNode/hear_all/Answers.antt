@@ -1,14 +1,14 @@
 -- The plan: a payload that came alone is passed, and so are the ports after it (alone); the set with its colour is the
 -- set with all that came. If more came, all of it is passed, so its colours are low enough to be put in.
-use Rattle.std.proofs.Common.{◌≡◌, ℕ, ◌≤◌, List, refl, ap, subst, sym, ◌∙◌, arith}
+use Rattle.std.proofs.Common.{◌≡◌, ◌<◌, ◌≤◌, List, refl, ap, subst, ◌∙◌, arith}
 use Rattle.std.specs.Prelude.{IsTrue, Option, Some, false}
 use Rattle.std.specs.Ordering.{nat_cmp}
 use Rattle.std.specs.FinSet.{FinSet}
-use Rattle.interference.specs.declared.limits.TheConstants.{MAX_DEGREE}
 use Rattle.node_api.specs.Boxes.{Mail, at_port}
 use Rattle.colour_rules.specs.declared.payload.Payload.{Payload}
 use Rattle.colour_rules.specs.declared.payload.Payload.TheVariants.{Chosen}
 use Rattle.colour_rules.specs.Choice.{with_taken}
+use Rattle.colour_rules.specs.Chosen.{chosen_in, room_of}
 use Rattle.colour_rules.specs.Idle.{IsPassed, IsTaken}
 use Rattle.colour_rules.specs.Node.{Node, ports}
 use Rattle.colour_rules.specs.contracts.node.ColourNode.{the_view}
@@ -25,13 +25,13 @@ returns-then-not-has_next-clause-accepted c alone =
 pub returns-then-not-has_next-clause-node : goal.returns-then-not-has_next-clause-node
 returns-then-not-has_next-clause-node c =
     let taken : IsTaken c.args.self.now c.args.forest c.args.inbox.now c.in-Some.first c.take_next.new.inbox = c.in-Some.ensures.taken in
-    ap (λ (set : FinSet nat_cmp). the_view (record c.self.inside { chosen = set }))
-    (c.add.ensures ∙ one-taken c.self.inside.chosen c.args.inbox.now c.take_next.new.inbox c.in-Some.first c.requires.unread taken.reads
+    ap (λ (set : FinSet nat_cmp). record (the_view c.self.inside) { chosen = set })
+    (c.add.ensures.added ∙ one-taken (chosen_in c.self.inside.chosen) c.args.inbox.now c.take_next.new.inbox c.in-Some.first c.requires.unread taken.reads
     (λ h. let e : IsTrue false = c.if-not-has_next.ensures.more.1 h in absurd (cc)))
     ∙ ap (λ (node : Node). with_taken node c.args.inbox.now.slots) c.self.view_is
 
-pub add_chosen-requires-clause-colours : goal.add_chosen-requires-clause-colours
-add_chosen-requires-clause-colours c port colour came =
+pub add_all-requires-clause-colours : goal.add_all-requires-clause-colours
+add_all-requires-clause-colours c port colour came =
     let node = c.args.self.now in
     let slots = c.args.inbox.now.slots in
     let passed : IsPassed node c.args.forest slots (ports node) =
@@ -44,5 +44,6 @@ add_chosen-requires-clause-colours c port colour came =
     let low : colour ≤ node.sizes.greatest_degree =
     chosen-within node c.args.forest 1 slots c.requires.ports
     (passed-fine node c.args.forest slots c.requires.ports passed 1 (omega arith)) port colour here in
-    let most : node.sizes.greatest_degree ≤ MAX_DEGREE = subst (λ (n : Node). n.sizes.greatest_degree ≤ MAX_DEGREE) c.self.view_is c.self.invariant.0 in
+    let most : node.sizes.greatest_degree < room_of c.self.inside.chosen =
+    subst (λ (n : Node). n.sizes.greatest_degree < room_of c.self.inside.chosen) c.self.view_is c.self.invariant.9 in
     omega (arith, low, most)

@@ -16,6 +16,7 @@ loop-self-preserved c =
     let reads = c.next-payload.ensures.reads in
     record {
       same = reads.same ∙ c.loop-self.invariant.same;
+      room = c.loop-self.invariant.room;
       node = ap (λ (node : Node). with_roles node (slice_set roles port c.labelled.result)) c.loop-self.invariant.node;
       roles =
           rw c.labelled.ensures

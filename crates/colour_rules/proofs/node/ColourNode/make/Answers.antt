@@ -31,4 +31,7 @@ invariant_of-result c =
     let known : HasForests c.forest_count-forests.result c.in_ok-roles.roles.items =
     subst (HasForests c.forest_count-forests.result) (sym roles) (unknown-known c.forest_count-forests.result c.degree-degree.result) in
     let low : AreBelow 6 c.in_ok-before.before.items = subst (AreBelow 6) (sym before) (zeros-below c.forest_count-forests.result) in
-    (d, e, search rules, search rules, search rules, known, low, omega arith, omega arith)
+    (d, e, search rules, search rules, search rules, known, low, omega arith, omega arith, c.in_ok-chosen.ensures.room)
+
+pub make-requires : goal.make-requires
+make-requires c = rw c.greatest_degree-greatest_degree.ensures (greatest_degree-within c.args.net.now c.is_network.ensures)

@@ -4,6 +4,7 @@ use Rattle.std.proofs.lemmas.Bool.Decides.{nat_tests}
 use Rattle.std.specs.FinSet.{contains}
 use Rattle.colour_rules.specs.Node.{Node, steps}
 use Rattle.colour_rules.specs.Choice.{free_for}
+use Rattle.colour_rules.specs.Chosen.{chosen_in}
 use Rattle.colour_rules.specs.Program.{silent, tells_chosen}
 use Rattle.colour_rules.proofs.Choosing.{HasFree-low}
 use Rattle.colour_rules.proofs.Steps.{silent-is, waits-is, turns-is, told-if}
@@ -11,7 +12,7 @@ use Rattle.colour_rules.proofs.node.ColourNode.merge.Goals as goal
 
 pub least_free-self-inside-requires : goal.least_free-self-inside-requires
 least_free-self-inside-requires c =
-    HasFree-low c.self.inside.greatest_degree (contains c.self.inside.chosen)
+    HasFree-low c.self.inside.greatest_degree (contains (chosen_in c.self.inside.chosen))
     (subst (λ (node : Node). free_for node ≤ node.sizes.greatest_degree) (sym (c.self.view_is ∙ c.gather.ensures.node))
     (c.requires.free (sym c.if-is_turn.ensures)))
 

@@ -4,6 +4,6 @@ use Rattle.forest_merge.proofs.Words.{colours_of-set}
 use Rattle.forest_merge.proofs.chosen.ChosenSet.add.Goals as goal
 
 pub returns : goal.returns
-returns c =
+returns g c =
     let inside : c.args.colour / 64 < length c.self.inside.words = omega arith in
     colours_of-set c.self.inside.words c.args.colour inside ∙ ap (λ s. insert s c.args.colour) c.self.view_is

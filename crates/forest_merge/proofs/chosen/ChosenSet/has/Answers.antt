@@ -4,7 +4,7 @@ use Rattle.forest_merge.proofs.Words.{contains-colours_of, has_bit-test}
 use Rattle.forest_merge.proofs.chosen.ChosenSet.has.Goals as goal
 
 pub returns : goal.returns
-returns c =
+returns g c =
     has_bit-test c.self.inside.words c.args.colour
     ∙ sym (contains-colours_of c.self.inside.words c.args.colour)
     ∙ ap (λ s. contains s c.args.colour) c.self.view_is
