@@ -17,6 +17,8 @@ mod Steps
 mod Taking
 mod Telling
 mod Turning
+mod Bytes
+mod Highs
 mod Valid
 pub mod Walking
 mod Worked

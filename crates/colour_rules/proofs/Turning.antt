@@ -1,14 +1,62 @@
 -- The colours of the forests turned, one forest after another.
-use Rattle.std.proofs.Common.{◌≡◌, ℕ, ◌<◌, ◌≤◌, List, length}
-use Rattle.std.specs.Prelude.{Option, None, slice_index, slice_index_or}
+use Rattle.std.proofs.Common.{◌≡◌, ℕ, zero, suc, ◌<◌, ◌≤◌, Bool, true, List, [], ◌∷◌, length, replicate, get_or, refl, ap, sym, ◌∙◌, arith}
+use Rattle.std.specs.Prelude.{map, Option, None, slice_index, slice_index_or}
+use Rattle.std.proofs.lemmas.List.{get_or-map, length-map}
+use Rattle.std.proofs.lemmas.List.FromFn.{fill_by_all}
 use Rattle.colour_rules.specs.declared.phase.Reduction.{Reduction}
-use Rattle.colour_rules.specs.Program.{turned, kept}
+use Rattle.colour_rules.specs.declared.colours.InForest.{InForest}
+use Rattle.colour_rules.specs.InForests.{befores_of, colour_by, colours_by, written_in}
+use Rattle.colour_rules.specs.Program.{turned, turned_all, kept, kept_all}
+
+-- a forest of which nothing is written down
+abbrev pub blank : InForest
+blank = record { colour = 0; before = 0 }
 
 -- The forests before i have turned, the others not yet.
-pub record Turned (reduction : Reduction) (old old_before : List ℕ) (above : List (Option ℕ)) (i : ℕ) (colours before : List ℕ) : Type 0 where
-  pub size : length colours ≡ length old
-  pub kept_size : length before ≡ length old
-  pub done : (f : ℕ) → f < i → slice_index colours f ≡ turned reduction (slice_index old f) (slice_index old_before f) (slice_index_or above f None)
-  pub done_kept : (f : ℕ) → f < i → slice_index before f ≡ kept reduction (slice_index old f) (slice_index old_before f)
-  pub rest : (f : ℕ) → i ≤ f → slice_index colours f ≡ slice_index old f
-  pub rest_kept : (f : ℕ) → i ≤ f → slice_index before f ≡ slice_index old_before f
+pub record Turned (reduction : Reduction) (id : ℕ) (is_seeded : Bool) (old : List InForest) (above : List (Option ℕ)) (i : ℕ) (new : List InForest) : Type 0 where
+  pub size : length new ≡ length old
+  pub colours : (f : ℕ) → f < i → (get_or new f blank).colour
+      ≡ turned reduction (colour_by id is_seeded (get_or old f blank)) (get_or old f blank).before (slice_index_or above f None)
+  pub kept_too : (f : ℕ) → f < i → (get_or new f blank).before ≡ kept reduction (colour_by id is_seeded (get_or old f blank)) (get_or old f blank).before
+  pub rest : (f : ℕ) → i ≤ f → get_or new f blank ≡ get_or old f blank
+
+module _ (reduction : Reduction) (id : ℕ) (is_seeded : Bool) (old : List InForest) (above : List (Option ℕ)) (i : ℕ) (new : List InForest)
+    (t : Turned reduction id is_seeded old above i new) (all : length old ≤ i) where
+  long : length (colours_by id is_seeded old) ≡ length old
+  long = length-map old (colour_by id is_seeded)
+
+  colour-at : (f : ℕ) → f < length old → slice_index (colours_by id is_seeded old) f ≡ colour_by id is_seeded (get_or old f blank)
+  colour-at f h = get_or-map (colour_by id is_seeded) old f blank 0 h
+
+  before-at : (f : ℕ) → f < length old → slice_index (befores_of old) f ≡ (get_or old f blank).before
+  before-at f h = get_or-map (λ one. one.before) old f blank 0 h
+
+  -- once all have turned, what is written down are the next colours
+  pub all-turned : written_in new ≡ turned_all reduction (colours_by id is_seeded old) (befores_of old) above
+  all-turned =
+      fill_by_all (λ f. turned reduction (slice_index (colours_by id is_seeded old) f) (slice_index (befores_of old) f) (slice_index_or above f None))
+      (written_in new) (length (colours_by id is_seeded old)) 0 (length-map new (λ one. one.colour) ∙ (t.size ∙ sym long))
+      (λ f h.
+      let within : f < length old = omega (arith, long) in
+      get_or-map (λ one. one.colour) new f blank 0 (omega (arith, within, t.size))
+      ∙ (t.colours f (omega (arith, within, all)) ∙ rw (colour-at f within, before-at f within) refl))
+
+  -- and those kept beside them
+  pub all-kept : befores_of new ≡ kept_all reduction (colours_by id is_seeded old) (befores_of old)
+  all-kept =
+      fill_by_all (λ f. kept reduction (slice_index (colours_by id is_seeded old) f) (slice_index (befores_of old) f))
+      (befores_of new) (length (colours_by id is_seeded old)) 0 (length-map new (λ one. one.before) ∙ (t.size ∙ sym long))
+      (λ f h.
+      let within : f < length old = omega (arith, long) in
+      get_or-map (λ one. one.before) new f blank 0 (omega (arith, within, t.size))
+      ∙ (t.kept_too f (omega (arith, within, all)) ∙ rw (colour-at f within, before-at f within) refl))
+
+-- a seeded forest has the identifier as its colour
+pub seeded-all : (id : ℕ) (each : List InForest) → colours_by id true each ≡ replicate (length (befores_of each)) id
+seeded-all id [] = refl
+seeded-all id (one ∷ each) = ap (λ (rest : List ℕ). id ∷ rest) (seeded-all id each)
+
+-- a list of equal entries
+pub map-same : (f : InForest → ℕ) (n : ℕ) (one : InForest) → map f (replicate n one) ≡ replicate n (f one)
+map-same f zero one = refl
+map-same f (suc n) one = ap (λ (rest : List ℕ). f one ∷ rest) (map-same f n one)

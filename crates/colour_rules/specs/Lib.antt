@@ -7,3 +7,4 @@ pub mod Stored
 pub mod Words
 pub mod Idle
 pub mod Chosen
+pub mod InForests

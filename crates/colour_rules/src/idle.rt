@@ -64,7 +64,7 @@ impl ColourNode {
         ensures within { result ≤ steps self.now.sizes }
         ensures idle { (s : ℕ) → step < s → s < result → chooses self.now forest s ≡ false }
     {
-        let three = self.colours[forest as usize];
+        let three = self.colours.own(self.id, forest);
         let width = u32::from(self.greatest_degree) + 1;
         if three <= 2 {
             let turn = three as u32 * width + u32::from(self.colour_before);

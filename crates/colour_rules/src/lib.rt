@@ -22,6 +22,7 @@
 #![tactic(auto)]
 
 mod chosen;
+mod colours;
 mod hear;
 mod idle;
 pub mod laws;

@@ -43,7 +43,7 @@ impl ColourNode {
         } else {
             self.colour_before
         };
-        let three = self.colours[forest as usize];
+        let three = self.colours.own(self.id, forest);
         let width = u32::from(self.greatest_degree) + 1;
         three <= 2 && three as u32 * width + u32::from(old) == step
     }

@@ -6,6 +6,7 @@ ghost use Rattle.node_api.specs.Program.{own_of};
 ghost use Rattle.colour_rules.specs.Node.{greet, made, ports};
 
 use crate::chosen::ChosenColours;
+use crate::colours::InForests;
 use crate::payload::Payload;
 use forests::Role;
 use interference::{Memory, Network};
@@ -22,9 +23,8 @@ pub struct ColourNode {
     pub(crate) forests: u16,
     // By port. A known role names one of the forests.
     pub(crate) roles: Vec<Role>,
-    // By forest: the colour, and the one before the last shift, which is 0 to 5.
-    pub(crate) colours: Vec<u64>,
-    pub(crate) before: Vec<u8>,
+    // The colours before the last shift are 0 to 5.
+    pub(crate) colours: InForests,
     // The merged colour before the forest that is being merged, and now: 0 to the greatest degree.
     pub(crate) colour_before: u16,
     pub(crate) merged: u16,
@@ -36,6 +36,7 @@ impl Model for ColourNode {
     ghost use Rattle.std.specs.Prelude.{◌≡◌, ◌<◌, ◌≤◌, length};
     ghost use Rattle.interference.specs.declared.limits.TheConstants.{MAX_DEGREE};
     ghost use Rattle.colour_rules.specs.Chosen.{chosen_in, room_of};
+    ghost use Rattle.colour_rules.specs.InForests.{before_in, colours_in};
     ghost use Rattle.colour_rules.specs.Node.{AreBelow, HasForests, Node};
     ghost use Rattle.colour_rules.specs.Stored.{node_code};
 
@@ -47,8 +48,8 @@ impl Model for ColourNode {
       id = a.id;
       sizes = record { nodes = a.nodes; greatest_degree = a.greatest_degree; forests = a.forests };
       roles = a.roles.items;
-      colours = a.colours.items;
-      before = a.before.items;
+      colours = colours_in a.id a.colours;
+      before = before_in a.colours;
       colour_before = a.colour_before;
       merged = a.merged;
       chosen = chosen_in a.chosen;
@@ -56,8 +57,8 @@ impl Model for ColourNode {
 
     ghost invariant = { λ a. (a.greatest_degree ≤ MAX_DEGREE) × (a.forests ≤ MAX_DEGREE)
         × (length a.roles.items ≤ MAX_DEGREE)
-        × (length a.colours.items ≡ a.forests) × (length a.before.items ≡ a.forests)
-        × HasForests a.forests a.roles.items × AreBelow 6 a.before.items
+        × (length (colours_in a.id a.colours) ≡ a.forests) × (length (before_in a.colours) ≡ a.forests)
+        × HasForests a.forests a.roles.items × AreBelow 6 (before_in a.colours)
         × (a.colour_before ≤ a.greatest_degree) × (a.merged ≤ a.greatest_degree)
         × (a.greatest_degree < room_of a.chosen) };
 }
@@ -78,8 +79,7 @@ impl ColourNode {
         let greatest_degree = net.greatest_degree() as u16;
         let forests = net.forest_count() as u16;
         let roles = vec![in alloc; Role::Unknown; degree]?;
-        let colours = vec![in alloc; 0; forests as usize]?;
-        let before = vec![in alloc; 0; forests as usize]?;
+        let colours = InForests::make(alloc, forests)?;
         let chosen = ChosenColours::make(alloc, greatest_degree)?;
         Ok(ColourNode {
             id: net.id(v),
@@ -88,7 +88,6 @@ impl ColourNode {
             forests,
             roles,
             colours,
-            before,
             colour_before: 0,
             merged: 0,
             chosen,

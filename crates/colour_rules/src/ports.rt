@@ -73,9 +73,8 @@ impl ColourNode {
                 (self.forests <= forest).then_some(FOREST_RANGE)
             }
             (Phase::Work(reduction), Role::Up(forest), Payload::Colour(colour)) => {
-                (is_above(reduction, colour) || colour == self.colours[forest as usize]).then_some(
-                    COLOUR_RANGE,
-                )
+                let own = self.colours.own(self.id, forest);
+                (is_above(reduction, colour) || colour == own).then_some(COLOUR_RANGE)
             }
             (Phase::Merge(forest, step), _, Payload::Chosen(colour)) => {
                 if step == 0 || !is_merged(forest, role) {

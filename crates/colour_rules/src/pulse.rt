@@ -14,7 +14,6 @@ use crate::idle::IdlePulses;
 use crate::node::ColourNode;
 use crate::payload::Payload;
 use crate::phase::{Phase, Reduction};
-use crate::ports::is_above;
 use crate::rules::{COLOUR_RANGE, FOREST_RANGE};
 use interference::MAX_DEGREE;
 use node_api::{Inbox, Outbox, Refused};
@@ -154,8 +153,6 @@ impl ColourNode {
     fn has_colour_above(&self, reduction: Reduction) -> bool
         ensures { result ≡ list_any (is_above reduction) self.now.colours }
     {
-        self.colours
-            .iter()
-            .any(|colour| is_above(reduction, *colour))
+        self.colours.has_above(self.id, reduction)
     }
 }

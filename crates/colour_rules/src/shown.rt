@@ -17,7 +17,7 @@ impl ColourNode {
         requires forest { forest < self.now.sizes.forests }
         ensures { result ≡ slice_index self.now.colours forest }
     {
-        self.colours[forest as usize]
+        self.colours.own(self.id, forest)
     }
 
     /// Whether the node, after this step of the merging of a forest, is one of those that chose at it: its three-colour
@@ -27,7 +27,7 @@ impl ColourNode {
         ensures { result ≡ chooses self.now forest step }
     {
         let colours = u32::from(self.greatest_degree) + 1;
-        self.colours[forest as usize] == u64::from(step / colours)
+        self.colours.own(self.id, forest) == u64::from(step / colours)
             && u32::from(self.colour_before) == step % colours
     }
 }

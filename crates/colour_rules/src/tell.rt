@@ -30,7 +30,10 @@ impl ColourNode {
     {
         for port in 0..self.roles.len() {
             if let Role::Down(forest) = self.roles[port] {
-                out.send(port as u32, Payload::Colour(self.colours[forest as usize]));
+                out.send(
+                    port as u32,
+                    Payload::Colour(self.colours.own(self.id, forest)),
+                );
             }
         }
     }

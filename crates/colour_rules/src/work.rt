@@ -14,11 +14,9 @@ ghost use Rattle.colour_rules.specs.Program.{kept_all, tells_label, turned, turn
 use crate::node::ColourNode;
 use crate::payload::Payload;
 use crate::phase::Reduction;
-use cole_vishkin::bit_step;
 use forests::{Role, number_up};
 use interference::MAX_DEGREE;
 use node_api::{Inbox, Outbox};
-use shift_down::{drop_class, shift};
 
 // How many forests there are at most.
 const MAX_FORESTS: usize = MAX_DEGREE as usize;
@@ -53,7 +51,7 @@ impl ColourNode {
         ensures slots { inbox.new.slots ≡ inbox.old.slots }
     {
         self.label(inbox);
-        self.colours.fill(self.id);
+        self.colours.seed();
         self.tell_colours(out);
     }
 
@@ -111,12 +109,7 @@ impl ColourNode {
         ensures slots { inbox.new.slots ≡ inbox.old.slots }
     {
         self.hear_parents(parent_colours, inbox);
-        turn_all(
-            reduction,
-            &mut self.colours,
-            &mut self.before,
-            parent_colours,
-        );
+        self.colours.turn_all(reduction, self.id, parent_colours);
         if !reduction.is_last() {
             self.tell_colours(out);
         }
@@ -162,50 +155,5 @@ fn colour_of(payload: Payload) -> Option<u64>
     match payload {
         Payload::Colour(colour) => Some(colour),
         _ => None,
-    }
-}
-
-// Takes the next colour in each forest, by the colours of the parents.
-fn turn_all(
-    reduction: Reduction,
-    colours: &mut [u64],
-    before: &mut [u8],
-    parent_colours: &[Option<u64>],
-)
-    requires before { length before.old ≡ length colours.old }
-    requires parent_colours { length parent_colours.now ≡ length colours.old }
-    requires ready { AreReady reduction colours.old before.old parent_colours.now }
-    ensures colours { colours.new ≡ turned_all reduction colours.old before.old parent_colours.now }
-    ensures before { before.new ≡ kept_all reduction colours.old before.old }
-{
-    for forest in 0..colours.len() {
-        let own = colours[forest];
-        colours[forest] = turned(reduction, own, before[forest], parent_colours[forest]);
-        if let Reduction::Shift(_) = reduction {
-            before[forest] = own as u8;
-        }
-    }
-}
-
-// The next colour in a forest.
-fn turned(reduction: Reduction, own: u64, before: u8, parent: Option<u64>) -> u64
-    requires { IsReady reduction own before parent }
-    ensures { result ≡ turned reduction own before parent }
-{
-    match reduction {
-        Reduction::Step(_) => bit_step(own, parent),
-        Reduction::Shift(_) => u64::from(shift(own as u8, small(parent))),
-        Reduction::Drop(class) => u64::from(drop_class(class, own as u8, before, small(parent))),
-    }
-}
-
-// A colour below 6, if there is one, as a byte.
-fn small(colour: Option<u64>) -> Option<u8>
-    requires { IfSome colour (λ c. c < 6) }
-    ensures { result ≡ colour }
-{
-    match colour {
-        Some(colour) => Some(colour as u8),
-        None => None,
     }
 }

@@ -1,8 +1,10 @@
-use Rattle.std.proofs.Common.{rules, ◌≡◌, ◌≤◌, replicate, subst, sym, arith}
+use Rattle.std.proofs.Common.{rules, ◌≡◌, ◌≤◌, length, replicate, subst, ap, sym, ◌∙◌, arith}
+use Rattle.std.proofs.lemmas.List.{length-replicate}
 use Rattle.interference.specs.declared.limits.TheConstants.{MAX_DEGREE}
 use Rattle.interference.specs.Net.{greatest_degree_of, forest_count_of}
 use Rattle.interference.proofs.Neighbours.{greatest_degree-within, forest_count-within}
 use Rattle.forests.specs.declared.numbering.Role.TheVariants.{Unknown}
+use Rattle.colour_rules.specs.InForests.{before_in, colours_in}
 use Rattle.colour_rules.specs.Node.{HasForests, AreBelow}
 use Rattle.colour_rules.proofs.Valid.{unknown-known, zeros-below}
 use Rattle.colour_rules.proofs.node.ColourNode.make.Goals as goal
@@ -27,11 +29,15 @@ invariant_of-result c =
     let e : c.forest_count-forests.result ≤ MAX_DEGREE = rw c.forest_count-forests.ensures (omega arith) in
     let d : c.greatest_degree-greatest_degree.result ≤ MAX_DEGREE = rw c.greatest_degree-greatest_degree.ensures few in
     let roles : c.in_ok-roles.roles.items ≡ replicate c.degree-degree.result Unknown = search rules in
-    let before : c.in_ok-before.before.items ≡ replicate c.forest_count-forests.result 0 = search rules in
+    let n = c.forest_count-forests.result in
+    let colours : colours_in c.id.result c.in_ok-colours.colours ≡ replicate n 0 = c.in_ok-colours.ensures.colours c.id.result in
+    let before : before_in c.in_ok-colours.colours ≡ replicate n 0 = c.in_ok-colours.ensures.before in
+    let size : length (colours_in c.id.result c.in_ok-colours.colours) ≡ n = ap length colours ∙ length-replicate n 0 in
+    let kept_size : length (before_in c.in_ok-colours.colours) ≡ n = ap length before ∙ length-replicate n 0 in
     let known : HasForests c.forest_count-forests.result c.in_ok-roles.roles.items =
     subst (HasForests c.forest_count-forests.result) (sym roles) (unknown-known c.forest_count-forests.result c.degree-degree.result) in
-    let low : AreBelow 6 c.in_ok-before.before.items = subst (AreBelow 6) (sym before) (zeros-below c.forest_count-forests.result) in
-    (d, e, search rules, search rules, search rules, known, low, omega arith, omega arith, c.in_ok-chosen.ensures.room)
+    let low : AreBelow 6 (before_in c.in_ok-colours.colours) = subst (AreBelow 6) (sym before) (zeros-below c.forest_count-forests.result) in
+    (d, e, search rules, size, kept_size, known, low, omega arith, omega arith, c.in_ok-chosen.ensures.room)
 
-pub make-requires : goal.make-requires
-make-requires c = rw c.greatest_degree-greatest_degree.ensures (greatest_degree-within c.args.net.now c.is_network.ensures)
+pub make-requires-2 : goal.make-requires-2
+make-requires-2 c = rw c.greatest_degree-greatest_degree.ensures (greatest_degree-within c.args.net.now c.is_network.ensures)

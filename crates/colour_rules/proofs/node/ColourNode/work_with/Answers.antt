@@ -1,12 +1,11 @@
 -- The plan: each port to a parent brought a colour (Working.brought), so every forest is ready to be turned
 -- (Working.ready); then colours and those kept are the definition's (turned), the node is the definition's (worked) and
 -- keeps its invariant (stays), whether or not its children are told.
-use Rattle.std.proofs.Common.{◌≡◌, ◌<◌, ℕ, List, length, ap, sym, ◌∙◌, arith, rules, subst}
+use Rattle.std.proofs.Common.{◌≡◌, ◌<◌, ℕ, List, length, ap, sym, ◌∙◌, arith, subst}
 use Rattle.std.specs.Prelude.{None, slice_index_or}
-use Rattle.std.specs.Vec.{with_items}
-use Rattle.std.proofs.lemmas.List.{with_items_is}
 use Rattle.std.proofs.lemmas.List.FromFn.{length-map-range_with_len}
 use Rattle.colour_rules.specs.Node.{Node}
+use Rattle.colour_rules.specs.InForests.{before_in, colours_in}
 use Rattle.colour_rules.specs.Program.{from_parent, next_colours, next_kept}
 use Rattle.colour_rules.specs.contracts.node.ColourNode.{the_view}
 use Rattle.colour_rules.proofs.Valid.{IsValid, valid-seen, valid-colours}
@@ -24,8 +23,8 @@ pub turn_all-requires-clause-ready : goal.turn_all-requires-clause-ready
 turn_all-requires-clause-ready c f h =
     let node = c.args.self.now in
     let valid : IsValid node = valid-seen c.self.inside node c.self.view_is c.self.invariant in
-    let own : c.deref_mut.result.now ≡ node.colours = c.deref_mut.ensures.value ∙ ap (λ (n : Node). n.colours) c.self.view_is in
-    let before : c.deref_mut-2.result.now ≡ node.before = c.deref_mut-2.ensures.value ∙ ap (λ (n : Node). n.before) c.self.view_is in
+    let own : colours_in c.self.inside.id c.self.inside.colours ≡ node.colours = ap (λ (n : Node). n.colours) c.self.view_is in
+    let before : before_in c.self.inside.colours ≡ node.before = ap (λ (n : Node). n.before) c.self.view_is in
     let within : f < length node.colours = subst (λ (cs : List ℕ). f < length cs) own h in
     let in_forest : f < node.sizes.forests = omega (arith, valid.3) in
     let heard : slice_index_or c.hear_parents.new.parent_colours f None ≡ from_parent f node.roles c.args.inbox.now.slots =
@@ -34,30 +33,24 @@ turn_all-requires-clause-ready c f h =
     (ready node c.args.reduction c.args.inbox.now.slots c.requires.accepted valid.6 (valid.4 ∙ sym valid.3) f within)
 
 -- the colours after the turn, and those kept beside them
-turned : (c : After-turn_all) → ((with_items c.self.inside.colours c.turn_all.new.colours).items
-    ≡ next_colours c.args.self.now c.args.reduction c.args.inbox.now.slots) ×
-    ((with_items c.self.inside.before c.turn_all.new.before).items ≡ next_kept c.args.self.now c.args.reduction)
+turned : (c : After-turn_all) → (colours_in c.self.inside.id c.turn_all.new.self ≡ next_colours c.args.self.now c.args.reduction c.args.inbox.now.slots) ×
+    (before_in c.turn_all.new.self ≡ next_kept c.args.self.now c.args.reduction)
 turned c =
     let node = c.args.self.now in
     let slots = c.args.inbox.now.slots in
     let valid : IsValid node = valid-seen c.self.inside node c.self.view_is c.self.invariant in
-    let old = c.deref_mut.result.now in
-    let old_before = c.deref_mut-2.result.now in
-    let own : old ≡ node.colours = c.deref_mut.ensures.value ∙ ap (λ (n : Node). n.colours) c.self.view_is in
-    let before : old_before ≡ node.before = c.deref_mut-2.ensures.value ∙ ap (λ (n : Node). n.before) c.self.view_is in
-    let room : length c.turn_all.new.colours ≡ c.self.inside.colours.len = search rules in
-    let kept_room : length c.turn_all.new.before ≡ c.self.inside.before.len = search rules in (
-      with_items_is c.self.inside.colours c.turn_all.new.colours room ∙
-          (c.turn_all.ensures.colours ∙ colours-are node c.args.reduction slots old old_before own before valid.3 c.hear_parents.new.parent_colours
-          c.hear_parents.ensures.parent_colours),
-      with_items_is c.self.inside.before c.turn_all.new.before kept_room ∙
-          (c.turn_all.ensures.before ∙ kept-are node c.args.reduction slots old old_before own before valid.3),
+    let old = colours_in c.self.inside.id c.self.inside.colours in
+    let old_before = before_in c.self.inside.colours in
+    let own : old ≡ node.colours = ap (λ (n : Node). n.colours) c.self.view_is in
+    let before : old_before ≡ node.before = ap (λ (n : Node). n.before) c.self.view_is in (
+      c.turn_all.ensures.colours ∙ colours-are node c.args.reduction slots old old_before own before valid.3 c.hear_parents.new.parent_colours
+          c.hear_parents.ensures.parent_colours,
+      c.turn_all.ensures.before ∙ kept-are node c.args.reduction slots old old_before own before valid.3,
     )
 
 worked : (c : After-turn_all) → record (the_view c.self.inside) {
-  colours = (with_items c.self.inside.colours c.turn_all.new.colours).items;
-  before =
-      (with_items c.self.inside.before c.turn_all.new.before).items;
+  colours = colours_in c.self.inside.id c.turn_all.new.self;
+  before = before_in c.turn_all.new.self;
 } ≡ record c.args.self.now {
   colours =
       next_colours c.args.self.now c.args.reduction c.args.inbox.now.slots;
@@ -65,16 +58,15 @@ worked : (c : After-turn_all) → record (the_view c.self.inside) {
 }
 worked c =
     let node = c.args.self.now in
-    let colours : List ℕ = (with_items c.self.inside.colours c.turn_all.new.colours).items in
-    let before : List ℕ = (with_items c.self.inside.before c.turn_all.new.before).items in
+    let colours : List ℕ = colours_in c.self.inside.id c.turn_all.new.self in
+    let before : List ℕ = before_in c.turn_all.new.self in
     ap (λ (n : Node). record n { colours = colours; before = before }) c.self.view_is
     ∙ (ap (λ (cs : List ℕ). record node { colours = cs; before = before }) (turned c).0
     ∙ ap (λ (cs : List ℕ). record node { colours = next_colours node c.args.reduction c.args.inbox.now.slots; before = cs }) (turned c).1)
 
 stays : (c : After-turn_all) → IsValid (record (the_view c.self.inside) {
-  colours = (with_items c.self.inside.colours c.turn_all.new.colours).items;
-  before =
-      (with_items c.self.inside.before c.turn_all.new.before).items;
+  colours = colours_in c.self.inside.id c.turn_all.new.self;
+  before = before_in c.turn_all.new.self;
 })
 stays c =
     let node = c.args.self.now in
