@@ -7,8 +7,6 @@ mod alpha_core_checks;
 #[cfg(test)]
 mod byte_functions_checks;
 #[cfg(test)]
-mod channel_plan_checks;
-#[cfg(test)]
 mod cole_vishkin_checks;
 #[cfg(test)]
 mod colour_program_checks;
