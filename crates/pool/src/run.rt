@@ -1,6 +1,6 @@
 //! A run of workers over the pool.
 
-ghost use Rattle.std.specs.Prelude.{◌≡◌, ◌≢◌, ◌<◌, ◌≤◌, ◌+◌, [], map, reverse, vec_len, length, IfOk, IfErr};
+ghost use Rattle.std.specs.Prelude.{◌≡◌, ◌≢◌, ◌<◌, ◌≤◌, ◌+◌, [], All, map, reverse, vec_len, length, IfOk, IfErr};
 ghost use Rattle.interference.specs.Net.{vertices};
 ghost use Rattle.crossbeam_queue.specs.Passes.{IsPassOf, ruled_capacity, view};
 ghost use Rattle.worker.specs.Hands.{AreSame, all_parts, hand};
@@ -16,7 +16,7 @@ use run_options::MAX_WORKERS;
 use std::alloc::{AllocError, Global};
 use std::sync::Wait;
 use std::thread;
-use std::thread::Threads;
+use std::thread::{PromisedHandle, Scope, Threads};
 use worker::{Crew, Gets, Gives, Parts, Places, Pool, PoolPass, Signals, Worked, work};
 
 // The pass of who starts the workers.
@@ -159,6 +159,70 @@ fn all_places<J: Wiring, P: NodeProgram>(
     Ok(all)
 }
 
+// Starts a worker in a thread of the scope.
+fn start<'s, E, J: Wiring + Send + Sync, P: NodeProgram, G: Gate + Sync, R: Threads + Wait + Sync>(
+    scope: &Scope<'s, E>,
+    rt: &'s R,
+    crew: &'s Crew<'s, J, P, G>,
+    pool: &'s Pool<J, P>,
+    worker: u32,
+    pass: PoolPass<J, P>,
+    places: Places<J, P>,
+    turns: u64,
+) -> Result<PromisedHandle<Worked<J, P>, OfPool<'s, J, P>>, PoolFault>
+    requires pass { IsPassOf pool.now pass × (view pass ≡ hand 1 []) }
+    requires room { length (vertices J.net) ≤ ruled_capacity pool.now }
+    ensures of { IfOk result (λ h. h.promise.0.now.table.shared.table_id ≡ pool.entry.now.table.shared.table_id) }
+    ensures fault { IfErr result (λ fault. fault ≢ BadOptions) }
+{
+    let started = scope.spawn_with(
+        OfPool(pool),
+        move || -> Worked<J, P>
+            requires { IsPassOf pool.now pass × (view pass ≡ hand 1 [])
+                × (length (vertices J.net) ≤ ruled_capacity pool.now) }
+            ensures { result.pass.table_id ≡ pool.entry.now.table.shared.table_id }
+        { work(rt, crew, pool, worker, pass, places, turns) },
+    );
+    match started {
+        Ok(child) => Ok(child),
+        Err(_) => {
+            crew.signals.fail();
+            Err(PoolFault::Spawn)
+        }
+    }
+}
+
+// All workers come back, each with its pass and its nodes.
+fn join_all<'s, J: Wiring, P: NodeProgram, R: Threads + Wait>(
+    rt: &R,
+    pool: &'s Pool<J, P>,
+    signals: &Signals,
+    mut chief: Chief<J, P>,
+    mut children: Vec<PromisedHandle<Worked<J, P>, OfPool<'s, J, P>>>,
+) -> Result<Chief<J, P>, PoolFault>
+    requires pool { chief.pass.table_id ≡ pool.now.table.shared.table_id }
+    requires parts { (view chief.pass).parts + vec_len children ≡ all_parts }
+    requires some { 0 < (view chief.pass).parts }
+    requires theirs { All (λ h. h.promise.0.now.table.shared.table_id ≡ pool.now.table.shared.table_id) children.items }
+    ensures pool { IfOk result (λ c. c.pass.table_id ≡ pool.entry.now.table.shared.table_id) }
+    ensures parts { IfOk result (λ c. (view c.pass).parts ≡ all_parts) }
+    ensures fault { IfErr result (λ fault. fault ≢ BadOptions) }
+{
+    for _ in 0..children.len() {
+        let Some(child) = children.pop() else {
+            unreachable!();
+        };
+        chief = match settle(pool, chief, child.join(rt)) {
+            Ok(joined) => joined,
+            Err(_) => {
+                signals.fail();
+                return Err(PoolFault::Memory);
+            }
+        };
+    }
+    Ok(chief)
+}
+
 /// Runs the nodes, given from the last vertex down, by so many workers, which make at most so many looks each, and
 /// returns each node once, in any order.
 ///
@@ -185,8 +249,13 @@ pub fn run_nodes<J: Wiring + Send + Sync, P: NodeProgram, G: Gate + Sync, R: Thr
     let places = all_places::<J, P>(alloc, count, workers)?;
     let first = fill(rt, &pool, pass, nodes);
     let signals = Signals::new();
-    let watch = &signals;
-    let all = &pool;
+    let crew = Crew {
+        links,
+        gate,
+        signals: &signals,
+        nodes: count as u64,
+    };
+    let (team, all) = (&crew, &pool);
     let last = thread::scope(
         thread::scope_env(),
         rt,
@@ -206,47 +275,13 @@ pub fn run_nodes<J: Wiring + Send + Sync, P: NodeProgram, G: Gate + Sync, R: Thr
                     unreachable!();
                 };
                 if children.reserve(1).is_err() {
-                    watch.fail();
+                    team.signals.fail();
                     return Err(PoolFault::Memory);
                 }
                 let theirs = hire(all, &mut chief);
-                let started = scope.spawn_with(
-                    OfPool(all),
-                    move || -> Worked<J, P>
-                        requires { IsPassOf all.now theirs × (view theirs ≡ hand 1 [])
-                            × (length (vertices J.net) ≤ ruled_capacity all.now) }
-                        ensures { result.pass.table_id ≡ all.entry.now.table.shared.table_id }
-                    {
-                        let crew = Crew {
-                            links,
-                            gate,
-                            signals: watch,
-                            nodes: count as u64,
-                        };
-                        work(rt, &crew, all, worker, theirs, mine, turns)
-                    },
-                );
-                match started {
-                    Ok(child) => children.push_reserved(child),
-                    Err(_) => {
-                        watch.fail();
-                        return Err(PoolFault::Spawn);
-                    }
-                }
+                children.push_reserved(start(scope, rt, team, all, worker, theirs, mine, turns)?);
             }
-            for _ in 0..workers {
-                let Some(child) = children.pop() else {
-                    unreachable!();
-                };
-                chief = match settle(all, chief, child.join(rt)) {
-                    Ok(joined) => joined,
-                    Err(_) => {
-                        watch.fail();
-                        return Err(PoolFault::Memory);
-                    }
-                };
-            }
-            Ok(chief)
+            join_all(rt, all, team.signals, chief, children)
         },
     )?;
     Ok(drain(rt, &pool, last)?)

@@ -16,11 +16,3 @@ invariant-loop-worker g l = record {
   places : vec_len l.places + l.worker ≡ l.workers;
   theirs : All (λ h. h.promise.0.now.table.shared.table_id ≡ l.all.table.shared.table_id) l.children.items;
 }
-
-abbrev pub invariant-loop : goal.invariant-loop
-invariant-loop g l = record {
-  of : l.chief.pass.table_id ≡ l.all.table.shared.table_id;
-  parts : (view l.chief.pass).parts + vec_len l.children ≡ all_parts;
-  count : vec_len l.children + l.counter ≡ l.workers;
-  theirs : All (λ h. h.promise.0.now.table.shared.table_id ≡ l.all.table.shared.table_id) l.children.items;
-}
