@@ -268,7 +268,7 @@ def clauses_of_crate(crate):
                         owner = head.group(1)
                         found.setdefault(owner, set())
                     clause = re.match(r"\s*(?:ensures|requires) (\w+) ", line)
-                    ghost = re.match(r"\s*ghost (\w+)\s*[:=]", line)
+                    ghost = re.match(r"\s*(?:pub )?ghost (\w+)\s*[:=]", line)
                     if owner and clause:
                         found[owner].add(clause.group(1))
                     if ghost:
