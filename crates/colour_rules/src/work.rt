@@ -21,8 +21,12 @@ use node_api::{Inbox, Outbox};
 // How many forests there are at most.
 const MAX_FORESTS: usize = MAX_DEGREE as usize;
 
-// Up to how many forests are few, so that a short list on the stack serves.
-const FEW_FORESTS: usize = 32;
+// Up to how many forests a shorter list on the stack serves, since it is cleared at each pulse of work.
+const FEW_FORESTS: usize = 4;
+
+const SOME_FORESTS: usize = 32;
+
+const MANY_FORESTS: usize = 128;
 
 impl ColourNode {
     // Numbers the ports to higher identifiers, and sends each parent the forest; `identifiers` are the
@@ -86,6 +90,12 @@ impl ColourNode {
         let forests = usize::from(self.forests);
         if forests <= FEW_FORESTS {
             let mut room = [None; FEW_FORESTS];
+            self.work_with(reduction, &mut room[..forests], inbox, out);
+        } else if forests <= SOME_FORESTS {
+            let mut room = [None; SOME_FORESTS];
+            self.work_with(reduction, &mut room[..forests], inbox, out);
+        } else if forests <= MANY_FORESTS {
+            let mut room = [None; MANY_FORESTS];
             self.work_with(reduction, &mut room[..forests], inbox, out);
         } else {
             let mut room = [None; MAX_FORESTS];
