@@ -192,7 +192,7 @@ def player_rows(draw, name, network):
         if f[1:2] == ["put"]:
             v, w = int(f[0]), int(f[2])
             puts[int(f[4]), net.number[frozenset((v, w))] if f[5] == "colour" else None] += 1
-    wrong = []
+    wrong, chosen_at, merged = [], choices_of(text), {}
     for _, caption, drawn in frames:
         pulse, forest = (int(x) if x else None for x in re.match(r"pulse (\d+) of \d+ · \w+(?: · forest (\d+))?", caption).groups())
         root = parsed(drawn)
@@ -203,9 +203,23 @@ def player_rows(draw, name, network):
         arrows = sum(bool(net.parent(forest, v)) for v in net.neighbours) if forest is not None else len(marks(root, "arrow"))
         if len(marks(root, "arrow")) != arrows:
             wrong.append((caption, "arrows"))
-    note(f"player of {name}: tokens and vertices of each frame", not wrong, wrong[:3])
+        merged |= chosen_at.get(pulse, {})
+        if pulse > 12 and [row[2] for row in numbered(root, "channel")] != [str(c + 1) for _, c in sorted(merged.items())]:
+            wrong.append((caption, "channels"))
+    note(f"player of {name}: tokens, vertices and channels of each frame", not wrong, wrong[:3])
     plan = [str(c + 1) for _, c in sorted(colours(net).items())]
     shown = [row[2] for row in numbered(parsed(frames[-1][2]), "channel")]
     note(f"player of {name}: it ends with the plan", shown == plan and f" of {last}" in frames[-1][1], shown)
     one = draw("player", network, text, "--frame", count - 1)
     note(f"player of {name}: one frame", frames[-1][2].split("\n", 1)[1].rsplit("\n", 1)[0] in one)
+
+
+def choices_of(text):
+    """{pulse: {vertex: colour chosen}} of a text of rounds."""
+    found, pulse = {}, None
+    for fields in map(str.split, text.decode().split("\n")):
+        if fields[:1] == ["pulse"]:
+            pulse = int(fields[1])
+        elif fields[1:2] == ["chose"]:
+            found.setdefault(pulse, {})[int(fields[0])] = int(fields[2])
+    return found

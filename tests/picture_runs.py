@@ -165,6 +165,9 @@ def node_rows(draw, name, network, text, v, first, last):
     for kind in ("put", "take"):
         wanted = Counter(f"{kind} {entry.what[0].lower()}" for _, entry, _ in moments if entry.kind == kind.title())
         note(f"timing of {name}: {kind}s", Counter(titles(root, kind)) == wanted, titles(root, kind))
+    wrong = [title(group) for kind in ("put", "take") for group in marks(root, kind)
+             if (group[1].get("fill"), group[1].get("stroke")) != fill_of(*title(group).split())]
+    note(f"timing of {name}: what is taken is full, what is put a ring", not wrong, wrong)
     ticks = sum(entry.kind == "Pulse" for _, entry, _ in moments)
     note(f"timing of {name}: ticks", len(marks(root, "tick")) == ticks, len(marks(root, "tick")))
     for at, lane in enumerate(marks(root, "lane")):
@@ -174,6 +177,11 @@ def node_rows(draw, name, network, text, v, first, last):
         base = ys[0] + 17 * wanted[0]
         note(f"timing of {name}: lane {at}", [round((base - y) / 17, 1) for y in ys] == wanted, wanted)
     note(f"timing of {name}: a lane for each port", len(marks(root, "lane")) == len(moments[0][2]))
+
+
+def fill_of(kind, wire):
+    hue = dict(zip(WIRES, ("#0072B2", "#9A9A9A", "#D55E00", "#111111")))[wire]
+    return (hue, None) if kind == "take" else ("#FFFFFF", hue)
 
 
 def tally_rows(draw, name, network, text):

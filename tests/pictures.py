@@ -24,6 +24,11 @@ from picture_runs import run_rows, whole_run_rows
 from plain_definition import network_of, plan_text
 
 EDGE, ROW = b"p edge 2 1\ne 1 2\n", b"p edge 4 3\ne 1 2\ne 2 3\ne 3 4\n"
+WRONG_NETWORKS = {
+    b"": b"(F1)", b"p edge 2 1\ne 1 2\np edge 2 1\n": b"(F2)", b"e 1 2\n": b"(F3)", b"p edge 2\n": b"(F4)", b"p edge 2 1\ne 1\n": b"(F4)",
+    b"p edge 2 1\ne 1 x\n": b"(F4)", b"p map 2 1\n": b"(F4)", b"p edge 2 1\ne 1 3\n": b"(F5)", b"p edge 2 1\ne 0 1\n": b"(F5)",
+    b"p edge 2 1\ne 1 1\n": b"(F6)", b"p edge 20001 0\n": b"(F7)", b"p edge 2 1\nq 1 2\n": b"(F8)", b"p edge 0 0\n": b"no node",
+}
 ALL_JOINED = b"p edge 8 28\n" + b"".join(
     b"e %d %d\nc at %d %d %d\n" % (v, w, v, v, v * v) for v in range(1, 9) for w in range(1, 9) if v != w)
 APART = b"p edge 5 3\ne 1 2\ne 2 3\ne 1 3\n"
@@ -40,11 +45,8 @@ def refused_rows(draw):
         for kind in ("plan", "matrix"):
             refused(f"{kind} of wrong plan {number_of}", draw.run(kind, petersen, text))
     refused("plan of one that is not proper", draw.run("plan", petersen, plan.replace(b"3 1", b"3 2")), b"matrix draws such a plan")
-    networks = [b"", b"e 1 2\n", b"p edge 2\n", b"p edge 2 1\ne 1 3\n", b"p edge 2 1\ne 1 1\n", b"p edge 2 1\nq 1 2\n",
-                b"p edge 2 1\ne 1 2\np edge 2 1\n",
-                b"p edge 20001 0\n", b"p edge 0 0\n", b"p edge 2 1\ne 1 x\n", b"p edge 2 1\ne 1\n"]
-    for number_of, network in enumerate(networks):
-        refused(f"wrong network {number_of}", draw.run("plan", network, b"plan\n"))
+    for network, code in WRONG_NETWORKS.items():
+        refused(f"the network {network}", draw.run("plan", network, b"plan\n"), code)
     source = random.Random(SEED)
     lines = rounds_text(network_of(star)).split(b"\n")
     for kind in ("forests", "rounds", "bits", "player"):
@@ -52,10 +54,25 @@ def refused_rows(draw):
             at = source.randrange(1, len(lines) - 1)
             changed = [change if k == at else line for k, line in enumerate(lines)]
             refused(f"{kind} of rounds with {change} for {lines[at]}", draw.run(kind, star, b"\n".join(changed)))
+        for at in source.sample([k for k, line in enumerate(lines) if line[-1:].isdigit()], 3):
+            changed = [line[:-1] + bytes([line[-1] ^ 1]) if k == at else line for k, line in enumerate(lines)]
+            refused(f"{kind} of rounds with another last digit in {lines[at]}", draw.run(kind, star, b"\n".join(changed)))
         refused(f"{kind} of half the rounds", draw.run(kind, star, b"\n".join(lines[:100])))
     for number_of in range(24):
         kind, mistake = ("run", "overview", "node", "tally")[number_of % 4], MISTAKES[number_of // 4 % 4]
         mistake_row(draw, source, f"{kind} of a transcript, {mistake} ({number_of})", kind, mistake)
+    other_payload_rows(draw, source)
+
+
+def other_payload_rows(draw, source):
+    """A payload that is put and taken with another number than the rounds have."""
+    lines = transcript(APART, "payloads").split(b"\n")
+    puts = [line for line in lines if re.fullmatch(rb"\d+ put \d+ payload \d+ (colour|chosen|label) \d+", line)]
+    for kind, put in zip(("run", "overview", "node", "tally"), source.sample(puts, 4)):
+        v, _, w, wire = put.split(b" ", 3)
+        other = wire[:-1] + bytes([wire[-1] ^ 1])
+        wrong = {put: b" ".join((v, b"put", w, other)), b" ".join((w, b"take", v, wire)): b" ".join((w, b"take", v, other))}
+        refused(f"{kind} with {other} for {wire}", draw.run(kind, APART, b"\n".join(wrong.get(line, line) for line in lines)))
 
 
 def mistake_row(draw, source, name, kind, mistake):
