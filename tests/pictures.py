@@ -65,14 +65,17 @@ def refused_rows(draw):
 
 
 def other_payload_rows(draw, source):
-    """A payload that is put and taken with another number than the rounds have."""
+    """A payload that is put and taken, or taken alone, with another number than the rounds have."""
     lines = transcript(APART, "payloads").split(b"\n")
     puts = [line for line in lines if re.fullmatch(rb"\d+ put \d+ payload \d+ (colour|chosen|label) \d+", line)]
     for kind, put in zip(("run", "overview", "node", "tally"), source.sample(puts, 4)):
         v, _, w, wire = put.split(b" ", 3)
         other = wire[:-1] + bytes([wire[-1] ^ 1])
-        wrong = {put: b" ".join((v, b"put", w, other)), b" ".join((w, b"take", v, wire)): b" ".join((w, b"take", v, other))}
-        refused(f"{kind} with {other} for {wire}", draw.run(kind, APART, b"\n".join(wrong.get(line, line) for line in lines)))
+        taken = {b" ".join((w, b"take", v, wire)): b" ".join((w, b"take", v, other))}
+        both = taken | {put: b" ".join((v, b"put", w, other))}
+        for wrong in (taken, both):
+            text = b"\n".join(wrong.get(line, line) for line in lines)
+            refused(f"{kind} with {other} for {wire} in {len(wrong)} lines", draw.run(kind, APART, text))
 
 
 def mistake_row(draw, source, name, kind, mistake):
