@@ -1,6 +1,6 @@
 #!/usr/bin/env python3
-"""Black-box tests of `forestplay events`: plays lists of events by the built program, and compares standard output, standard
-error and status byte by byte. The last line is 'N passed, M failed'.
+"""Black-box tests of `forestplay`: plays lists of events and transcripts by the built program, and compares standard output,
+standard error and status byte by byte. The last line is 'N passed, M failed'.
 
   events.py [--second BINARY] [PROGRAM]
       PROGRAM   default: the script `forestplay` at the top, which builds the program first
@@ -102,6 +102,42 @@ REFUSED = [
     (EDGE + "c|put 1 0||take 2 0|take 2 0|take 2 0|", "LinkEmpty line 7"), ("p edge 1 0|" + 13 * "pulse 1|", "NotReady line 14"),
     (TRIANGLE + 2 * (ALL_PUT + ALL_TAKE) + ALL_PUT + "take 1 0|pulse 1|", "NotReady line 36"),
 ]
+
+# the same of `replay`: (name, what stands behind the edge's lines, output)
+REPLAYED = [
+    ("no entry", "transcript 1 2|", "node 1 pulse 0|link 1 2 taken 0|node 2 pulse 0|link 2 1 taken 0|"),
+    ("a greeting", "transcript 1 2|1 put 2 payload 0 hello 1|2 take 1 payload 0 hello 1|2 put 1 payload 0 hello 2|2 put 1 ack 0|",
+     "node 1 pulse 0|link 1 2 taken 1|node 2 pulse 0|link 2 1 taken 0 payload 0 hello 2 ack 0|"),
+    ("an odd layout, with another number of nodes", "n 1|\t transcript 1  9 \r| \t||1 put 002 payload\t0 hello 01\r",
+     "node 1 pulse 0|link 1 2 taken 0 payload 0 hello 1|node 2 pulse 0|link 2 1 taken 0|"),
+]
+
+# (input, fault) of `replay`: faults of the text, of the network, of the reading of the transcript, of an entry, in this order
+GREETING = "1 put 2 payload 0 hello 1|"
+NOT_REPLAYED = [
+    ("", "F1"), ("transcript 1 2|", "F1"), (EDGE, "X1 line 1"), ("p edge 2 1|e 1 1|transcript 1 2|x|", "F6 line 2"),
+    (EDGE + "x|transcript 1 2|", "F8 line 3"), (EDGE + "transcripts 1 2|", "F8 line 3"),
+    ("p edge 1025 1024|" + "".join(f"e 1 {v}|" for v in range(2, 1026)) + "transcript 1 2|x|", "N1 vertex 1"),
+    (EDGE + "transcript|", "X1 line 3"), (EDGE + "transcript 1|", "X1 line 3"), (EDGE + "transcript 2 2|", "X1 line 3"),
+    (EDGE + "transcript 1 2 2|", "X1 line 3"), (EDGE + "transcript 1 2|transcript 1 2|", "X1 line 4"),
+    (EDGE + "transcript 1 2|1 pulse|", "X1 line 4"), (EDGE + "transcript 1 2||1 pulse 1 1|", "X1 line 5"),
+    (EDGE + "transcript 1 2|c|", "X1 line 4"), (EDGE + "transcript 1 2|1 take 2 close|1 pulse|", "X1 line 5"),
+    (EDGE + "transcript 1 2|1 put 2 payload 0 best 1|", "X1 line 4"), (EDGE + "transcript 1 2|4294967296 pulse 1|", "X1 line 4"),
+    (EDGE + "transcript 1 2|1 take 2 close|", "LinkEmpty line 4"), (EDGE + "transcript 1 2|1 put 2 safe 0|", "WrongWire line 4"),
+    (EDGE + "transcript 1 2|1 put 3 close|", "NoSuch line 4"), (EDGE + "transcript 1 2|1 pulse 1|", "NotReady line 4"),
+    (EDGE + "transcript 1 2|0 pulse 1|", "NoSuch line 4"), (EDGE + "transcript 1 2|3 pulse 1|", "NoSuch line 4"),
+    (EDGE + "transcript 1 2|1 put 1 close|", "NoSuch line 4"), (EDGE + "transcript 1 2|1 put 2 payload 0 hello 2|", "WrongWire line 4"),
+    (EDGE + "transcript 1 2||" + GREETING + "|1 put 2 ack 0|", "NothingToPut line 7"),
+    (EDGE + "transcript 1 2|" + GREETING + "2 take 1 payload 0 hello 2|", "WrongWire line 5"),
+    ("p edge 1 0|transcript 1 1|1 pulse 2|", "WrongWire line 3"), ("p edge 1 0|transcript 1 1|1 pulse 1|1 pulse 1|", "WrongWire line 4"),
+]
+
+
+def replay_rows(program):
+    for name, behind, output in REPLAYED:
+        expect(f"replay of {name}", run(program, text(EDGE + behind), ["replay"]), (0, text(output), b""))
+    for data, fault in NOT_REPLAYED:
+        expect(f"replay: {fault} of {data[-40:]!r}", run(program, text(data), ["replay"]), refusal(fault))
 
 
 def worked_rows(program):
@@ -212,15 +248,17 @@ def help_rows(program):
     """Each help text whole, as tests/texts/ has it, and the refusals of words."""
     for words, name in [(["--help"], "forestplay_help"), (["-h"], "forestplay_help_short"),
                         (["events", "--help"], "events_help"), (["events", "-h"], "events_help_short"),
+                        (["replay", "--help"], "replay_help"), (["replay", "-h"], "replay_help_short"),
                         (["rounds", "--help"], "rounds_help"), (["rounds", "-h"], "rounds_help_short")]:
         with open(os.path.join(TOP, "tests", "texts", name + ".txt"), "rb") as file:
             wanted = file.read()
         expect(f"help by {words}", run(program, b"no network", words), (0, wanted, b""))
     rows = [
-        ([], "'forestplay' requires a subcommand but one was not provided|  [subcommands: events, rounds]", "forestplay <COMMAND>"),
+        ([], "'forestplay' requires a subcommand but one was not provided|  [subcommands: events, replay, rounds]", "forestplay <COMMAND>"),
         (["plain"], "unrecognized subcommand 'plain'", "forestplay <COMMAND>"),
         (["help"], "unrecognized subcommand 'help'", "forestplay <COMMAND>"),
         (["events", "extra"], "unexpected argument 'extra' found", "forestplay events"),
+        (["replay", "extra"], "unexpected argument 'extra' found", "forestplay replay"),
         (["rounds", "extra"], "unexpected argument 'extra' found", "forestplay rounds"),
         ([b"\xff"], "unrecognized subcommand '\N{REPLACEMENT CHARACTER}'", "forestplay <COMMAND>"),
     ]
@@ -259,6 +297,10 @@ def memory_rows(program):
                              (EDGE + "put 1|", refusal("NoEvent line 3")), ("p edge 2 1|e 1 1|", refusal("F6 line 2"))]:
             row = sweep(program, front, ["events"], text(data), wanted, "forestplay")
             note(f"{row[0]} of {data[-30:]!r}", row[1], row[2])
+        name, behind, output = REPLAYED[1]
+        for data, wanted in [(EDGE + behind, (0, text(output), b"")), (EDGE + "transcript 1 2|1 put 2 safe 0|", refusal("WrongWire line 4"))]:
+            row = sweep(program, front, ["replay"], text(data), wanted, "forestplay")
+            note(f"replay: {row[0]} of {data[-30:]!r}", row[1], row[2])
 
 
 def main():
@@ -273,7 +315,7 @@ def main():
         note("the program builds", built.returncode == 0, built)
         program = os.path.join(TOP, "crates", "forestplay", "out", "forestplay")
     if TALLY["failed"] == 0:
-        for rows in (worked_rows, random_rows, ending_rows, help_rows, stream_rows, memory_rows):
+        for rows in (worked_rows, replay_rows, random_rows, ending_rows, help_rows, stream_rows, memory_rows):
             rows(program)
         if given.second:
             note("the second compiler built the program", os.path.isfile(given.second), given.second)

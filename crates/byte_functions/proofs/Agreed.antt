@@ -16,7 +16,7 @@ use Rattle.channel_plan.specs.declared.plan.CheckFault.{CheckFault}
 use Rattle.channel_plan.specs.declared.plan.CheckFault.TheVariants as check
 use Rattle.channel_plan.proofs.Blank.{graph-front}
 use Rattle.channel_plan.proofs.Proper.{fault-from}
-use Rattle.channel_plan.proofs.Splitting.{before-plan, last-line}
+use Rattle.channel_plan.proofs.Splitting.{before-text, last-line}
 use Rattle.channel_plan.proofs.Written.{plan-lines, written-read}
 use Rattle.byte_functions.specs.Answers.{IsPlainAnswer, network_with}
 use Rattle.byte_functions.specs.Faults.{fault_status}
@@ -47,7 +47,7 @@ agreed input answer (nodes, edges, graph, (ok, is, plan)) =
     let plan_is : lines_of answer ≡ (codes "plan" ∷ []) ∷ lines_of (rows_from 1 colours) = ap lines_of plan.rows ∙ plan-lines colours in
     let both : lines_of ((input ++ 10 ∷ []) ++ answer) ≡ lines ++ (codes "plan" ∷ []) ∷ lines_of (rows_from 1 colours) = lines-of-both input answer ∙
     ap (λ ls. lines ++ ls) plan_is in
-    let cut = before-plan lines (codes "plan" ∷ []) (lines_of (rows_from 1 colours)) refl (good-before lines front.good) in
+    let cut = before-text (codes "plan") lines (codes "plan" ∷ []) (lines_of (rows_from 1 colours)) refl (good-before lines front.good) in
     let channels : AreChannels net plan.colour = record { differ = plan.differ; within = plan.within } in
     record {
       nodes = nodes;
@@ -118,6 +118,7 @@ agreed-fault both (plan.Check fault) a (n, others, graph, (ok, is)) =
     is)
 agreed-fault both (plan.Pool fault) a is = absurd is
 agreed-fault both (plan.Event fault) a is = absurd is
+agreed-fault both (plan.Replay fault) a is = absurd is
 agreed-fault both plan.Stopped a is = absurd is
 agreed-fault both plan.Memory a is = refl
 

@@ -60,11 +60,11 @@ good-line before line good = good-by (begins_plan line) refl
     good-by true e = let wrong : Some (UnknownLine (number_after before)) ≡ None = sym (verdict-unknown before line (line-kind line e)) ∙ good in absurd cc
     good-by false e = e
 
-good-rest : (lines before rest : List Line) → AllGood lines → lines ≡ before ++ rest → AreBefore rest
-good-rest lines before [] good e = before-none
+good-rest : (lines before rest : List Line) → AllGood lines → lines ≡ before ++ rest → AreBefore (codes "plan") rest
+good-rest lines before [] good e = before-none (codes "plan")
 good-rest lines before (line ∷ rest) good e =
-    before-cons line rest (good-line before line (good before line rest e)) (good-rest lines (before ++ line ∷ []) rest good (e ∙
+    before-cons (codes "plan") line rest (good-line before line (good before line rest e)) (good-rest lines (before ++ line ∷ []) rest good (e ∙
     sym (append_assoc before (line ∷ []) rest)))
 
-pub good-before : (lines : List Line) → AllGood lines → AreBefore lines
+pub good-before : (lines : List Line) → AllGood lines → AreBefore (codes "plan") lines
 good-before lines good = good-rest lines [] lines good refl

@@ -7,3 +7,4 @@ pub mod Judging
 mod Playing
 mod Working
 mod Recording
+mod Replays

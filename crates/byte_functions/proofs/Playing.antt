@@ -38,6 +38,7 @@ fault-network input network (plan.Net fault) are (n, es, graph, is) = (n, es, gr
 fault-network input network (plan.Check fault) are is = absurd is
 fault-network input network (plan.Pool fault) are is = absurd is
 fault-network input network (plan.Event fault) are is = absurd is
+fault-network input network (plan.Replay fault) are is = absurd is
 fault-network input network plan.Stopped are is = absurd is
 fault-network input network plan.Memory are is = tt
 

@@ -68,6 +68,7 @@ workers-fault input net o (plan.Col fault) read is = absurd is
 workers-fault input net o (plan.Net fault) read is = absurd is
 workers-fault input net o (plan.Check fault) read is = absurd is
 workers-fault input net o (plan.Event fault) read is = absurd is
+workers-fault input net o (plan.Replay fault) read is = absurd is
 workers-fault input net o plan.Memory read is = absurd is
 
 -- ---- the plan

@@ -30,6 +30,7 @@ IsFaultOfText text (plan.Net fault) = ReadsAs text (λ net. IsFaultOf net fault)
 IsFaultOfText text (plan.Pool fault) = ⊥
 IsFaultOfText text (plan.Check fault) = ⊥
 IsFaultOfText text (plan.Event fault) = ⊥
+IsFaultOfText text (plan.Replay fault) = ⊥
 IsFaultOfText text plan.Stopped = ⊥
 IsFaultOfText text plan.Memory = Unit {0}
 

@@ -39,5 +39,6 @@ IsFaultOfEvents input (plan.Pool fault) = ⊥
 IsFaultOfEvents input (plan.Check fault) = ⊥
 IsFaultOfEvents input (plan.Event fault) = LinesReadAs (network_lines (lines_of input))
     (λ net. IsNetwork net × IsFaultOfEventLines net (lines_of input) fault)
+IsFaultOfEvents input (plan.Replay fault) = ⊥
 IsFaultOfEvents input plan.Stopped = ⊥
 IsFaultOfEvents input plan.Memory = Unit {0}

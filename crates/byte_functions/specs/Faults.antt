@@ -7,7 +7,8 @@ use Rattle.pool.specs.declared.fault.PoolFault.TheVariants as pool
 use Rattle.channel_plan.specs.declared.plan.CheckFault.TheVariants as check
 use Rattle.event_texts.specs.declared.fault.EventFault.TheVariants as event
 use Rattle.byte_functions.specs.declared.fault.PlanFault.{PlanFault}
-use Rattle.byte_functions.specs.declared.fault.PlanFault.TheVariants.{Check, Col, Event, Net, Memory, Pool, Stopped}
+use Rattle.byte_functions.specs.declared.fault.PlanFault.TheVariants.{Check, Col, Event, Net, Memory, Pool, Replay, Stopped}
+use Rattle.byte_functions.specs.declared.replaying.ReplayFault.TheVariants as replay
 
 -- a code, and the line of the input that has the fault
 abbrev pub at_line : List ℕ → ℕ → List ℕ
@@ -51,6 +52,13 @@ fault_text (Event (event.NothingToPut n)) = (at_line (codes "NothingToPut") n, 1
 fault_text (Event (event.LinkEmpty n)) = (at_line (codes "LinkEmpty") n, 1)
 fault_text (Event (event.NoSuch n)) = (at_line (codes "NoSuch") n, 1)
 fault_text (Event event.Memory) = (codes "memory", 4)
+fault_text (Replay (replay.Syntax n)) = (at_line (codes "X1") n, 1)
+fault_text (Replay (replay.NotReady n)) = (at_line (codes "NotReady") n, 1)
+fault_text (Replay (replay.NothingToPut n)) = (at_line (codes "NothingToPut") n, 1)
+fault_text (Replay (replay.LinkEmpty n)) = (at_line (codes "LinkEmpty") n, 1)
+fault_text (Replay (replay.NoSuch n)) = (at_line (codes "NoSuch") n, 1)
+fault_text (Replay (replay.WrongWire n)) = (at_line (codes "WrongWire") n, 1)
+fault_text (Replay replay.Memory) = (codes "memory", 4)
 fault_text Stopped = (codes "stopped", 3)
 fault_text Memory = (codes "memory", 4)
 

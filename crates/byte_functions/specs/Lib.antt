@@ -5,5 +5,6 @@ pub mod Answers
 pub mod Verdicts
 pub mod EventAnswers
 pub mod RoundAnswers
+pub mod ReplayAnswers
 pub mod Workers
 pub mod Transcripts

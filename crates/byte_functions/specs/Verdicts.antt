@@ -40,5 +40,6 @@ IsFaultOfCheck input (plan.Pool fault) = ⊥
 IsFaultOfCheck input (plan.Check fault) = LinesReadAs (network_lines (lines_of input))
     (λ net. IsNetwork net × IsFaultOfPlanText net (plan_lines (lines_of input)) fault)
 IsFaultOfCheck input (plan.Event fault) = ⊥
+IsFaultOfCheck input (plan.Replay fault) = ⊥
 IsFaultOfCheck input plan.Stopped = ⊥
 IsFaultOfCheck input plan.Memory = Unit {0}

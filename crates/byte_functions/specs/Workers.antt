@@ -26,6 +26,7 @@ IsFaultOfRun options (plan.Net fault) = ⊥
 IsFaultOfRun options (plan.Pool fault) = IsFaultOfPool options fault
 IsFaultOfRun options (plan.Check fault) = ⊥
 IsFaultOfRun options (plan.Event fault) = ⊥
+IsFaultOfRun options (plan.Replay fault) = ⊥
 IsFaultOfRun options plan.Stopped = AreInRange options
 IsFaultOfRun options plan.Memory = ⊥
 
@@ -36,5 +37,6 @@ IsFaultOfWorkers options input (plan.Net fault) = ReadsAs input (λ net. IsFault
 IsFaultOfWorkers options input (plan.Pool fault) = ReadsAs input IsNetwork × IsFaultOfPool options fault
 IsFaultOfWorkers options input (plan.Check fault) = ⊥
 IsFaultOfWorkers options input (plan.Event fault) = ⊥
+IsFaultOfWorkers options input (plan.Replay fault) = ⊥
 IsFaultOfWorkers options input plan.Stopped = ReadsAs input IsNetwork × AreInRange options
 IsFaultOfWorkers options input plan.Memory = Unit {0}

@@ -2,7 +2,9 @@
 
 ghost use Rattle.std.specs.Prelude.{◌≡◌};
 ghost use Rattle.byte_functions.specs.declared.fault.PlanFault.TheVariants.{Check, Col, Event, Net, Memory, Pool};
+ghost use Rattle.byte_functions.specs.declared.fault.PlanFault.TheVariants.{Replay};
 
+use crate::replaying::ReplayFault;
 use channel_plan::CheckFault;
 use dimacs_col::ColFault;
 use event_texts::EventFault;
@@ -22,6 +24,8 @@ pub enum PlanFault {
     Check(CheckFault),
     /// The events that follow it are refused.
     Event(EventFault),
+    /// The transcript that follows it is refused.
+    Replay(ReplayFault),
     /// The workers stopped, and not every node was done.
     Stopped,
     /// Memory ran out.
@@ -65,6 +69,14 @@ impl From<EventFault> for PlanFault {
 
     fn from(fault: EventFault) -> PlanFault {
         PlanFault::Event(fault)
+    }
+}
+
+impl From<ReplayFault> for PlanFault {
+    ghost from_gives = { λ fault result. result ≡ Replay fault };
+
+    fn from(fault: ReplayFault) -> PlanFault {
+        PlanFault::Replay(fault)
     }
 }
 

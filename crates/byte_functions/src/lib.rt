@@ -2,8 +2,8 @@
 //! an answer, and the report of each fault. It names no stream, no command line and no system, so that a test or
 //! another program calls the same functions.
 //!
-//! `serving` calls `forest_bytes`, `plain_bytes`, `plan_bytes`, `transcript_bytes`, `check_bytes`,
-//! `events_bytes` or `rounds_bytes` for a command, and `fault_report` if they fail.
+//! `serving` calls `forest_bytes`, `plain_bytes`, `plan_bytes`, `transcript_bytes`, `check_bytes`, `events_bytes`,
+//! `replay_bytes` or `rounds_bytes` for a command, and `fault_report` if they fail.
 //!
 //! ```
 //! let text = b"p edge 3 3\ne 1 2\ne 1 3\ne 2 3\n";
@@ -20,6 +20,7 @@ mod fault;
 mod forests_text;
 pub mod laws;
 mod plan_text;
+mod replaying;
 mod report;
 mod rounds;
 mod transcript;
@@ -30,6 +31,7 @@ pub use answer::{forest_bytes, plain_bytes};
 pub use events::events_bytes;
 pub use fault::PlanFault;
 pub use node_pool::{Gate, OpenGate, Options, PoolFault};
+pub use replaying::{ReplayFault, replay_bytes};
 pub use report::{FaultReport, fault_report};
 pub use rounds::rounds_bytes;
 pub use transcript::transcript_bytes;

@@ -2,9 +2,10 @@
 
 ghost use Rattle.std.specs.Prelude.{◌≡◌, IfOk, codes, string_bytes};
 ghost use Rattle.byte_functions.specs.Faults.{at_line, at_vertex, at_vertices, fault_line, fault_status, line_with};
-ghost use Rattle.byte_functions.specs.declared.fault.PlanFault.TheVariants.{Check, Col, Event, Net, Pool};
+ghost use Rattle.byte_functions.specs.declared.fault.PlanFault.TheVariants.{Check, Col, Event, Net, Pool, Replay};
 
 use crate::fault::PlanFault;
+use crate::replaying::ReplayFault;
 use channel_plan::CheckFault;
 use dimacs_col::ColFault;
 use event_texts::EventFault;
@@ -168,6 +169,25 @@ fn report_of_events(alloc: Global, name: &str, fault: EventFault) -> Result<Faul
     }
 }
 
+fn report_of_replay(
+    alloc: Global,
+    name: &str,
+    fault: ReplayFault,
+) -> Result<FaultReport, AllocError>
+    ensures line { IfOk result (λ report. string_bytes report.line ≡ fault_line name.now (Replay fault)) }
+    ensures status { IfOk result (λ report. report.status ≡ fault_status (Replay fault)) }
+{
+    match fault {
+        ReplayFault::Syntax(n) => refusal_at_line(alloc, name, "X1", n),
+        ReplayFault::NotReady(n) => refusal_at_line(alloc, name, "NotReady", n),
+        ReplayFault::NothingToPut(n) => refusal_at_line(alloc, name, "NothingToPut", n),
+        ReplayFault::LinkEmpty(n) => refusal_at_line(alloc, name, "LinkEmpty", n),
+        ReplayFault::NoSuch(n) => refusal_at_line(alloc, name, "NoSuch", n),
+        ReplayFault::WrongWire(n) => refusal_at_line(alloc, name, "WrongWire", n),
+        ReplayFault::Memory => memory_report(alloc, name),
+    }
+}
+
 /// The line and the status with which a program of a name reports a fault.
 ///
 /// # Errors
@@ -182,6 +202,7 @@ pub fn fault_report(alloc: Global, name: &str, fault: PlanFault) -> Result<Fault
         PlanFault::Pool(fault) => report_of_pool(alloc, name, fault),
         PlanFault::Check(fault) => report_of_check(alloc, name, fault),
         PlanFault::Event(fault) => report_of_events(alloc, name, fault),
+        PlanFault::Replay(fault) => report_of_replay(alloc, name, fault),
         PlanFault::Stopped => report_with(alloc, name, "stopped", STOPPED),
         PlanFault::Memory => memory_report(alloc, name),
     }

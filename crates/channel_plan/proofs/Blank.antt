@@ -10,7 +10,7 @@ use Rattle.dimacs_col.specs.declared.fault.ColFault.TheVariants.{BadField, Verte
 use Rattle.dimacs_col.specs.declared.fault.ColFault.TheVariants.{UnknownLine, Memory}
 use Rattle.dimacs_col.proofs.Lists.{edges_of-same, last-or-before, nodes_of-same}
 use Rattle.dimacs_col.proofs.Verdicts.{verdict-skipped}
-use Rattle.channel_plan.specs.Split.{AreNetworkLines, network_lines}
+use Rattle.channel_plan.specs.Split.{AreLinesBefore, lines_before}
 
 no-nodes : nodes_of ([] ∷ []) ≡ None
 unfolding nodes_of
@@ -50,12 +50,13 @@ fault-front lines (SelfLoop n) is = first-front lines (SelfLoop n) is
 fault-front lines (TooLarge n) is = first-front lines (TooLarge n) is
 fault-front lines (UnknownLine n) is = first-front lines (UnknownLine n) is
 
--- the same of the lines of a network text
-pub graph-of : (lines network : List Line) (nodes : ℕ) (edges : List (ℕ × ℕ)) → AreNetworkLines lines network → IsGraph network nodes edges →
-    IsGraph (network_lines lines) nodes edges
-graph-of lines network nodes edges (inl same) is = subst (λ ls. IsGraph ls nodes edges) same is
-graph-of lines network nodes edges (inr more) is = graph-front (network_lines lines) nodes edges (subst (λ ls. IsGraph ls nodes edges) more is)
+-- the same of the lines before a text that begins with a word
+pub graph-of : (word : List ℕ) (lines network : List Line) (nodes : ℕ) (edges : List (ℕ × ℕ)) → AreLinesBefore word lines network →
+    IsGraph network nodes edges → IsGraph (lines_before word lines) nodes edges
+graph-of word lines network nodes edges (inl same) is = subst (λ ls. IsGraph ls nodes edges) same is
+graph-of word lines network nodes edges (inr more) is = graph-front (lines_before word lines) nodes edges (subst (λ ls. IsGraph ls nodes edges) more is)
 
-pub fault-of : (lines network : List Line) (fault : ColFault) → AreNetworkLines lines network → IsFault network fault → IsFault (network_lines lines) fault
-fault-of lines network fault (inl same) is = subst (λ ls. IsFault ls fault) same is
-fault-of lines network fault (inr more) is = fault-front (network_lines lines) fault (subst (λ ls. IsFault ls fault) more is)
+pub fault-of : (word : List ℕ) (lines network : List Line) (fault : ColFault) → AreLinesBefore word lines network → IsFault network fault →
+    IsFault (lines_before word lines) fault
+fault-of word lines network fault (inl same) is = subst (λ ls. IsFault ls fault) same is
+fault-of word lines network fault (inr more) is = fault-front (lines_before word lines) fault (subst (λ ls. IsFault ls fault) more is)

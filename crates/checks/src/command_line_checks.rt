@@ -12,6 +12,7 @@ fn knows_the_commands(rt: HostRuntime) -> Result<(), Fail> {
         (Program::Forestplan, "plain", Request::Plain),
         (Program::Forestplan, "check", Request::Check),
         (Program::Forestplay, "events", Request::Events),
+        (Program::Forestplay, "replay", Request::Replay),
         (Program::Forestplay, "rounds", Request::Rounds),
     ] {
         assert!(rt;

@@ -22,7 +22,7 @@ use Rattle.command_line.specs.declared.program.Program.TheVariants.{Forestplan, 
 use Rattle.command_line.specs.declared.request.Declined.{Declined}
 use Rattle.command_line.specs.declared.request.Declined.TheVariants as given
 use Rattle.command_line.specs.declared.request.Request.{Request}
-use Rattle.command_line.specs.declared.request.Request.TheVariants.{Check, Events, Forests, Plain, Plan, Rounds, Transcript}
+use Rattle.command_line.specs.declared.request.Request.TheVariants.{Check, Events, Forests, Plain, Plan, Replay, Rounds, Transcript}
 
 pub line_is_free : (program : Program) → is_simple_and_free (line program) ≡ true
 unfolding clap_on_literals
@@ -78,7 +78,7 @@ entered_known program None none h = cc
 entered_known Forestplan (Some p) none h = found (λ x. answers_to p.0 (label_of x)) p.1 (built (line Forestplan)).subs
     ((λ words e. (Forests, refl, tt)), ((λ words e. (Plain, refl, tt)), (plan_has_request _ refl refl, (transcript_has_request _ refl refl, ((λ words e. (Check, refl, tt)), tt))))) none h
 entered_known Forestplay (Some p) none h = found (λ x. answers_to p.0 (label_of x)) p.1 (built (line Forestplay)).subs
-    ((λ words e. (Events, refl, tt)), ((λ words e. (Rounds, refl, tt)), tt)) none h
+    ((λ words e. (Events, refl, tt)), ((λ words e. (Replay, refl, tt)), ((λ words e. (Rounds, refl, tt)), tt))) none h
 
 out_of_memory_is_no_help : OutOfMemory ≢ DisplayHelp
 out_of_memory_is_no_help same = cc

@@ -13,7 +13,8 @@ use Rattle.command_line.specs.declared.program.Program.{Program}
 use Rattle.command_line.specs.declared.request.Declined.{Declined}
 use Rattle.command_line.specs.declared.request.Declined.TheVariants as declined
 use Rattle.command_line.specs.declared.request.Request.{Request}
-use Rattle.command_line.specs.declared.request.Request.TheVariants.{Check, Events, Forests, Plain, Plan, Rounds, Transcript}
+use Rattle.command_line.specs.declared.request.Request.TheVariants.{Check, Events, Forests, Plain, Plan, Replay, Rounds}
+use Rattle.command_line.specs.declared.request.Request.TheVariants.{Transcript}
 
 -- what the command of a name asks for, given the values of its options; each command is a line
 abbrev pub named : Text → List Row → Option Request
@@ -24,6 +25,7 @@ named name rows =
     else if bytes_eq name (codes "transcript") then option_map Transcript (options_of true rows)
     else if bytes_eq name (codes "check") then Some Check
     else if bytes_eq name (codes "events") then Some Events
+    else if bytes_eq name (codes "replay") then Some Replay
     else if bytes_eq name (codes "rounds") then Some Rounds
     else None
 

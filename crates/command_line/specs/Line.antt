@@ -35,11 +35,12 @@ abbrev pub with_plan_commands : App → App
 with_plan_commands program =
     with_subcommand (with_worker_commands (with_network_commands program)) (new_app (codes "check")).top
 
--- the commands for lessons
+-- the commands for lessons, each a line; none has options
 abbrev pub with_play_commands : App → App
 with_play_commands program =
     let with_events : App = with_subcommand program (new_app (codes "events")).top in
-    with_subcommand with_events (new_app (codes "rounds")).top
+    let with_replay : App = with_subcommand with_events (new_app (codes "replay")).top in
+    with_subcommand with_replay (new_app (codes "rounds")).top
 
 -- the whole command line of a program
 abbrev pub line : Program → App

@@ -299,6 +299,52 @@ prints
   link 2 1 taken 0 payload 0 hello 2",
 };
 
+pub const REPLAY: Help = Help {
+    about: "Replays a transcript, and prints where it leads",
+    long_about: "Replays a transcript, and prints where it leads.
+
+`forestplan transcript` writes what each node did in a run of worker threads. Such
+entries, whoever wrote them, are played here in the order in which they stand, by
+the machine that plays events. Nothing is taken on trust: each entry has to be
+possible, and its pulse or wire has to be the one that the node comes to there.",
+    format: "Input: a graph in the DIMACS format, as `p edge NODES EDGES` and then `e V W`, and
+behind it a transcript, a line each:
+  transcript 1 NODES   the first line
+  V pulse P            node V made pulse P
+  V put W WIRE         V put a wire on its link to its neighbour W
+  V take W WIRE        V took a wire from the link of its neighbour W
+where WIRE is `payload P WORD NUMBER`, `ack P`, `safe P` or `close`, as
+`forestplan transcript --help` says. The transcript begins at the first line whose
+first field is `transcript`. From there empty lines are skipped. NODES is not
+compared with the graph.
+
+The transcripts of forestplan list all entries of node 1, then those of node 2, and
+so on. If two nodes are neighbours that is no order in which they are possible;
+tests/check_transcript.py --order puts them into one.
+
+Output: the state, as `forestplay events` prints it.
+
+Faults of the transcript, reported once the graph has none, each as
+`forestplay: LinkEmpty line 5`, where lines count from the first of the graph:
+  X1            the line is none of a transcript, or, as line 1, there is none
+  NoSuch        there is no such node, or the other is no neighbour
+  NotReady      the node cannot make its next pulse yet
+  NothingToPut  the out-list is empty
+  LinkEmpty     no wire of the neighbour waits
+  WrongWire     the node comes to another pulse or wire than the entry has
+The first line that is X1 is looked for first. If there is none, the first entry
+that is refused is reported.
+
+Example: node 1 puts its greeting for node 2
+  printf 'p edge 2 1\\ne 1 2\\ntranscript 1 2\\n1 put 2 payload 0 hello 1\\n' |
+    forestplay replay
+prints
+  node 1 pulse 0
+  link 1 2 taken 0 payload 0 hello 1
+  node 2 pulse 0
+  link 2 1 taken 0",
+};
+
 pub const ROUNDS: Help = Help {
     about: "Prints the rounds in which the nodes find their channels",
     long_about: "Prints the rounds in which the nodes find their channels.

@@ -10,6 +10,7 @@
 //!     Ok(Request::Forests) => ..,
 //!     Ok(Request::Check) => ..,
 //!     Ok(Request::Events) => ..,
+//!     Ok(Request::Replay) => ..,
 //!     Err(Declined::Help(text)) => ..,
 //!     Err(Declined::Refused(text)) => ..,
 //!     Err(Declined::Memory) => ..,

@@ -97,6 +97,7 @@ fn with_play_commands<'a>(alloc: Global, program: Command<'a>) -> Result<Command
     ensures local { IfOk result (λ c. (out-Command c).has_globals ≡ false) }
 {
     let program = with_command(program, command(alloc, "events", help::EVENTS))?;
+    let program = with_command(program, command(alloc, "replay", help::REPLAY))?;
     with_command(program, command(alloc, "rounds", help::ROUNDS))
 }
 

@@ -27,6 +27,8 @@ pub enum Request {
     Check,
     /// The state that events lead to.
     Events,
+    /// The state that the entries of a transcript lead to.
+    Replay,
     /// The rounds of a network, pulse by pulse.
     Rounds,
 }
@@ -52,6 +54,7 @@ fn request_named(name: &str, matches: &ArgMatches<'_>) -> Option<Request>
         "transcript" => Some(Request::Transcript(options_of(matches, true)?)),
         "check" => Some(Request::Check),
         "events" => Some(Request::Events),
+        "replay" => Some(Request::Replay),
         "rounds" => Some(Request::Rounds),
         _ => None,
     }

@@ -3,7 +3,7 @@ use Rattle.std.proofs.Common.{◌≡◌, ◌⊎◌, ℕ, List, None, Ok, Err, in
 use Rattle.command_line.specs.Line.{name_of}
 use Rattle.command_line.specs.declared.program.Program.{Program}
 use Rattle.command_line.specs.declared.request.Request.{Request}
-use Rattle.command_line.specs.declared.request.Request.TheVariants.{Check, Events, Forests, Plain, Plan, Rounds, Transcript}
+use Rattle.command_line.specs.declared.request.Request.TheVariants.{Check, Events, Forests, Plain, Plan, Replay, Rounds, Transcript}
 use Rattle.serving.specs.Answers.{MayAnswer}
 use Rattle.byte_functions.specs.Faults.{fault_line, fault_status}
 use Rattle.command_line.specs.Asked.{request_of}
@@ -25,6 +25,7 @@ memory-may (Plan options) input = (tt, λ e. cc)
 memory-may (Transcript options) input = (tt, λ e. cc)
 memory-may Check input = tt
 memory-may Events input = tt
+memory-may Replay input = tt
 memory-may Rounds input = tt
 
 -- where there is no memory for a fault's line, the answer is the fault of memory

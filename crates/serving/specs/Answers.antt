@@ -3,6 +3,7 @@ use Rattle.std.specs.Prelude.{◌≢◌, ℕ, List, Result, Ok, Err}
 use Rattle.pool.specs.declared.fault.PoolFault.TheVariants.{BadOptions}
 use Rattle.byte_functions.specs.Answers.{IsFaultOfText, IsForestsAnswer, IsPlainAnswer}
 use Rattle.byte_functions.specs.EventAnswers.{IsEventsAnswer, IsFaultOfEvents}
+use Rattle.byte_functions.specs.ReplayAnswers.{IsFaultOfReplay, IsReplayAnswer}
 use Rattle.byte_functions.specs.RoundAnswers.{IsRoundsAnswer}
 use Rattle.byte_functions.specs.Transcripts.{IsTranscriptAnswer}
 use Rattle.byte_functions.specs.Verdicts.{IsCheckAnswer, IsFaultOfCheck}
@@ -10,7 +11,7 @@ use Rattle.byte_functions.specs.Workers.{IsFaultOfWorkers}
 use Rattle.byte_functions.specs.declared.fault.PlanFault.{PlanFault}
 use Rattle.byte_functions.specs.declared.fault.PlanFault.TheVariants.{Pool}
 use Rattle.command_line.specs.declared.request.Request.{Request}
-use Rattle.command_line.specs.declared.request.Request.TheVariants.{Check, Events, Forests, Plain, Plan, Rounds, Transcript}
+use Rattle.command_line.specs.declared.request.Request.TheVariants.{Check, Events, Forests, Plain, Plan, Replay, Rounds, Transcript}
 
 -- the answer of each command to a good input, a line for each
 abbrev pub IsGoodAnswer : Request → List ℕ → List ℕ → Type 0
@@ -20,6 +21,7 @@ IsGoodAnswer (Plan options) input answer = IsPlainAnswer input answer
 IsGoodAnswer (Transcript options) input answer = IsTranscriptAnswer input answer
 IsGoodAnswer Check input answer = IsCheckAnswer input answer
 IsGoodAnswer Events input answer = IsEventsAnswer input answer
+IsGoodAnswer Replay input answer = IsReplayAnswer input answer
 IsGoodAnswer Rounds input answer = IsRoundsAnswer input answer
 
 -- the fault of an input for each command, a line for each; the options of a command line are never out of range
@@ -30,6 +32,7 @@ IsFaultAnswer (Plan options) input fault = IsFaultOfWorkers options input fault 
 IsFaultAnswer (Transcript options) input fault = IsFaultOfWorkers options input fault × (fault ≢ Pool BadOptions)
 IsFaultAnswer Check input fault = IsFaultOfCheck input fault
 IsFaultAnswer Events input fault = IsFaultOfEvents input fault
+IsFaultAnswer Replay input fault = IsFaultOfReplay input fault
 IsFaultAnswer Rounds input fault = IsFaultOfText input fault
 
 -- the bytes that a command may answer, or its fault

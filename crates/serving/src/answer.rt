@@ -6,7 +6,7 @@ ghost use Rattle.serving.specs.Answers.{MayAnswer};
 
 use byte_functions::{
     OpenGate, PlanFault, check_bytes, events_bytes, forest_bytes, plain_bytes, plan_bytes,
-    rounds_bytes, transcript_bytes,
+    replay_bytes, rounds_bytes, transcript_bytes,
 };
 use command_line::Request;
 use std::alloc::Global;
@@ -35,6 +35,7 @@ pub fn answer_bytes<T: Threads + Wait + Sync>(
         Request::Transcript(options) => transcript_bytes(rt, alloc, input, options, &OpenGate),
         Request::Check => check_bytes(alloc, input),
         Request::Events => events_bytes(alloc, input),
+        Request::Replay => replay_bytes(alloc, input),
         Request::Rounds => rounds_bytes(alloc, input),
     }
 }

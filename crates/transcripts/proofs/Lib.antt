@@ -5,3 +5,4 @@ pub mod Readings
 pub mod Spaced
 pub mod Written
 pub mod Texts
+pub mod Numbered

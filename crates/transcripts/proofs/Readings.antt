@@ -3,7 +3,7 @@ use Rattle.std.proofs.Common.{◌≡◌, ◌+◌, ◌++◌, ◌∷◌, [], ◌�
 use Rattle.dimacs_col.specs.Lines.{Line}
 use Rattle.transcripts.specs.EntryLines.{header_of, row_of}
 use Rattle.transcripts.specs.Reader.{IsSyntaxFault}
-use Rattle.transcripts.specs.Reading.{IsFaultOfReading, Transcript, known_after, read_at_end, read_from}
+use Rattle.transcripts.specs.Reading.{IsFaultOf, Transcript, known_after, read_at_end, read_from}
 use Rattle.transcripts.specs.TranscriptText.{Row}
 use Rattle.transcripts.specs.declared.fault.TextFault.{TextFault}
 use Rattle.transcripts.specs.declared.fault.TextFault.TheVariants.{Memory, Syntax}
@@ -44,31 +44,31 @@ module _ {M : Type 0} (payload_of : List ℕ → ℕ → Option M) where
   unfolding read_from
   read-one n known line lines = refl
 
-  pub read-more : (before : List Line) (n : ℕ) (known next : Option (Transcript M)) (line : Line) →
-      ((rest : List Line) → read_from payload_of 1 None (before ++ rest) ≡ read_from payload_of n known rest) →
-      known_after payload_of known line ≡ Some next → (rest : List Line) →
-      read_from payload_of 1 None ((before ++ line ∷ []) ++ rest) ≡ read_from payload_of (n + 1) next rest
-  read-more before n known next line h e rest =
-      ap (read_from payload_of 1 None) (append_assoc before (line ∷ []) rest) ∙ h (line ∷ rest) ∙ read-one n known line rest ∙ ap (then_read n rest) e
+  -- reading from a line on, and what is known after the lines before
+  abbrev pub LeadsTo : ℕ → List Line → ℕ → Option (Transcript M) → Type 0
+  LeadsTo start before n known = (rest : List Line) → read_from payload_of start None (before ++ rest) ≡ read_from payload_of n known rest
 
-  pub read-wrong : (before : List Line) (n : ℕ) (known : Option (Transcript M)) (line : Line) →
-      ((rest : List Line) → read_from payload_of 1 None (before ++ rest) ≡ read_from payload_of n known rest) →
-      known_after payload_of known line ≡ None → (rest : List Line) → read_from payload_of 1 None (before ++ line ∷ rest) ≡ Err n
-  read-wrong before n known line h e rest = h (line ∷ rest) ∙ read-one n known line rest ∙ ap (then_read n rest) e
+  pub read-more : (start : ℕ) (before : List Line) (n : ℕ) (known next : Option (Transcript M)) (line : Line) → LeadsTo start before n known →
+      known_after payload_of known line ≡ Some next → LeadsTo start (before ++ line ∷ []) (n + 1) next
+  read-more start before n known next line h e rest =
+      ap (read_from payload_of start None) (append_assoc before (line ∷ []) rest) ∙ h (line ∷ rest) ∙ read-one n known line rest ∙ ap (then_read n rest) e
 
-  pub read-end : (lines before : List Line) (n : ℕ) (known : Option (Transcript M)) → before ≡ lines →
-      ((rest : List Line) → read_from payload_of 1 None (before ++ rest) ≡ read_from payload_of n known rest) →
-      read_from payload_of 1 None lines ≡ read_at_end payload_of known
+  pub read-wrong : (start : ℕ) (before : List Line) (n : ℕ) (known : Option (Transcript M)) (line : Line) → LeadsTo start before n known →
+      known_after payload_of known line ≡ None → (rest : List Line) → read_from payload_of start None (before ++ line ∷ rest) ≡ Err n
+  read-wrong start before n known line h e rest = h (line ∷ rest) ∙ read-one n known line rest ∙ ap (then_read n rest) e
+
+  pub read-end : (start : ℕ) (lines before : List Line) (n : ℕ) (known : Option (Transcript M)) → before ≡ lines → LeadsTo start before n known →
+      read_from payload_of start None lines ≡ read_at_end payload_of known
   unfolding read_from
-  read-end lines before n known same h = ap (read_from payload_of 1 None) (sym same ∙ sym (append-nil before)) ∙ h []
+  read-end start lines before n known same h = ap (read_from payload_of start None) (sym same ∙ sym (append-nil before)) ∙ h []
 
   -- ---- faults
-  pub fault-line : (lines : List Line) (n : ℕ) (wrong : Type 0) (fault : TextFault) → (wrong → read_from payload_of 1 None lines ≡ Err n) →
-      IsSyntaxFault wrong n fault → IsFaultOfReading payload_of lines fault
-  fault-line lines n wrong Memory told is = tt
-  fault-line lines n wrong (Syntax m) told is = told is.0 ∙ ap Err (sym is.1)
+  pub fault-line : (reading : Result (Transcript M) ℕ) (n : ℕ) (wrong : Type 0) (fault : TextFault) → (wrong → reading ≡ Err n) →
+      IsSyntaxFault wrong n fault → IsFaultOf reading fault
+  fault-line reading n wrong Memory told is = tt
+  fault-line reading n wrong (Syntax m) told is = told is.0 ∙ ap Err (sym is.1)
 
-  pub fault-end : {A : Type 0} (lines : List Line) (n : ℕ) (wrong : Type 0) (r : Result A TextFault) → (wrong → read_from payload_of 1 None lines ≡ Err n) →
-      IfErr r (IsSyntaxFault wrong n) → IfErr r (IsFaultOfReading payload_of lines)
-  fault-end lines n wrong (Ok a) told is = tt
-  fault-end lines n wrong (Err fault) told is = fault-line lines n wrong fault told is
+  pub fault-end : {A : Type 0} (reading : Result (Transcript M) ℕ) (n : ℕ) (wrong : Type 0) (r : Result A TextFault) → (wrong → reading ≡ Err n) →
+      IfErr r (IsSyntaxFault wrong n) → IfErr r (IsFaultOf reading)
+  fault-end reading n wrong (Ok a) told is = tt
+  fault-end reading n wrong (Err fault) told is = fault-line reading n wrong fault told is

@@ -1,4 +1,5 @@
 pub mod TranscriptText
 pub mod EntryLines
 pub mod Reading
+pub mod Behind
 pub mod Reader

@@ -44,7 +44,7 @@ module _ {M : Type 0} (payload_of : List ℕ → ℕ → Option M) where
     pub nodes_are : header_of first ≡ Some read.0
     pub rows_are : map (row_of payload_of) body ≡ map Some read.1
 
-  -- the fault of lines that are no transcript: X1 with the first wrong line; that memory ran out says nothing of them
-  abbrev pub IsFaultOfReading : List Line → TextFault → Type 0
-  IsFaultOfReading lines Memory = Unit {0}
-  IsFaultOfReading lines (Syntax n) = reading_of lines ≡ Err n
+-- the fault of a reading: X1 with the number of the first wrong line; that memory ran out says nothing of the lines
+abbrev pub IsFaultOf : {M : Type 0} → Result (Transcript M) ℕ → TextFault → Type 0
+IsFaultOf reading Memory = Unit {0}
+IsFaultOf reading (Syntax n) = reading ≡ Err n

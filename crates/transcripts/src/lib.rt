@@ -1,8 +1,8 @@
 //! Transcripts: the entries of nodes as text, written and read.
 //!
 //! A transcript is a line `transcript 1 NODES`, and then a line for each entry. `transcript_text` writes it, and
-//! `read_transcript` reads what anybody wrote; what the first wrote, the second reads as the same entries. `push_row` writes
-//! one entry, for texts that have other lines too.
+//! `read_transcript` reads what anybody wrote; what the first wrote, the second reads as the same entries. `push_row`
+//! writes one entry, for texts that have other lines too.
 //!
 //! ```text
 //! let rows = [(1, Entry::Put(2, Wire::Close)), (2, Entry::Take(1, Wire::Close))];
@@ -10,10 +10,14 @@
 //! let (nodes, rows) = read_transcript::<Best>(alloc, text.as_slice())?;
 //! ```
 //!
+//! `read_behind_network` reads a transcript behind a network text, with lines that count from the first one of the
+//! whole input; `network_text` is what stands before it.
+//!
 //! Nodes, vertices and pulses that are read are below 2^32, numbers of payloads below 2^128. Whether a vertex is there
 //! is for `replay` to say.
 #![tactic(auto)]
 
+mod behind;
 mod entry_line;
 mod fault;
 pub mod laws;
@@ -21,6 +25,7 @@ mod numbers;
 mod reading;
 mod writing;
 
+pub use behind::{entry_lines, network_text, read_behind_network};
 pub use fault::TextFault;
 pub use reading::read_transcript;
 pub use writing::{push_row, transcript_text};

@@ -1,9 +1,9 @@
 //! The reading of a transcript.
 
-ghost use Rattle.std.specs.Prelude.{◌≡◌, ◌==◌, ◌+◌, ◌<◌, ◌^◌, IfOk, IfErr, None, Ok, Err, Some, map};
+ghost use Rattle.std.specs.Prelude.{◌≡◌, ◌==◌, ◌+◌, ◌<◌, ◌^◌, IfOk, IfErr, None, Ok, Err, Some, length, map};
 ghost use Rattle.std.specs.List.{slice_split};
-ghost use Rattle.dimacs_col.specs.Lines.{lines_of};
-ghost use Rattle.transcripts.specs.Reading.{IsFaultOfReading, known_after, read_at_end, reading_of};
+ghost use Rattle.dimacs_col.specs.Lines.{line_of, lines_of};
+ghost use Rattle.transcripts.specs.Reading.{IsFaultOf, known_after, read_at_end, read_from, reading_of};
 ghost use Rattle.transcripts.specs.Reader.{IsSyntaxFault};
 
 use crate::entry_line::{header_of, row_of};
@@ -38,14 +38,11 @@ struct Reader<T> {
 }
 
 impl<T: PayloadText> Reader<T> {
-    fn new() -> Reader<T>
-        ensures line { result.line ≡ 0 }
+    fn behind(line: usize) -> Reader<T>
+        ensures line { result.line ≡ line }
         ensures known { result.known ≡ None }
     {
-        Reader {
-            line: 0,
-            known: None,
-        }
+        Reader { line, known: None }
     }
 
     /// Takes the fields of the next line.
@@ -91,8 +88,8 @@ impl<T: PayloadText> Reader<T> {
     }
 }
 
-// The lines of a text, without their line feeds.
-fn split_lines(alloc: Global, text: &[u8]) -> Result<Vec<&[u8]>, AllocError>
+/// The lines of a text, without their line feeds.
+pub(crate) fn split_lines(alloc: Global, text: &[u8]) -> Result<Vec<&[u8]>, AllocError>
     ensures { IfOk result (λ lines. map (λ line. line.now) lines.items ≡ slice_split (λ byte. byte == 10) text.now) }
 {
     let mut lines = Vec::new(alloc);
@@ -100,6 +97,26 @@ fn split_lines(alloc: Global, text: &[u8]) -> Result<Vec<&[u8]>, AllocError>
         lines.push(line)?;
     }
     Ok(lines)
+}
+
+/// The transcript that lines are, which so many others stand before.
+pub(crate) fn read_lines<T: PayloadText>(
+    alloc: Global,
+    before: usize,
+    lines: &[&[u8]],
+) -> Result<(u32, Vec<(u32, Entry<T>)>), TextFault>
+    requires room { before + length lines.now < 2 ^ 64 }
+    ensures ok { IfOk result (λ read.
+        read_from T.payload_of (before + 1) None (map (λ line. line_of line.now) lines.now)
+        ≡ Ok (read.0, read.1.items)) }
+    ensures fault { IfErr result
+        (IsFaultOf (read_from T.payload_of (before + 1) None (map (λ line. line_of line.now) lines.now))) }
+{
+    let mut reader = Reader::behind(before);
+    for line in lines {
+        reader.step(alloc, Fields::of(without_carriage_return(line)))?;
+    }
+    reader.finish()
 }
 
 /// How many nodes there are, and the entries of a transcript, each behind the vertex of its node: the first line that
@@ -114,12 +131,8 @@ pub fn read_transcript<T: PayloadText>(
     text: &[u8],
 ) -> Result<(u32, Vec<(u32, Entry<T>)>), TextFault>
     ensures ok { IfOk result (λ read. reading_of T.payload_of (lines_of text.now) ≡ Ok (read.0, read.1.items)) }
-    ensures fault { IfErr result (IsFaultOfReading T.payload_of (lines_of text.now)) }
+    ensures fault { IfErr result (IsFaultOf (reading_of T.payload_of (lines_of text.now))) }
 {
     let lines = split_lines(alloc, text)?;
-    let mut reader = Reader::new();
-    for line in lines.as_slice() {
-        reader.step(alloc, Fields::of(without_carriage_return(line)))?;
-    }
-    reader.finish()
+    read_lines(alloc, 0, lines.as_slice())
 }

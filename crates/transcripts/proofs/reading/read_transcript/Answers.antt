@@ -1,74 +1,16 @@
--- The plan: a wrong line is refused as the definition refuses it after the lines before it (fault-line); a line more leaves
--- the reader as the definition has it (read-more); at the end all lines were taken in (ended).
-use Rattle.std.proofs.Common.{◌≡◌, ◌+◌, ◌++◌, ◌∷◌, [], ◌∙◌, Bor, Err, IfOk, List, None, Ok, Some, ap, drop, get_or, map, suc, subst, sym, take, ℕ}
-use Rattle.std.proofs.lemmas.List.{map_more, take_all}
-use Rattle.std.proofs.lemmas.Result.{err_from_is_err_and}
-use Rattle.dimacs_col.specs.Lines.{Line, fields_of, line_of, lines_of}
-use Rattle.transcripts.specs.Reading.{known_after, read_at_end, read_from}
-use Rattle.transcripts.proofs.LineLists.{lines-are, round}
-use Rattle.transcripts.proofs.Readings.{fault-end, fault-line, read-end, read-more, read-wrong}
+use Rattle.std.proofs.Common.{◌≡◌, IfErr, IfOk, None, Ok, map, subst, sym}
+use Rattle.dimacs_col.specs.Lines.{line_of, lines_of}
+use Rattle.transcripts.specs.Reading.{IsFaultOf, read_from}
+use Rattle.transcripts.proofs.LineLists.{lines-are}
 use Rattle.transcripts.proofs.reading.read_transcript.Goals as goal
 
-abbrev line_in : Bor (List ℕ) → Line
-line_in x = line_of x.now
-
-abbrev none : Bor (List ℕ)
-none = record { ref_ptr = (0, 0); now = [] }
-
-pub returns-in_err-step-clause-fault : goal.returns-in_err-step-clause-fault
-returns-in_err-step-clause-fault g c =
-    let payload_of = g.T.PayloadText.payload_of in
-    let items = c.as_slice-line-items.result.now in
-    let i = c.loop-line.line-index in
-    let reader = c.loop-line.reader in
-    let line = line_in (get_or items i none) in
-    let after = map line_in (drop (suc i) items) in
-    let place : lines_of c.args.text.now ≡ map line_in (take i items) ++ (line ∷ after) =
-    lines-are (λ x. x.now) items c.in_ok-lines.lines.items c.args.text.now c.in_ok-lines.ensures c.as_slice-line-items.ensures.value
-    ∙ round line_in items i none c.loop-line-test.true in
-    let fields : c.of.result ≡ line = c.of.ensures ∙ ap fields_of c.without_carriage_return.ensures in
-    let p = err_from_is_err_and c.from_residual-in_err-step.result c.from_residual-in_err-step.ensures.1 in
-    rw (p.1, p.2) (fault-line payload_of (lines_of c.args.text.now) (reader.line + 1) (known_after payload_of reader.known c.of.result ≡ None)
-    c.in_err-step.field-0.0
-    (λ wrong. ap (read_from payload_of 1 None) place ∙ read-wrong payload_of (map line_in (take i items)) (reader.line + 1) reader.known
-    line c.loop-line.invariant.knows (ap (known_after payload_of reader.known) (sym fields) ∙ wrong) after)
-    c.in_err-step.ensures.fault)
-
-pub loop-line-preserved : goal.loop-line-preserved
-loop-line-preserved g c =
-    let payload_of = g.T.PayloadText.payload_of in
-    let items = c.as_slice-line-items.result.now in
-    let i = c.loop-line.line-index in
-    let reader = c.loop-line.reader in
-    let line = line_in (get_or items i none) in
-    let fields : c.of.result ≡ line = c.of.ensures ∙ ap fields_of c.without_carriage_return.ensures in
-    let step : known_after payload_of reader.known line ≡ Some c.step.new.self.known =
-    ap (known_after payload_of reader.known) (sym fields) ∙ c.in_ok-step.ensures.ok in
-    record {
-      knows = λ rest.
-          ap (λ lines. read_from payload_of 1 None (lines ++ rest)) (map_more line_in items i none c.loop-line-test.true)
-          ∙ read-more payload_of (map line_in (take i items)) (reader.line + 1) reader.known c.step.new.self.known line
-          c.loop-line.invariant.knows step rest
-          ∙ ap (λ n. read_from payload_of (n + 1) c.step.new.self.known rest) (sym c.in_ok-step.ensures.line);
-      line = c.in_ok-step.ensures.line ∙ ap (λ n. n + 1) c.loop-line.invariant.line;
-    }
-
--- the lines taken in are all lines of the text, so reading them ends as the reader stands
 pub returns-clause-ok : goal.returns-clause-ok
 returns-clause-ok g c =
-    let payload_of = g.T.PayloadText.payload_of in
-    let items = c.as_slice-line-items.result.now in
-    let all = lines-are (λ x. x.now) items c.in_ok-lines.lines.items c.args.text.now c.in_ok-lines.ensures c.as_slice-line-items.ensures.value in
-    let ended = read-end payload_of (lines_of c.args.text.now) (map line_in (take c.loop-line.line-index items)) (c.loop-line.reader.line + 1)
-    c.loop-line.reader.known (ap (map line_in) (take_all c.loop-line.line-index items c.loop-line-test.false) ∙ sym all) c.loop-line.invariant.knows in
-    subst (λ r. IfOk c.finish.result (λ read. r ≡ Ok (read.0, read.1.items))) (sym ended) c.finish.ensures.ok
+    let all = lines-are (λ x. x.now) c.as_slice.result.now c.in_ok-lines.lines.items c.args.text.now c.in_ok-lines.ensures c.as_slice.ensures.value in
+    subst (λ ls. IfOk c.read_lines.result (λ read. read_from g.T.PayloadText.payload_of 1 None ls ≡ Ok (read.0, read.1.items))) (sym all)
+    c.read_lines.ensures.ok
 
 pub returns-clause-fault : goal.returns-clause-fault
 returns-clause-fault g c =
-    let payload_of = g.T.PayloadText.payload_of in
-    let items = c.as_slice-line-items.result.now in
-    let all = lines-are (λ x. x.now) items c.in_ok-lines.lines.items c.args.text.now c.in_ok-lines.ensures c.as_slice-line-items.ensures.value in
-    let ended = read-end payload_of (lines_of c.args.text.now) (map line_in (take c.loop-line.line-index items)) (c.loop-line.reader.line + 1)
-    c.loop-line.reader.known (ap (map line_in) (take_all c.loop-line.line-index items c.loop-line-test.false) ∙ sym all) c.loop-line.invariant.knows in
-    fault-end payload_of (lines_of c.args.text.now) 1 (read_at_end payload_of c.loop-line.reader.known ≡ Err 1) c.finish.result (λ wrong. ended ∙ wrong)
-    c.finish.ensures.fault
+    let all = lines-are (λ x. x.now) c.as_slice.result.now c.in_ok-lines.lines.items c.args.text.now c.in_ok-lines.ensures c.as_slice.ensures.value in
+    subst (λ ls. IfErr c.read_lines.result (IsFaultOf (read_from g.T.PayloadText.payload_of 1 None ls))) (sym all) c.read_lines.ensures.fault

@@ -2,12 +2,12 @@ use Rattle.std.proofs.Common.{◌≡◌, length, map}
 use Rattle.dimacs_col.specs.Lines.{line_of}
 use Rattle.channel_plan.proofs.Parts.{closed}
 use Rattle.channel_plan.proofs.Splitting.{AreBefore}
-use Rattle.channel_plan.proofs.split.plan_start.Given as goal
+use Rattle.channel_plan.proofs.split.text_start.Given as goal
 
--- no line so far begins a plan text, and `start` is the length of those lines with their line feeds
+-- no line so far begins with the word, and `start` is the length of those lines with their line feeds
 abbrev pub invariant-loop-line : goal.invariant-loop-line
 invariant-loop-line l = record {
   steps : (goal.iterator-loop-line).can_next l.line-iterator × (goal.iterator-loop-line).is_finite l.line-iterator;
-  before : AreBefore (map (λ x. line_of x.now) l.yielded);
+  before : AreBefore l.word (map (λ x. line_of x.now) l.yielded);
   start : l.start ≡ length (closed (map (λ x. x.now) l.yielded));
 }

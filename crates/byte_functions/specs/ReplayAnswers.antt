@@ -1,0 +1,79 @@
+-- The answer to a network and the transcript behind it.
+use Rattle.std.specs.Prelude.{◌≡◌, ℕ, List, Result, Ok, Err, slice_index_or}
+use Rattle.dimacs_col.specs.Lines.{Line, lines_of}
+use Rattle.dimacs_col.specs.Reading.{IsFault}
+use Rattle.interference.specs.Net.{Net, IsNetwork}
+use Rattle.interference.specs.Making.{IsFaultOf}
+use Rattle.net_core.specs.declared.refused.RunRefused.TheVariants as run
+use Rattle.colour_rules.specs.declared.payload.Payload.{Payload}
+use Rattle.colour_rules.specs.Program.{colouring}
+use Rattle.colour_rules.specs.Words.{payload_from}
+use Rattle.event_texts.specs.StateText.{ColourState, state_text}
+use Rattle.replay.specs.Replays.{IsReplay, Stops}
+use Rattle.replay.specs.declared.refused.ReplayRefused.{ReplayRefused}
+use Rattle.replay.specs.declared.refused.ReplayRefused.TheVariants as replay
+use Rattle.transcripts.specs.Behind.{entry_lines, network_lines, reading_behind}
+use Rattle.transcripts.specs.Reading.{Transcript}
+use Rattle.transcripts.specs.declared.fault.TextFault.{TextFault}
+use Rattle.transcripts.specs.declared.fault.TextFault.TheVariants as text
+use Rattle.byte_functions.specs.Answers.{LinesReadAs}
+use Rattle.byte_functions.specs.declared.fault.PlanFault.{PlanFault}
+use Rattle.byte_functions.specs.declared.fault.PlanFault.TheVariants as plan
+use Rattle.byte_functions.specs.declared.replaying.ReplayFault.{ReplayFault}
+use Rattle.byte_functions.specs.declared.replaying.ReplayFault.TheVariants as fault
+
+-- the transcript of nodes of the colouring that follows a network, or the number of its first wrong line
+abbrev pub transcript_in : List Line → Result (Transcript Payload) ℕ
+transcript_in lines = reading_behind payload_from lines
+
+-- the entries of the transcript in the lines are a replay that leads to this state of the network
+abbrev pub IsReplayed : Net → List Line → ColourState → Type 0
+IsReplayed net lines state =
+    (read : Transcript Payload) × (transcript_in lines ≡ Ok read) × IsReplay colouring net read.1 state
+
+-- the answer is the text of the state that the transcript leads to, on the network that stands before it
+abbrev pub IsReplayAnswer : List ℕ → List ℕ → Type 0
+IsReplayAnswer input answer = LinesReadAs (network_lines (lines_of input)) (λ net. IsNetwork net
+    × ((state : ColourState) × IsReplayed net (lines_of input) state × (answer ≡ state_text net state)))
+
+-- the fault of a transcript's text
+abbrev pub fault_of_text : TextFault → ReplayFault
+fault_of_text (text.Syntax n) = fault.Syntax n
+fault_of_text text.Memory = fault.Memory
+
+-- the number of the line of the entry at an index
+abbrev pub line_at : List ℕ → ℕ → ℕ
+line_at lines index = slice_index_or lines index 0
+
+-- the refusal of a replay, with the line of its entry in place of the index
+abbrev pub fault_at : List ℕ → ReplayRefused → ReplayFault
+fault_at lines (replay.Run (run.NotReady k)) = fault.NotReady (line_at lines k)
+fault_at lines (replay.Run (run.NothingToPut k)) = fault.NothingToPut (line_at lines k)
+fault_at lines (replay.Run (run.LinkEmpty k)) = fault.LinkEmpty (line_at lines k)
+fault_at lines (replay.Run (run.NoSuch k)) = fault.NoSuch (line_at lines k)
+fault_at lines (replay.Run run.Memory) = fault.Memory
+fault_at lines (replay.WrongWire k) = fault.WrongWire (line_at lines k)
+
+-- the entries of the transcript in the lines stop, and this is the refusal, with the line of the entry
+abbrev pub IsRefusal : Net → List Line → ReplayFault → Type 0
+IsRefusal net lines told = (read : Transcript Payload) × (refused : ReplayRefused) × (transcript_in lines ≡ Ok read)
+    × Stops colouring net read.1 refused × (told ≡ fault_at (entry_lines lines) refused)
+
+-- the fault of the transcript in the lines: its first wrong line, or else the refusal of its entries; that memory ran
+-- out says nothing
+abbrev pub IsFaultOfTranscript : Net → List Line → ReplayFault → Type 0
+IsFaultOfTranscript net lines fault.Memory = Unit {0}
+IsFaultOfTranscript net lines (fault.Syntax n) = transcript_in lines ≡ Err n
+IsFaultOfTranscript net lines told = IsRefusal net lines told
+
+-- the fault of an input of `replay`: of the network text before the transcript, or else of the transcript
+abbrev pub IsFaultOfReplay : List ℕ → PlanFault → Type 0
+IsFaultOfReplay input (plan.Col fault) = IsFault (network_lines (lines_of input)) fault
+IsFaultOfReplay input (plan.Net fault) = LinesReadAs (network_lines (lines_of input)) (λ net. IsFaultOf net fault)
+IsFaultOfReplay input (plan.Pool fault) = ⊥
+IsFaultOfReplay input (plan.Check fault) = ⊥
+IsFaultOfReplay input (plan.Event fault) = ⊥
+IsFaultOfReplay input (plan.Replay fault) = LinesReadAs (network_lines (lines_of input))
+    (λ net. IsNetwork net × IsFaultOfTranscript net (lines_of input) fault)
+IsFaultOfReplay input plan.Stopped = ⊥
+IsFaultOfReplay input plan.Memory = Unit {0}

@@ -1,0 +1,31 @@
+-- The reading of a transcript behind a network text. Lines count from the first one of the whole input.
+use Rattle.std.specs.Prelude.{◌≡◌, ℕ, ◌+◌, Option, None, Result, List, [], ◌∷◌, codes, drop, if◌then◌else◌, length}
+use Rattle.dimacs_col.specs.Lines.{Line}
+use Rattle.channel_plan.specs.Reading.{has_fields}
+use Rattle.channel_plan.specs.Split.{AreLinesBefore, lines_before, lines_from}
+use Rattle.transcripts.specs.Reading.{Transcript, read_from}
+
+-- the lines of the network text: those before the first one whose first field is `transcript`
+abbrev pub network_lines : List Line → List Line
+network_lines lines = lines_before (codes "transcript") lines
+
+-- these lines, perhaps with an empty line behind them, as after a last line feed
+abbrev pub AreNetworkLines : List Line → List Line → Type 0
+AreNetworkLines lines network = AreLinesBefore (codes "transcript") lines network
+
+-- the lines of the transcript: from that one on
+abbrev pub transcript_lines : List Line → List Line
+transcript_lines lines = lines_from (codes "transcript") lines
+
+-- the transcript that follows a network text, or the number of its first wrong line; line 1 if there is none
+abbrev pub reading_behind : {M : Type 0} → (List ℕ → ℕ → Option M) → List Line → Result (Transcript M) ℕ
+reading_behind payload_of lines = read_from payload_of (length (network_lines lines) + 1) None (transcript_lines lines)
+
+-- the numbers of the lines that have fields, from line n on
+abbrev pub numbers_from : ℕ → List Line → List ℕ
+numbers_from n [] = []
+numbers_from n (line ∷ lines) = if has_fields line then n ∷ numbers_from (n + 1) lines else numbers_from (n + 1) lines
+
+-- the numbers of the lines of the entries: of those behind the transcript's first line
+abbrev pub entry_lines : List Line → List ℕ
+entry_lines lines = numbers_from (length (network_lines lines) + 2) (drop 1 (transcript_lines lines))

@@ -1,0 +1,99 @@
+//! A transcript behind a network text.
+
+ghost use Rattle.std.specs.Prelude.{◌≡◌, ◌≤◌, ◌<◌, ◌+◌, ◌^◌, ◌++◌, IfOk, IfErr, Ok, drop, length, map};
+ghost use Rattle.dimacs_col.specs.Lines.{line_of, lines_of};
+ghost use Rattle.channel_plan.specs.Reading.{has_fields};
+ghost use Rattle.transcripts.specs.Behind.{AreNetworkLines, entry_lines, network_lines, numbers_from, reading_behind};
+ghost use Rattle.transcripts.specs.Behind.{transcript_lines};
+ghost use Rattle.transcripts.specs.Reading.{IsFaultOf};
+
+use crate::fault::TextFault;
+use crate::reading::{read_lines, split_lines};
+use channel_plan::{begins, text_start};
+use dimacs_col::{Fields, without_carriage_return};
+use entries::Entry;
+use node_api::PayloadText;
+use std::alloc::{AllocError, Global};
+
+/// The network text that an input begins with: all before the first line whose first field is `transcript`.
+pub fn network_text(input: &[u8]) -> &[u8]
+    ensures network { AreNetworkLines (lines_of input.now) (lines_of result.now) }
+{
+    match text_start(input, b"transcript") {
+        Some(start) => &input[..start],
+        None => input,
+    }
+}
+
+// How many lines stand before the first one whose first field is `transcript`.
+fn transcript_start(lines: &[&[u8]]) -> usize
+    ensures within { result ≤ length lines.now }
+    ensures before { result ≡ length (network_lines (map (λ line. line_of line.now) lines.now)) }
+    ensures from { map (λ line. line_of line.now) (drop result lines.now)
+        ≡ transcript_lines (map (λ line. line_of line.now) lines.now) }
+{
+    for (index, line) in lines.iter().enumerate() {
+        if begins(line, b"transcript") {
+            return index;
+        }
+    }
+    lines.len()
+}
+
+/// The transcript that follows a network text, as `read_transcript` reads it. It begins at the first line whose first
+/// field is `transcript`.
+///
+/// # Errors
+///
+/// As of `read_transcript`, but lines count from the first one of the whole input. `Syntax` with line 1 if there is no
+/// transcript.
+pub fn read_behind_network<T: PayloadText>(
+    alloc: Global,
+    input: &[u8],
+) -> Result<(u32, Vec<(u32, Entry<T>)>), TextFault>
+    ensures ok { IfOk result (λ read. reading_behind T.payload_of (lines_of input.now) ≡ Ok (read.0, read.1.items)) }
+    ensures fault { IfErr result (IsFaultOf (reading_behind T.payload_of (lines_of input.now))) }
+{
+    let lines = split_lines(alloc, input)?;
+    let lines = lines.as_slice();
+    let start = transcript_start(lines);
+    read_lines(alloc, start, &lines[start..])
+}
+
+fn has_fields(line: &[u8]) -> bool
+    ensures { result ≡ has_fields (line_of line.now) }
+{
+    Fields::of(without_carriage_return(line)).next().is_some()
+}
+
+// The numbers of those lines that have fields, from a number on.
+fn push_numbers(numbers: &mut Vec<usize>, first: usize, lines: &[&[u8]]) -> Result<(), AllocError>
+    requires room { first + length lines.now < 2 ^ 64 }
+    ensures { IfOk result (λ _. numbers.new.items
+        ≡ numbers.old.items ++ numbers_from first (map (λ line. line_of line.now) lines.now)) }
+{
+    for (index, line) in lines.iter().enumerate() {
+        if has_fields(line) {
+            numbers.push(first + index)?;
+        }
+    }
+    Ok(())
+}
+
+/// The numbers of the lines of the entries that `read_behind_network` returns.
+///
+/// # Errors
+///
+/// If memory is refused.
+pub fn entry_lines(alloc: Global, input: &[u8]) -> Result<Vec<usize>, AllocError>
+    ensures { IfOk result (λ numbers. numbers.items ≡ entry_lines (lines_of input.now)) }
+{
+    let lines = split_lines(alloc, input)?;
+    let lines = lines.as_slice();
+    let start = transcript_start(lines);
+    let mut numbers = Vec::new(alloc);
+    if start < lines.len() {
+        push_numbers(&mut numbers, start + 2, &lines[start + 1..])?;
+    }
+    Ok(numbers)
+}
