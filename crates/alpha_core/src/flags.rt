@@ -1,6 +1,6 @@
 //! Rows of flags.
 
-ghost use Rattle.std.specs.Prelude.{◌≡◌, IfOk, replicate, false};
+ghost use Rattle.std.specs.Prelude.{◌≡◌, ◌≤◌, IfOk, replicate, false};
 ghost use Rattle.alpha_core.specs.View;
 
 use interference::Memory;
@@ -9,6 +9,7 @@ use std::alloc::Global;
 /// 1 for true.
 pub(crate) fn bit(flag: bool) -> u8
     ensures bit { result ≡ View.bit flag }
+    ensures at_most_1 { result ≤ 1 }
 {
     if flag { 1 } else { 0 }
 }
