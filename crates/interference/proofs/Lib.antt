@@ -12,6 +12,9 @@ pub mod Joined
 pub mod Made
 pub mod Greatest
 pub mod Counts
+pub mod Sums
+pub mod PortSums
+pub mod TwoEnds
 pub mod Neighbours
 pub mod RowIn
 pub mod SameRow
@@ -20,3 +23,4 @@ pub mod Packing
 pub mod PortsBack
 pub mod MostForests
 pub mod Faults
+pub mod EdgeCount

@@ -2,3 +2,4 @@ pub mod Net
 pub mod Making
 pub mod Rows
 pub mod Filling
+pub mod Counts

@@ -1,6 +1,8 @@
 //! What holds of every network. Each law is a function that does nothing: its contract is the law.
 
-ghost use Rattle.std.specs.Prelude.{◌<◌, ◌≡◌, ◌≤◌, ℕ};
+ghost use Rattle.std.specs.Prelude.{◌*◌, ◌<◌, ◌≡◌, ◌≤◌, List, length, ℕ};
+ghost use Rattle.interference.specs.Counts.{degree_sum_of, edge_count_of, sum_over_ports};
+ghost use Rattle.interference.specs.Making.{EdgesFit, network_of};
 ghost use Rattle.interference.specs.Net.{IsEdge, IsNetwork, IsVertex, Net};
 ghost use Rattle.interference.specs.Net.{back_port_of, degree_of, neighbour_of, port_to};
 ghost use Rattle.interference.specs.Net.{count_of, forest_count_of, greatest_degree_of, higher_count};
@@ -43,4 +45,15 @@ pub fn forest_count_is_the_greatest()
     ensures reached { (net : Net) → IsNetwork net → 0 < count_of net →
         (v : ℕ) × IsVertex net v × (higher_count net v ≡ forest_count_of net) }
     ensures within { (net : Net) → IsNetwork net → forest_count_of net ≤ greatest_degree_of net }
+{}
+
+/// All degrees together are twice the number of edges; what is summed over all ports may be summed from the
+/// other end of each edge; and a network made of edges has as many as they are.
+pub fn each_edge_has_two_ends()
+    ensures degrees { (net : Net) → IsNetwork net → degree_sum_of net ≡ 2 * edge_count_of net }
+    ensures either_end { (net : Net) → IsNetwork net → (f : ℕ → ℕ → ℕ) →
+        sum_over_ports net (λ v i. f v (neighbour_of net v i)) ≡
+        sum_over_ports net (λ v i. f (neighbour_of net v i) v) }
+    ensures made { (ids : List ℕ) (edges : List (ℕ × ℕ)) → EdgesFit (length ids) edges →
+        IsNetwork (network_of ids edges) → edge_count_of (network_of ids edges) ≡ length edges }
 {}
