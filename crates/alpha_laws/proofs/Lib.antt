@@ -24,3 +24,5 @@ pub mod PortClaims
 pub mod Heard
 pub mod Next
 pub mod Claims
+pub mod Complete
+pub mod Counts

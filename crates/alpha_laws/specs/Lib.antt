@@ -3,3 +3,4 @@ pub mod Simulates
 pub mod Position
 pub mod Kept
 pub mod Laws
+pub mod Counts

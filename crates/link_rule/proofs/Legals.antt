@@ -10,6 +10,7 @@ use Rattle.alpha_core.specs.Wires.{data_of, acks_of, payloads_of, safes_of}
 use Rattle.alpha_core.specs.Streams.{payload_wire, sent_pulse, rounds, stream, sent_pulses, Begins, Legal}
 use Rattle.alpha_core.proofs.Wires.{acks-append, begins_rest, data-append, legal-front}
 use Rattle.alpha_laws.specs.Position.{Position, move, moves, start_at, Allows, Follows}
+use Rattle.alpha_laws.proofs.Complete.{data-payloads}
 use Rattle.alpha_laws.proofs.Cursor.{moves-append, follows-front, follows-rest, follows-more, payloads_to-grows}
 use Rattle.alpha_laws.proofs.Listed.{pulses_below}
 use Rattle.link_rule.specs.Order.{MayFollow, IsInOrder}
@@ -77,13 +78,6 @@ module _ {M : Type 0} where
   data-safes c (Ack q ∷ ws) = data-safes c ws
   data-safes c (Safe q ∷ ws) = let more = data-safes (move {M = M} c (Safe q)) ws in omega arith
   data-safes c (Close ∷ ws) = data-safes (move {M = M} c Close) ws
-
-  data-payloads : (ws : List (Wire M)) → payloads_of (data_of ws) ≡ payloads_of ws
-  data-payloads [] = refl
-  data-payloads (Payload q x ∷ ws) = ap (λ l. q ∷ l) (data-payloads ws)
-  data-payloads (Ack q ∷ ws) = data-payloads ws
-  data-payloads (Safe q ∷ ws) = data-payloads ws
-  data-payloads (Close ∷ ws) = data-payloads ws
 
 count_safes : {M : Type 0} (ws : List (Wire M)) → (moves start_at (data_of ws)).safes ≡ safes_of ws
 count_safes ws = let all = data-safes start_at ws in omega arith
