@@ -1,2 +1,3 @@
 pub mod Asides
 pub mod Whole
+pub mod Counts

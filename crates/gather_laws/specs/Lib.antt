@@ -1,3 +1,4 @@
 pub mod Outcome
 pub mod Laws
 pub mod Whole
+pub mod Counts

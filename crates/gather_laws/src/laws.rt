@@ -3,6 +3,7 @@
 
 ghost use Rattle.node_api.specs.Program.{Program};
 ghost use Rattle.alpha_laws.specs.Laws.{OnEveryNetwork};
+ghost use Rattle.gather_laws.specs.Counts.{WholeOutcomesAreCounted};
 ghost use Rattle.gather_laws.specs.Laws.{MetNodesSimulate};
 ghost use Rattle.gather_laws.specs.Whole.{WholeOutcomesAreComplete};
 ghost use Rattle.interference.specs.Net.{IsNetwork, Net};
@@ -17,4 +18,10 @@ pub fn met_nodes_simulate<S, M, E>()
 /// link is complete.
 pub fn whole_outcomes_are_complete<S, M, E>()
     ensures law { (program : Program S M E) (net : Net) → IsNetwork net → WholeOutcomesAreComplete program net }
+{}
+
+/// If an outcome is whole, the wires put on all links are twice the payloads among them and 2·edges·(R + 1) more, where
+/// R is the last pulse; and the payloads are as many as the synchronous run sends.
+pub fn whole_outcomes_are_counted<S, M, E>()
+    ensures law { (program : Program S M E) (net : Net) → IsNetwork net → WholeOutcomesAreCounted program net }
 {}
