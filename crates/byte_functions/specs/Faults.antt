@@ -7,7 +7,8 @@ use Rattle.pool.specs.declared.fault.PoolFault.TheVariants as pool
 use Rattle.channel_plan.specs.declared.plan.CheckFault.TheVariants as check
 use Rattle.event_texts.specs.declared.fault.EventFault.TheVariants as event
 use Rattle.byte_functions.specs.declared.fault.PlanFault.{PlanFault}
-use Rattle.byte_functions.specs.declared.fault.PlanFault.TheVariants.{Check, Col, Event, Net, Memory, Pool, Replay, Stopped}
+use Rattle.byte_functions.specs.declared.fault.PlanFault.TheVariants.{Check, Col, Event, Net, Memory}
+use Rattle.byte_functions.specs.declared.fault.PlanFault.TheVariants.{Pool, Replay, Stopped}
 use Rattle.byte_functions.specs.declared.replaying.ReplayFault.TheVariants as replay
 
 -- a code, and the line of the input that has the fault

@@ -15,7 +15,8 @@ reduction_text (Step k) = codes " step"
 reduction_text (Shift x) = codes " shift"
 reduction_text (Drop x) = codes " drop"
 
--- the words of a phase; of a step of the merging its forest, and the three-colour and the old colour of those that choose
+-- the words of a phase; of a step of the merging its forest, and the three-colour and the old colour of those that
+-- choose
 abbrev pub phase_text : Sizes → Phase → List ℕ
 phase_text sizes Greet = codes " greet"
 phase_text sizes Orient = codes " orient"

@@ -11,7 +11,8 @@ use Rattle.byte_functions.specs.Workers.{IsFaultOfWorkers}
 use Rattle.byte_functions.specs.declared.fault.PlanFault.{PlanFault}
 use Rattle.byte_functions.specs.declared.fault.PlanFault.TheVariants.{Pool}
 use Rattle.command_line.specs.declared.request.Request.{Request}
-use Rattle.command_line.specs.declared.request.Request.TheVariants.{Check, Events, Forests, Plain, Plan, Replay, Rounds, Transcript}
+use Rattle.command_line.specs.declared.request.Request.TheVariants.{Check, Forests, Plain, Plan, Transcript}
+use Rattle.command_line.specs.declared.request.Request.TheVariants.{Events, Replay, Rounds}
 
 -- the answer of each command to a good input, a line for each
 abbrev pub IsGoodAnswer : Request → List ℕ → List ℕ → Type 0

@@ -1,8 +1,8 @@
 //! All rounds of a node program on one thread.
 //!
 //! `run_rounds` returns every node after the last pulse of the synchronous run, for every program; the
-//! command `plain` calls it. `Rounds` makes one pulse at a time, for callers that look at the nodes and at what they sent
-//! after each; `round_texts` is one. `Greatest` is a small program, to try engines with and to read as an example.
+//! command `plain` calls it. `Rounds` makes one pulse at a time, for callers that look at the nodes and at what they
+//! sent after each; `round_texts` is one. `Greatest` is a small program, to try engines with and to read as an example.
 //!
 //! ```text
 //! let nodes = run_rounds::<Greatest<2>>(alloc, &net)?;
