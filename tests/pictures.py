@@ -32,6 +32,8 @@ WRONG_NETWORKS = {
 ALL_JOINED = b"p edge 8 28\n" + b"".join(
     b"e %d %d\nc at %d %d %d\n" % (v, w, v, v, v * v) for v in range(1, 9) for w in range(1, 9) if v != w)
 APART = b"p edge 5 3\ne 1 2\ne 2 3\ne 1 3\n"
+# How often a mistake is tried until it makes a transcript wrong: most do at once.
+TRIES = 1000
 
 
 def refused_rows(draw):
@@ -82,13 +84,16 @@ def mistake_row(draw, source, name, kind, mistake):
     """Each mistake that keeps the text from being the beginning of a run; a text that is cut off is one."""
     net = network_of(APART)
     lines = made_transcript(source, net, 4)
-    while True:
+    for _ in range(TRIES):
         text = transcript_text(5, with_mistake(source, mistake, lines))
         try:
             if check_transcript.find_order(net, check_transcript.read(text)[1]).left:
                 break
         except check_transcript.Wrong:
             break
+    else:
+        note(f"a mistake of the kind {mistake} is wrong", False, f"none in {TRIES} tries")
+        return
     refused(name, draw.run(kind, APART, text))
 
 

@@ -4,7 +4,7 @@ transcripts. The last line is 'N passed, M failed'.
 
   rounds.py [--program PROGRAM] [--plan PLAN]
       PROGRAM   has the command `rounds`; default: the built forestplay
-      PLAN      has the commands `plain` and `transcript`; default: the built forestplan
+      PLAN      has the command `transcript`; default: the built forestplan
 
 Expected texts are worked by hand, or come from the definitions in rounds_definition.py; none is taken from a program."""
 import argparse
@@ -27,6 +27,10 @@ WORKERS = (1, 2, 4)
 MOST = 400
 TALLY = {"passed": 0, "failed": 0}
 EDGE = "p edge 2 1|e 1 2|"
+# A network text for each kind of fault, and what is said of it.
+FAULTS = [("", "F1"), ("p edge 1 0|p edge 1 0|", "F2 line 2"), ("e 1 2|p edge 2 1|", "F3 line 1"), ("p edge 2|", "F4 line 1"),
+          ("p edge 2 1|e 1 3|", "F5 line 2"), ("p edge 2 1|e 1 1|", "F6 line 2"), ("p edge 20001 0|", "F7 line 1"),
+          (EDGE + "put 1 0|q|", "F8 line 3")]
 # The headline as one line of shell, as README has it: the payloads of the rounds and of a run of threads are the same lines.
 HEADLINE = """cmp <("$0" rounds < "$2" | grep put | sort) <("$1" transcript --workers "$3" < "$2" | grep 'put .* payload' | sort)"""
 
@@ -103,14 +107,13 @@ def headline_rows(program, plan, all_of):
                 note(f"the payloads of {name} with {workers} workers", (done.returncode, done.stdout, done.stderr) == (0, b"", b""), done)
 
 
-def fault_rows(program, plan):
-    """The faults of `plain`, line by line, behind the program's own name."""
+def fault_rows(program):
+    """The faults of a network text, each of its kind."""
     crowd = "p edge 1025 1024|" + "".join(f"e 1 {v}|" for v in range(2, 1026))
-    for data in ("", "p edge 1 0|p edge 1 0|", "e 1 2|p edge 2 1|", "p edge 2|", "p edge 2 1|e 1 3|", "p edge 2 1|e 1 1|", "p edge 20001 0|",
-                 "p edge 2 1|e 1 2|put 1 0|q|", crowd, crowd + "e 1 1|"):
-        there, here = run([plan, "plain"], text(data)), run([program, "rounds"], text(data))
-        same = there.stderr.replace(b"forestplan", b"forestplay")
-        note(f"the fault of {data[-40:]!r}", there.returncode == 1 and (here.returncode, here.stdout, here.stderr) == (1, b"", same), here)
+    for data, fault in FAULTS + [(crowd, "N1 vertex 1"), (crowd + "e 1 1|", "F6 line 1026")]:
+        done = run([program, "rounds"], text(data))
+        wanted = (1, b"", f"forestplay: {fault}\n".encode())
+        note(f"the fault of {data[-40:]!r}", (done.returncode, done.stdout, done.stderr) == wanted, done)
 
 
 def memory_rows(program):
@@ -118,6 +121,8 @@ def memory_rows(program):
     with tempfile.TemporaryDirectory() as folder:
         front, failure = build_front(folder)
         note("the refusing allocator builds", failure is None, failure)
+        if failure is not None:
+            return
         for data, wanted in [(EDGE, (0, text(EDGE_TEXT), b"")), ("p edge 2 1|e 1 1|", (1, b"", b"forestplay: F6 line 2\n"))]:
             row = sweep(program, front, ["rounds"], text(data), wanted, "forestplay")
             note(f"{row[0]} of {data!r}", row[1], row[2])
@@ -136,7 +141,7 @@ def main():
     all_of = networks()
     text_rows(program, all_of)
     headline_rows(program, plan, {name: data for name, data in all_of.items() if len(data) < MOST})
-    fault_rows(program, plan)
+    fault_rows(program)
     memory_rows(program)
     print(f"{TALLY['passed']} passed, {TALLY['failed']} failed")
     return 1 if TALLY["failed"] else 0
