@@ -116,7 +116,7 @@ REPLAYED = [
 GREETING = "1 put 2 payload 0 hello 1|"
 NOT_REPLAYED = [
     ("", "F1"), ("transcript 1 2|", "F1"), (EDGE, "X1 line 1"), ("p edge 2 1|e 1 1|transcript 1 2|x|", "F6 line 2"),
-    (EDGE + "x|transcript 1 2|", "F8 line 3"), (EDGE + "transcripts 1 2|", "F8 line 3"),
+    (EDGE + "q|transcript 1 2|", "F8 line 3"), (EDGE + "transcripts 1 2|", "F8 line 3"),
     ("p edge 1025 1024|" + "".join(f"e 1 {v}|" for v in range(2, 1026)) + "transcript 1 2|x|", "N1 vertex 1"),
     (EDGE + "transcript|", "X1 line 3"), (EDGE + "transcript 1|", "X1 line 3"), (EDGE + "transcript 2 2|", "X1 line 3"),
     (EDGE + "transcript 1 2 2|", "X1 line 3"), (EDGE + "transcript 1 2|transcript 1 2|", "X1 line 4"),
@@ -255,7 +255,7 @@ def help_rows(program):
         expect(f"help by {words}", run(program, b"no network", words), (0, wanted, b""))
     rows = [
         ([], "'forestplay' requires a subcommand but one was not provided|  [subcommands: events, replay, rounds]", "forestplay <COMMAND>"),
-        (["plain"], "unrecognized subcommand 'plain'", "forestplay <COMMAND>"),
+        (["check"], "unrecognized subcommand 'check'", "forestplay <COMMAND>"),
         (["help"], "unrecognized subcommand 'help'", "forestplay <COMMAND>"),
         (["events", "extra"], "unexpected argument 'extra' found", "forestplay events"),
         (["replay", "extra"], "unexpected argument 'extra' found", "forestplay replay"),
