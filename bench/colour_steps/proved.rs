@@ -2,12 +2,10 @@
 #![tactic(auto)]
 
 use cole_vishkin::bit_step;
-use forest_merge::{WORDS, has_free, least_free};
+use forest_merge::{ChosenSet, has_free, least_free};
 use shift_down::{drop_class, shift};
 use std::io;
 use std::time::Instant;
-
-type ChosenSet = forest_merge::ChosenSet<WORDS>;
 
 fn main(rt: HostRuntime) -> io::Result<()> {
     let start = Instant::now(&rt)?;

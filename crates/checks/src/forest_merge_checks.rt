@@ -1,13 +1,13 @@
 //! Each call of `forest_merge`, at the ends of words and at the greatest colour.
 
-use forest_merge::{COLOURS, ChosenSet, WORDS, has_free, least_free, step_of};
+use forest_merge::{COLOURS, ChosenSet, has_free, least_free, step_of};
 
 // The greatest colour.
 const GREATEST: u16 = COLOURS - 1;
 
 #[test]
 fn a_set_has_what_was_added(rt: HostRuntime) {
-    let mut chosen = ChosenSet::<WORDS>::new();
+    let mut chosen = ChosenSet::new();
     for colour in [0, 1, 63, 64, 127, 128, GREATEST] {
         assert!(rt; !chosen.has(colour), "{colour} before");
         chosen.add(colour);
@@ -39,7 +39,7 @@ fn the_least_free_colour_is_chosen(rt: HostRuntime) {
         (COLOURS, GREATEST, None),
     ] {
         assert!(rt; end <= COLOURS);
-        let mut chosen = ChosenSet::<WORDS>::new();
+        let mut chosen = ChosenSet::new();
         for colour in 0..end {
             chosen.add(colour);
         }
@@ -51,7 +51,7 @@ fn the_least_free_colour_is_chosen(rt: HostRuntime) {
         assert_eq!(rt; found, least, "{end} colours, delta {delta}");
     }
     // A gap comes before what is free at the end.
-    let mut chosen = ChosenSet::<WORDS>::new();
+    let mut chosen = ChosenSet::new();
     for colour in 0..300 {
         if colour != 130 {
             chosen.add(colour);

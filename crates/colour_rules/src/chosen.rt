@@ -10,7 +10,7 @@ ghost use Rattle.colour_rules.specs.Chosen.{chosen_in, room_of};
 
 use crate::merge::add_chosen;
 use crate::payload::Payload;
-use forest_merge::{ChosenSet, WORDS, has_free, least_free};
+use forest_merge::{ChosenSet, ColourSet, has_free, least_free};
 use interference::Memory;
 use node_api::Inbox;
 use std::alloc::Global;
@@ -24,8 +24,8 @@ const FEW_COLOURS: u16 = FEW_WORDS as u16 * 64;
 // A set of colours, which mostly are few. Only `make` takes memory.
 #[derive(Drop)]
 pub(crate) enum ChosenColours {
-    Few(ChosenSet<FEW_WORDS>),
-    Many(Box<ChosenSet<WORDS>>),
+    Few(ColourSet<FEW_WORDS>),
+    Many(Box<ChosenSet>),
 }
 
 impl ChosenColours {
@@ -36,7 +36,7 @@ impl ChosenColours {
         ensures room { IfOk result (λ chosen. greatest < room_of chosen) }
     {
         if greatest < FEW_COLOURS {
-            Ok(ChosenColours::Few(ChosenSet::new()))
+            Ok(ChosenColours::Few(ColourSet::new()))
         } else {
             Ok(ChosenColours::Many(Box::new(alloc, ChosenSet::new())?))
         }
@@ -106,7 +106,7 @@ impl ChosenColours {
 
 // The same, for a set that is used up.
 fn has_free_among<const N: usize>(
-    mut chosen: ChosenSet<N>,
+    mut chosen: ColourSet<N>,
     greatest: u16,
     inbox: &mut Inbox<Payload>,
 ) -> bool

@@ -13,11 +13,11 @@ ghost use Rattle.colour_rules.specs.Program.{done};
 use crate::node::ColourNode;
 use crate::payload::Payload;
 use crate::rules::COLOUR_RANGE;
-use forest_merge::ChosenSet;
+use forest_merge::ColourSet;
 use node_api::{Inbox, Outbox};
 
 // Puts the colours that came as chosen into a set.
-pub(crate) fn add_chosen<const N: usize>(chosen: &mut ChosenSet<N>, inbox: &mut Inbox<Payload>)
+pub(crate) fn add_chosen<const N: usize>(chosen: &mut ColourSet<N>, inbox: &mut Inbox<Payload>)
     requires unread { inbox.old ≡ unread inbox.old.slots }
     requires colours { (port c : ℕ) → at_port inbox.old.slots port ≡ Some (Chosen c) → c < 64 * N }
     ensures chosen { chosen.new ≡ with_chosen chosen.old inbox.old.slots }

@@ -5,20 +5,23 @@ ghost use Rattle.std.specs.FinSet.{contains, empty, insert};
 
 use std::marker::Model;
 
-/// How many colours the greatest `ChosenSet` has room for: the colours from 0 and below this.
+/// How many colours a `ChosenSet` has room for: the colours from 0 and below this.
 pub const COLOURS: u16 = 1024;
 
 /// How many words hold one bit for each colour.
 pub const WORDS: usize = COLOURS as usize / 64;
 
+/// A set of all colours that a node may choose, 0 to 1,023.
+pub type ChosenSet = ColourSet<WORDS>;
+
 /// A set of colours from 0 and below 64 times `N`, in fixed bits: it takes no memory of its own. `N` is at most
-/// `WORDS`.
+/// `WORDS`. A node whose neighbours are few has one of fewer words than a `ChosenSet`.
 #[derive(Drop)]
-pub struct ChosenSet<const N: usize> {
+pub struct ColourSet<const N: usize> {
     words: [u64; N],
 }
 
-impl<const N: usize> Model for ChosenSet<N> {
+impl<const N: usize> Model for ColourSet<N> {
     ghost use Rattle.std.specs.Prelude.{◌≤◌, length};
     ghost use Rattle.std.specs.FinSet.{FinSet, code};
     ghost use Rattle.std.specs.Ordering.{nat_cmp};
@@ -36,7 +39,7 @@ impl<const N: usize> Model for ChosenSet<N> {
     ghost invariant = { λ a. N ≤ WORDS };
 }
 
-impl<const N: usize> ChosenSet<N> {
+impl<const N: usize> ColourSet<N> {
     /// The empty set, with room for the colours below 64 times `N`.
     pub fn new() -> Self
         requires room { N ≤ WORDS }

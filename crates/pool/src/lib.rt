@@ -2,8 +2,8 @@
 //!
 //! The nodes stand in one lock-free queue, the pool. A worker takes the first of it, makes one turn of it and puts it
 //! back, or, if nothing is left for it to do, keeps it. Whatever the threads do, no node is lost and none is there
-//! twice: that is the pool's rule (`specs/Hands.antt`), and `run_nodes` returns each node once. What a turn leaves is a
-//! fact of the node's type (`actor`). `node_pool` makes nodes and links, and gathers them.
+//! twice: that is the pool's rule (`crates/worker/specs/Hands.antt`), and `run_nodes` returns each node once. What a
+//! turn leaves is a fact of the node's type (`actor`). `node_pool` makes nodes and links, and gathers them.
 //!
 //! ```text
 //! let nodes = run_nodes(&rt, alloc, &links, &OpenGate, nodes, workers, turns)?;   // in any order
