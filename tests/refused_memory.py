@@ -6,8 +6,8 @@ import tempfile
 from plain_definition import plan_text
 
 HERE = os.path.dirname(os.path.abspath(__file__))
-# Built by `rt ci`, or by `rt test` in crates/checks.
-TESTS = os.path.join(os.path.dirname(HERE), "crates", "checks", "out", "checks_tests")
+# Built by `rt ci`, or by `rt test` in crates/node_checks.
+TESTS = os.path.join(os.path.dirname(HERE), "crates", "node_checks", "out", "node_checks_tests")
 # Tests that try again what memory is refused to once.
 TRIED_AGAIN = ("a_state_goes_on_after_a_refused_growth", "a_list_runs_again_after_a_refused_growth")
 MOST = 5000
@@ -37,7 +37,7 @@ def refused_memory_rows(program, network, answer):
         rows.append(sweep(program, front, ["nothing"], b"", None))
         rows.append(sweep(program, front, ["--help"], b"", None))
         if not os.path.isfile(TESTS):
-            return rows + [("the tests of crates/checks are built", False, f"no file {TESTS}")]
+            return rows + [("the tests of crates/node_checks are built", False, f"no file {TESTS}")]
         return rows + [tried_again(front, folder, name) for name in TRIED_AGAIN]
 
 

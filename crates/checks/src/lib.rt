@@ -1,21 +1,14 @@
-//! The tests of all crates below: what no contract says. A module tests one crate, and is named after it;
-//! its name ends in `_checks`, since a module may not have the name of a library.
+//! The tests of the crates below but for those of nodes, rounds and links (`node_checks`) and of worker threads
+//! (`worker_checks`): what no contract says. A module tests one crate, and is named after it; its name ends in `_checks`,
+//! since a module may not have the name of a library.
 #![tactic(auto)]
 
-#[cfg(test)]
-mod alpha_core_checks;
 #[cfg(test)]
 mod byte_functions_checks;
 #[cfg(test)]
 mod cole_vishkin_checks;
 #[cfg(test)]
-mod colour_program_checks;
-#[cfg(test)]
-mod colour_rules_checks;
-#[cfg(test)]
 mod command_line_checks;
-#[cfg(test)]
-mod counted;
 #[cfg(test)]
 mod dimacs_col_checks;
 #[cfg(test)]
@@ -27,22 +20,10 @@ mod forests_checks;
 #[cfg(test)]
 mod interference_checks;
 #[cfg(test)]
-mod link_alone;
-#[cfg(test)]
-mod link_queue_checks;
-#[cfg(test)]
-mod link_threads;
-#[cfg(test)]
-mod net_core_checks;
-#[cfg(test)]
-mod node_api_checks;
-#[cfg(test)]
 mod number_rows_checks;
 #[cfg(test)]
 mod serving_checks;
 #[cfg(test)]
 mod shift_down_checks;
-#[cfg(test)]
-mod sync_rounds_checks;
 #[cfg(test)]
 mod whole_streams_checks;

@@ -1,6 +1,0 @@
-use Rattle.std.proofs.Common.{◌≡◌}
-use Rattle.colour_rules.specs.Node.{ports}
-use Rattle.checks.proofs.colour_program_checks.cells.answer.Given as goal
-
-abbrev pub invariant-loop-i : goal.invariant-loop-i
-invariant-loop-i g l = ports l.node ≡ 1

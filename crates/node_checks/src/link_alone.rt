@@ -1,0 +1,55 @@
+//! A link of capacity 1 in one thread, at the colouring.
+
+ghost use Rattle.std.specs.Prelude.{◌≡◌};
+ghost use Rattle.node_checks.specs.LinkRows.{pair_net};
+
+use alpha_core::Wire;
+use colour_program::{Colouring, Payload};
+use interference::{Memory, Network};
+use link_queue::{Full, Link};
+use std::alloc::Global;
+use std::sync::Wait;
+
+/// What each step returned.
+#[derive(Drop)]
+pub struct Steps {
+    pub put: bool,
+    pub full: Option<Wire<Payload>>,
+    pub taken: Option<Wire<Payload>>,
+    pub none: Option<Wire<Payload>>,
+    pub put_again: bool,
+    pub taken_again: Option<Wire<Payload>>,
+    pub held: usize,
+}
+
+/// A put, a put that finds the link full, a take, a take that finds it empty, a put, a take; then the ends meet.
+pub fn one_after_another<R: Wait>(rt: &R, alloc: Global, network: &Network) -> Result<Steps, Memory>
+    requires network { network.now ≡ pair_net }
+{
+    let (link, mut put_end, mut take_end) = Link::<Colouring>::new(alloc, network, 1, 0, 1)?;
+    let put = match link.put(rt, &mut put_end, Wire::Payload(0, Payload::Hello(1))) {
+        Ok(()) => true,
+        Err(_) => return Err(Memory),
+    };
+    let full = match link.put(rt, &mut put_end, Wire::Safe(0)) {
+        Ok(()) => return Err(Memory),
+        Err(Full(wire)) => Some(wire),
+    };
+    let taken = link.take(rt, &mut take_end);
+    let none = link.take(rt, &mut take_end);
+    let put_again = link.put(rt, &mut put_end, Wire::Safe(0)).is_ok();
+    let taken_again = link.take(rt, &mut take_end);
+    let held = match link.meet(rt, alloc, put_end, take_end) {
+        Ok(met) => met.held().len(),
+        Err(_) => return Err(Memory),
+    };
+    Ok(Steps {
+        put,
+        full,
+        taken,
+        none,
+        put_again,
+        taken_again,
+        held,
+    })
+}
