@@ -97,6 +97,13 @@ impl<T: Copy> Ports<T> {
         self.outs.within(most)
     }
 
+    /// Whether there is room for one wire more in every out-list.
+    pub(crate) fn has_room(&self) -> bool
+        ensures room { result ≡ all_out_within 3 self.now }
+    {
+        self.outs.has_room()
+    }
+
     /// Whether no port waits.
     pub(crate) fn none_waits(&self) -> bool
         ensures none { result ≡ none_waits self.now }
