@@ -149,6 +149,14 @@ impl<T: Copy> Ports<T> {
         bit(self.safe[port as usize]) + bit(self.early_safe[port as usize])
     }
 
+    /// Whether close has come at a port.
+    pub(crate) fn is_closed(&self, port: u32) -> bool
+        requires port { port < length self.now }
+        ensures closed { result ≡ (port_in self.now port).closed }
+    {
+        self.closed[port as usize]
+    }
+
     // Whether the payload of the pulse whose safe comes next was taken.
     fn is_paid(&self, port: u32) -> bool
         requires port { port < length self.now }
