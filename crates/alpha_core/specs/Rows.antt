@@ -1,5 +1,5 @@
 -- The ports of a node, from rows by port.
-use Rattle.std.specs.Prelude.{◌≡◌, ℕ, ◌≤◌, Bool, true, false, ◌&&◌, nat_le, Option, None}
+use Rattle.std.specs.Prelude.{◌≡◌, ℕ, ◌≤◌, Bool, true, false, ◌&&◌, nat_le, nat_lt, Option, None}
 use Rattle.std.specs.Prelude.{List, [], ◌∷◌, ◌++◌, map, length, slice_index_or, slice_set}
 use Rattle.std.specs.List.{range_with_len}
 use Rattle.interference.specs.declared.limits.TheConstants.{MAX_DEGREE}
@@ -59,6 +59,10 @@ out_at outs i = slice_index_or outs i []
 
 abbrev pub push_out : {M : Type 0} → List (List (Wire M)) → ℕ → Wire M → List (List (Wire M))
 push_out outs i w = slice_set outs i (out_at outs i ++ (w ∷ []))
+
+-- an out-list without room for one wire more
+abbrev pub is_full : {M : Type 0} → List (Wire M) → Bool
+is_full out = nat_lt 3 (length out)
 
 -- every out-list has at most this many wires
 abbrev pub all_within : {M : Type 0} → ℕ → List (List (Wire M)) → Bool

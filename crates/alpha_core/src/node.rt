@@ -124,7 +124,7 @@ impl<P: NodeProgram> AlphaNode<P> {
     pub fn can_take(&self) -> bool
         ensures room { result ≡ can_take self.now.node.view }
     {
-        self.ports.out_within(3)
+        self.ports.has_room()
     }
 
     /// Whether the next pulse can be made.

@@ -1,8 +1,8 @@
 //! The wires that a node has still to put, by port.
 
 ghost use Rattle.std.specs.Prelude.{◌≡◌, ◌<◌, ◌≤◌, ◌++◌, ◌∷◌, [], IfOk, replicate, length, drop, slice_get, slice_set};
-ghost use Rattle.std.specs.Prelude.{vec_capacity};
-ghost use Rattle.alpha_core.specs.Rows.{all_within, out_at, push_out};
+ghost use Rattle.std.specs.Prelude.{nat_eq, vec_capacity};
+ghost use Rattle.alpha_core.specs.Rows.{all_within, is_full, out_at, push_out};
 
 use crate::wire::Wire;
 use interference::Memory;
@@ -14,35 +14,44 @@ use std::marker::Model;
 pub(crate) struct OutLists<T> {
     // Each has a capacity of four at least.
     lists: Vec<Vec<Wire<T>>>,
+    // How many of them are full: that there is none is asked at each wire.
+    full: usize,
 }
 
 impl<T> Model for OutLists<T> {
-    ghost use Rattle.std.specs.Prelude.{◌≤◌, List, map, All, vec_capacity};
+    ghost use Rattle.std.specs.Prelude.{◌≡◌, ◌≤◌, List, map, All, count_by, vec_capacity};
     ghost use Rattle.alpha_core.specs.declared.wire.Wire.{Wire};
+    ghost use Rattle.alpha_core.specs.Rows.{is_full};
 
     ghost Value = { List (List (Wire T)) };
 
     ghost view = { λ a. map (λ list. list.items) a.lists.items };
 
-    ghost invariant = { λ a. All (λ list. 4 ≤ vec_capacity list) a.lists.items };
+    ghost invariant = { λ a. All (λ list. 4 ≤ vec_capacity list) a.lists.items
+        × (a.full ≡ count_by (λ list. is_full list.items) a.lists.items) };
 }
 
-// Puts a wire last, where there is room for it.
-fn push_last<T: Copy>(list: &mut Vec<Wire<T>>, wire: Wire<T>)
+// Puts a wire last, where there is room for it, and returns whether the list is full now.
+fn push_last<T: Copy>(list: &mut Vec<Wire<T>>, wire: Wire<T>) -> bool
     requires room { length list.old.items < vec_capacity list.old }
     ensures items { list.new.items ≡ list.old.items ++ wire ∷ [] }
     ensures capacity { vec_capacity list.old ≤ vec_capacity list.new }
+    ensures full { result ≡ is_full list.new.items }
 {
     list.push(wire).unwrap();
+    list.len() > 3
 }
 
-// Takes the first wire off.
-fn drop_first<T: Copy>(list: &mut Vec<Wire<T>>)
+// Takes the first wire off, and returns whether that leaves room in a full list.
+fn drop_first<T: Copy>(list: &mut Vec<Wire<T>>) -> bool
     requires some { 0 < length list.old.items }
     ensures items { list.new.items ≡ drop 1 list.old.items }
     ensures capacity { vec_capacity list.old ≤ vec_capacity list.new }
+    ensures freed { result ≡ nat_eq (length list.old.items) 4 }
 {
+    let freed = list.len() == 4;
     list.remove(0);
+    freed
 }
 
 impl<T: Copy> OutLists<T> {
@@ -55,7 +64,7 @@ impl<T: Copy> OutLists<T> {
             let list = Vec::with_capacity(alloc, 4)?;
             lists.push(list)?;
         }
-        Ok(OutLists { lists })
+        Ok(OutLists { lists, full: 0 })
     }
 
     /// Whether every list has at most `most` wires.
@@ -68,6 +77,13 @@ impl<T: Copy> OutLists<T> {
             }
         }
         true
+    }
+
+    /// Whether there is room for one wire more in every list.
+    pub(crate) fn has_room(&self) -> bool
+        ensures room { result ≡ all_within 3 self.now }
+    {
+        self.full == 0
     }
 
     /// The oldest wire of a port.
@@ -84,7 +100,8 @@ impl<T: Copy> OutLists<T> {
         requires room { length (out_at self.old port) ≤ 3 }
         ensures outs { self.new ≡ push_out self.old port wire }
     {
-        push_last(&mut self.lists[port as usize], wire);
+        let is_full = push_last(&mut self.lists[port as usize], wire);
+        self.full += usize::from(is_full);
     }
 
     /// Takes the oldest wire of a port off.
@@ -93,6 +110,7 @@ impl<T: Copy> OutLists<T> {
         requires some { 0 < length (out_at self.old port) }
         ensures outs { self.new ≡ slice_set self.old port (drop 1 (out_at self.old port)) }
     {
-        drop_first(&mut self.lists[port as usize]);
+        let is_freed = drop_first(&mut self.lists[port as usize]);
+        self.full -= usize::from(is_freed);
     }
 }

@@ -97,6 +97,13 @@ impl<T: Copy> Ports<T> {
         self.outs.within(most)
     }
 
+    /// Whether there is room for one wire more in every out-list.
+    pub(crate) fn has_room(&self) -> bool
+        ensures room { result ≡ all_out_within 3 self.now }
+    {
+        self.outs.has_room()
+    }
+
     /// Whether no port waits.
     pub(crate) fn none_waits(&self) -> bool
         ensures none { result ≡ none_waits self.now }
@@ -140,6 +147,14 @@ impl<T: Copy> Ports<T> {
         ensures safes { result ≡ safes_here (port_in self.now port) }
     {
         bit(self.safe[port as usize]) + bit(self.early_safe[port as usize])
+    }
+
+    /// Whether close has come at a port.
+    pub(crate) fn is_closed(&self, port: u32) -> bool
+        requires port { port < length self.now }
+        ensures closed { result ≡ (port_in self.now port).closed }
+    {
+        self.closed[port as usize]
     }
 
     // Whether the payload of the pulse whose safe comes next was taken.

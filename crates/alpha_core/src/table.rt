@@ -2,7 +2,7 @@
 
 ghost use Rattle.std.specs.Prelude.{◌≡◌, ◌<◌, IsTrue, MatchResult, OnErr, Result, length};
 ghost use Rattle.alpha_core.specs.Alpha.{reaction};
-ghost use Rattle.alpha_core.specs.Table.{refusal_in};
+ghost use Rattle.alpha_core.specs.Table.{refusal_in, refusal_of};
 ghost use Rattle.alpha_core.specs.View.{can_take, port_at};
 
 use crate::node::AlphaNode;
@@ -63,7 +63,12 @@ macro_rules! table {
 
 impl<P: NodeProgram> AlphaNode<P> {
     // Why a wire is refused, if it is, by what its cell says.
-    fn refusal(&self, port: u32, wire: Wire<P::Payload>, verdict: Verdict) -> Option<AlphaRefused>
+    fn refusal_in(
+        &self,
+        port: u32,
+        wire: Wire<P::Payload>,
+        verdict: Verdict,
+    ) -> Option<AlphaRefused>
         requires port { port < length self.now.node.view.ports }
         ensures refusal { result ≡ refusal_in self.now.last self.now.node.view.pulse self.now.node.view.said
             (port_at self.now.node.view port) wire verdict }
@@ -78,6 +83,33 @@ impl<P: NodeProgram> AlphaNode<P> {
                 _ => None,
             },
         }
+    }
+
+    // Why a wire is refused, if it is. Nearly every wire is a safe that is due, which needs no look at the table.
+    fn refusal(&self, port: u32, wire: Wire<P::Payload>) -> Option<AlphaRefused>
+        requires port { port < length self.now.node.view.ports }
+        ensures refusal { result ≡ refusal_of self.now.last self.now.node.view.pulse self.now.node.view.said
+            (port_at self.now.node.view port) wire }
+    {
+        if self.is_safe_due(port, wire) {
+            return None;
+        }
+        // Each row: at a port that is fresh, paid, closed.
+        let verdict = table! { (wire, self.relation(port, wire), self.ports.situation(port)) {
+            Wire::Payload(_, _), Less: WrongPulse WrongPulse AfterClose;
+            Wire::Payload(_, _), Equal: due again AfterClose;
+            Wire::Payload(_, _), Greater: WrongPulse WrongPulse AfterClose;
+            Wire::Ack(_), Less: StrayAck StrayAck AfterClose;
+            Wire::Ack(_), Equal: due due AfterClose;
+            Wire::Ack(_), Greater: StrayAck StrayAck AfterClose;
+            Wire::Safe(_), Less: DoubleSafe DoubleSafe AfterClose;
+            Wire::Safe(_), Equal: due due AfterClose;
+            Wire::Safe(_), Greater: WrongPulse WrongPulse AfterClose;
+            Wire::Close, Less: WrongPulse WrongPulse AfterClose;
+            Wire::Close, Equal: due due AfterClose;
+            Wire::Close, Greater: WrongPulse WrongPulse AfterClose;
+        } };
+        self.refusal_in(port, wire, verdict)
     }
 
     /// Takes a wire that comes by a port; the node can take one (`can_take`).
@@ -95,22 +127,7 @@ impl<P: NodeProgram> AlphaNode<P> {
         ensures last { self.new.last ≡ self.old.last }
         ensures refused { OnErr result (self.new ≡ self.old) }
     {
-        // Each row: at a port that is fresh, paid, closed.
-        let verdict = table! { (wire, self.relation(port, wire), self.ports.situation(port)) {
-            Wire::Payload(_, _), Less: WrongPulse WrongPulse AfterClose;
-            Wire::Payload(_, _), Equal: due again AfterClose;
-            Wire::Payload(_, _), Greater: WrongPulse WrongPulse AfterClose;
-            Wire::Ack(_), Less: StrayAck StrayAck AfterClose;
-            Wire::Ack(_), Equal: due due AfterClose;
-            Wire::Ack(_), Greater: StrayAck StrayAck AfterClose;
-            Wire::Safe(_), Less: DoubleSafe DoubleSafe AfterClose;
-            Wire::Safe(_), Equal: due due AfterClose;
-            Wire::Safe(_), Greater: WrongPulse WrongPulse AfterClose;
-            Wire::Close, Less: WrongPulse WrongPulse AfterClose;
-            Wire::Close, Equal: due due AfterClose;
-            Wire::Close, Greater: WrongPulse WrongPulse AfterClose;
-        } };
-        if let Some(refused) = self.refusal(port, wire, verdict) {
+        if let Some(refused) = self.refusal(port, wire) {
             return Err(refused);
         }
         match wire {

@@ -2,7 +2,7 @@
 
 ghost use Rattle.std.specs.Prelude.{◌≡◌, ◌<◌, ◌≤◌, IsTrue, Option, length};
 ghost use Rattle.alpha_core.specs.Alpha.{reacts, settles};
-ghost use Rattle.alpha_core.specs.Table.{is_beyond, is_early, may_close, relation};
+ghost use Rattle.alpha_core.specs.Table.{is_beyond, is_due, is_early, may_close, relation};
 ghost use Rattle.alpha_core.specs.View.{can_take, port_at};
 
 use crate::node::AlphaNode;
@@ -54,6 +54,22 @@ impl<P: NodeProgram> AlphaNode<P> {
             Wire::Ack(q) => q.cmp(&self.pulse),
             Wire::Safe(q) => u64::from(q).cmp(&safes),
             Wire::Close => u64::from(self.last).cmp(&safes),
+        }
+    }
+
+    /// Whether a wire is a safe that is due.
+    pub(crate) fn is_safe_due(&self, port: u32, wire: Wire<P::Payload>) -> bool
+        requires port { port < length self.now.node.view.ports }
+        ensures due { IsTrue result → IsTrue
+            (is_due self.now.last self.now.node.view.pulse self.now.node.view.said (port_at self.now.node.view port) wire) }
+    {
+        match wire {
+            Wire::Safe(q) => {
+                !self.ports.is_closed(port)
+                    && u64::from(q) == u64::from(self.pulse) + u64::from(self.ports.safes(port))
+                    && !self.is_beyond(q)
+            }
+            _ => false,
         }
     }
 

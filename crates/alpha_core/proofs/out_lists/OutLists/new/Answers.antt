@@ -1,7 +1,8 @@
-use Rattle.std.proofs.Common.{◌≡◌, ◌≤◌, ◌+◌, ◌++◌, ◌∷◌, [], List, map, replicate, refl, ap, subst, sym, ◌∙◌, arith}
+use Rattle.std.proofs.Common.{◌≤◌, ◌++◌, ◌∷◌, [], map, replicate, ap, subst, sym, ◌∙◌, arith}
 use Rattle.std.specs.Prelude.{All, vec_capacity}
 use Rattle.std.proofs.lemmas.List.{map-append, replicate_more}
 use Rattle.std.proofs.lemmas.List.Elements.{All-nil, All-push}
+use Rattle.alpha_core.proofs.OutLists.{fulls-empty}
 use Rattle.alpha_core.proofs.out_lists.OutLists.new.Goals as goal
 
 pub loop-port-init : goal.loop-port-init
@@ -26,7 +27,8 @@ loop-port-preserved g c =
     )
 
 pub invariant_of-result : goal.invariant_of-result
-invariant_of-result g c = c.loop-port.invariant.1
+invariant_of-result g c =
+    (c.loop-port.invariant.1, sym (fulls-empty (λ v. v.items) c.loop-port.lists.items c.loop-port._port c.loop-port.invariant.0))
 
 pub returns : goal.returns
 returns g c =

@@ -10,7 +10,7 @@ returns g c =
     let lists = c.self.inside.lists.items in
     let below : c.args.port < length lists = omega (arith, c.requires.port, ap length c.self.view_is, length-map lists (λ v. v.items)) in
     record {
-      outs = out-change (λ v. v.items) lists c.args.port c.index_mut.result.now c.drop_first.new.list (λ l. drop 1 l) below c.index_mut.ensures.value
-          c.drop_first.ensures.items
+      outs = out-change (λ v. v.items) lists c.args.port c.index_mut.result.now c.drop_first-is_freed.new.list (λ l. drop 1 l) below c.index_mut.ensures.value
+          c.drop_first-is_freed.ensures.items
           ∙ ap (λ outs. slice_set outs c.args.port (drop 1 (out_at outs c.args.port))) c.self.view_is;
     }
