@@ -1,5 +1,9 @@
 //! The colouring as a program of nodes.
-ghost use Rattle.std.specs.Prelude.{◌≡◌};
+ghost use Rattle.std.specs.Prelude.{◌≡◌, OnErr, length};
+ghost use Rattle.node_api.specs.Boxes.{nothing};
+ghost use Rattle.node_api.specs.Program.{Matches};
+ghost use Rattle.colour_rules.specs.Node.{ports};
+ghost use Rattle.colour_rules.specs.Program.{next};
 
 use colour_rules::{ColourNode, FIRST_MERGE, IdlePulses, Payload};
 use interference::{Memory, Network};
@@ -35,6 +39,30 @@ impl Colouring {
         ensures { result ≡ self.now.merged }
     {
         self.node.colour()
+    }
+
+    // A pulse at which there may be something to do. Never inlined, so that an engine's loop has nothing of it
+    // but the call.
+    #[inline(never)]
+    fn take_pulse(
+        &mut self,
+        pulse: u32,
+        inbox: &mut Inbox<Payload>,
+        out: &mut Outbox<Payload>,
+    ) -> Result<(), Refused>
+        requires rewound { inbox.old.cursor ≡ 0 }
+        requires inbox { length inbox.old.slots ≡ ports self.old }
+        requires out { out.old ≡ nothing (ports self.old) }
+        ensures answer { Matches result (next self.old pulse inbox.old.slots) (self.new, out.new) }
+        ensures refused { OnErr result ((self.new ≡ self.old) × (out.new ≡ out.old)) }
+        ensures inbox { inbox.new.slots ≡ inbox.old.slots }
+    {
+        if self.node.hear(self.idle, pulse, inbox) {
+            return Ok(());
+        }
+        inbox.rewind();
+        self.idle = self.node.pulse(pulse, inbox, out)?;
+        Ok(())
     }
 
     /// The node of the colouring.
@@ -83,12 +111,7 @@ impl NodeProgram for Colouring {
         if self.idle.contains(pulse) && !inbox.has_next() {
             return Ok(());
         }
-        if self.node.hear(self.idle, pulse, inbox) {
-            return Ok(());
-        }
-        inbox.rewind();
-        self.idle = self.node.pulse(pulse, inbox, out)?;
-        Ok(())
+        self.take_pulse(pulse, inbox, out)
     }
 
     fn post_step(&mut self, _pulse: u32) {}

@@ -47,10 +47,33 @@ impl ColourNode {
         ensures refused { OnErr result ((self.new ≡ self.old) × (out.new ≡ out.old)) }
         ensures inbox { inbox.new.slots ≡ inbox.old.slots }
     {
-        let ports = self.roles.len();
         if self.phase(pulse) != Phase::Orient {
             self.pulse_with(pulse, &mut [], inbox, out)
-        } else if ports <= FEW_PORTS {
+        } else {
+            self.pulse_with_room(pulse, inbox, out)
+        }
+    }
+
+    // The same, at a pulse at which identifiers may come. Never inlined, so that the other pulses don't pay for
+    // the room on the stack.
+    #[inline(never)]
+    fn pulse_with_room(
+        &mut self,
+        pulse: u32,
+        inbox: &mut Inbox<Payload>,
+        out: &mut Outbox<Payload>,
+    ) -> Result<IdlePulses, Refused>
+        requires rewound { inbox.old.cursor ≡ 0 }
+        requires inbox { length inbox.old.slots ≡ ports self.old }
+        requires out { out.old ≡ nothing (ports self.old) }
+        ensures answer { Matches result (next self.old pulse inbox.old.slots) (self.new, out.new) }
+        ensures idle { IfOk result (IsIdle self.new) }
+        ensures waits { IfOk result (IsWaiting self.new) }
+        ensures refused { OnErr result ((self.new ≡ self.old) × (out.new ≡ out.old)) }
+        ensures inbox { inbox.new.slots ≡ inbox.old.slots }
+    {
+        let ports = self.roles.len();
+        if ports <= FEW_PORTS {
             let mut room = [0; FEW_PORTS];
             self.pulse_with(pulse, &mut room[..ports], inbox, out)
         } else {

@@ -91,7 +91,27 @@ impl ColourNode {
         if forests <= FEW_FORESTS {
             let mut room = [None; FEW_FORESTS];
             self.work_with(reduction, &mut room[..forests], inbox, out);
-        } else if forests <= SOME_FORESTS {
+        } else {
+            self.work_in_many(reduction, inbox, out);
+        }
+    }
+
+    // The same, in more forests. Never inlined, so that other pulses don't pay for the room on the stack.
+    #[inline(never)]
+    fn work_in_many(
+        &mut self,
+        reduction: Reduction,
+        inbox: &mut Inbox<Payload>,
+        out: &mut Outbox<Payload>,
+    )
+        requires accepted { IsAccepted self.old (Work reduction) inbox.old.slots }
+        requires unread { inbox.old ≡ unread inbox.old.slots }
+        requires out { out.old ≡ nothing (ports self.old) }
+        ensures node { (self.new, out.new) ≡ done self.old (Work reduction) inbox.old.slots }
+        ensures slots { inbox.new.slots ≡ inbox.old.slots }
+    {
+        let forests = usize::from(self.forests);
+        if forests <= SOME_FORESTS {
             let mut room = [None; SOME_FORESTS];
             self.work_with(reduction, &mut room[..forests], inbox, out);
         } else if forests <= MANY_FORESTS {
