@@ -18,6 +18,7 @@ import tempfile
 from plain_networks import climbing, complete, cycle, path, random_of, star, text_of, tree, two_sided
 from refused_memory import build_front, sweep
 from rounds_definition import made_text, rounds_text
+from shell import run_line
 
 TOP = os.path.dirname(os.path.dirname(os.path.abspath(__file__)))
 LIMIT = 60
@@ -103,7 +104,7 @@ def headline_rows(program, plan, all_of):
             with open(file_name, "wb") as file:
                 file.write(data)
             for workers in WORKERS:
-                done = run(["bash", "-c", HEADLINE, program, plan, file_name, str(workers)])
+                done = run_line(HEADLINE, program, plan, file_name, str(workers), limit=LIMIT)
                 note(f"the payloads of {name} with {workers} workers", (done.returncode, done.stdout, done.stderr) == (0, b"", b""), done)
 
 
