@@ -17,11 +17,12 @@ import tempfile
 
 import check_transcript
 from made_transcripts import MISTAKES, made_transcript, transcript_text, with_mistake
-from picture_base import LIMIT, SEED, TALLY, TOP, Drawing, call, example, examples, note, rounds_text, transcript, transcript_by
+from picture_base import LIMIT, SEED, TALLY, TOP, Drawing, call, example, examples, note, transcript, transcript_by
 from picture_maps import bits_rows, forests_rows, matrix_rows, plan_rows, player_rows, rounds_rows
 from picture_marks import gap
 from picture_runs import run_rows, whole_run_rows
 from plain_definition import network_of, plan_text
+from rounds_definition import rounds_text
 
 EDGE, ROW = b"p edge 2 1\ne 1 2\n", b"p edge 4 3\ne 1 2\ne 2 3\ne 3 4\n"
 WRONG_NETWORKS = {
