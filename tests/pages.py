@@ -21,6 +21,7 @@ import sys
 
 from alpha_definition import NetState, synchronous_run, text_of_wire
 from plain_definition import Network, bit, colours, drop, merge, network_of, shift, three
+from shell import run_line
 
 TOP = os.path.dirname(os.path.dirname(os.path.abspath(__file__)))
 PAGES = ["README.md"] + sorted(f"docs/{name}" for name in os.listdir(os.path.join(TOP, "docs")) if name.endswith(".md"))
@@ -56,7 +57,7 @@ def shown_commands(lines):
 def check_commands(page, programs):
     for number, command, shown in shown_commands(lines_of(page)):
         words = command.replace("./forestplan", programs[0]).replace("./forestplay", programs[1])
-        done = subprocess.run(["bash", "-c", words], cwd=TOP, capture_output=True, timeout=LIMIT)
+        done = run_line(words, limit=LIMIT, cwd=TOP)
         wanted = "".join(line + "\n" for line in shown)
         good = [(0, wanted.encode(), b"")] + [(status, b"", wanted.encode()) for status in (1, 3) if wanted]
         note(f"{page}:{number} {command}", (done.returncode, done.stdout, done.stderr) in good, f"shown {wanted!r}, got {done}")

@@ -3,7 +3,6 @@ import os
 import random
 import subprocess
 
-from alpha_definition import Colouring, last_pulse, ports_of
 from made_transcripts import made_transcript, transcript_text
 from plain_definition import network_of
 
@@ -57,30 +56,6 @@ class Drawing:
         if status:
             raise AssertionError(f"{kind} is refused: {fault.decode()}")
         return picture.decode()
-
-
-def rounds_text(net):
-    """The text of rounds (docs/FORMATS.md) by the definitions."""
-    last, width = last_pulse(net), net.greatest_degree + 1
-    lines = [f"rounds 1 {len(net.neighbours)} {net.greatest_degree} {net.forest_count} {last}"]
-    nodes = {v: Colouring(net, v) for v in net.neighbours}
-    sent = {v: nodes[v].greet() for v in nodes}
-    for p in range(last + 1):
-        step = p - 13
-        phase = "greet orient seed step step step step shift drop shift drop shift drop".split()[p] if p <= 12 else (
-            f"merge {step // (3 * width)} {step % (3 * width) // width} {step % width}")
-        lines.append(f"pulse {p} {phase}")
-        if p:
-            inboxes = {v: [sent[w][ports_of(net, w).index(v)] for w in ports_of(net, v)] for v in nodes}
-            sent = {v: nodes[v].next(p, inboxes[v]) for v in nodes}
-        for v, node in nodes.items():
-            if 2 <= p <= 12:
-                lines += [f"{v} colour {f} {c}" for f, c in enumerate(node.colours)]
-            if p > 12 and (node.colours[step // (3 * width)], node.old) == divmod(step % (3 * width), width):
-                lines.append(f"{v} chose {node.merged}")
-            lines += [f"{v} put {w} payload {p} {sent[v][port][0].lower()} {sent[v][port][1]}"
-                      for port, w in enumerate(ports_of(net, v)) if sent[v][port]]
-    return "".join(line + "\n" for line in lines).encode()
 
 
 def transcript(network, seed, capacity=4):

@@ -3,9 +3,10 @@ import re
 from collections import Counter
 
 from alpha_definition import last_pulse
-from picture_base import note, rounds_text
+from picture_base import note
 from picture_marks import centre, ends, gap, marks, nearest, number, numbered, parsed, texts, title, titles
-from plain_definition import bit, colours, drop, merge, network_of, plan_text, shift, three
+from plain_definition import Network, bit, colours, drop, merge, network_of, plan_text, shift, three
+from rounds_definition import rounds_text
 
 CHANNELS = ["#0072B2", "#E69F00", "#009E73", "#F0E442", "#CC79A7", "#56B4E9", "#D55E00", "#444444"]
 COLOURS = ["#004488", "#997700", "#994455", "#6699CC", "#EECC66", "#EE99AA"]
@@ -151,12 +152,20 @@ def strip_mark(column, colour, is_in_forest):
 
 
 def bits_rows(draw, name, network, v, text=None, identifiers=None):
+    """Each forest in which v has a parent."""
     net = network_of(network)
-    net.identifiers = identifiers or net.identifiers
-    root = parsed(draw("bits", network, text or rounds_text(net), "--vertex", v))
-    w, c, shown = net.parent(0, v), net.identifiers, []
+    if identifiers:
+        net = Network(identifiers, net.number)
+    text = text or rounds_text(net)
+    for f in range(net.forest_count):
+        if net.parent(f, v):
+            bits_of_forest(f"{name}, forest {f}", net, f, v, parsed(draw("bits", network, text, "--vertex", v, "--forest", f)))
+
+
+def bits_of_forest(name, net, f, v, root):
+    w, c, shown = net.parent(f, v), net.identifiers, []
     for p in range(2, 7):
-        pair, following = marks(root, "pair")[p - 2], bit(net, 0, c)
+        pair, following = marks(root, "pair")[p - 2], bit(net, f, c)
         digits = max(1, c[v].bit_length(), c[w].bit_length())
         boxes = [mark for mark in pair.iter() if mark.get("class") in ("digit", "ringed")]
         bits = "".join("1" if mark.get("fill") == INK else "0" for mark in boxes)
@@ -169,7 +178,7 @@ def bits_rows(draw, name, network, v, text=None, identifiers=None):
         shown += [int(mark.text.split(" = ")[-1]) for mark in marks(pair, "next")]
         note(f"bits of {name}, pulse {p}: its title", title(pair) == f"pulse {p}: {c[v]} under {c[w]}", title(pair))
         c = following
-    wanted = [row[v] for row in colour_table(net, 0)[1:5]]
+    wanted = [row[v] for row in colour_table(net, f)[1:5]]
     note(f"bits of {name}: the next numbers", shown == wanted, shown)
 
 

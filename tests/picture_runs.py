@@ -106,14 +106,38 @@ def lower_rows(name, lower, first, last):
     note(f"{name}: payloads go from pulse to pulse", not wrong, wrong[:2])
 
 
-def overview_rows(draw, name, network, text):
-    last, own = last_pulse(network_of(network)), entries_of(text)
-    root = parsed(draw("overview", network, text))
-    rows = sorted({ends(mark)[0][1] for mark in marks(root, "tick")})
-    ticks = [[ends(mark)[0][0] for mark in marks(root, "tick") if ends(mark)[0][1] == y] for y in rows]
-    note(f"overview of {name}: ticks", [len(row) for row in ticks] == [last + 1] * len(own), [len(row) for row in ticks])
-    note(f"overview of {name}: they ascend", all(row == sorted(row) for row in ticks))
-    note(f"overview of {name}: bands", len(marks(root, "band")) == last + 1, len(marks(root, "band")))
+def times_of(network, text):
+    """{(vertex, pulse): length of the longest chain of entries that ends with it}, along an order that the text can have."""
+    net = network_of(network)
+    last, puts, found = Counter(), {}, {(v, 0): 0 for v in net.neighbours}
+    for entry in find_order(net, read(text)[1]).made:
+        v, w = entry.vertex, entry.neighbour
+        before = puts[w, v].pop(0) if entry.kind == "Take" else 0
+        last[v] = 1 + max(last[v], before)
+        if entry.kind == "Put":
+            puts.setdefault((v, w), []).append(last[v])
+        elif entry.kind == "Pulse":
+            found[v, entry.what] = last[v]
+    return found
+
+
+def overview_rows(draw, name, network, text, window=None):
+    """All pulses, or some: the ticks of them and of the next one, as far apart as their times; those of others are grey."""
+    last, times = last_pulse(network_of(network)), times_of(network, text)
+    first, final = window or (0, last)
+    name = f"overview of {name}, pulses {first} to {final}"
+    root = parsed(draw("overview", network, text, *(["--pulses", f"{first}..{final}"] if window else [])))
+    wanted = sorted((v, times[v, p]) for v, p in times if first <= p <= final + 1)
+    rows = {y: v for v, y in enumerate(sorted({ends(mark)[0][1] for mark in marks(root, "tick")}), 1)}
+    shown = sorted((rows[ends(mark)[0][1]], ends(mark)[0][0]) for mark in marks(root, "tick"))
+    note(f"{name}: ticks", [v for v, _ in shown] == [v for v, _ in wanted], (len(shown), len(wanted)))
+    (low, high), (left, right) = ((min(x for _, x in pairs), max(x for _, x in pairs)) for pairs in (wanted, shown))
+    wrong = [(v, x) for (v, x), (_, time) in zip(shown, wanted) if abs(left + (time - low) / (high - low) * (right - left) - x) > 0.2]
+    note(f"{name}: they are as far apart as their times", not wrong, wrong[:5])
+    grey = sum(not first <= p <= final + 1 and low <= time <= high for (_, p), time in times.items())
+    note(f"{name}: grey ticks", len(marks(root, "outside")) == grey, (len(marks(root, "outside")), grey))
+    note(f"{name}: bands", len(marks(root, "band")) == final - first + 1, len(marks(root, "band")))
+    note(f"{name}: its title", f": pulses {first} to {final} of {last}," in texts(root)[0], texts(root)[0])
 
 
 class Replayed:
@@ -184,9 +208,12 @@ def fill_of(kind, wire):
     return (hue, None) if kind == "take" else ("#FFFFFF", hue)
 
 
-def tally_rows(draw, name, network, text):
-    net, root = network_of(network), parsed(draw("tally", network, text))
-    last = last_pulse(net)
+def tally_rows(draw, name, network, text, window=None):
+    """All pulses, or the bars of some; the title counts all wires."""
+    net, last = network_of(network), last_pulse(network_of(network))
+    first, final = window or (0, last)
+    name = f"{name}, pulses {first} to {final}"
+    root = parsed(draw("tally", network, text, *(["--pulses", f"{first}..{final}"] if window else [])))
     counts = Counter()
     for own in entries_of(text).values():
         counts.update((f[3], last if f[3] == "close" else int(f[4])) for f in own if f[1] == "put")
@@ -195,7 +222,8 @@ def tally_rows(draw, name, network, text):
         for group in marks(root, kind):
             pulse, count = map(int, re.fullmatch(rf"pulse (\d+): {kind} (\d+)", title(group)).groups())
             shown[kind, pulse] = count
-    note(f"tally of {name}: a bar for each kind and pulse", shown == dict(counts))
+    wanted = {(kind, pulse): count for (kind, pulse), count in counts.items() if first <= pulse <= final}
+    note(f"tally of {name}: a bar for each kind and pulse", shown == wanted, shown)
     heights = [(number(group[1], "height"), int(title(group).split()[-1])) for kind in WIRES for group in marks(root, kind)]
     unit = sum(height for height, _ in heights) / sum(count for _, count in heights)
     note(f"tally of {name}: bars as high as their counts", all(abs(height - unit * count) < 0.2 for height, count in heights), heights)
@@ -208,12 +236,13 @@ def run_rows(draw, name, network, texts_of, v):
     """All pictures of some runs of one network; the lower half is the same for all of them."""
     last = last_pulse(network_of(network))
     lower = set()
-    for which, text in texts_of.items():
-        label = f"{name}, {which}"
+    for at, (which, text) in enumerate(texts_of.items()):
+        label, some = f"{name}, {which}", (3, 7) if at % 2 == 0 else (last - 3, last)
         if len(network_of(network).neighbours) <= 12:
             lower.add(window_rows(draw, label, network, text, 0, min(3, last)))
-        overview_rows(draw, label, network, text)
-        tally_rows(draw, label, network, text)
+        for window in (None, some):
+            overview_rows(draw, label, network, text, window)
+            tally_rows(draw, label, network, text, window)
         node_rows(draw, label, network, text, v, 0, min(4, last))
     if lower:
         note(f"the lower half of {name} is the same for each of {len(texts_of)} runs", len(lower) == 1 < len(texts_of))

@@ -17,11 +17,12 @@ import tempfile
 
 import check_transcript
 from made_transcripts import MISTAKES, made_transcript, transcript_text, with_mistake
-from picture_base import LIMIT, SEED, TALLY, TOP, Drawing, call, example, examples, note, rounds_text, transcript, transcript_by
+from picture_base import LIMIT, SEED, TALLY, TOP, Drawing, call, example, examples, note, transcript, transcript_by
 from picture_maps import bits_rows, forests_rows, matrix_rows, plan_rows, player_rows, rounds_rows
-from picture_marks import gap
+from picture_marks import gap, parsed, texts
 from picture_runs import run_rows, whole_run_rows
 from plain_definition import network_of, plan_text
+from rounds_definition import rounds_text
 
 EDGE, ROW = b"p edge 2 1\ne 1 2\n", b"p edge 4 3\ne 1 2\ne 2 3\ne 3 4\n"
 WRONG_NETWORKS = {
@@ -120,10 +121,25 @@ def size_rows(draw):
         refused(f"{kind} of {nodes} nodes", draw.run(kind, network, f"transcript 1 {nodes}\n{lines}".encode()), instead)
 
 
+def pulses_rows(draw):
+    """Pulses that the run doesn't have are refused, and of more than can be told apart the overview says how many they are."""
+    text = transcript(APART, "pulses")
+    last = int(re.findall(rb"pulse (\d+)", text)[-1])
+    for pulses in ("3..2", f"0..{last + 1}", f"{last + 1}..{last + 1}"):
+        for words in (["run"], ["overview"], ["node", "--vertex", 1], ["tally"]):
+            refused(f"{words[0]} of pulses {pulses}", draw.run(words[0], APART, text, *words[1:], "--pulses", pulses),
+                    f"among 0 to {last}\n".encode())
+    star = b"p edge 64 63\n" + b"".join(b"e %d 64\n" % v for v in range(1, 64))
+    refused("overview of a pulse that no node begins", draw.run("overview", star, b"transcript 1 64\n", "--pulses", "1..2"), b"no node")
+    for pulses, said in (([], "205 pulses, too many"), (["--pulses", "0..200"], "201 pulses, too many"), (["--pulses", "0..199"], "")):
+        caption = texts(parsed(draw("overview", star, b"transcript 1 64\n", *pulses)))[-1]
+        note(f"overview of {pulses or 'all'} pulses: its caption", (said in caption) if said else "too many" not in caption, caption)
+
+
 def word_rows(draw):
     """The command line, help, places that aren't given, and the same bytes twice."""
-    for words in ([], ["plan"], ["map", "x"], ["plan", "x", "y"], ["run", "x", "--pulses", "3"], ["run", "x", "--only", "hello"],
-                  ["bits", "x", "--vertex", "y"]):
+    for words in ([], ["plan"], ["map", "x"], ["plan", "x", "y"], ["run", "x", "--pulses", "3"], ["overview", "x", "--pulses", "3,5"],
+                  ["run", "x", "--only", "hello"], ["bits", "x", "--vertex", "y"]):
         status, picture, _ = call(words)
         note(f"the words {words}", (status, picture) == (2, b""))
     status, told, fault = call(["--help"])
@@ -224,6 +240,7 @@ def main():
             run_rows(draw, name, network, runs, v)
         refused_rows(draw)
         size_rows(draw)
+        pulses_rows(draw)
         word_rows(draw)
     place_rows()
     stored_rows(play)

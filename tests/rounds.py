@@ -1,6 +1,6 @@
 #!/usr/bin/env python3
 """Black-box tests of `forestplay rounds`: compares whole texts with the definitions, and the payloads of the rounds with those of
-transcripts. The last line is 'N passed, M failed'.
+transcripts; and the stored text of nodes with long names. The last line is 'N passed, M failed'.
 
   rounds.py [--program PROGRAM] [--plan PLAN]
       PROGRAM   has the command `rounds`; default: the built forestplay
@@ -11,13 +11,16 @@ import argparse
 import glob
 import os
 import random
+import re
 import subprocess
 import sys
 import tempfile
 
+from plain_definition import Network, network_of
 from plain_networks import climbing, complete, cycle, path, random_of, star, text_of, tree, two_sided
 from refused_memory import build_front, sweep
 from rounds_definition import made_text, rounds_text
+from shell import run_line
 
 TOP = os.path.dirname(os.path.dirname(os.path.abspath(__file__)))
 LIMIT = 60
@@ -84,15 +87,26 @@ def networks():
 def text_rows(program, all_of):
     for name, data, wanted in [("an edge", EDGE, EDGE_TEXT), ("no node", "p edge 0 0|", EMPTY_TEXT),
                                ("a node alone", "p edge 1 0|", EMPTY_TEXT.replace("1 0 0", "1 1 0"))]:
-        got = rounds_text(text(data))
+        got = rounds_text(network_of(text(data)))
         note(f"the definition of {name}", got == text(wanted), got)
         done = run([program, "rounds"], text(data))
         note(f"the rounds of {name}", (done.returncode, done.stdout, done.stderr) == (0, text(wanted), b""), done)
     for name, data in all_of.items():
-        wanted = rounds_text(data)
-        note(f"both definitions on {name}", wanted == made_text(data), data)
+        net = network_of(data)
+        wanted = rounds_text(net)
+        note(f"both definitions on {name}", wanted == made_text(net), data)
         done = run([program, "rounds"], data)
         note(f"the rounds of {name}", (done.returncode, done.stdout, done.stderr) == (0, wanted, b""), (data, done))
+
+
+def stored_rows():
+    """The stored text of nodes with long names is what the definitions say of all its pulses, for those names."""
+    with open(os.path.join(TOP, "docs", "pictures", "long_ids.rounds"), "rb") as file:
+        stored = file.read()
+    names = {int(v): int(name) for v, name in re.findall(rb"^(\d+) put \d+ payload 0 hello (\d+)$", stored, re.M)}
+    net = Network(names, {(v, v + 1) for v in range(1, len(names))})
+    note("the stored text has long names", len(names) == 6 and all(60 <= name.bit_length() <= 64 for name in names.values()), names)
+    note("the stored text with long names", stored == rounds_text(net) == made_text(net), stored)
 
 
 def headline_rows(program, plan, all_of):
@@ -103,7 +117,7 @@ def headline_rows(program, plan, all_of):
             with open(file_name, "wb") as file:
                 file.write(data)
             for workers in WORKERS:
-                done = run(["bash", "-c", HEADLINE, program, plan, file_name, str(workers)])
+                done = run_line(HEADLINE, program, plan, file_name, str(workers), limit=LIMIT)
                 note(f"the payloads of {name} with {workers} workers", (done.returncode, done.stdout, done.stderr) == (0, b"", b""), done)
 
 
@@ -140,6 +154,7 @@ def main():
     program, plan = os.path.abspath(given.program), os.path.abspath(given.plan)
     all_of = networks()
     text_rows(program, all_of)
+    stored_rows()
     headline_rows(program, plan, {name: data for name, data in all_of.items() if len(data) < MOST})
     fault_rows(program)
     memory_rows(program)

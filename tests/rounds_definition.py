@@ -2,15 +2,14 @@
 the vertices, as plain_definition.py has them, and without a node that keeps anything. `made_text` is the same text from the
 nodes of alpha_definition.py."""
 from alpha_definition import Colouring, last_pulse, ports_of
-from plain_definition import bit, drop, merge, network_of, shift, text_of
+from plain_definition import bit, drop, merge, shift, text_of
 
 FIRST_MERGE = 13
 WORK_NAMES = ["step"] * 4 + ["shift", "drop"] * 3
 
 
-def rounds_text(text):
-    """The text of a good network text."""
-    net = network_of(text)
+def rounds_text(net):
+    """The text of a network; its identifiers may be any numbers that differ."""
     return text_of(head_of(net) + [line for p in range(last_pulse(net) + 1) for line in pulse_lines(net, p)])
 
 
@@ -98,9 +97,8 @@ class Facts:
         return merge_step(self.net, p)[1:] == (2, self.net.greatest_degree)
 
 
-def made_text(text):
+def made_text(net):
     """The same text from nodes that hear and send, pulse by pulse."""
-    net = network_of(text)
     nodes = {v: Colouring(net, v) for v in net.neighbours}
     sent = {v: nodes[v].greet() for v in nodes}
     lines = head_of(net)

@@ -69,13 +69,16 @@ KINDS = {
             "stored text two calls differ, as the runs do, but for --workers 1.",
             "./picture run examples/chain6.col --pulses 3..5 --transcript \\\n"
             "    examples/chain6_slow.transcript > chain6_slow-spacetime.svg"),
-    "overview": ("The pulses of a run without a clock, from beginning to end.", "At most 100 nodes.",
-                 "./picture overview examples/petersen.col > petersen-overview.svg"),
+    "overview": ("The pulses of a run without a clock, from beginning to end.",
+                 "At most 100 nodes. More than 200 pulses can't be told apart: draw some with --pulses.",
+                 "./picture overview examples/petersen.col > petersen-overview.svg\n"
+                 "  ./picture overview examples/queen5_5.col --pulses 100..139 > queen5_5-overview.svg"),
     "node": ("How a node knows that a round is over: how often each step is made.",
              "With --vertex V: what node V knew, entry by entry (at most 14 ports).",
              "./picture node examples/petersen.col > petersen-automaton.svg\n"
              "  ./picture node examples/petersen.col --vertex 1 > petersen-timing.svg"),
-    "tally": ("The wires of a run by pulse, under the identity that counts them.", "Any network; the run has to be whole.",
+    "tally": ("The wires of a run by pulse, under the identity that counts them.",
+              "Any network; the run has to be whole. With --pulses the identity is still the whole run's.",
               "./picture tally examples/petersen.col > petersen-tally.svg"),
     "player": ("A page with a slider: the network at each pulse.", "At most 40 nodes. Of more than 200 frames, only merges in which some node chooses.\nWith --frame N, frame N alone as SVG.",
                "./picture player examples/petersen.col > petersen.html"),
@@ -116,12 +119,11 @@ def add_options(kind, name):
     if name in OF_RUN:
         kind.add_argument("--workers", metavar="N", help="the run's worker threads")
         kind.add_argument("--capacity", metavar="N", help="how many wires its links hold")
+        kind.add_argument("--pulses", type=pulses, metavar="A..B", help="these pulses alone")
     if name in ("rounds", "bits"):
         kind.add_argument("--forest", type=int, metavar="F", help="one forest, counted from 0")
     if name in ("bits", "node"):
         kind.add_argument("--vertex", type=int, metavar="V", help="a vertex, counted from 1")
-    if name in ("run", "node"):
-        kind.add_argument("--pulses", type=pulses, metavar="A..B", help="these pulses alone")
     if name == "run":
         kind.add_argument("--only", type=wires, metavar="KINDS", help="some of payload,ack,safe,close")
     if name == "player":
@@ -181,9 +183,9 @@ def drawn_run(given, run):
     if given.kind == "run":
         return run_picture.draw(run, given.pulses, given.only)
     if given.kind == "overview":
-        return overview_picture.draw(run)
+        return overview_picture.draw(run, given.pulses)
     if given.kind == "tally":
-        return tally_picture.draw(run)
+        return tally_picture.draw(run, given.pulses)
     if given.vertex is None:
         return automaton_picture.draw(run)
     return timing_picture.draw(run, given.vertex, given.pulses)

@@ -8,7 +8,7 @@ from math import sqrt
 from marks import dash_of, wire_arrow
 from palette import BAND, BORDER, INK, PAPER, PULSE, SOFT, WIRES
 from svg import Svg, text_width
-from wrong import Wrong, at_most
+from wrong import at_most
 
 LEFT, TOP, WIDTH = 64, 136, 1214
 KINDS = ("payload", "ack", "safe", "close")
@@ -49,17 +49,9 @@ class Window:
                         yield put
 
 
-def window_of(run, pulses):
-    """The pulses asked for, or the first three or four."""
-    first, last = pulses or ((0, min(3, run.last)) if run.network.nodes <= 3 else (1, min(3, run.last)))
-    if not 0 <= first <= last <= run.last:
-        raise Wrong(f"{run.name}: pulses {first} to {last} are not among 0 to {run.last}")
-    return first, last
-
-
 def draw(run, pulses=None, kinds=None):
     kinds = kinds or (KINDS if run.network.nodes <= MOST_NODES_OF_ALL_KINDS else ("payload",))
-    first, last = window_of(run, pulses)
+    first, last = run.window(pulses, (0 if run.network.nodes <= 3 else 1, min(3, run.last)))
     window = Window(run, first, last)
     at_most("run", window.stop - window.start, "steps of time side by side", MOST_STEPS, "fewer pulses (--pulses A..B), or overview")
     nodes = run.network.nodes

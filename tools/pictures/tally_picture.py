@@ -8,10 +8,12 @@ ORDER = ("safe", "ack", "payload", "close")
 WIDEST = 1040
 
 
-def draw(run):
+def draw(run, pulses=None):
     if not run.whole:
         raise Wrong(f"{run.name}: the run is not whole, so its wires can't be tallied")
     last, edges = run.last, len(run.network.edges)
+    first, final = run.window(pulses, (0, last))
+    shown = range(first, final + 1)
     counts = {kind: [0] * (last + 1) for kind in ORDER}
     for put in run.puts():
         counts[put.wire[0]][last if put.wire[1] is None else put.wire[1]] += 1
@@ -19,14 +21,15 @@ def draw(run):
     wires = sum(totals.values())
     if wires != 2 * totals["payload"] + 2 * edges * (last + 1):
         raise Wrong(f"{run.name}: the wires of a whole run are 2 · payloads + 2 · edges · (R + 1), and here they aren't")
-    bar = max(WIDEST / (last + 1) if last > WIDEST / 4 else 4, min(26, WIDEST / (last + 1)))
-    width = max(LEFT + bar * (last + 1) + 30, 900)
+    bar = max(WIDEST / len(shown) if len(shown) > WIDEST / 4 else 4, min(26, WIDEST / len(shown)))
+    width = max(LEFT + bar * len(shown) + 30, 900)
     svg = Svg(width, TOP + HEIGHT + 76, f"Wires of {run.name}")
     svg.heading(f"{wires} wires = 2 · {totals['payload']} payloads + 2 · {edges} edges · ({last} + 1)",
                 f"{run.name}: in every whole run of a network, wires = 2 · payloads + 2 · edges · (R + 1), R being the last pulse")
     legend(svg, totals)
-    draw_bars(svg, counts, bar, width)
-    svg.text(LEFT, TOP + HEIGHT + 36, "pulse that the wire speaks of (close stands at R)", 11, SOFT)
+    draw_bars(svg, counts, shown, bar, width)
+    alone = "" if len(shown) == last + 1 else f"; bars of pulses {first} to {final} of {last} alone, numbers above of all"
+    svg.text(LEFT, TOP + HEIGHT + 36, f"pulse that the wire speaks of (close stands at R){alone}", 11, SOFT)
     svg.text(20, TOP + HEIGHT + 60, f"The rounds need {totals['payload']} payloads. Without a clock each is acknowledged, and each node says "
              "safe to each neighbour at each pulse before R, and close at R.", 11.5, SOFT)
     return svg.document()
@@ -41,17 +44,16 @@ def legend(svg, totals):
         x += 44 + text_width(words, 11.5)
 
 
-def draw_bars(svg, counts, bar, width):
-    pulses = len(counts["safe"])
-    top = max(1, max(sum(counts[kind][pulse] for kind in ORDER) for pulse in range(pulses)))
+def draw_bars(svg, counts, pulses, bar, width):
+    top = max(1, max(sum(counts[kind][pulse] for kind in ORDER) for pulse in pulses))
     step = next(size * 10 ** power for power in range(9) for size in (1, 2, 5) if top / (size * 10 ** power) <= 6)
     for mark in range(0, top + 1, step):
         y = TOP + HEIGHT - mark / top * HEIGHT
         svg.line(LEFT, y, width - 20, y, "#E4E4E4", 1)
         svg.text(LEFT - 8, y + 4, mark, 10, SOFT, "end")
     every = next(size for size in (1, 2, 5, 10, 20, 50, 100, 200, 500, 1000, 10 ** 9) if bar * size > 17)
-    for pulse in range(pulses):
-        y, x = TOP + HEIGHT, LEFT + pulse * bar
+    for column, pulse in enumerate(pulses):
+        y, x = TOP + HEIGHT, LEFT + column * bar
         for kind in ORDER:
             height = counts[kind][pulse] / top * HEIGHT
             if height:

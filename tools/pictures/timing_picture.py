@@ -14,9 +14,7 @@ def draw(run, vertex, pulses=None):
         raise Wrong(f"{run.network.name} has no node {vertex}")
     neighbours = run.network.neighbours[vertex]
     at_most("node", len(neighbours), "ports of a node", LIMIT, "automaton: leave --vertex out")
-    first, last = pulses or (0, min(4, run.last))
-    if not 0 <= first <= last <= run.last:
-        raise Wrong(f"{run.name}: pulses {first} to {last} are not among 0 to {run.last}")
+    first, last = run.window(pulses, (0, min(4, run.last)))
     moments = [moment for moment in moments_of(run, vertex) if first <= moment.pulse <= last]
     if not moments:
         raise Wrong(f"{run.name}: node {vertex} did nothing in pulses {first} to {last}")

@@ -40,6 +40,13 @@ class Run:
     def puts(self, kind=None):
         return (entry for entry in self.all() if entry.kind == "put" and kind in (None, entry.wire[0]))
 
+    def window(self, pulses, usual):
+        """The first and the last pulse to be drawn: those asked for, or else the usual ones."""
+        first, last = pulses or usual
+        if not 0 <= first <= last <= self.last:
+            raise Wrong(f"{self.name}: pulses {first} to {last} are not among 0 to {self.last}")
+        return first, last
+
     def ticks(self, v):
         """{pulse: x} of v, with pulse 0 at 0."""
         return {0: 0} | {entry.pulse: entry.x for entry in self.entries[v] if entry.kind == "pulse"}

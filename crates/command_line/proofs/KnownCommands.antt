@@ -75,8 +75,13 @@ transcript_has_request s name rules words none =
 pub entered_known : (program : Program) (stop : Option (Text × List Text)) → entered_fault (built (line program)) stop ≡ []
     → is_some (entered (built (line program)) stop) ≡ true → IsGood (choice_of (entered (built (line program)) stop))
 entered_known program None none h = cc
-entered_known Forestplan (Some p) none h = found (λ x. answers_to p.0 (label_of x)) p.1 (built (line Forestplan)).subs
-    ((λ words e. (Forests, refl, tt)), ((λ words e. (Plain, refl, tt)), (plan_has_request _ refl refl, (transcript_has_request _ refl refl, ((λ words e. (Check, refl, tt)), tt))))) none h
+entered_known Forestplan (Some p) none h = found (λ x. answers_to p.0 (label_of x)) p.1 (built (line Forestplan)).subs (
+  (λ words e. (Forests, refl, tt)),
+  (
+    (λ words e. (Plain, refl, tt)),
+    (plan_has_request _ refl refl, (transcript_has_request _ refl refl, ((λ words e. (Check, refl, tt)), tt))),
+  ),
+) none h
 entered_known Forestplay (Some p) none h = found (λ x. answers_to p.0 (label_of x)) p.1 (built (line Forestplay)).subs
     ((λ words e. (Events, refl, tt)), ((λ words e. (Replay, refl, tt)), ((λ words e. (Rounds, refl, tt)), tt))) none h
 
