@@ -50,7 +50,12 @@ fn drop_first<T: Copy>(list: &mut Vec<Wire<T>>) -> bool
     ensures freed { result ≡ nat_eq (length list.old.items) 4 }
 {
     let freed = list.len() == 4;
-    list.remove(0);
+    // Mostly it has one wire, and then none moves up.
+    if list.len() == 1 {
+        list.pop();
+    } else {
+        list.remove(0);
+    }
     freed
 }
 
