@@ -1,4 +1,6 @@
 pub mod Received
+pub mod Turns
+pub mod Clearing
 pub mod Deliveries
 pub mod Messages
 pub mod Walks

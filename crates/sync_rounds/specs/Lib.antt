@@ -1,4 +1,5 @@
 pub mod Lists
+pub mod Senders
 pub mod Rounds
 pub mod Delivery
 pub mod Greatest

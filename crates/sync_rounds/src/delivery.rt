@@ -5,21 +5,28 @@ ghost use Rattle.interference.specs.Net.{Net, IsNetwork, IsVertex, count_of, deg
 ghost use Rattle.node_api.specs.Boxes.{Mail, unread, FilledPorts};
 ghost use Rattle.sync_rounds.specs.Lists.{Lists, empty_inbox, received};
 ghost use Rattle.sync_rounds.specs.Delivery.{Broadcasts, Delivered};
+ghost use Rattle.sync_rounds.specs.Senders.{Senders};
 
 use interference::Network;
 use node_api::{Inbox, Outbox, Sent};
 
-// Puts what was sent into the empty inboxes. Senders ascend by vertex, so an inbox gets its payloads by
-// ascending port.
-pub(crate) fn deliver<T: Copy>(net: &Network, outs: &[Outbox<T>], inboxes: &mut [Inbox<T>])
+// Puts what was sent into the empty inboxes; only the senders' outboxes are looked at. They ascend by vertex, so an
+// inbox gets its payloads by ascending port.
+pub(crate) fn deliver<T: Copy>(
+    net: &Network,
+    outs: &[Outbox<T>],
+    senders: &[u32],
+    inboxes: &mut [Inbox<T>],
+)
     requires outs { length outs.now ≡ count_of net.now }
     requires ports { (w : ℕ) → IsVertex net.now w → length (slice_index_or outs.now (w - 1) []) ≡ degree_of net.now w }
     requires inboxes { Lists (count_of net.now) (empty_inbox net.now) inboxes.old }
+    requires senders { Senders (count_of net.now) (λ w. slice_index_or outs.now (w - 1) []) senders.now }
     ensures received { Lists (count_of net.now) (λ v. unread (received net.now outs.now v)) inboxes.new }
 {
     net.is_network();
-    for i in 0..net.nodes() {
-        deliver_from(net, i + 1, outs, inboxes);
+    for &w in senders {
+        deliver_from(net, w, outs, inboxes);
     }
 }
 

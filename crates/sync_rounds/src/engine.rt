@@ -1,13 +1,15 @@
 //! The rounds of a program, pulse by pulse.
 
-ghost use Rattle.std.specs.Prelude.{◌≡◌, ◌<◌, ◌≤◌, ◌+◌, ◌^◌, IfOk, length, suc};
+ghost use Rattle.std.specs.Prelude.{◌≡◌, ◌<◌, ◌≤◌, ◌+◌, ◌^◌, IfOk, length, suc, vec_capacity};
 ghost use Rattle.interference.specs.Net.{count_of};
 ghost use Rattle.node_api.specs.Boxes.{nothing, unread};
 ghost use Rattle.node_api.specs.Run.{state_at, outbox_at, inbox_at, last_states, after};
-ghost use Rattle.sync_rounds.specs.Lists.{Lists, empty_inbox};
+ghost use Rattle.sync_rounds.specs.Lists.{Lists, empty_inbox, empty_outbox};
+ghost use Rattle.sync_rounds.specs.Senders.{HasSenders};
 
 use crate::delivery::deliver;
 use crate::rounds::Rounds;
+use crate::senders::{clear_sent, note};
 use interference::{Memory, Network};
 use node_api::{Inbox, NodeProgram, Outbox};
 use std::alloc::Global;
@@ -52,48 +54,57 @@ pub(crate) fn start<P: NodeProgram>(
     Ok((nodes, inboxes, outs))
 }
 
-// The pulse after `done` of all nodes, on what was sent at `done`.
+// The pulse after `done` of all nodes, on what was sent at `done` by the senders.
 pub(crate) fn round<P: NodeProgram>(
     net: &Network,
     done: u32,
     nodes: &mut [P],
     inboxes: &mut [Inbox<P::Payload>],
     outs: &mut [Outbox<P::Payload>],
+    senders: &mut Vec<u32>,
 )
     requires done { done + 1 < 2 ^ 32 }
     requires nodes { Lists (count_of net.now) (state_at P.program net.now done) nodes.old }
     requires inboxes { Lists (count_of net.now) (empty_inbox net.now) inboxes.old }
     requires outs { Lists (count_of net.now) (outbox_at P.program net.now done) outs.old }
+    requires senders { HasSenders (count_of net.now) (outbox_at P.program net.now done) senders.old }
     ensures nodes { Lists (count_of net.now) (state_at P.program net.now (done + 1)) nodes.new }
     ensures inboxes { Lists (count_of net.now) (empty_inbox net.now) inboxes.new }
     ensures outs { Lists (count_of net.now) (outbox_at P.program net.now (done + 1)) outs.new }
+    ensures senders { HasSenders (count_of net.now) (outbox_at P.program net.now (done + 1)) senders.new }
 {
     net.is_network();
-    deliver(net, outs, inboxes);
-    pulse_all(net, done, nodes, inboxes, outs);
+    deliver(net, outs, senders, inboxes);
+    clear_sent(senders, outs);
+    pulse_all(net, done, nodes, inboxes, outs, senders);
 }
 
-// The pulse after `done` of all nodes. It leaves the inboxes empty.
+// The pulse after `done` of all nodes, whose outboxes are empty. It leaves the inboxes empty.
 fn pulse_all<P: NodeProgram>(
     net: &Network,
     done: u32,
     nodes: &mut [P],
     inboxes: &mut [Inbox<P::Payload>],
     outs: &mut [Outbox<P::Payload>],
+    senders: &mut Vec<u32>,
 )
     requires done { done + 1 < 2 ^ 32 }
     requires nodes { Lists (count_of net.now) (state_at P.program net.now done) nodes.old }
     requires inboxes { Lists (count_of net.now) (λ v. unread (inbox_at P.program net.now (suc done) v)) inboxes.old }
-    requires outs { Lists (count_of net.now) (outbox_at P.program net.now done) outs.old }
+    requires outs { Lists (count_of net.now) (empty_outbox net.now) outs.old }
+    requires room { count_of net.now ≤ vec_capacity senders.old }
     ensures nodes { Lists (count_of net.now) (state_at P.program net.now (suc done)) nodes.new }
     ensures inboxes { Lists (count_of net.now) (empty_inbox net.now) inboxes.new }
     ensures outs { Lists (count_of net.now) (outbox_at P.program net.now (suc done)) outs.new }
+    ensures senders { HasSenders (count_of net.now) (outbox_at P.program net.now (suc done)) senders.new }
 {
+    senders.clear();
     for i in 0..net.nodes() {
+        let out = &mut outs[i as usize];
         let node = &mut nodes[i as usize];
         let inbox = &mut inboxes[i as usize];
-        let out = &mut outs[i as usize];
         pulse_one(node, done + 1, inbox, out);
+        note(senders, i + 1, out);
     }
 }
 
@@ -107,12 +118,11 @@ fn pulse_one<P: NodeProgram>(
     requires pulse { 1 ≤ pulse }
     requires unread { inbox.old ≡ unread inbox.old.slots }
     requires ports { length inbox.old.slots ≡ P.program.ports node.old }
-    requires out { length out.old ≡ P.program.ports node.old }
+    requires out { out.old ≡ nothing (P.program.ports node.old) }
     ensures node { (node.new, out.new)
         ≡ after node.old (P.program.ports node.old) (P.program.next node.old pulse inbox.old.slots) }
     ensures empty { inbox.new ≡ unread (nothing (length inbox.old.slots)) }
 {
-    out.clear();
     node.pre_step(pulse);
     // No program refuses what comes in the synchronous run; after a refusal the state would stay.
     let _ = node.handle_messages(pulse, inbox, out);

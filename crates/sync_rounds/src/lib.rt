@@ -9,8 +9,9 @@
 //! let best = nodes[0].best();    // the greatest identifier within two links of vertex 1
 //! ```
 //!
-//! The engine takes memory at the start alone: an inbox and an outbox for each node. A pulse costs time by
-//! the nodes and the messages that are sent: a port at which nothing is sent isn't looked at.
+//! The engine takes memory at the start alone: an inbox and an outbox for each node, and room to list the vertices
+//! that send something at a pulse. A pulse costs time by the nodes and the messages that are sent: a port at which
+//! nothing is sent isn't looked at.
 //!
 //! Limits: those of a `Network`, and a last pulse below 2³².
 #![tactic(auto)]
@@ -20,6 +21,7 @@ mod engine;
 mod greatest;
 pub mod laws;
 mod rounds;
+mod senders;
 
 pub use engine::run_rounds;
 pub use greatest::{Best, Greatest};
