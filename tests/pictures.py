@@ -129,9 +129,10 @@ def pulses_rows(draw):
         for words in (["run"], ["overview"], ["node", "--vertex", 1], ["tally"]):
             refused(f"{words[0]} of pulses {pulses}", draw.run(words[0], APART, text, *words[1:], "--pulses", pulses),
                     f"among 0 to {last}\n".encode())
+    refused("node of some pulses without its vertex", draw.run("node", APART, text, "--pulses", "1..2"), b"needs --vertex")
     star = b"p edge 64 63\n" + b"".join(b"e %d 64\n" % v for v in range(1, 64))
     refused("overview of a pulse that no node begins", draw.run("overview", star, b"transcript 1 64\n", "--pulses", "1..2"), b"no node")
-    for pulses, said in (([], "205 pulses, too many"), (["--pulses", "0..200"], "201 pulses, too many"), (["--pulses", "0..199"], "")):
+    for pulses, said in (([], "205 pulses, too many"), (["--pulses", "0..100"], "101 pulses, too many"), (["--pulses", "0..99"], "")):
         caption = texts(parsed(draw("overview", star, b"transcript 1 64\n", *pulses)))[-1]
         note(f"overview of {pulses or 'all'} pulses: its caption", (said in caption) if said else "too many" not in caption, caption)
 

@@ -6,7 +6,7 @@ from wrong import Wrong
 
 LEFT, TOP, WIDTH = 64, 92, 1120
 # Above so many pulses a band is too narrow to be followed from node to node.
-MOST_READABLE = 200
+MOST_READABLE = 100
 
 
 class Overview:
@@ -70,7 +70,7 @@ def draw_bands(svg, overview):
         left, right = overview.border(pulse), overview.border(pulse + 1)
         svg.path(polygon(left + right[::-1]) + ["Z"], None, None, BAND if pulse % 2 == 0 else PAPER, mark="band")
         svg.path(polygon(left), BORDER, min(0.8, overview.column * 0.2))
-        half = text_width(pulse, 10) / 2
+        half = text_width(pulse, 12) / 2
         if pulse % every == 0 and left[0][0] - half > free:
             svg.text(left[0][0], TOP - 14, pulse, 10, PULSE, "middle", bold=True)
             free = left[0][0] + half + 2

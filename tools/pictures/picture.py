@@ -70,7 +70,7 @@ KINDS = {
             "./picture run examples/chain6.col --pulses 3..5 --transcript \\\n"
             "    examples/chain6_slow.transcript > chain6_slow-spacetime.svg"),
     "overview": ("The pulses of a run without a clock, from beginning to end.",
-                 "At most 100 nodes. More than 200 pulses can't be told apart: draw some with --pulses.",
+                 "At most 100 nodes. More than 100 pulses can't be told apart: draw some with --pulses.",
                  "./picture overview examples/petersen.col > petersen-overview.svg\n"
                  "  ./picture overview examples/queen5_5.col --pulses 100..139 > queen5_5-overview.svg"),
     "node": ("How a node knows that a round is over: how often each step is made.",
@@ -187,6 +187,8 @@ def drawn_run(given, run):
     if given.kind == "tally":
         return tally_picture.draw(run, given.pulses)
     if given.vertex is None:
+        if given.pulses:
+            raise Wrong("node draws the steps of all pulses: --pulses needs --vertex")
         return automaton_picture.draw(run)
     return timing_picture.draw(run, given.vertex, given.pulses)
 
