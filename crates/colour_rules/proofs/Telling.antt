@@ -1,11 +1,16 @@
 -- What a node sends by the roles of its ports, one port after another.
-use Rattle.std.proofs.Common.{◌≡◌, ℕ, ◌<◌, ◌≤◌, List, length, sym, ◌∙◌, arith, get_or}
-use Rattle.std.specs.Prelude.{map, Option, None}
-use Rattle.std.proofs.lemmas.List.{ext_get_or, get_or-map, length-map}
-use Rattle.node_api.specs.Boxes.{at_port}
+use Rattle.std.proofs.Common.{◌≡◌, ℕ, ◌<◌, ◌≤◌, Bool, true, false, ◌&&◌, List, [], ◌∷◌, length, refl, ap, sym, ◌∙◌, arith, get_or}
+use Rattle.std.specs.Prelude.{if◌then◌else◌, map, replicate, Option, Some, None}
+use Rattle.std.specs.List.{list_all}
+use Rattle.std.proofs.lemmas.List.{ext_get_or, get_or-map, length-map, length-replicate}
+use Rattle.node_api.specs.Boxes.{at_port, nothing}
 use Rattle.forests.specs.declared.numbering.Role.{Role}
 use Rattle.forests.specs.declared.numbering.Role.TheVariants.{Unknown}
 use Rattle.colour_rules.specs.declared.payload.Payload.{Payload}
+use Rattle.colour_rules.specs.declared.payload.Payload.TheVariants.{Chosen}
+use Rattle.colour_rules.specs.Node.{Node, ports}
+use Rattle.colour_rules.specs.Program.{tells_chosen}
+use Rattle.colour_rules.specs.Table.{is_merged}
 
 -- The ports before i have been told what `tell` says of their roles, the others nothing.
 pub record Told (tell : Role → Option Payload) (roles : List Role) (i : ℕ) (out : List (Option Payload)) : Type 0 where
@@ -19,3 +24,26 @@ pub told-all : {tell : Role → Option Payload} {roles : List Role} {i : ℕ} {o
 told-all {tell = tell} {roles = roles} {out = out} told past =
     ext_get_or None out (map tell roles) (told.size ∙ sym (length-map roles tell))
     (λ k h. let within : k < length roles = omega (arith, told.size) in told.before k (omega arith) ∙ sym (get_or-map tell roles k Unknown None within))
+
+both : (one others : Bool) → (one && others) ≡ true → (one ≡ true) × (others ≡ true)
+both true true h = (refl, refl)
+both true false h = absurd cc
+both false others h = absurd cc
+
+-- ports that are all of a forest up to f are all told a colour that is chosen there
+all-told : (f c : ℕ) (roles : List Role) → list_all (is_merged f) roles ≡ true →
+    replicate (length roles) (Some (Chosen c)) ≡ map (tells_chosen f c) roles
+all-told f c [] h = refl
+all-told f c (role ∷ roles) h =
+    let at = both (is_merged f role) (list_all (is_merged f) roles) h in
+    ap (λ (b : Bool). (if b then Some (Chosen c) else None) ∷ replicate (length roles) (Some (Chosen c))) (sym at.0)
+    ∙ ap (λ (rest : List (Option Payload)). tells_chosen f c role ∷ rest) (all-told f c roles at.1)
+
+-- and so by a broadcast
+pub told-by-broadcast : (node : Node) (f c : ℕ) (before after : List (Option Payload)) → c ≡ node.merged → before ≡ nothing (ports node) →
+    after ≡ replicate (length before) (Some (Chosen c)) → list_all (is_merged f) node.roles ≡ true → after ≡ map (tells_chosen f node.merged) node.roles
+told-by-broadcast node f c before after own none told all =
+    told
+    ∙ ap (λ (n : ℕ). replicate n (Some (Chosen c))) (ap (λ (out : List (Option Payload)). length out) none ∙ length-replicate (ports node) _)
+    ∙ ap (λ (d : ℕ). replicate (ports node) (Some (Chosen d))) own
+    ∙ all-told f node.merged node.roles all

@@ -161,7 +161,8 @@ fn stepped(own: u64, parent: Option<u64>) -> u8
     }
 }
 
-// The same, below a parent.
+// The same, below a parent: a function of its own, since the checker knows the range of a parameter, and not of what
+// an `Option` holds.
 fn stepped_below(own: u64, parent: u64) -> u8
     requires { parent ≢ own }
     ensures { result ≡ bit_by own (Some parent) }

@@ -1,8 +1,10 @@
 //! What a node sends by the roles of its ports.
 ghost use Rattle.std.specs.Prelude.{◌≡◌, map};
+ghost use Rattle.std.specs.List.{list_all};
 ghost use Rattle.node_api.specs.Boxes.{nothing};
 ghost use Rattle.colour_rules.specs.Node.{ports};
 ghost use Rattle.colour_rules.specs.Program.{tells_chosen, tells_colour, tells_label};
+ghost use Rattle.colour_rules.specs.Table.{is_merged};
 
 use crate::node::ColourNode;
 use crate::payload::Payload;
@@ -43,10 +45,30 @@ impl ColourNode {
         requires { out.old ≡ nothing (ports self.now) }
         ensures { out.new ≡ map (tells_chosen forest self.now.merged) self.now.roles }
     {
+        // In the last forests these are all neighbours, and a broadcast costs no walk over the ports later on.
+        if are_merged(forest, &self.roles) {
+            out.broadcast(Payload::Chosen(self.merged));
+        } else {
+            self.tell_merged(forest, out);
+        }
+    }
+
+    // The same, port by port.
+    fn tell_merged(&self, forest: u16, out: &mut Outbox<Payload>)
+        requires { out.old ≡ nothing (ports self.now) }
+        ensures { out.new ≡ map (tells_chosen forest self.now.merged) self.now.roles }
+    {
         for port in 0..self.roles.len() {
             if is_merged(forest, self.roles[port]) {
                 out.send(port as u32, Payload::Chosen(self.merged));
             }
         }
     }
+}
+
+// Whether every port is of one of the forests up to this one.
+fn are_merged(forest: u16, roles: &[Role]) -> bool
+    ensures { result ≡ list_all (is_merged forest) roles.now }
+{
+    roles.iter().all(|role| is_merged(forest, *role))
 }

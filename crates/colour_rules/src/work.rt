@@ -30,7 +30,8 @@ const MANY_FORESTS: usize = 128;
 
 impl ColourNode {
     // Numbers the ports to higher identifiers, and sends each parent the forest; `identifiers` are the
-    // identifiers by port.
+    // identifiers by port. Never inlined, so that other pulses don't pay for room on the stack.
+    #[inline(never)]
     pub(crate) fn orient(&mut self, identifiers: &[u64], out: &mut Outbox<Payload>)
         requires ports { length identifiers.now ≡ ports self.old }
         requires distinct { AllPairs (λ x y. x ≢ y) identifiers.now }
