@@ -130,7 +130,7 @@ impl Schedule {
 
 impl ColourNode {
     // The schedule of the node's network.
-    fn schedule(&self) -> Schedule
+    pub(crate) fn schedule(&self) -> Schedule
         ensures { result ≡ self.now.sizes }
     {
         Schedule {

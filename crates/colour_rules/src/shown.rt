@@ -26,8 +26,8 @@ impl ColourNode {
         requires forest { forest < self.now.sizes.forests }
         ensures { result ≡ chooses self.now forest step }
     {
-        let colours = u32::from(self.greatest_degree) + 1;
-        self.colours.own(self.id, forest) == u64::from(step / colours)
-            && u32::from(self.colour_before) == step % colours
+        let (three, old) = self.schedule().pair(step);
+        self.colours.own(self.id, forest) == u64::from(three)
+            && u32::from(self.colour_before) == old
     }
 }
