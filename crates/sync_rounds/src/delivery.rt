@@ -1,28 +1,29 @@
 //! From the outboxes of a pulse to the inboxes of the next one.
 
-ghost use Rattle.std.specs.Prelude.{◌≡◌, ◌<◌, ◌-◌, ◌+◌, ℕ, List, Option, [], length, slice_index_or};
+ghost use Rattle.std.specs.Prelude.{◌≡◌, ◌<◌, ◌-◌, ◌+◌, ℕ, List, Option, [], length, slice_index_or, slice_set};
 ghost use Rattle.interference.specs.Net.{Net, IsNetwork, IsVertex, count_of, degree_of};
-ghost use Rattle.node_api.specs.Boxes.{Mail, unread, FilledPorts};
-ghost use Rattle.sync_rounds.specs.Lists.{Lists, empty_inbox, received};
-ghost use Rattle.sync_rounds.specs.Delivery.{Broadcasts, Delivered};
+ghost use Rattle.node_api.specs.Boxes.{Mail, nothing, unread, FilledPorts};
+ghost use Rattle.sync_rounds.specs.Lists.{Lists, empty_inbox, empty_outbox, received};
+ghost use Rattle.sync_rounds.specs.Delivery.{Broadcasts, Delivered, Sends};
 ghost use Rattle.sync_rounds.specs.Senders.{Senders};
 
 use interference::Network;
 use node_api::{Inbox, Outbox, Sent};
 
-// Puts what was sent into the empty inboxes; only the senders' outboxes are looked at. They ascend by vertex, so an
-// inbox gets its payloads by ascending port.
+// Puts what was sent into the empty inboxes, and empties the outboxes; only those of the senders are looked at. They
+// ascend by vertex, so an inbox gets its payloads by ascending port.
 pub(crate) fn deliver<T: Copy>(
     net: &Network,
-    outs: &[Outbox<T>],
+    outs: &mut [Outbox<T>],
     senders: &[u32],
     inboxes: &mut [Inbox<T>],
 )
-    requires outs { length outs.now ≡ count_of net.now }
-    requires ports { (w : ℕ) → IsVertex net.now w → length (slice_index_or outs.now (w - 1) []) ≡ degree_of net.now w }
+    requires outs { length outs.old ≡ count_of net.now }
+    requires ports { (w : ℕ) → IsVertex net.now w → length (slice_index_or outs.old (w - 1) []) ≡ degree_of net.now w }
     requires inboxes { Lists (count_of net.now) (empty_inbox net.now) inboxes.old }
-    requires senders { Senders (count_of net.now) (λ w. slice_index_or outs.now (w - 1) []) senders.now }
-    ensures received { Lists (count_of net.now) (λ v. unread (received net.now outs.now v)) inboxes.new }
+    requires senders { Senders (count_of net.now) (λ w. slice_index_or outs.old (w - 1) []) senders.now }
+    ensures received { Lists (count_of net.now) (λ v. unread (received net.now outs.old v)) inboxes.new }
+    ensures outs { Lists (count_of net.now) (empty_outbox net.now) outs.new }
 {
     net.is_network();
     for &w in senders {
@@ -30,17 +31,34 @@ pub(crate) fn deliver<T: Copy>(
     }
 }
 
-// Puts what one vertex sent into its neighbours' inboxes, each payload at the port that leads back to it.
-fn deliver_from<T: Copy>(net: &Network, w: u32, outs: &[Outbox<T>], inboxes: &mut [Inbox<T>])
+// Puts what one vertex sent into its neighbours' inboxes, and empties its outbox while it is at hand.
+fn deliver_from<T: Copy>(net: &Network, w: u32, outs: &mut [Outbox<T>], inboxes: &mut [Inbox<T>])
     requires vertex { IsVertex net.now w }
-    requires outs { length outs.now ≡ count_of net.now }
-    requires ports { length (slice_index_or outs.now (w - 1) []) ≡ degree_of net.now w }
-    requires before { Delivered net.now outs.now w [] inboxes.old }
-    ensures after { Delivered net.now outs.now (w + 1) [] inboxes.new }
+    requires outs { length outs.old ≡ count_of net.now }
+    requires ports { length (slice_index_or outs.old (w - 1) []) ≡ degree_of net.now w }
+    requires before { (sent : List (List (Option T)))
+        × Sends net.now sent w (slice_index_or outs.old (w - 1) []) inboxes.old }
+    ensures after { (sent : List (List (Option T)))
+        → Sends net.now sent w (slice_index_or outs.old (w - 1) []) inboxes.old
+        → Delivered net.now sent (w + 1) [] inboxes.new }
+    ensures outs { outs.new ≡ slice_set outs.old (w - 1) (nothing (length (slice_index_or outs.old (w - 1) []))) }
 {
-    match outs[(w - 1) as usize].sent() {
+    let out = &mut outs[(w - 1) as usize];
+    deliver_out(net, w, out, inboxes);
+    out.clear();
+}
+
+// Puts what is in the outbox of one vertex into its neighbours' inboxes, each payload at the port that leads back.
+fn deliver_out<T: Copy>(net: &Network, w: u32, out: &Outbox<T>, inboxes: &mut [Inbox<T>])
+    requires vertex { IsVertex net.now w }
+    requires ports { length out.now ≡ degree_of net.now w }
+    requires before { (outs : List (List (Option T))) × Sends net.now outs w out.now inboxes.old }
+    ensures after { (outs : List (List (Option T))) → Sends net.now outs w out.now inboxes.old
+        → Delivered net.now outs (w + 1) [] inboxes.new }
+{
+    match out.sent() {
         Sent::Everywhere(payload) => deliver_everywhere(net, w, payload, inboxes),
-        Sent::At(ports) => deliver_at(net, w, ports, outs, inboxes),
+        Sent::At(ports) => deliver_at(net, w, ports, out, inboxes),
     }
 }
 
@@ -64,18 +82,17 @@ fn deliver_at<T: Copy>(
     net: &Network,
     w: u32,
     ports: &[u32],
-    outs: &[Outbox<T>],
+    out: &Outbox<T>,
     inboxes: &mut [Inbox<T>],
 )
     requires vertex { IsVertex net.now w }
-    requires outs { length outs.now ≡ count_of net.now }
-    requires size { length (slice_index_or outs.now (w - 1) []) ≡ degree_of net.now w }
-    requires sent { FilledPorts (slice_index_or outs.now (w - 1) []) ports.now }
-    requires before { Delivered net.now outs.now w [] inboxes.old }
-    ensures after { Delivered net.now outs.now (w + 1) [] inboxes.new }
+    requires size { length out.now ≡ degree_of net.now w }
+    requires sent { FilledPorts out.now ports.now }
+    requires before { (outs : List (List (Option T))) × Sends net.now outs w out.now inboxes.old }
+    ensures after { (outs : List (List (Option T))) → Sends net.now outs w out.now inboxes.old
+        → Delivered net.now outs (w + 1) [] inboxes.new }
 {
     net.is_network();
-    let out = &outs[(w - 1) as usize];
     for &port in ports {
         let v = net.neighbour(w, port);
         let inbox = &mut inboxes[(v - 1) as usize];

@@ -9,7 +9,7 @@ ghost use Rattle.sync_rounds.specs.Senders.{HasSenders};
 
 use crate::delivery::deliver;
 use crate::rounds::Rounds;
-use crate::senders::{clear_sent, note};
+use crate::senders::note;
 use interference::{Memory, Network};
 use node_api::{Inbox, NodeProgram, Outbox};
 use std::alloc::Global;
@@ -75,7 +75,6 @@ pub(crate) fn round<P: NodeProgram>(
 {
     net.is_network();
     deliver(net, outs, senders, inboxes);
-    clear_sent(senders, outs);
     pulse_all(net, done, nodes, inboxes, outs, senders);
 }
 
