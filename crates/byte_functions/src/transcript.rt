@@ -11,7 +11,7 @@ use crate::fault::PlanFault;
 use crate::workers::whole_run;
 use colour_program::Colouring;
 use colour_rules::Payload;
-use entries::Entry;
+use entries::{Entries, Entry};
 use interference::Memory;
 use node_pool::{Actor, Gate, Options};
 use std::alloc::{AllocError, Global};
@@ -32,12 +32,12 @@ fn entry_count(actors: &[Actor<Colouring>]) -> usize {
 fn push_rows(
     rows: &mut Vec<(u32, Entry<Payload>)>,
     vertex: u32,
-    entries: &[Entry<Payload>],
+    entries: &Entries<Payload>,
 ) -> Result<(), AllocError>
-    ensures { IfOk result (λ _. rows.new.items ≡ rows.old.items ++ map (λ entry. (vertex, entry)) entries.now) }
+    ensures { IfOk result (λ _. rows.new.items ≡ rows.old.items ++ map (λ entry. (vertex, entry)) entries.now.items) }
 {
-    for entry in entries {
-        rows.push((vertex, *entry))?;
+    for entry in entries.iter() {
+        rows.push((vertex, entry))?;
     }
     Ok(())
 }

@@ -19,7 +19,8 @@ module _ {M : Type 0} where
   wire-same Safe pulse xs ys le = refl
   wire-same Close pulse xs ys le = refl
 
-  entry-same : (act : Act) (vertex pulse : ℕ) (xs ys : List M) → payloads_by act ≤ length xs → entry_of act vertex pulse (xs ++ ys) ≡ entry_of act vertex pulse xs
+  entry-same : (act : Act) (vertex pulse : ℕ) (xs ys : List M) → payloads_by act ≤ length xs
+      → entry_of act vertex pulse (xs ++ ys) ≡ entry_of act vertex pulse xs
   entry-same Pulse vertex pulse xs ys le = refl
   entry-same (Put kind) vertex pulse xs ys le = ap (map (λ w. entry.Put vertex w)) (wire-same kind pulse xs ys le)
   entry-same (Take kind) vertex pulse xs ys le = ap (map (λ w. entry.Take vertex w)) (wire-same kind pulse xs ys le)

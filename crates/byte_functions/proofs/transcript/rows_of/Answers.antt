@@ -11,7 +11,7 @@ loop-actor-preserved c =
     let actor = c.actor-item.result in
     let before = c.loop-actor.rows.items in
     c.in_ok-push_rows.ensures
-    ∙ ap₂ (λ v entries. before ++ map (λ entry. (v, entry)) entries) c.node.ensures.vertex c.entries.ensures.entries
+    ∙ ap₂ (λ v entries. before ++ map (λ entry. (v, entry)) entries.items) c.node.ensures.vertex c.entries.ensures.entries
     ∙ ap (λ l. l ++ rows_in (gathered_of actor)) c.loop-actor.invariant
     ∙ flat_map_more (λ a. rows_in (gathered_of a)) [] (take i actors) actor
     ∙ ap (λ l. flat_map (λ a. rows_in (gathered_of a)) l)
