@@ -17,40 +17,17 @@ use node_pool::{Actor, Gate, Options};
 use std::alloc::{AllocError, Global};
 use std::sync::Wait;
 use std::thread::Threads;
-use transcripts::transcript_text;
+use transcripts::{push_entries, push_first};
 
-// How many entries nodes have, for the room that their list takes.
-fn entry_count(actors: &[Actor<Colouring>]) -> usize {
-    let mut count = 0usize;
-    for actor in actors {
-        count = count.saturating_add(actor.entries().len());
-    }
-    count
-}
-
-// Appends the entries of a node, each behind its vertex.
-fn push_rows(
-    rows: &mut Vec<(u32, Entry<Payload>)>,
-    vertex: u32,
-    entries: &[Entry<Payload>],
-) -> Result<(), AllocError>
-    ensures { IfOk result (λ _. rows.new.items ≡ rows.old.items ++ map (λ entry. (vertex, entry)) entries.now) }
+// The transcript of nodes, each of which is dropped once its lines are written.
+fn text_of_actors(alloc: Global, nodes: u32, actors: Vec<Actor<Colouring>>) -> Result<Vec<u8>, AllocError>
 {
-    for entry in entries {
-        rows.push((vertex, *entry))?;
-    }
-    Ok(())
-}
-
-// The entries of nodes, each behind its vertex, in the order of the nodes.
-fn rows_of(alloc: Global, actors: &[Actor<Colouring>]) -> Result<Vec<(u32, Entry<Payload>)>, Memory>
-    ensures { IfOk result (λ rows. rows.items ≡ flat_map (λ actor. rows_in (gathered_of actor)) actors.now) }
-{
-    let mut rows = Vec::with_capacity(alloc, entry_count(actors))?;
+    let mut text = Vec::new(alloc);
+    push_first(&mut text, nodes)?;
     for actor in actors {
-        push_rows(&mut rows, actor.node(), actor.entries())?;
+        push_entries(&mut text, actor.node(), actor.entries())?;
     }
-    Ok(rows)
+    Ok(text)
 }
 
 /// The transcript of a run on the network that a DIMACS text describes: what each node put, took and did until its
@@ -74,6 +51,10 @@ pub fn transcript_bytes<G: Gate + Sync, R: Threads + Wait + Sync>(
 {
     let network = network_of_text(alloc, input)?;
     let outcome = whole_run(rt, alloc, &network, options, true, gate)?;
-    let rows = rows_of(alloc, outcome.actors())?;
-    Ok(transcript_text(alloc, network.nodes(), rows.as_slice())?)
+    let nodes = network.nodes();
+    drop(network);
+    match text_of_actors(alloc, nodes, outcome.into_actors()) {
+        Ok(text) => Ok(text),
+        Err(_) => Err(PlanFault::Memory),
+    }
 }
