@@ -1,29 +1,28 @@
 //! The transcript of a run of worker threads.
 
-ghost use Rattle.std.specs.Prelude.{◌≡◌, ◌++◌, IfOk, IfErr, flat_map, map};
+ghost use Rattle.std.specs.Prelude.{◌≡◌, IfOk, IfErr, map};
 ghost use Rattle.run_options.specs.Ranges.{AreInRange};
 ghost use Rattle.node_pool.specs.Gathers.{gathered_of};
-ghost use Rattle.byte_functions.specs.Transcripts.{IsTranscriptAnswer, rows_in};
+ghost use Rattle.byte_functions.specs.Transcripts.{IsTranscriptAnswer, entries_text};
 ghost use Rattle.byte_functions.specs.Workers.{IsFaultOfWorkers};
 
 use crate::answer::network_of_text;
 use crate::fault::PlanFault;
 use crate::workers::whole_run;
 use colour_program::Colouring;
-use colour_rules::Payload;
-use entries::Entry;
 use interference::Memory;
 use node_pool::{Actor, Gate, Options};
-use std::alloc::{AllocError, Global};
+use std::alloc::Global;
 use std::sync::Wait;
 use std::thread::Threads;
-use transcripts::{push_entries, push_first};
+use transcripts::{push_entries, push_first_line};
 
-// The transcript of nodes, each of which is dropped once its lines are written.
-fn text_of_actors(alloc: Global, nodes: u32, actors: Vec<Actor<Colouring>>) -> Result<Vec<u8>, AllocError>
+// The transcript of nodes, each of which is dropped with its entries once its lines are written.
+fn text_of_actors(alloc: Global, count: u32, actors: Vec<Actor<Colouring>>) -> Result<Vec<u8>, Memory>
+    ensures { IfOk result (λ text. text.items ≡ entries_text count (map gathered_of actors.items)) }
 {
     let mut text = Vec::new(alloc);
-    push_first(&mut text, nodes)?;
+    push_first_line(&mut text, count)?;
     for actor in actors {
         push_entries(&mut text, actor.node(), actor.entries())?;
     }
@@ -51,10 +50,8 @@ pub fn transcript_bytes<G: Gate + Sync, R: Threads + Wait + Sync>(
 {
     let network = network_of_text(alloc, input)?;
     let outcome = whole_run(rt, alloc, &network, options, true, gate)?;
-    let nodes = network.nodes();
+    let count = network.nodes();
+    // The text takes the room of what it doesn't speak of any more.
     drop(network);
-    match text_of_actors(alloc, nodes, outcome.into_actors()) {
-        Ok(text) => Ok(text),
-        Err(_) => Err(PlanFault::Memory),
-    }
+    Ok(text_of_actors(alloc, count, outcome.into_actors())?)
 }
