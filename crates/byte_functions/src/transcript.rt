@@ -1,56 +1,32 @@
 //! The transcript of a run of worker threads.
 
-ghost use Rattle.std.specs.Prelude.{◌≡◌, ◌++◌, IfOk, IfErr, flat_map, map};
+ghost use Rattle.std.specs.Prelude.{◌≡◌, IfOk, IfErr, map};
 ghost use Rattle.run_options.specs.Ranges.{AreInRange};
 ghost use Rattle.node_pool.specs.Gathers.{gathered_of};
-ghost use Rattle.byte_functions.specs.Transcripts.{IsTranscriptAnswer, rows_in};
+ghost use Rattle.byte_functions.specs.Transcripts.{IsTranscriptAnswer, entries_text};
 ghost use Rattle.byte_functions.specs.Workers.{IsFaultOfWorkers};
 
 use crate::answer::network_of_text;
 use crate::fault::PlanFault;
 use crate::workers::whole_run;
 use colour_program::Colouring;
-use colour_rules::Payload;
-use entries::{Entries, Entry};
 use interference::Memory;
 use node_pool::{Actor, Gate, Options};
-use std::alloc::{AllocError, Global};
+use std::alloc::Global;
 use std::sync::Wait;
 use std::thread::Threads;
-use transcripts::transcript_text;
+use transcripts::{push_entries, push_first_line};
 
-// How many entries nodes have, for the room that their list takes.
-fn entry_count(actors: &[Actor<Colouring>]) -> usize {
-    let mut count = 0usize;
-    for actor in actors {
-        count = count.saturating_add(actor.entries().len());
-    }
-    count
-}
-
-// Appends the entries of a node, each behind its vertex.
-fn push_rows(
-    rows: &mut Vec<(u32, Entry<Payload>)>,
-    vertex: u32,
-    entries: &Entries<Payload>,
-) -> Result<(), AllocError>
-    ensures { IfOk result (λ _. rows.new.items ≡ rows.old.items ++ map (λ entry. (vertex, entry)) entries.now.items) }
+// The transcript of nodes, each of which is dropped with its entries once its lines are written.
+fn text_of_actors(alloc: Global, count: u32, actors: Vec<Actor<Colouring>>) -> Result<Vec<u8>, Memory>
+    ensures { IfOk result (λ text. text.items ≡ entries_text count (map gathered_of actors.items)) }
 {
-    for entry in entries.iter() {
-        rows.push((vertex, entry))?;
-    }
-    Ok(())
-}
-
-// The entries of nodes, each behind its vertex, in the order of the nodes.
-fn rows_of(alloc: Global, actors: &[Actor<Colouring>]) -> Result<Vec<(u32, Entry<Payload>)>, Memory>
-    ensures { IfOk result (λ rows. rows.items ≡ flat_map (λ actor. rows_in (gathered_of actor)) actors.now) }
-{
-    let mut rows = Vec::with_capacity(alloc, entry_count(actors))?;
+    let mut text = Vec::new(alloc);
+    push_first_line(&mut text, count)?;
     for actor in actors {
-        push_rows(&mut rows, actor.node(), actor.entries())?;
+        push_entries(&mut text, actor.node(), actor.entries())?;
     }
-    Ok(rows)
+    Ok(text)
 }
 
 /// The transcript of a run on the network that a DIMACS text describes: what each node put, took and did until its
@@ -74,6 +50,8 @@ pub fn transcript_bytes<G: Gate + Sync, R: Threads + Wait + Sync>(
 {
     let network = network_of_text(alloc, input)?;
     let outcome = whole_run(rt, alloc, &network, options, true, gate)?;
-    let rows = rows_of(alloc, outcome.actors())?;
-    Ok(transcript_text(alloc, network.nodes(), rows.as_slice())?)
+    let count = network.nodes();
+    // The text takes the room of what it doesn't speak of any more.
+    drop(network);
+    Ok(text_of_actors(alloc, count, outcome.into_actors())?)
 }

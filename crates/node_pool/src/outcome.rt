@@ -40,6 +40,14 @@ impl<P: NodeProgram> Outcome<P> {
         self.actors.as_slice()
     }
 
+    /// Every node, once, ascending by vertex; the links are dropped.
+    pub fn into_actors(self) -> Vec<Actor<P>>
+        ensures nodes { map gathered_of result.items ≡ self.nodes }
+    {
+        let Outcome { actors, links: _ } = self;
+        actors
+    }
+
     /// The link out of a vertex by a port.
     pub fn link(&self, vertex: u32, port: u32) -> &Met<P::Payload>
         requires vertex { (1 ≤ vertex) × (vertex ≤ length self.now.links) }

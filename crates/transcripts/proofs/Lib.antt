@@ -1,3 +1,4 @@
+pub mod Digits
 pub mod FieldNumbers
 pub mod LineLists
 pub mod Payloads

@@ -227,7 +227,9 @@ module _ {M : Type 0} (word_of : M → List ℕ) (number_of' : M → ℕ) (paylo
       reading_of payload_of (lines_of (transcript_of word_of number_of' nodes rows)) ≡ Ok (nodes, rows)
   written-read nodes rows h hs =
       let first = codes "transcript" ∷ codes "1" ∷ decimal nodes ∷ [] in
-      ap (reading_of payload_of) (lines-spaced (codes "transcript") (codes "1" ∷ decimal nodes ∷ []) (flat_map (row_text word_of number_of') rows) literal-first
+      let rest = flat_map (row_text word_of number_of') rows in
+      ap (reading_of payload_of) (ap lines_of (append_assoc (numbered (codes "transcript 1 ") nodes) (10 ∷ []) rest)
+      ∙ lines-spaced (codes "transcript") (codes "1" ∷ decimal nodes ∷ []) rest literal-first
       (two-words (codes "1") (decimal nodes) [] literal-edition (small-word nodes h) (All-nil IsWord))
       ∙ ap (λ ls. first ∷ ls) (lines-of rows hs))
       ∙ read-one payload_of 1 None first (row_lines rows)

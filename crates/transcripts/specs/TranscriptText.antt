@@ -10,6 +10,10 @@ use Rattle.wire_texts.specs.WireText.{numbered, wire_text}
 abbrev pub Row : Type 0 → Type 0
 Row M = ℕ × Entry M
 
+-- the line `transcript 1 NODES`
+abbrev pub first_line : ℕ → List ℕ
+first_line nodes = numbered (codes "transcript 1 ") nodes ++ 10 ∷ []
+
 module _ {M : Type 0} (word_of : M → List ℕ) (number_of : M → ℕ) where
   -- an entry, with a space before each of its words
   abbrev pub entry_text : Entry M → List ℕ
@@ -23,7 +27,7 @@ module _ {M : Type 0} (word_of : M → List ℕ) (number_of : M → ℕ) where
 
   -- the line `transcript 1 NODES`, and a line for each entry
   abbrev pub transcript_of : ℕ → List (Row M) → List ℕ
-  transcript_of nodes rows = numbered (codes "transcript 1 ") nodes ++ 10 ∷ flat_map row_text rows
+  transcript_of nodes rows = first_line nodes ++ flat_map row_text rows
 
   -- an entry that can be read from its line
   abbrev pub IsReadableEntry : (List ℕ → ℕ → Option M) → Entry M → Type 0

@@ -2,7 +2,8 @@
 //!
 //! A transcript is a line `transcript 1 NODES`, and then a line for each entry. `transcript_text` writes it, and
 //! `read_transcript` reads what anybody wrote; what the first wrote, the second reads as the same entries. `push_row`
-//! writes one entry, for texts that have other lines too.
+//! writes one entry, for texts that have other lines too. Who has the entries of each node by itself writes the same text
+//! by `push_first_line`, and by `push_entries` for each node.
 //!
 //! ```text
 //! let rows = [(1, Entry::Put(2, Wire::Close)), (2, Entry::Take(1, Wire::Close))];
@@ -21,11 +22,14 @@ mod behind;
 mod entry_line;
 mod fault;
 pub mod laws;
+mod line_end;
+mod node_lines;
 mod numbers;
 mod reading;
 mod writing;
 
 pub use behind::{entry_lines, network_text, read_behind_network};
 pub use fault::TextFault;
+pub use node_lines::push_entries;
 pub use reading::read_transcript;
-pub use writing::{push_row, transcript_text};
+pub use writing::{push_first_line, push_row, transcript_text};

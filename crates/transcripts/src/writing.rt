@@ -3,7 +3,7 @@
 ghost use Rattle.std.specs.Prelude.{◌≡◌, ◌++◌, All, IfOk, Ok, flat_map};
 ghost use Rattle.dimacs_col.specs.Lines.{lines_of};
 ghost use Rattle.transcripts.specs.Reading.{reading_of};
-ghost use Rattle.transcripts.specs.TranscriptText.{IsReadable, row_text, transcript_of};
+ghost use Rattle.transcripts.specs.TranscriptText.{IsReadable, first_line, row_text, transcript_of};
 
 use entries::Entry;
 use interference::Memory;
@@ -49,6 +49,18 @@ fn push_rows<T: PayloadText>(text: &mut Vec<u8>, rows: &[(u32, Entry<T>)]) -> Re
     Ok(())
 }
 
+/// Appends the first line of a transcript of so many nodes.
+///
+/// # Errors
+///
+/// If a growth is refused; `text` may then end in a beginning of the line.
+pub fn push_first_line(text: &mut Vec<u8>, nodes: u32) -> Result<(), AllocError>
+    ensures { IfOk result (λ _. text.new.items ≡ text.old.items ++ first_line nodes) }
+{
+    push_numbered(text, b"transcript 1 ", u128::from(nodes))?;
+    Ok(text.push(b'\n')?)
+}
+
 /// The transcript of so many nodes: `transcript 1 NODES`, and a line for each entry, in the order given. Read by
 /// `read_transcript`, it is these entries.
 ///
@@ -64,8 +76,7 @@ pub fn transcript_text<T: PayloadText>(
     ensures reads_back { IfOk result (λ text. reading_of T.payload_of (lines_of text.items) ≡ Ok (nodes, rows.now)) }
 {
     let mut text = Vec::new(alloc);
-    push_numbered(&mut text, b"transcript 1 ", u128::from(nodes))?;
-    text.push(b'\n')?;
+    push_first_line(&mut text, nodes)?;
     push_rows(&mut text, rows)?;
     Ok(text)
 }

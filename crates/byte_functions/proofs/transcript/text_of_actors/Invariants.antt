@@ -1,0 +1,11 @@
+use Rattle.std.proofs.Common.{◌≡◌, ◌++◌, flat_map}
+use Rattle.colour_rules.specs.Words.{number_in, word_in}
+use Rattle.node_pool.specs.Gathers.{gathered_of}
+use Rattle.transcripts.specs.TranscriptText.{first_line, row_text}
+use Rattle.byte_functions.specs.Transcripts.{rows_in}
+use Rattle.byte_functions.proofs.transcript.text_of_actors.Given as goal
+
+-- the lines of the nodes so far
+abbrev pub invariant-loop-actor : goal.invariant-loop-actor
+invariant-loop-actor l = l.text.items ≡ first_line l.count
+    ++ flat_map (row_text word_in number_in) (flat_map (λ actor. rows_in (gathered_of actor)) l.yielded)

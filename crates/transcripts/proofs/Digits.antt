@@ -1,0 +1,7 @@
+-- How many digits a number below 2^32 has.
+use Rattle.std.proofs.Common.{◌<◌, ◌^◌, ◌≤◌, ℕ, arith, length}
+use Rattle.std.proofs.lemmas.Fmt.{length-decimal-le}
+use Rattle.std.specs.Fmt.{decimal}
+
+pub few-digits : (n : ℕ) → n < 2 ^ 32 → length (decimal n) ≤ 10
+few-digits n fits = length-decimal-le 10 n (omega arith) (omega (arith, fits)) (omega (arith, fits))
