@@ -18,7 +18,11 @@ use std::thread::Threads;
 use transcripts::{push_entries, push_first_line};
 
 // The transcript of nodes, each of which is dropped with its entries once its lines are written.
-fn text_of_actors(alloc: Global, count: u32, actors: Vec<Actor<Colouring>>) -> Result<Vec<u8>, Memory>
+fn text_of_actors(
+    alloc: Global,
+    count: u32,
+    actors: Vec<Actor<Colouring>>,
+) -> Result<Vec<u8>, Memory>
     ensures { IfOk result (λ text. text.items ≡ entries_text count (map gathered_of actors.items)) }
 {
     let mut text = Vec::new(alloc);

@@ -85,7 +85,11 @@ fn push_line<T: PayloadText>(
 /// # Errors
 ///
 /// If a growth is refused; `text` may then end in some of the lines, and in a beginning of one.
-pub fn push_entries<T: PayloadText>(text: &mut Vec<u8>, vertex: u32, entries: &Entries<T>) -> Result<(), AllocError>
+pub fn push_entries<T: PayloadText>(
+    text: &mut Vec<u8>,
+    vertex: u32,
+    entries: &Entries<T>,
+) -> Result<(), AllocError>
     ensures { IfOk result (λ _. text.new.items ≡ text.old.items
         ++ flat_map (row_text T.word_of T.number_of) (map (λ entry. (vertex, entry)) entries.now.items)) }
 {
