@@ -53,8 +53,10 @@ module _ {X M : Type 0} (f : X → List (Wire M)) where
   -- none is full exactly if each has room
   none_full : (out : List (Wire M)) (n : ℕ) → nat_eq (cond (is_full out) 1 0 + n) 0 ≡ (nat_le (length out) 3 && nat_eq n 0)
   none_full out n = ⊎_elim
-      (λ lt. ap (λ b. nat_eq (cond b 1 0 + n) 0) (lt-ltb 3 (length out) lt) ∙ ne_eqb (1 + n) 0 (λ e. omega arith) ∙ sym (ap (λ b. b && nat_eq n 0) (lt-leb (length out) 3 lt)))
-      (λ le. ap (λ b. nat_eq (cond b 1 0 + n) 0) (le-ltb 3 (length out) le) ∙ ap (λ k. nat_eq k 0) (omega arith) ∙ sym (ap (λ b. b && nat_eq n 0) (le-leb (length out) 3 le)))
+      (λ lt. ap (λ b. nat_eq (cond b 1 0 + n) 0) (lt-ltb 3 (length out) lt) ∙ ne_eqb (1 + n) 0 (λ e. omega arith)
+      ∙ sym (ap (λ b. b && nat_eq n 0) (lt-leb (length out) 3 lt)))
+      (λ le. ap (λ b. nat_eq (cond b 1 0 + n) 0) (le-ltb 3 (length out) le) ∙ ap (λ k. nat_eq k 0) (omega arith)
+      ∙ sym (ap (λ b. b && nat_eq n 0) (le-leb (length out) 3 le)))
       (cases_lt 3 (length out))
 
   pub room-none : (xs : List X) → nat_eq (fulls xs) 0 ≡ all_within 3 (map f xs)

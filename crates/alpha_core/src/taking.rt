@@ -60,8 +60,8 @@ impl<P: NodeProgram> AlphaNode<P> {
     /// Whether a wire is a safe that is due.
     pub(crate) fn is_safe_due(&self, port: u32, wire: Wire<P::Payload>) -> bool
         requires port { port < length self.now.node.view.ports }
-        ensures due { IsTrue result → IsTrue
-            (is_due self.now.last self.now.node.view.pulse self.now.node.view.said (port_at self.now.node.view port) wire) }
+        ensures due { IsTrue result → IsTrue (is_due self.now.last self.now.node.view.pulse
+            self.now.node.view.said (port_at self.now.node.view port) wire) }
     {
         match wire {
             Wire::Safe(q) => {
