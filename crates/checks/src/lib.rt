@@ -1,6 +1,6 @@
 //! The tests of the crates below but for those of nodes, rounds and links (`node_checks`) and of worker threads
-//! (`worker_checks`): what no contract says. A module tests one crate, and is named after it; its name ends in `_checks`,
-//! since a module may not have the name of a library.
+//! (`worker_checks`): what no contract says. A module tests one crate, and is named after it; its name ends in
+//! `_checks`, since a module may not have the name of a library.
 #![tactic(auto)]
 
 #[cfg(test)]

@@ -2,8 +2,8 @@
 //!
 //! A transcript is a line `transcript 1 NODES`, and then a line for each entry. `transcript_text` writes it, and
 //! `read_transcript` reads what anybody wrote; what the first wrote, the second reads as the same entries. `push_row`
-//! writes one entry, for texts that have other lines too. Who has the entries of each node by itself writes the same text
-//! by `push_first_line`, and by `push_entries` for each node.
+//! writes one entry, for texts that have other lines too. A caller that has the entries node by node writes the same
+//! text by `push_first_line`, and by `push_entries` for each node.
 //!
 //! ```text
 //! let rows = [(1, Entry::Put(2, Wire::Close)), (2, Entry::Take(1, Wire::Close))];

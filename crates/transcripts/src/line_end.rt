@@ -1,5 +1,5 @@
-//! The end of a line that has room in an array. It is written from its last byte to its first, as the digits of a number
-//! come, so that nothing is moved and memory is asked for once a line.
+//! The end of a line, in an array with room for it. It is written from its last byte to its first, as the digits of a
+//! number come, so that nothing is moved and memory is asked for once a line.
 
 ghost use Rattle.std.specs.Prelude.{◌≡◌, ◌≤◌, ◌+◌, ◌++◌, [], length};
 ghost use Rattle.std.specs.Fmt.{decimal};
