@@ -15,7 +15,7 @@ ghost use Rattle.actor.specs.Written.{IsTranscript};
 use crate::aside::Aside;
 use alpha_core::AlphaNode;
 use ends::{WiredPut, WiredTake, Wiring};
-use entries::Entry;
+use entries::Entries;
 use interference::{Memory, Network};
 use node_api::NodeProgram;
 use std::alloc::Global;
@@ -31,7 +31,7 @@ pub struct Node<J: Wiring, P: NodeProgram> {
     pub aside: Option<Aside<P::Payload>>,
     /// Whether it writes down what it does.
     pub transcript: bool,
-    pub entries: Vec<Entry<P::Payload>>,
+    pub entries: Entries<P::Payload>,
     // It is a vertex of the network, with an end that puts and one that takes for each port, and writes down what it
     // does if the run's nodes do.
     pub ghost network: { IsNetwork J.net },
@@ -50,7 +50,8 @@ pub struct Node<J: Wiring, P: NodeProgram> {
     // With a transcript, its entries are all that it did, and those lists.
     pub ghost writes: { IsTranscript P.program J.net vertex transcript alpha.node
         (by_port (map (λ e. put_list e.end) puts.items))
-        (by_port (reacted_to aside (map (λ e. taken_list e.end) takes.items))) entries.items } by { Prim.hlevel (props, Leads-prop) },
+        (by_port (reacted_to aside (map (λ e. taken_list e.end) takes.items)))
+        entries.items } by { Prim.hlevel (props, Leads-prop) },
 }
 
 impl<J: Wiring, P: NodeProgram> Node<J, P> {
@@ -88,7 +89,7 @@ impl<J: Wiring, P: NodeProgram> Node<J, P> {
             takes,
             aside: None,
             transcript,
-            entries: Vec::new(alloc),
+            entries: Entries::new(alloc),
         })
     }
 

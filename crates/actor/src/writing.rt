@@ -1,25 +1,25 @@
 //! What a node writes down.
 
-ghost use Rattle.std.specs.Prelude.{◌≡◌, ◌<◌, ◌++◌, ◌∷◌, [], IsTrue, IfErr, OnOk, if◌then◌else◌, vec_capacity, vec_len};
+ghost use Rattle.std.specs.Prelude.{◌≡◌, ◌<◌, ◌++◌, ◌∷◌, [], IsTrue, IfErr, OnOk, if◌then◌else◌};
 
-use entries::Entry;
+use entries::{Entries, Entry};
 use interference::Memory;
 
 // Room for one entry more, if entries are written down at all.
-pub(crate) fn keep_room<T>(transcript: bool, entries: &mut Vec<Entry<T>>) -> Result<(), Memory>
+pub(crate) fn keep_room<T>(transcript: bool, entries: &mut Entries<T>) -> Result<(), Memory>
     ensures same { entries.new.items ≡ entries.old.items }
-    ensures room { OnOk result (IsTrue transcript → vec_len entries.new < vec_capacity entries.new) }
+    ensures room { OnOk result (IsTrue transcript → 0 < entries.new.room) }
     ensures refused { IfErr result (λ _. IsTrue transcript) }
 {
     if transcript {
-        entries.reserve(1)?;
+        entries.reserve()?;
     }
     Ok(())
 }
 
 // Writes an entry down, if entries are written down at all.
-pub(crate) fn write_down<T: Copy>(transcript: bool, entries: &mut Vec<Entry<T>>, entry: Entry<T>)
-    requires room { IsTrue transcript → vec_len entries.old < vec_capacity entries.old }
+pub(crate) fn write_down<T: Copy>(transcript: bool, entries: &mut Entries<T>, entry: Entry<T>)
+    requires room { IsTrue transcript → 0 < entries.old.room }
     ensures entries { entries.new.items ≡
         (if transcript then entries.old.items ++ entry ∷ [] else entries.old.items) }
 {

@@ -1,12 +1,21 @@
 //! What a node writes down of each of its events, so that its run can be read and replayed.
 //!
-//! `replay` plays lists of entries, and `transcripts` writes them as text and reads them.
+//! `actor` writes a node's own entries into an `Entries`, which takes 12 bytes an entry and the bytes of a payload
+//! where there is one. `replay` plays lists of entries, and `transcripts` writes them as text and reads them.
 //!
 //! ```text
-//! let greeted = (1, Entry::Put(2, Wire::Payload(0, Payload::Hello(1))));      // vertex 1 put its greeting for 2
+//! let mut entries = Entries::new(alloc);
+//! entries.reserve()?;                                             // room for one more, of any kind
+//! entries.push_reserved(Entry::Put(2, Wire::Payload(0, Payload::Hello(1))));     // can't be refused
+//! for entry in entries.iter() { .. }                              // each by value, from the first
 //! ```
 #![tactic(auto)]
 
+mod bare;
 mod entry;
+mod iter;
+mod list;
 
 pub use entry::Entry;
+pub use iter::Iter;
+pub use list::Entries;

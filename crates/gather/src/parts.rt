@@ -5,7 +5,7 @@ ghost use Rattle.std.specs.Prelude.{◌≡◌, IfOk, map};
 use actor::Node;
 use alpha_core::AlphaNode;
 use ends::{WiredPut, WiredTake, Wiring};
-use entries::Entry;
+use entries::Entries;
 use node_api::NodeProgram;
 use std::alloc::{AllocError, Global};
 
@@ -14,7 +14,7 @@ use std::alloc::{AllocError, Global};
 pub struct Actor<P: NodeProgram> {
     vertex: u32,
     alpha: AlphaNode<P>,
-    entries: Vec<Entry<P::Payload>>,
+    entries: Entries<P::Payload>,
 }
 
 impl<P: NodeProgram> Actor<P> {
@@ -33,10 +33,10 @@ impl<P: NodeProgram> Actor<P> {
     }
 
     /// What it did, in order; empty without a transcript.
-    pub fn entries(&self) -> &[Entry<P::Payload>]
-        ensures entries { result.now ≡ self.now.entries.items }
+    pub fn entries(&self) -> &Entries<P::Payload>
+        ensures entries { result.now ≡ self.now.entries }
     {
-        self.entries.as_slice()
+        &self.entries
     }
 }
 

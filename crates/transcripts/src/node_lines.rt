@@ -8,7 +8,7 @@ ghost use Rattle.wire_texts.specs.WireText.{wire_text};
 use crate::line_end::LineEnd;
 use crate::writing::push_row;
 use alpha_core::Wire;
-use entries::Entry;
+use entries::{Entries, Entry};
 use node_api::PayloadText;
 use std::alloc::AllocError;
 
@@ -85,13 +85,13 @@ fn push_line<T: PayloadText>(
 /// # Errors
 ///
 /// If a growth is refused; `text` may then end in some of the lines, and in a beginning of one.
-pub fn push_entries<T: PayloadText>(text: &mut Vec<u8>, vertex: u32, entries: &[Entry<T>]) -> Result<(), AllocError>
+pub fn push_entries<T: PayloadText>(text: &mut Vec<u8>, vertex: u32, entries: &Entries<T>) -> Result<(), AllocError>
     ensures { IfOk result (λ _. text.new.items ≡ text.old.items
-        ++ flat_map (row_text T.word_of T.number_of) (map (λ entry. (vertex, entry)) entries.now)) }
+        ++ flat_map (row_text T.word_of T.number_of) (map (λ entry. (vertex, entry)) entries.now.items)) }
 {
     let mut line = LineEnd::new();
-    for entry in entries {
-        push_line(text, &mut line, vertex, *entry)?;
+    for entry in entries.iter() {
+        push_line(text, &mut line, vertex, entry)?;
     }
     Ok(())
 }

@@ -1,0 +1,66 @@
+-- What one entry more at the end of the list leaves of it.
+use Rattle.std.proofs.Common.{◌≡◌, ℕ, ◌+◌, ◌≤◌, List, [], ◌∷◌, ◌++◌, length, drop, map, refl, sym, ap, ap₂, ◌∙◌, arith}
+use Rattle.std.proofs.lemmas.List.{append-nil, append_assoc, drop-append-le, length-append, length-drop, length-map}
+use Rattle.entries.specs.declared.entry.Entry.{Entry}
+use Rattle.entries.specs.declared.entry.Entry.TheVariants as entry
+use Rattle.entries.specs.declared.bare.BareEntry.{BareEntry}
+use Rattle.entries.specs.declared.bare.Act.{Act}
+use Rattle.entries.specs.declared.bare.Act.TheVariants.{Pulse, Put, Take}
+use Rattle.entries.specs.declared.bare.WireKind.{WireKind}
+use Rattle.entries.specs.declared.bare.WireKind.TheVariants.{Payload, Ack, Safe, Close}
+use Rattle.entries.specs.Bare.{entries_of, entry_of, payload_count, payloads_by, payloads_in, wire_of}
+
+module _ {M : Type 0} where
+  -- further payloads behind don't matter
+  wire-same : (kind : WireKind) (pulse : ℕ) (xs ys : List M) → payload_count kind ≤ length xs → wire_of kind pulse (xs ++ ys) ≡ wire_of kind pulse xs
+  wire-same Payload pulse [] ys le = absurd (omega arith)
+  wire-same Payload pulse (x ∷ xs) ys le = refl
+  wire-same Ack pulse xs ys le = refl
+  wire-same Safe pulse xs ys le = refl
+  wire-same Close pulse xs ys le = refl
+
+  entry-same : (act : Act) (vertex pulse : ℕ) (xs ys : List M) → payloads_by act ≤ length xs
+      → entry_of act vertex pulse (xs ++ ys) ≡ entry_of act vertex pulse xs
+  entry-same Pulse vertex pulse xs ys le = refl
+  entry-same (Put kind) vertex pulse xs ys le = ap (map (λ w. entry.Put vertex w)) (wire-same kind pulse xs ys le)
+  entry-same (Take kind) vertex pulse xs ys le = ap (map (λ w. entry.Take vertex w)) (wire-same kind pulse xs ys le)
+
+  -- a wire and an entry are one
+  wire-one : (kind : WireKind) (pulse : ℕ) (xs : List M) → payload_count kind ≤ length xs → length (wire_of kind pulse xs) ≡ 1
+  wire-one Payload pulse [] le = absurd (omega arith)
+  wire-one Payload pulse (x ∷ xs) le = refl
+  wire-one Ack pulse xs le = refl
+  wire-one Safe pulse xs le = refl
+  wire-one Close pulse xs le = refl
+
+  entry-one : (act : Act) (vertex pulse : ℕ) (xs : List M) → payloads_by act ≤ length xs → length (entry_of act vertex pulse xs) ≡ 1
+  entry-one Pulse vertex pulse xs le = refl
+  entry-one (Put kind) vertex pulse xs le = length-map (wire_of kind pulse xs) _ ∙ wire-one kind pulse xs le
+  entry-one (Take kind) vertex pulse xs le = length-map (wire_of kind pulse xs) _ ∙ wire-one kind pulse xs le
+
+  -- there are as many entries as bare ones
+  pub entries-long : (bares : List BareEntry) (xs : List M) → payloads_in bares ≡ length xs → length (entries_of bares xs) ≡ length bares
+  entries-long [] xs fits = refl
+  entries-long (b ∷ bs) xs fits =
+      let k = payloads_by b.act in
+      let rest : payloads_in bs ≡ length (drop k xs) = omega (arith, fits, length-drop k xs) in
+      let one = entry-one b.act b.vertex b.pulse xs (omega (arith, fits)) in
+      omega (arith, length-append (entry_of b.act b.vertex b.pulse xs) (entries_of bs (drop k xs)), one, entries-long bs (drop k xs) rest)
+
+  -- one entry more, with its payload if it has one
+  pub entries-more : (bares : List BareEntry) (xs ys : List M) (bare : BareEntry) (new : Entry M) → payloads_in bares ≡ length xs
+      → entry_of bare.act bare.vertex bare.pulse ys ≡ new ∷ [] → entries_of (bares ++ bare ∷ []) (xs ++ ys) ≡ entries_of bares xs ++ new ∷ []
+  entries-more [] [] ys bare new fits is = append-nil (entry_of bare.act bare.vertex bare.pulse ys) ∙ is
+  entries-more [] (x ∷ xs) ys bare new fits is = absurd (omega (arith, fits))
+  entries-more (b ∷ bs) xs ys bare new fits is =
+      let k = payloads_by b.act in
+      let le : k ≤ length xs = omega (arith, fits) in
+      let rest : payloads_in bs ≡ length (drop k xs) = omega (arith, fits, length-drop k xs) in
+      let first = entry_of b.act b.vertex b.pulse xs in
+      ap₂ (λ e l. e ++ l) (entry-same b.act b.vertex b.pulse xs ys le)
+      (ap (entries_of (bs ++ bare ∷ [])) (drop-append-le k xs ys le) ∙ entries-more bs (drop k xs) ys bare new rest is)
+      ∙ sym (append_assoc first (entries_of bs (drop k xs)) (new ∷ []))
+
+pub payloads-more : (bares : List BareEntry) (bare : BareEntry) → payloads_in (bares ++ bare ∷ []) ≡ payloads_in bares + payloads_by bare.act
+payloads-more [] bare = omega arith
+payloads-more (b ∷ bs) bare = omega (arith, payloads-more bs bare)

@@ -1,0 +1,8 @@
+-- What contracts see of a node's entries.
+use Rattle.std.specs.Prelude.{ℕ, List}
+use Rattle.entries.specs.declared.entry.Entry.{Entry}
+
+-- The entries in order, and how many more have room, whatever their wires.
+pub record EntryList (M : Type 0) : Type 0 where
+  pub items : List (Entry M)
+  pub room : ℕ

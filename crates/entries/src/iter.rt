@@ -1,0 +1,54 @@
+//! Reading entries from the first.
+
+ghost use Rattle.std.specs.Iterator.{YieldsFirst, item_count};
+
+use crate::bare::{Act, BareEntry, join_wire};
+use crate::entry::Entry;
+use std::marker::Model;
+
+/// The entries of an `Entries`, by value, seen as the list of those that are left.
+#[derive(Drop)]
+pub struct Iter<'a, T> {
+    pub(crate) bares: &'a [BareEntry],
+    pub(crate) payloads: &'a [T],
+}
+
+impl<'a, T> Model for Iter<'a, T> {
+    ghost use Rattle.std.specs.Prelude.{◌≡◌, List, length};
+    ghost use Rattle.entries.specs.declared.entry.Entry.{Entry};
+
+    ghost Value = { List (Entry T) };
+
+    ghost use Rattle.entries.specs.Bare.{entries_of, payloads_in};
+
+    ghost view = { λ it. entries_of it.bares.now it.payloads.now };
+
+    // Each entry that should have a payload has one.
+    ghost invariant = { λ it. payloads_in it.bares.now ≡ length it.payloads.now };
+}
+
+impl<'a, T: Copy> Iterator for Iter<'a, T> {
+    type Item = Entry<T>;
+
+    ghost next_gives = { YieldsFirst (λ rest. rest) };
+
+    ghost remaining = { item_count (λ rest. rest) };
+
+    fn next(&mut self) -> Option<Entry<T>> {
+        let (bare, bares) = self.bares.split_first()?;
+        self.bares = bares;
+        match bare.act {
+            Act::Pulse => Some(Entry::Pulse(bare.pulse)),
+            Act::Put(kind) => {
+                let (wire, payloads) = join_wire(kind, bare.pulse, self.payloads);
+                self.payloads = payloads;
+                Some(Entry::Put(bare.vertex, wire))
+            }
+            Act::Take(kind) => {
+                let (wire, payloads) = join_wire(kind, bare.pulse, self.payloads);
+                self.payloads = payloads;
+                Some(Entry::Take(bare.vertex, wire))
+            }
+        }
+    }
+}

@@ -1,0 +1,109 @@
+//! The entries of a node.
+
+ghost use Rattle.std.specs.Prelude.{◌≡◌, ◌<◌, ◌≤◌, ◌+◌, ◌++◌, ◌∷◌, [], length, OnOk, OnErr, vec_capacity, vec_len};
+
+use crate::bare::{BareEntry, split};
+use crate::entry::Entry;
+use crate::iter::Iter;
+use interference::Memory;
+use std::alloc::{AllocError, Global};
+use std::marker::Model;
+
+/// The entries of a node in its own order, in 12 bytes each and those of the payloads. Contracts see the list of them
+/// (`items`), and for how many more there is room, whatever their wires (`room`).
+#[derive(Drop)]
+pub struct Entries<T> {
+    bares: Vec<BareEntry>,
+    // The payloads of those that have one, in the same order.
+    payloads: Vec<T>,
+}
+
+impl<T> Model for Entries<T> {
+    ghost use Rattle.std.specs.Prelude.{◌≡◌, ◌-◌, length, min, vec_capacity, vec_len};
+    ghost use Rattle.entries.specs.EntryList.{EntryList};
+
+    ghost Value = { EntryList T };
+
+    ghost use Rattle.entries.specs.Bare.{entries_of, payloads_in};
+
+    ghost view = { λ e. record {
+      items = entries_of e.bares.items e.payloads.items;
+      room = min (vec_capacity e.bares - vec_len e.bares) (vec_capacity e.payloads - vec_len e.payloads);
+    } };
+
+    ghost invariant = { λ e. payloads_in e.bares.items ≡ length e.payloads.items };
+}
+
+// Room for one item more. A full list grows by a quarter: the lists of many nodes are of some length, and what is
+// reserved in them and never used adds up.
+fn grow<T>(items: &mut Vec<T>) -> Result<(), AllocError>
+    ensures items { items.new.items ≡ items.old.items }
+    ensures len { vec_len items.new ≡ vec_len items.old }
+    ensures room { OnOk result (vec_len items.new < vec_capacity items.new) }
+    ensures capacity { vec_capacity items.old ≤ vec_capacity items.new }
+    ensures refused { OnErr result ((vec_capacity items.old ≤ vec_len items.old)
+        × (vec_capacity items.new ≡ vec_capacity items.old)) }
+{
+    let len = items.len();
+    if len < items.capacity() {
+        return Ok(());
+    }
+    items.reserve_exact(len / 4 + 4)
+}
+
+impl<T> Entries<T> {
+    /// No entries, which take no memory.
+    pub fn new(alloc: Global) -> Entries<T>
+        ensures items { result.items ≡ [] }
+    {
+        Entries {
+            bares: Vec::new(alloc),
+            payloads: Vec::new(alloc),
+        }
+    }
+
+    /// How many entries there are.
+    pub fn len(&self) -> usize
+        ensures len { result ≡ length self.now.items }
+    {
+        self.bares.len()
+    }
+
+    /// Room for one entry more, of any kind.
+    ///
+    /// # Errors
+    ///
+    /// `Memory` if memory is refused.
+    pub fn reserve(&mut self) -> Result<(), Memory>
+        ensures items { self.new.items ≡ self.old.items }
+        ensures room { OnOk result (0 < self.new.room) }
+        ensures refused { OnErr result (self.new ≡ self.old) }
+    {
+        grow(&mut self.bares)?;
+        grow(&mut self.payloads)?;
+        Ok(())
+    }
+
+    /// Appends an entry, for which there is room.
+    pub fn push_reserved(&mut self, entry: Entry<T>)
+        requires room { 0 < self.old.room }
+        ensures items { self.new.items ≡ self.old.items ++ entry ∷ [] }
+        ensures room { self.old.room ≤ self.new.room + 1 }
+    {
+        let (bare, payload) = split(entry);
+        self.bares.push_reserved(bare);
+        if let Some(payload) = payload {
+            self.payloads.push_reserved(payload);
+        }
+    }
+
+    /// The entries from the first, each by value.
+    pub fn iter(&self) -> Iter<'_, T>
+        ensures items { result ≡ self.now.items }
+    {
+        Iter {
+            bares: self.bares.as_slice(),
+            payloads: self.payloads.as_slice(),
+        }
+    }
+}
