@@ -12,7 +12,7 @@ use entries::{Entries, Entry};
 use node_api::PayloadText;
 use std::alloc::AllocError;
 
-// Puts a wire before the end of a line, and returns whether it could, since it has no payload.
+// Puts a wire before the end of a line, and returns whether it could: it can't if there is a payload.
 fn put_wire<T: PayloadText>(line: &mut LineEnd, wire: Wire<T>) -> bool
     requires room { 16 + length line.old ≤ ROOM }
     ensures put { IsTrue result → line.new ≡ wire_text T.word_of T.number_of wire ++ line.old }
@@ -33,7 +33,7 @@ fn put_wire<T: PayloadText>(line: &mut LineEnd, wire: Wire<T>) -> bool
     true
 }
 
-// Writes the line of an entry, and returns whether it could, since the entry has no payload.
+// Writes the line of an entry, and returns whether it could: it can't if there is a payload.
 fn put_row<T: PayloadText>(line: &mut LineEnd, vertex: u32, entry: Entry<T>) -> bool
     ensures { IsTrue result → line.new ≡ row_text T.word_of T.number_of (vertex, entry) }
 {
@@ -63,7 +63,7 @@ fn put_row<T: PayloadText>(line: &mut LineEnd, vertex: u32, entry: Entry<T>) -> 
     true
 }
 
-// Appends the line of an entry, with a line end that was used before.
+// Appends the line of an entry; `line` is room to write it in.
 #[inline(always)]
 fn push_line<T: PayloadText>(
     text: &mut Vec<u8>,

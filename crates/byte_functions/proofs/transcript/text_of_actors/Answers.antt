@@ -18,7 +18,7 @@ loop-actor-preserved c =
     let lines = flat_map (row_text word_in number_in) in
     let before = flat_map (λ a. rows_in (gathered_of a)) c.loop-actor.yielded in
     c.in_ok-push_entries.ensures
-    ∙ ap₂ (λ v entries. c.loop-actor.text.items ++ lines (map (λ entry. (v, entry)) entries)) c.node.ensures.vertex c.entries.ensures.entries
+    ∙ ap₂ (λ v entries. c.loop-actor.text.items ++ lines (map (λ entry. (v, entry)) entries.items)) c.node.ensures.vertex c.entries.ensures.entries
     ∙ ap (λ l. l ++ lines (rows_in (gathered_of actor))) c.loop-actor.invariant
     ∙ append_assoc first (lines before) (lines (rows_in (gathered_of actor)))
     ∙ ap (λ l. first ++ l) (sym (flat_map-append (row_text word_in number_in) before (rows_in (gathered_of actor)))
