@@ -2,9 +2,9 @@ use Rattle.std.proofs.Common.{◌≡◌, ◌++◌, flat_map, map}
 use Rattle.transcripts.specs.TranscriptText.{row_text}
 use Rattle.transcripts.proofs.node_lines.push_entries.Given as goal
 
--- the lines of the entries so far
+-- the lines so far, and those of the entries that are left, are the lines of all
 abbrev pub invariant-loop-entry : goal.invariant-loop-entry
 invariant-loop-entry g l =
     let m = g.T.PayloadText in
-    l.text.items ≡ l.fn.text.items
-    ++ flat_map (row_text m.word_of m.number_of) (map (λ entry. (l.vertex, entry)) l.yielded)
+    l.text.items ++ flat_map (row_text m.word_of m.number_of) (map (λ entry. (l.vertex, entry)) l.entry-iterator)
+    ≡ l.fn.text.items ++ flat_map (row_text m.word_of m.number_of) (map (λ entry. (l.vertex, entry)) l.entries.items)
