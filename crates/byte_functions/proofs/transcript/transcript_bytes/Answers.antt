@@ -8,4 +8,4 @@ returns-clause-ok g c =
     let net = c.in_ok-network.network in
     recorded c.args.input.now c.in_ok-text_of_actors.field-0.items net c.args.options.capacity c.in_ok-outcome.outcome
     c.in_ok-network.ensures.ok c.in_ok-outcome.ensures.outcome c.in_ok-outcome.ensures.whole
-    (c.in_ok-text_of_actors.ensures ∙ ap₂ entries_text c.nodes.ensures.count c.into_actors.ensures.nodes)
+    (c.in_ok-text_of_actors.ensures ∙ ap₂ entries_text c.nodes-count.ensures.count c.into_actors.ensures.nodes)
