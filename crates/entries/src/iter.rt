@@ -3,13 +3,14 @@
 ghost use Rattle.std.specs.Iterator.{YieldsFirst, item_count};
 
 use crate::bare::{Act, BareEntry, join_wire};
+use crate::blocks::BlockIter;
 use crate::entry::Entry;
 use std::marker::Model;
 
 /// The entries of an `Entries`, by value, seen as the list of those that are left.
 #[derive(Drop)]
 pub struct Iter<'a, T> {
-    pub(crate) bares: &'a [BareEntry],
+    pub(crate) bares: BlockIter<'a, BareEntry>,
     pub(crate) payloads: &'a [T],
 }
 
@@ -21,10 +22,10 @@ impl<'a, T> Model for Iter<'a, T> {
 
     ghost use Rattle.entries.specs.Bare.{entries_of, payloads_in};
 
-    ghost view = { λ it. entries_of it.bares.now it.payloads.now };
+    ghost view = { λ it. entries_of it.bares it.payloads.now };
 
     // Each entry that should have a payload has one.
-    ghost invariant = { λ it. payloads_in it.bares.now ≡ length it.payloads.now };
+    ghost invariant = { λ it. payloads_in it.bares ≡ length it.payloads.now };
 }
 
 impl<'a, T: Copy> Iterator for Iter<'a, T> {
@@ -35,8 +36,7 @@ impl<'a, T: Copy> Iterator for Iter<'a, T> {
     ghost remaining = { item_count (λ rest. rest) };
 
     fn next(&mut self) -> Option<Entry<T>> {
-        let (bare, bares) = self.bares.split_first()?;
-        self.bares = bares;
+        let bare = self.bares.next()?;
         match bare.act {
             Act::Pulse => Some(Entry::Pulse(bare.pulse)),
             Act::Put(kind) => {

@@ -3,6 +3,7 @@
 ghost use Rattle.std.specs.Prelude.{◌≡◌, ◌<◌, ◌≤◌, ◌+◌, ◌++◌, ◌∷◌, [], length, OnOk, OnErr, vec_capacity, vec_len};
 
 use crate::bare::{BareEntry, split};
+use crate::blocks::Blocks;
 use crate::entry::Entry;
 use crate::iter::Iter;
 use interference::Memory;
@@ -13,7 +14,7 @@ use std::marker::Model;
 /// (`items`), and for how many more there is room, whatever their wires (`room`).
 #[derive(Drop)]
 pub struct Entries<T> {
-    bares: Vec<BareEntry>,
+    bares: Blocks<BareEntry>,
     // The payloads of those that have one, in the same order.
     payloads: Vec<T>,
 }
@@ -28,27 +29,25 @@ impl<T> Model for Entries<T> {
 
     ghost view = { λ e. record {
       items = entries_of e.bares.items e.payloads.items;
-      room = min (vec_capacity e.bares - vec_len e.bares) (vec_capacity e.payloads - vec_len e.payloads);
+      room = min e.bares.room (vec_capacity e.payloads - vec_len e.payloads);
     } };
 
     ghost invariant = { λ e. payloads_in e.bares.items ≡ length e.payloads.items };
 }
 
-// Room for one item more. A full list grows by a quarter: the lists of many nodes are of some length, and what is
-// reserved in them and never used adds up.
-fn grow<T>(items: &mut Vec<T>) -> Result<(), AllocError>
-    ensures items { items.new.items ≡ items.old.items }
-    ensures len { vec_len items.new ≡ vec_len items.old }
-    ensures room { OnOk result (vec_len items.new < vec_capacity items.new) }
-    ensures capacity { vec_capacity items.old ≤ vec_capacity items.new }
-    ensures refused { OnErr result ((vec_capacity items.old ≤ vec_len items.old)
-        × (vec_capacity items.new ≡ vec_capacity items.old)) }
+// Room for one payload more. Few entries have one, so these lie in one list, which grows by a quarter.
+fn reserve_payload<T>(payloads: &mut Vec<T>) -> Result<(), AllocError>
+    ensures items { payloads.new.items ≡ payloads.old.items }
+    ensures len { vec_len payloads.new ≡ vec_len payloads.old }
+    ensures room { OnOk result (vec_len payloads.new < vec_capacity payloads.new) }
+    ensures refused { OnErr result ((vec_capacity payloads.old ≤ vec_len payloads.old)
+        × (vec_capacity payloads.new ≡ vec_capacity payloads.old)) }
 {
-    let len = items.len();
-    if len < items.capacity() {
+    let len = payloads.len();
+    if len < payloads.capacity() {
         return Ok(());
     }
-    items.reserve_exact(len / 4 + 4)
+    payloads.reserve_exact(len / 4 + 4)
 }
 
 impl<T> Entries<T> {
@@ -57,7 +56,7 @@ impl<T> Entries<T> {
         ensures items { result.items ≡ [] }
     {
         Entries {
-            bares: Vec::new(alloc),
+            bares: Blocks::new(alloc),
             payloads: Vec::new(alloc),
         }
     }
@@ -79,8 +78,8 @@ impl<T> Entries<T> {
         ensures room { OnOk result (0 < self.new.room) }
         ensures refused { OnErr result (self.new ≡ self.old) }
     {
-        grow(&mut self.bares)?;
-        grow(&mut self.payloads)?;
+        self.bares.reserve()?;
+        reserve_payload(&mut self.payloads)?;
         Ok(())
     }
 
@@ -102,7 +101,7 @@ impl<T> Entries<T> {
         ensures items { result ≡ self.now.items }
     {
         Iter {
-            bares: self.bares.as_slice(),
+            bares: self.bares.iter(),
             payloads: self.payloads.as_slice(),
         }
     }

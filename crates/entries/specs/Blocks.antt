@@ -1,0 +1,17 @@
+-- What contracts see of a list in blocks.
+use Rattle.std.specs.Prelude.{ℕ, List, ◌<◌, length}
+use Rattle.std.specs.List.{All, flat_map}
+use Rattle.std.specs.declared.vec.Vec.{Vec}
+
+-- the items of blocks, in order
+abbrev pub joined : {X A : Type 0} → List (Vec X A) → List X
+joined = flat_map (λ block. block.items)
+
+-- no block is empty
+abbrev pub AreFilled : {X A : Type 0} → List (Vec X A) → Type 0
+AreFilled = All (λ block. 0 < length block.items)
+
+-- The items in order, and how many more have room.
+pub record ItemList (X : Type 0) : Type 0 where
+  pub items : List X
+  pub room : ℕ
