@@ -7,3 +7,4 @@ pub mod Spaced
 pub mod Written
 pub mod Texts
 pub mod Numbered
+pub mod EntryNumbers

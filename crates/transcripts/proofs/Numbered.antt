@@ -1,6 +1,6 @@
 -- Where a transcript begins behind a network text, and the numbers of its lines.
 use Rattle.std.proofs.Common.{◌≡◌, ◌<◌, ◌≤◌, ◌+◌, ◌++◌, ◌∷◌, [], ◌∙◌, ℕ, zero, suc, Bool, true, false, None, Option, List, if◌then◌else◌, ap, arith}
-use Rattle.std.proofs.Common.{append_assoc, codes, drop, get_or, length, map, refl, sym, take}
+use Rattle.std.proofs.Common.{drop, get_or, length, map, refl, sym, take}
 use Rattle.std.proofs.lemmas.List.{length-take-le, map_more}
 use Rattle.dimacs_col.specs.Lines.{Line}
 use Rattle.dimacs_col.proofs.Whole.{length-mapped}

@@ -103,5 +103,9 @@ module _ {M : Type 0} (payload_of : List ℕ → ℕ → Option M) where
       (header-right payload_of None (read.0, []) (word ∷ words) words word read.0 refl refl (ap header_of line ∙ h) refl)
       ∙ rows-to (n + 1) (read.0, []) read.1 lines (ap (map (row_of payload_of)) rest ∙ r)
 
+  pub texts-are-read-from : (n : ℕ) (lines : List Line) (read : Transcript M) →
+      (read_from payload_of n None lines ≡ Ok read) ↔ IsTranscriptText payload_of lines read
+  texts-are-read-from n lines read = (text-from n read lines, λ is. text-to n read lines is.first is.body is.lines_are is.nodes_are is.rows_are)
+
   pub texts-are-read : (lines : List Line) (read : Transcript M) → (read_from payload_of 1 None lines ≡ Ok read) ↔ IsTranscriptText payload_of lines read
-  texts-are-read lines read = (text-from 1 read lines, λ is. text-to 1 read lines is.first is.body is.lines_are is.nodes_are is.rows_are)
+  texts-are-read = texts-are-read-from 1

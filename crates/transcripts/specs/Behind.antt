@@ -1,9 +1,14 @@
 -- The reading of a transcript behind a network text. Lines count from the first one of the whole input.
-use Rattle.std.specs.Prelude.{◌≡◌, ℕ, ◌+◌, Option, None, Result, List, [], ◌∷◌, codes, drop, if◌then◌else◌, length}
+use Rattle.std.specs.Prelude.{◌≡◌, ℕ, zero, suc, ◌+◌, ◌<◌, Option, Some, None, option_and_then, Result}
+use Rattle.std.specs.Prelude.{List, [], ◌∷◌, codes, drop, if◌then◌else◌, length, map, slice_get}
+use Rattle.std.specs.List.{All}
+use Rattle.std.specs.List.Sorted.{IsStrictlyIncreasing}
 use Rattle.dimacs_col.specs.Lines.{Line}
 use Rattle.channel_plan.specs.Reading.{has_fields}
 use Rattle.channel_plan.specs.Split.{AreLinesBefore, lines_before, lines_from}
+use Rattle.transcripts.specs.EntryLines.{row_of}
 use Rattle.transcripts.specs.Reading.{Transcript, read_from}
+use Rattle.transcripts.specs.TranscriptText.{Row}
 
 -- the lines of the network text: those before the first one whose first field is `transcript`
 abbrev pub network_lines : List Line → List Line
@@ -29,3 +34,15 @@ numbers_from n (line ∷ lines) = if has_fields line then n ∷ numbers_from (n 
 -- the numbers of the lines of the entries: of those behind the transcript's first line
 abbrev pub entry_lines : List Line → List ℕ
 entry_lines lines = numbers_from (length (network_lines lines) + 2) (drop 1 (transcript_lines lines))
+
+module _ {M : Type 0} (payload_of : List ℕ → ℕ → Option M) where
+  -- the entry that the line of a number is; the first line has the number 1
+  abbrev pub entry_on : List Line → ℕ → Option (Row M)
+  entry_on lines zero = None
+  entry_on lines (suc k) = option_and_then (row_of payload_of) (slice_get lines k)
+
+  -- the numbers of the lines of these entries, one for each and in their order, all behind the transcript's first line
+  pub record AreEntryLines (lines : List Line) (rows : List (Row M)) (numbers : List ℕ) : Type 0 where
+    pub increase : IsStrictlyIncreasing numbers
+    pub behind : All (λ n. length (network_lines lines) + 1 < n) numbers
+    pub rows_are : map (entry_on lines) numbers ≡ map Some rows

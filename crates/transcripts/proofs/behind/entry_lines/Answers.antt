@@ -1,4 +1,4 @@
-use Rattle.std.proofs.Common.{◌≡◌, ◌+◌, ◌++◌, ◌-◌, ◌∙◌, [], Bor, List, ap, arith, drop, length, map, suc, sym, take, ℕ}
+use Rattle.std.proofs.Common.{◌≡◌, ◌+◌, ◌++◌, ◌-◌, ◌∙◌, Bor, List, ap, arith, drop, length, map, suc, sym, take, ℕ}
 use Rattle.std.proofs.lemmas.List.{take_rest}
 use Rattle.dimacs_col.specs.Lines.{Line, line_of, lines_of}
 use Rattle.transcripts.specs.Behind.{entry_lines, numbers_from, transcript_lines}

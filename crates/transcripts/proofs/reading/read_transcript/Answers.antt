@@ -1,5 +1,4 @@
-use Rattle.std.proofs.Common.{◌≡◌, IfErr, IfOk, None, Ok, map, subst, sym}
-use Rattle.dimacs_col.specs.Lines.{line_of, lines_of}
+use Rattle.std.proofs.Common.{◌≡◌, IfErr, IfOk, None, Ok, subst, sym}
 use Rattle.transcripts.specs.Reading.{IsFaultOf, read_from}
 use Rattle.transcripts.proofs.LineLists.{lines-are}
 use Rattle.transcripts.proofs.reading.read_transcript.Goals as goal
