@@ -15,11 +15,6 @@ use Rattle.actor.specs.Written.{IsTranscript}
 use Rattle.actor.proofs.Lists.{same_all, one_more, set_aside}
 use Rattle.actor.proofs.Written.{wrote_put, wrote_take, wrote_pulse, next_transcript}
 
-pub wrote_nothing : {S M E : Type 0} {program : Program S M E} {net : Net} {v : ℕ} {t : Bool} {node : Node S M} {puts takens : ℕ → List (Wire M)}
-    (es es' : List (Entry M)) → es' ≡ es → IsTranscript program net v t node puts takens es → IsTranscript program net v t node puts takens es'
-wrote_nothing {program = program} {net} {v} {t} {node} {puts} {takens} es es' room writes =
-    subst (λ l. IsTranscript program net v t node puts takens l) (sym room) writes
-
 module _ {S M E X Y : Type 0} (program : Program S M E) (net : Net) (put : X → List (Wire M)) (taken : Y → List (Wire M)) (v : ℕ) (t : Bool) where
   abbrev pub Writes : Node S M → List X → List Y → Option (Aside M) → List (Entry M) → Type 0
   Writes node xs ys aside entries = IsTranscript program net v t node (by_port (map put xs)) (by_port (reacted_to aside (map taken ys))) entries

@@ -2,7 +2,7 @@
 
 ghost use Rattle.std.specs.Prelude.{◌≡◌, ◌<◌, [], All, IfOk, Some, map};
 ghost use Rattle.std.proofs.Props.{props};
-ghost use Rattle.interference.specs.Net.{IsNetwork, IsVertex, degree_of, neighbour_of};
+ghost use Rattle.interference.specs.Net.{IsNetwork, IsVertex, degree_of};
 ghost use Rattle.node_api.specs.Program.{last_pulse_on};
 ghost use Rattle.alpha_core.specs.Program.{start_node};
 ghost use Rattle.alpha_laws.specs.Kept.{NodeKept};
@@ -25,12 +25,12 @@ use std::alloc::Global;
 pub struct Node<J: Wiring, P: NodeProgram> {
     pub vertex: u32,
     pub degree: u32,
+    /// Whether it writes down what it does.
+    pub transcript: bool,
+    pub aside: Option<Aside<P::Payload>>,
     pub alpha: AlphaNode<P>,
     pub puts: Vec<WiredPut<J, P::Payload>>,
     pub takes: Vec<WiredTake<J, P::Payload>>,
-    pub aside: Option<Aside<P::Payload>>,
-    /// Whether it writes down what it does.
-    pub transcript: bool,
     pub entries: Entries<P::Payload>,
     // It is a vertex of the network, with an end that puts and one that takes for each port, and writes down what it
     // does if the run's nodes do.
@@ -84,20 +84,12 @@ impl<J: Wiring, P: NodeProgram> Node<J, P> {
         Ok(Node {
             vertex,
             degree: net.degree(vertex),
+            transcript,
+            aside: None,
             alpha,
             puts,
             takes,
-            aside: None,
-            transcript,
             entries: Entries::new(alloc),
         })
-    }
-
-    // The neighbour at a port.
-    pub(crate) fn neighbour(&self, port: u32) -> u32
-        requires port { port < self.now.degree }
-        ensures neighbour { result ≡ neighbour_of J.net self.now.vertex port }
-    {
-        self.takes[port as usize].vertex
     }
 }

@@ -6,9 +6,8 @@ ghost use Rattle.alpha_core.specs.View.{can_take};
 use crate::aside::Aside;
 use crate::gate::Gate;
 use crate::node::Node;
-use crate::writing::{keep_room, write_down};
+use crate::writing::{keep_room, write_pulse, write_put, write_take};
 use ends::{Links, Wiring};
-use entries::Entry;
 use interference::Memory;
 use node_api::NodeProgram;
 use std::sync::Wait;
@@ -28,16 +27,13 @@ impl<J: Wiring, P: NodeProgram> Node<J, P> {
         ensures same { (self.new.vertex ≡ self.old.vertex) × (self.new.degree ≡ self.old.degree) }
         ensures refused { IfErr result (λ _. IsTrue J.transcript) }
     {
-        let neighbour = self.neighbour(port);
         keep_room(self.transcript, &mut self.entries)?;
-        match links.take(rt, &mut self.takes[port as usize]) {
+        let end = &mut self.takes[port as usize];
+        match links.take(rt, end) {
             None => Ok(false),
             Some(wire) => {
                 match self.alpha.on_wire(port, wire) {
-                    Ok(()) => {
-                        let entry = Entry::Take(neighbour, wire);
-                        write_down(self.transcript, &mut self.entries, entry);
-                    }
+                    Ok(()) => write_take(self.transcript, &mut self.entries, end, wire),
                     Err(_) => self.aside = Some(Aside { port, wire }),
                 }
                 Ok(true)
@@ -45,7 +41,7 @@ impl<J: Wiring, P: NodeProgram> Node<J, P> {
         }
     }
 
-    // Takes by a port, at most `TAKES` wires. Returns whether it took one.
+    // Takes by a port as long as it expects a wire there, at most `TAKES`. Returns whether it took one.
     fn take_some<R: Wait>(&mut self, rt: &R, links: &Links<J, P>, port: u32) -> Result<bool, Memory>
         requires port { port < self.old.degree }
         ensures same { (self.new.vertex ≡ self.old.vertex) × (self.new.degree ≡ self.old.degree) }
@@ -53,7 +49,8 @@ impl<J: Wiring, P: NodeProgram> Node<J, P> {
     {
         let mut took = false;
         for _ in 0..TAKES {
-            if self.aside.is_some() || !self.alpha.can_take() || !self.take_one(rt, links, port)? {
+            let ready = self.alpha.expects(port) && self.aside.is_none() && self.alpha.can_take();
+            if !ready || !self.take_one(rt, links, port)? {
                 break;
             }
             took = true;
@@ -61,7 +58,7 @@ impl<J: Wiring, P: NodeProgram> Node<J, P> {
         Ok(took)
     }
 
-    // Takes by each port, ascending. Returns whether it took a wire.
+    // Takes by each port at which it expects a wire, ascending. Returns whether it took one.
     fn take_all<R: Wait>(&mut self, rt: &R, links: &Links<J, P>) -> Result<bool, Memory>
         ensures same { (self.new.vertex ≡ self.old.vertex) × (self.new.degree ≡ self.old.degree) }
         ensures refused { IfErr result (λ _. IsTrue J.transcript) }
@@ -88,8 +85,8 @@ impl<J: Wiring, P: NodeProgram> Node<J, P> {
         keep_room(self.transcript, &mut self.entries)?;
         match self.alpha.pulse() {
             Ok(()) => {
-                let entry = Entry::Pulse(self.alpha.pulse_number());
-                write_down(self.transcript, &mut self.entries, entry);
+                let number = self.alpha.pulse_number();
+                write_pulse(self.transcript, &mut self.entries, number);
                 Ok(true)
             }
             Err(_) => unreachable!(),
@@ -107,14 +104,13 @@ impl<J: Wiring, P: NodeProgram> Node<J, P> {
         let Some(wire) = self.alpha.front(port) else {
             return Ok(false);
         };
-        let neighbour = self.neighbour(port);
         keep_room(self.transcript, &mut self.entries)?;
         match links.put(rt, &mut self.puts[port as usize], wire) {
             Err(_) => Ok(false),
             Ok(()) => {
                 self.alpha.put_done(port);
-                let entry = Entry::Put(neighbour, wire);
-                write_down(self.transcript, &mut self.entries, entry);
+                let neighbour = &self.takes[port as usize];
+                write_put(self.transcript, &mut self.entries, neighbour, wire);
                 Ok(true)
             }
         }
@@ -154,8 +150,8 @@ impl<J: Wiring, P: NodeProgram> Node<J, P> {
         Ok(put)
     }
 
-    /// One turn: takes by each port, then one pulse if the node can make it, then puts by each port. Returns whether
-    /// the node did anything, but false if it set a wire aside.
+    /// One turn: takes by each port at which a wire is expected (`AlphaNode::expects`), then one pulse if the node can
+    /// make it, then puts by each port. Returns whether the node did anything, but false if it set a wire aside.
     ///
     /// # Errors
     ///

@@ -2,6 +2,8 @@
 
 ghost use Rattle.std.specs.Prelude.{◌≡◌, ◌<◌, ◌++◌, ◌∷◌, [], IsTrue, IfErr, OnOk, if◌then◌else◌};
 
+use alpha_core::Wire;
+use ends::{WiredTake, Wiring};
 use entries::{Entries, Entry};
 use interference::Memory;
 
@@ -17,13 +19,45 @@ pub(crate) fn keep_room<T>(transcript: bool, entries: &mut Entries<T>) -> Result
     Ok(())
 }
 
-// Writes an entry down, if entries are written down at all.
-pub(crate) fn write_down<T: Copy>(transcript: bool, entries: &mut Entries<T>, entry: Entry<T>)
+// Writes a pulse down, if entries are written down at all.
+pub(crate) fn write_pulse<T: Copy>(transcript: bool, entries: &mut Entries<T>, pulse: u32)
     requires room { IsTrue transcript → 0 < entries.old.room }
     ensures entries { entries.new.items ≡
-        (if transcript then entries.old.items ++ entry ∷ [] else entries.old.items) }
+        (if transcript then entries.old.items ++ Entry.Pulse pulse ∷ [] else entries.old.items) }
 {
     if transcript {
-        entries.push_reserved(entry);
+        entries.push_reserved(Entry::Pulse(pulse));
+    }
+}
+
+// Writes a put down, if entries are written down at all; the end that takes from the neighbour names it.
+pub(crate) fn write_put<J: Wiring, T: Copy>(
+    transcript: bool,
+    entries: &mut Entries<T>,
+    neighbour: &WiredTake<J, T>,
+    wire: Wire<T>,
+)
+    requires room { IsTrue transcript → 0 < entries.old.room }
+    ensures entries { entries.new.items ≡
+        (if transcript then entries.old.items ++ Entry.Put neighbour.now.vertex wire ∷ [] else entries.old.items) }
+{
+    if transcript {
+        entries.push_reserved(Entry::Put(neighbour.vertex, wire));
+    }
+}
+
+// Writes a take down, if entries are written down at all; the end that took names the neighbour.
+pub(crate) fn write_take<J: Wiring, T: Copy>(
+    transcript: bool,
+    entries: &mut Entries<T>,
+    neighbour: &WiredTake<J, T>,
+    wire: Wire<T>,
+)
+    requires room { IsTrue transcript → 0 < entries.old.room }
+    ensures entries { entries.new.items ≡
+        (if transcript then entries.old.items ++ Entry.Take neighbour.now.vertex wire ∷ [] else entries.old.items) }
+{
+    if transcript {
+        entries.push_reserved(Entry::Take(neighbour.vertex, wire));
     }
 }

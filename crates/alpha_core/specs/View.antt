@@ -98,6 +98,10 @@ abbrev pub all_closed : {M : Type 0} → List (Port M) → Bool
 all_closed [] = true
 all_closed (port ∷ ports) = port.closed && all_closed ports
 
+-- a wire that the node needs for its next pulse, or to finish, can still come by the port
+abbrev pub expects : {M : Type 0} → Port M → Bool
+expects port = not port.closed && (not port.safe || port.waits)
+
 -- every out-list has at most this many wires
 abbrev pub all_out_within : {M : Type 0} → ℕ → List (Port M) → Bool
 all_out_within most [] = true

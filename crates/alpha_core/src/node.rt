@@ -5,7 +5,7 @@ ghost use Rattle.interference.specs.Net.{IsVertex};
 ghost use Rattle.node_api.specs.Program.{last_pulse_on};
 ghost use Rattle.alpha_core.specs.Alpha.{PulseRefused, pulse, put_done};
 ghost use Rattle.alpha_core.specs.Program.{start_node};
-ghost use Rattle.alpha_core.specs.View.{can_pulse, can_take, is_drained, is_halted, port_at};
+ghost use Rattle.alpha_core.specs.View.{can_pulse, can_take, expects, is_drained, is_halted, port_at};
 
 use crate::ports::{Ports, handle};
 use crate::refused::AlphaRefused;
@@ -132,6 +132,14 @@ impl<P: NodeProgram> AlphaNode<P> {
         ensures can { result ≡ can_pulse self.now.last self.now.node.view }
     {
         !self.halted() && self.said && self.ports.all_safe() && self.can_take()
+    }
+
+    /// Whether a wire that the node needs for its next pulse, or to finish, can still come by a port.
+    pub fn expects(&self, port: u32) -> bool
+        requires port { port < length self.now.node.view.ports }
+        ensures expects { result ≡ expects (port_at self.now.node.view port) }
+    {
+        self.ports.expects(port)
     }
 
     /// The program.

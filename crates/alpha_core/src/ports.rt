@@ -6,8 +6,8 @@ ghost use Rattle.node_api.specs.Boxes.{nothing};
 ghost use Rattle.node_api.specs.Program.{Matches};
 ghost use Rattle.alpha_core.specs.Alpha.{emit, turns};
 ghost use Rattle.alpha_core.specs.Table.{situation};
-ghost use Rattle.alpha_core.specs.View.{all_closed, all_out_within, all_safe, inbox_in, is_paid, new_port, none_waits};
-ghost use Rattle.alpha_core.specs.View.{port_in, safes_here, set_at};
+ghost use Rattle.alpha_core.specs.View.{all_closed, all_out_within, all_safe, expects, inbox_in, is_paid, new_port};
+ghost use Rattle.alpha_core.specs.View.{none_waits, port_in, safes_here, set_at};
 
 use crate::flags::{bit, no_flags};
 use crate::moving::move_payloads;
@@ -155,6 +155,22 @@ impl<T: Copy> Ports<T> {
         ensures closed { result ≡ (port_in self.now port).closed }
     {
         self.closed[port as usize]
+    }
+
+    /// Whether a wire that the node needs for its next pulse, or to finish, can still come by a port.
+    pub(crate) fn expects(&self, port: u32) -> bool
+        requires port { port < length self.now }
+        ensures expects { result ≡ expects (port_in self.now port) }
+    {
+        !self.is_closed(port) && (!self.is_safe(port) || self.waits(port))
+    }
+
+    // Whether the safe of this pulse was taken.
+    fn is_safe(&self, port: u32) -> bool
+        requires port { port < length self.now }
+        ensures safe { result ≡ (port_in self.now port).safe }
+    {
+        self.safe[port as usize]
     }
 
     // Whether the payload of the pulse whose safe comes next was taken.

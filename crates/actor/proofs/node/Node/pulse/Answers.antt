@@ -1,5 +1,5 @@
 use Rattle.std.proofs.Common.{sym, ◌∙◌}
-use Rattle.actor.proofs.Writes.{wrote_nothing, wrote_pulsed}
+use Rattle.actor.proofs.Writes.{wrote_pulsed}
 use Rattle.actor.proofs.Steps.{pulsed, never_refused}
 use Rattle.actor.proofs.node.Node.pulse.Goals as goal
 
@@ -9,22 +9,6 @@ unreachable-requires g c =
     let why = c.in-Err.ensures.pulse in
     let can = sym c.can_pulse.ensures.can ∙ c.if-not-can_pulse.false in
     never_refused g.P.NodeProgram.program g.J.Wiring.net g.P.NodeProgram.laws old.network _ _ _ _ _ why.0 old.last old.is_vertex can why.2 old.keeps
-
-pub invariant_of-self : goal.invariant_of-self
-invariant_of-self g c =
-    let old = c.args.self.now in
-    record {
-      network = old.network;
-      is_vertex = old.is_vertex;
-      recorded = old.recorded;
-      ports = old.ports;
-      outs = old.outs;
-      ins = old.ins;
-      last = old.last;
-      keeps = old.keeps;
-      set_aside = old.set_aside;
-      writes = wrote_nothing _ _ c.keep_room.ensures.same old.writes;
-    }
 
 pub invariant_of-self-in-Ok : goal.invariant_of-self-in-Ok
 invariant_of-self-in-Ok g c =
@@ -44,5 +28,5 @@ invariant_of-self-in-Ok g c =
       keeps = pulsed program net laws old.network _ _ _ _ _ _ old.last old.is_vertex can c.in-Ok.ensures.pulse old.keeps;
       set_aside = λ a e. absurd (let none = sym c.requires.going ∙ e in cc);
       writes = wrote_pulsed program net _ _ _ _ _ _ _ _ _ _ _ old.last can c.in-Ok.ensures.pulse
-          c.pulse_number.ensures.pulse c.keep_room.ensures.same c.write_down.ensures.entries old.writes;
+          c.pulse_number-number.ensures.pulse c.keep_room.ensures.same c.write_pulse.ensures.entries old.writes;
     }

@@ -1,11 +1,10 @@
-use Rattle.std.proofs.Common.{[], ◌∷◌, ◌++◌, ◌<◌, length, sym, ◌∙◌, subst, arith}
-use Rattle.interference.specs.Net.{degree_of}
+use Rattle.std.proofs.Common.{ℕ, [], ◌∷◌, ◌++◌, ◌<◌, length, sym, ap, ◌∙◌, subst, arith}
 use Rattle.link_queue.specs.Ends.{put_list, taken_list}
 use Rattle.actor.proofs.Lists.{same_all, get_map, as_long, at_place}
 use Rattle.actor.proofs.Kept.{may_put, legal_by_name}
 use Rattle.actor.proofs.Steps.{put_none, put_one}
-use Rattle.actor.proofs.Writes.{wrote_nothing, wrote_none_put, wrote_one_put}
-use Rattle.interference.specs.Net.{neighbour_of}
+use Rattle.actor.proofs.Writes.{wrote_none_put, wrote_one_put}
+use Rattle.interference.specs.Net.{degree_of, neighbour_of, back_port_of}
 use Rattle.alpha_core.specs.Program.{IsLegal}
 use Rattle.actor.proofs.node.Node.put_one.Goals as goal
 
@@ -15,6 +14,15 @@ index_mut-requires g c =
     let v = c.args.self.now.vertex in
     let count = as_long (λ e. (e.vertex, e.port)) (λ i. (v, i)) c.args.self.now.puts.items (degree_of g.J.Wiring.net v) c.args.self.now.outs in
     omega (arith, count, c.requires.port, c.args.self.now.ports, c.args.self.now.puts.ok.0)
+
+-- and one by which the neighbour's wires come
+pub index-neighbour-requires : goal.index-neighbour-requires
+index-neighbour-requires g c =
+    let v = c.args.self.now.vertex in
+    let net = g.J.Wiring.net in
+    let count = as_long (λ e. (e.vertex, e.port)) (λ i. (neighbour_of net v i, back_port_of net v i)) c.args.self.now.takes.items (degree_of net v)
+    c.args.self.now.ins in
+    omega (arith, count, c.requires.port, c.args.self.now.ports, c.args.self.now.takes.ok.0)
 
 pub put-requires-clause-legal : goal.put-requires-clause-legal
 put-requires-clause-legal g c κs within =
@@ -31,22 +39,6 @@ put-requires-clause-legal g c κs within =
     let here = get_map (λ e. put_list e.end) old.puts.items c.args.port _ [] inside is in
     legal_by_name program net v c.args.port _ _ _ _ c.index_mut.result.now.place.named place
     (subst (λ l. IsLegal program net v (neighbour_of net v c.args.port) (l ++ (c.in-Some.wire ∷ []))) (sym here) legal)
-
-pub invariant_of-self : goal.invariant_of-self
-invariant_of-self g c =
-    let old = c.args.self.now in
-    record {
-      network = old.network;
-      is_vertex = old.is_vertex;
-      recorded = old.recorded;
-      ports = old.ports;
-      outs = old.outs;
-      ins = old.ins;
-      last = old.last;
-      keeps = old.keeps;
-      set_aside = old.set_aside;
-      writes = wrote_nothing _ _ c.keep_room.ensures.same old.writes;
-    }
 
 pub invariant_of-self-in-Err : goal.invariant_of-self-in-Err
 invariant_of-self-in-Err g c =
@@ -78,6 +70,8 @@ invariant_of-self-in-Ok g c =
     let outs = same_all (λ e. (e.vertex, e.port)) _ _ _ _ is (λ i. (at.place.0 i, at.place.1 i)) in
     let count = as_long (λ e. (e.vertex, e.port)) (λ i. (v, i)) old.puts.items (degree_of net v) old.outs in
     let lt : c.args.port < degree_of net v = omega (arith, c.requires.port, old.ports) in
+    let from = at_place (λ e. (e.vertex, e.port)) (λ i. (neighbour_of net v i, back_port_of net v i)) old.takes.items (degree_of net v) c.args.port _
+    old.ins lt c.index-neighbour.ensures in
     record {
       network = old.network;
       is_vertex = old.is_vertex;
@@ -91,5 +85,5 @@ invariant_of-self-in-Ok g c =
       set_aside = λ a e. absurd (let none = sym c.requires.going ∙ e in cc);
       writes = wrote_one_put g.P.NodeProgram.program net (λ e. put_list e.end) (λ e. taken_list e.end) _ _ old.network old.is_vertex _ _ _ _ _ _ _ _ _ _ _ _ _
           count lt is at.put (sym c.in-Some.ensures.oldest) c.put_done.ensures.view c.put_done.ensures.state c.keep_room.ensures.same
-          c.neighbour-neighbour.ensures.neighbour c.write_down.ensures.entries old.writes;
+          (ap (λ (p : ℕ × ℕ). p.0) from) c.write_put.ensures.entries old.writes;
     }

@@ -1,43 +1,27 @@
-use Rattle.std.proofs.Common.{◌<◌, length, refl, sym, ap, ◌∙◌, arith}
+use Rattle.std.proofs.Common.{ℕ, ◌<◌, length, refl, sym, ap, ◌∙◌, arith}
 use Rattle.interference.specs.Net.{degree_of}
 use Rattle.actor.specs.declared.aside.Aside.{Aside}
 use Rattle.link_queue.specs.Ends.{put_list, taken_list}
 use Rattle.actor.proofs.Lists.{same_all, as_long, at_place}
 use Rattle.actor.proofs.Kept.{legal_of_name}
-use Rattle.actor.proofs.Writes.{wrote_nothing, wrote_none_taken, wrote_taken, wrote_refused}
+use Rattle.actor.proofs.Writes.{wrote_none_taken, wrote_taken, wrote_refused}
 use Rattle.actor.proofs.Steps.{took_none, took_one, took_refused, refused_is}
 use Rattle.interference.specs.Net.{neighbour_of, back_port_of}
 use Rattle.actor.proofs.node.Node.take_one.Goals as goal
 
 -- there is an end for each port
-pub index_mut-requires : goal.index_mut-requires
-index_mut-requires g c =
+pub index_mut-end-requires : goal.index_mut-end-requires
+index_mut-end-requires g c =
     let v = c.args.self.now.vertex in
     let count = as_long (λ e. (e.vertex, e.port)) (λ i. (neighbour_of g.J.Wiring.net v i, back_port_of g.J.Wiring.net v i)) c.args.self.now.takes.items
     (degree_of g.J.Wiring.net v) c.args.self.now.ins in
     omega (arith, count, c.requires.port, c.args.self.now.ports, c.args.self.now.takes.ok.0)
 
-pub invariant_of-self : goal.invariant_of-self
-invariant_of-self g c =
-    let old = c.args.self.now in
-    record {
-      network = old.network;
-      is_vertex = old.is_vertex;
-      recorded = old.recorded;
-      ports = old.ports;
-      outs = old.outs;
-      ins = old.ins;
-      last = old.last;
-      keeps = old.keeps;
-      set_aside = old.set_aside;
-      writes = wrote_nothing _ _ c.keep_room.ensures.same old.writes;
-    }
-
 pub invariant_of-self-in-None : goal.invariant_of-self-in-None
 invariant_of-self-in-None g c =
     let old = c.args.self.now in
     let at = c.in-None.ensures in
-    let is = c.index_mut.ensures.value in
+    let is = c.index_mut-end.ensures.value in
     let ins = same_all (λ e. (e.vertex, e.port)) _ _ _ _ is (λ i. (at.place.0 i, at.place.1 i)) in
     record {
       network = old.network;
@@ -59,13 +43,13 @@ invariant_of-self-in-Ok g c =
     let net = g.J.Wiring.net in
     let v = c.args.self.now.vertex in
     let at = c.in-Some.ensures in
-    let is = c.index_mut.ensures.value in
+    let is = c.index_mut-end.ensures.value in
     let ins = same_all (λ e. (e.vertex, e.port)) _ _ _ _ is (λ i. (at.place.0 i, at.place.1 i)) in
     let count = as_long (λ e. (e.vertex, e.port)) (λ i. (neighbour_of net v i, back_port_of net v i)) old.takes.items (degree_of net v) old.ins in
     let lt : c.args.port < degree_of net v = omega (arith, c.requires.port, old.ports) in
     let place = at_place (λ e. (e.vertex, e.port)) (λ i. (neighbour_of net v i, back_port_of net v i)) old.takes.items (degree_of net v) c.args.port _
     old.ins lt is in
-    let legal = legal_of_name g.P.NodeProgram.program net old.network v c.args.port _ _ _ _ old.is_vertex lt c.index_mut.result.now.place.named place
+    let legal = legal_of_name g.P.NodeProgram.program net old.network v c.args.port _ _ _ _ old.is_vertex lt c.index_mut-end.result.now.place.named place
     at.legal in
     record {
       network = old.network;
@@ -80,7 +64,7 @@ invariant_of-self-in-Ok g c =
       set_aside = λ a e. absurd (let none = sym c.requires.going ∙ e in cc);
       writes = wrote_taken g.P.NodeProgram.program net (λ e. put_list e.end) (λ e. taken_list e.end) _ _ old.network old.is_vertex _ _ _ _ _ _ _ _ _ _ _ _ _ _
           old.last count lt c.requires.going is at.taken c.in-Ok.ensures.reaction c.in-Ok.ensures.state c.keep_room.ensures.same
-          c.neighbour-neighbour.ensures.neighbour c.write_down.ensures.entries old.writes;
+          (at.place.0 ∙ ap (λ (p : ℕ × ℕ). p.0) place) c.write_take.ensures.entries old.writes;
     }
 
 pub invariant_of-self-in-Err : goal.invariant_of-self-in-Err
@@ -89,7 +73,7 @@ invariant_of-self-in-Err g c =
     let net = g.J.Wiring.net in
     let v = c.args.self.now.vertex in
     let at = c.in-Some.ensures in
-    let is = c.index_mut.ensures.value in
+    let is = c.index_mut-end.ensures.value in
     let ins = same_all (λ e. (e.vertex, e.port)) _ _ _ _ is (λ i. (at.place.0 i, at.place.1 i)) in
     let count = as_long (λ e. (e.vertex, e.port)) (λ i. (neighbour_of net v i, back_port_of net v i)) old.takes.items (degree_of net v) old.ins in
     let lt : c.args.port < degree_of net v = omega (arith, c.requires.port, old.ports) in
@@ -106,7 +90,7 @@ invariant_of-self-in-Err g c =
       last = c.in-Err.ensures.last ∙ old.last;
       keeps = took_refused g.P.NodeProgram.program net (λ e. put_list e.end) (λ e. taken_list e.end) _ _ _ _ _ _ _ _ _ _ aside refl count lt
           c.requires.going is at.taken same old.keeps;
-      set_aside = refused_is g.P.NodeProgram.program net (λ e. taken_list e.end) _ _ old.takes.items c.args.port c.index_mut.result.now c.take.new.end
+      set_aside = refused_is g.P.NodeProgram.program net (λ e. taken_list e.end) _ _ old.takes.items c.args.port c.index_mut-end.result.now c.take.new.end
           c.in-Some.wire aside _ _ old.last refl refl within is at.taken same c.in-Err.ensures.reaction;
       writes = wrote_refused g.P.NodeProgram.program net (λ e. put_list e.end) (λ e. taken_list e.end) _ _ _ _ _ _ _ _ _ _ _ aside _ _ refl count lt
           c.requires.going is at.taken same c.keep_room.ensures.same old.writes;
