@@ -124,8 +124,8 @@ impl<T: Copy> Ports<T> {
         self.outs.front(port)
     }
 
-    // The flags of a port.
-    fn marks(&self, port: u32) -> Marks
+    /// The flags of a port.
+    pub(crate) fn marks(&self, port: u32) -> Marks
         requires port { port < length self.now }
         ensures marks { result ≡ marks_of (port_in self.now port) }
     {
