@@ -3,6 +3,7 @@ pub mod Due
 pub mod Cells
 pub mod PortLists
 mod Changed
+mod Counts
 mod PortRows
 mod OutLists
 mod Moved

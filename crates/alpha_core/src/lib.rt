@@ -29,8 +29,8 @@
 #![tactic(auto)]
 
 mod emitting;
-mod flags;
 pub mod laws;
+mod marks;
 mod moving;
 mod node;
 mod out_lists;

@@ -5,11 +5,12 @@ ghost use Rattle.interference.specs.declared.limits.TheConstants.{MAX_DEGREE};
 ghost use Rattle.node_api.specs.Boxes.{nothing};
 ghost use Rattle.node_api.specs.Program.{Matches};
 ghost use Rattle.alpha_core.specs.Alpha.{emit, turns};
+ghost use Rattle.alpha_core.specs.Rows.{marks_of, with_marks};
 ghost use Rattle.alpha_core.specs.Table.{situation};
 ghost use Rattle.alpha_core.specs.View.{all_closed, all_out_within, all_safe, expects, inbox_in, is_paid, new_port};
 ghost use Rattle.alpha_core.specs.View.{none_waits, port_in, safes_here, set_at};
 
-use crate::flags::{bit, no_flags};
+use crate::marks::{MarkList, Marks};
 use crate::moving::move_payloads;
 use crate::out_lists::OutLists;
 use crate::table::Situation;
@@ -18,16 +19,11 @@ use interference::Memory;
 use node_api::{Inbox, NodeProgram, Outbox, Refused};
 use std::alloc::Global;
 use std::marker::Model;
-use std::mem;
 
 /// The ports of a node. Contracts see a list of ports, and nothing of the rows.
 #[derive(Drop)]
 pub(crate) struct Ports<T> {
-    // A flag for each port.
-    waits: Vec<bool>,
-    safe: Vec<bool>,
-    early_safe: Vec<bool>,
-    closed: Vec<bool>,
+    marks: MarkList,
     // The payloads of this pulse, and those of the next.
     present: Inbox<T>,
     early: Inbox<T>,
@@ -41,11 +37,9 @@ impl<T> Model for Ports<T> {
 
     ghost Value = { List (Port T) };
 
-    ghost view = { λ a. ports_of
-        (rows_of a.waits.items a.safe.items a.early_safe.items a.closed.items a.present.slots a.early.slots a.outs) };
+    ghost view = { λ a. ports_of (rows_of a.marks a.present.slots a.early.slots a.outs) };
 
-    ghost invariant = { λ a. AreRows
-        (rows_of a.waits.items a.safe.items a.early_safe.items a.closed.items a.present.slots a.early.slots a.outs) };
+    ghost invariant = { λ a. AreRows (rows_of a.marks a.present.slots a.early.slots a.outs) };
 }
 
 /// Hands the payloads of this pulse to a program as its inbox of the next. Nothing but the program and
@@ -73,10 +67,7 @@ impl<T: Copy> Ports<T> {
         ensures new { IfOk result (λ ports. ports ≡ replicate degree new_port) }
     {
         Ok(Ports {
-            waits: no_flags(alloc, degree)?,
-            safe: no_flags(alloc, degree)?,
-            early_safe: no_flags(alloc, degree)?,
-            closed: no_flags(alloc, degree)?,
+            marks: MarkList::new(alloc, degree)?,
             present: Inbox::new(alloc, degree)?,
             early: Inbox::new(alloc, degree)?,
             outs: OutLists::new(alloc, degree)?,
@@ -87,7 +78,7 @@ impl<T: Copy> Ports<T> {
     pub(crate) fn degree(&self) -> u32
         ensures count { result ≡ length self.now }
     {
-        self.waits.len() as u32
+        self.marks.len() as u32
     }
 
     /// Whether every out-list has at most `most` wires.
@@ -108,21 +99,21 @@ impl<T: Copy> Ports<T> {
     pub(crate) fn none_waits(&self) -> bool
         ensures none { result ≡ none_waits self.now }
     {
-        !self.waits.contains(&true)
+        self.marks.none_waits()
     }
 
     /// Whether the safe of this pulse was taken on every port.
     pub(crate) fn all_safe(&self) -> bool
         ensures all { result ≡ all_safe self.now }
     {
-        !self.safe.contains(&false)
+        self.marks.all_safe()
     }
 
     /// Whether every port is closed.
     pub(crate) fn all_closed(&self) -> bool
         ensures all { result ≡ all_closed self.now }
     {
-        !self.closed.contains(&false)
+        self.marks.all_closed()
     }
 
     /// The oldest wire to be put at a port.
@@ -133,12 +124,20 @@ impl<T: Copy> Ports<T> {
         self.outs.front(port)
     }
 
+    /// The flags of a port.
+    pub(crate) fn marks(&self, port: u32) -> Marks
+        requires port { port < length self.now }
+        ensures marks { result ≡ marks_of (port_in self.now port) }
+    {
+        self.marks.get(port)
+    }
+
     /// Whether a port's own payload of this pulse isn't acknowledged.
     pub(crate) fn waits(&self, port: u32) -> bool
         requires port { port < length self.now }
         ensures waits { result ≡ (port_in self.now port).waits }
     {
-        self.waits[port as usize]
+        self.marks(port).waits
     }
 
     /// How many safes of this pulse and of the next were taken.
@@ -146,7 +145,7 @@ impl<T: Copy> Ports<T> {
         requires port { port < length self.now }
         ensures safes { result ≡ safes_here (port_in self.now port) }
     {
-        bit(self.safe[port as usize]) + bit(self.early_safe[port as usize])
+        self.marks(port).safes()
     }
 
     /// Whether close has come at a port.
@@ -154,7 +153,7 @@ impl<T: Copy> Ports<T> {
         requires port { port < length self.now }
         ensures closed { result ≡ (port_in self.now port).closed }
     {
-        self.closed[port as usize]
+        self.marks(port).closed
     }
 
     /// Whether a wire that the node needs for its next pulse, or to finish, can still come by a port.
@@ -162,15 +161,8 @@ impl<T: Copy> Ports<T> {
         requires port { port < length self.now }
         ensures expects { result ≡ expects (port_in self.now port) }
     {
-        !self.is_closed(port) && (!self.is_safe(port) || self.waits(port))
-    }
-
-    // Whether the safe of this pulse was taken.
-    fn is_safe(&self, port: u32) -> bool
-        requires port { port < length self.now }
-        ensures safe { result ≡ (port_in self.now port).safe }
-    {
-        self.safe[port as usize]
+        let marks = self.marks(port);
+        !marks.closed && (!marks.safe || marks.waits)
     }
 
     // Whether the payload of the pulse whose safe comes next was taken.
@@ -190,7 +182,7 @@ impl<T: Copy> Ports<T> {
         requires port { port < length self.now }
         ensures situation { result ≡ situation (port_in self.now port) }
     {
-        if self.closed[port as usize] {
+        if self.is_closed(port) {
             Situation::Closed
         } else if self.is_paid(port) {
             Situation::Paid
@@ -199,12 +191,21 @@ impl<T: Copy> Ports<T> {
         }
     }
 
+    // Sets the flags of a port.
+    fn put_marks(&mut self, port: u32, marks: Marks)
+        requires port { port < length self.old }
+        ensures set { self.new ≡ set_at self.old port (with_marks marks (port_in self.old port)) }
+    {
+        self.marks.put(port, marks);
+    }
+
     /// Sets whether the own payload of this pulse isn't acknowledged.
     pub(crate) fn set_waits(&mut self, port: u32, waits: bool)
         requires port { port < length self.old }
         ensures set { self.new ≡ set_at self.old port record (port_in self.old port) { waits = waits } }
     {
-        self.waits[port as usize] = waits;
+        let marks = self.marks(port);
+        self.put_marks(port, Marks { waits, ..marks });
     }
 
     /// Marks a port as closed.
@@ -212,7 +213,14 @@ impl<T: Copy> Ports<T> {
         requires port { port < length self.old }
         ensures set { self.new ≡ set_at self.old port record (port_in self.old port) { closed = true } }
     {
-        self.closed[port as usize] = true;
+        let marks = self.marks(port);
+        self.put_marks(
+            port,
+            Marks {
+                closed: true,
+                ..marks
+            },
+        );
     }
 
     /// Marks the safe of this pulse as taken.
@@ -220,7 +228,14 @@ impl<T: Copy> Ports<T> {
         requires port { port < length self.old }
         ensures set { self.new ≡ set_at self.old port record (port_in self.old port) { safe = true } }
     {
-        self.safe[port as usize] = true;
+        let marks = self.marks(port);
+        self.put_marks(
+            port,
+            Marks {
+                safe: true,
+                ..marks
+            },
+        );
     }
 
     /// Marks the safe of the next pulse as taken.
@@ -228,7 +243,14 @@ impl<T: Copy> Ports<T> {
         requires port { port < length self.old }
         ensures set { self.new ≡ set_at self.old port record (port_in self.old port) { early_safe = true } }
     {
-        self.early_safe[port as usize] = true;
+        let marks = self.marks(port);
+        self.put_marks(
+            port,
+            Marks {
+                early_safe: true,
+                ..marks
+            },
+        );
     }
 
     /// Keeps a payload of this pulse; there is none yet.
@@ -272,8 +294,7 @@ impl<T: Copy> Ports<T> {
     pub(crate) fn turn(&mut self)
         ensures turned { self.new ≡ map (λ port. turns port) self.old }
     {
-        mem::swap(&mut self.safe, &mut self.early_safe);
-        self.early_safe.fill(false);
+        self.marks.turn();
         move_payloads(&mut self.early, &mut self.present);
     }
 }

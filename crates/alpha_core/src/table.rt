@@ -85,15 +85,12 @@ impl<P: NodeProgram> AlphaNode<P> {
         }
     }
 
-    // Why a wire is refused, if it is. Nearly every wire is a safe that is due, which needs no look at the table.
+    // Why a wire is refused, if it is.
     fn refusal(&self, port: u32, wire: Wire<P::Payload>) -> Option<AlphaRefused>
         requires port { port < length self.now.node.view.ports }
         ensures refusal { result ≡ refusal_of self.now.last self.now.node.view.pulse self.now.node.view.said
             (port_at self.now.node.view port) wire }
     {
-        if self.is_safe_due(port, wire) {
-            return None;
-        }
         // Each row: at a port that is fresh, paid, closed.
         let verdict = table! { (wire, self.relation(port, wire), self.ports.situation(port)) {
             Wire::Payload(_, _), Less: WrongPulse WrongPulse AfterClose;
@@ -127,6 +124,13 @@ impl<P: NodeProgram> AlphaNode<P> {
         ensures last { self.new.last ≡ self.old.last }
         ensures refused { OnErr result (self.new ≡ self.old) }
     {
+        // Nearly every wire is a safe that is due, which needs no look at the table.
+        if let Wire::Safe(q) = wire
+            && self.is_safe_due(port, q)
+        {
+            self.take_safe(port, q);
+            return Ok(());
+        }
         if let Some(refused) = self.refusal(port, wire) {
             return Err(refused);
         }

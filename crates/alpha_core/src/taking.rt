@@ -57,20 +57,16 @@ impl<P: NodeProgram> AlphaNode<P> {
         }
     }
 
-    /// Whether a wire is a safe that is due.
-    pub(crate) fn is_safe_due(&self, port: u32, wire: Wire<P::Payload>) -> bool
+    /// Whether a safe is due.
+    pub(crate) fn is_safe_due(&self, port: u32, q: u32) -> bool
         requires port { port < length self.now.node.view.ports }
         ensures due { IsTrue result → IsTrue (is_due self.now.last self.now.node.view.pulse
-            self.now.node.view.said (port_at self.now.node.view port) wire) }
+            self.now.node.view.said (port_at self.now.node.view port) (Wire.Safe q)) }
     {
-        match wire {
-            Wire::Safe(q) => {
-                !self.ports.is_closed(port)
-                    && u64::from(q) == u64::from(self.pulse) + u64::from(self.ports.safes(port))
-                    && !self.is_beyond(q)
-            }
-            _ => false,
-        }
+        let marks = self.ports.marks(port);
+        !marks.closed
+            && u64::from(q) == u64::from(self.pulse) + u64::from(marks.safes())
+            && !self.is_beyond(q)
     }
 
     /// Takes a payload that is due, and acknowledges it.
