@@ -12,7 +12,7 @@ use std::mem::replace;
 const FIRST_BLOCK: usize = 16;
 
 // Until a list has so many items, each further block has as many as the list, so at most half of its places are unused.
-const DOUBLED_ITEMS: usize = 4_096;
+const DOUBLED_ITEMS: usize = 1_024;
 
 // How many items each block after these has. At 12 bytes an item it is larger than 128 KiB, so the C library maps it by
 // itself: places that were never written take no memory, and the block goes back to the system when it is dropped.
