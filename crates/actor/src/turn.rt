@@ -41,7 +41,7 @@ impl<J: Wiring, P: NodeProgram> Node<J, P> {
         }
     }
 
-    // Takes by a port as long as it expects a wire there, at most `TAKES`. Returns whether it took one.
+    // Takes a wire by a port, and further ones while it expects them, at most `TAKES`. Returns whether it took one.
     fn take_some<R: Wait>(&mut self, rt: &R, links: &Links<J, P>, port: u32) -> Result<bool, Memory>
         requires port { port < self.old.degree }
         ensures same { (self.new.vertex ≡ self.old.vertex) × (self.new.degree ≡ self.old.degree) }
@@ -49,16 +49,18 @@ impl<J: Wiring, P: NodeProgram> Node<J, P> {
     {
         let mut took = false;
         for _ in 0..TAKES {
-            let ready = self.alpha.expects(port) && self.aside.is_none() && self.alpha.can_take();
-            if !ready || !self.take_one(rt, links, port)? {
+            if self.aside.is_some() || !self.alpha.can_take() || !self.take_one(rt, links, port)? {
                 break;
             }
             took = true;
+            if !self.alpha.expects(port) {
+                break;
+            }
         }
         Ok(took)
     }
 
-    // Takes by each port at which it expects a wire, ascending. Returns whether it took one.
+    // Takes by each port, ascending. Returns whether it took a wire.
     fn take_all<R: Wait>(&mut self, rt: &R, links: &Links<J, P>) -> Result<bool, Memory>
         ensures same { (self.new.vertex ≡ self.old.vertex) × (self.new.degree ≡ self.old.degree) }
         ensures refused { IfErr result (λ _. IsTrue J.transcript) }
@@ -150,8 +152,8 @@ impl<J: Wiring, P: NodeProgram> Node<J, P> {
         Ok(put)
     }
 
-    /// One turn: takes by each port at which a wire is expected (`AlphaNode::expects`), then one pulse if the node can
-    /// make it, then puts by each port. Returns whether the node did anything, but false if it set a wire aside.
+    /// One turn: takes by each port, then one pulse if the node can make it, then puts by each port. Returns whether
+    /// the node did anything, but false if it set a wire aside.
     ///
     /// # Errors
     ///
