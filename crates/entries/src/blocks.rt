@@ -8,14 +8,17 @@ use std::alloc::{AllocError, Global};
 use std::marker::Model;
 use std::mem::replace;
 
-// How many items the first block has.
+// How many items the first block has. A further one has as many as all before it, up to SMALL_BLOCK: so a list of few
+// items has few places, and in a longer one few of all places are unused.
 const FIRST_BLOCK: usize = 16;
 
-// Until a list has so many items, each further block has as many as the list, so at most half of its places are unused.
-const DOUBLED_ITEMS: usize = 1_024;
+const SMALL_BLOCK: usize = 128;
 
-// How many items each block after these has. At 12 bytes an item it is larger than 128 KiB, so the C library maps it by
-// itself: places that were never written take no memory, and the block goes back to the system when it is dropped.
+// Above how many items blocks are large.
+const MANY_ITEMS: usize = 1_024;
+
+// How many items a large block has. At 12 bytes an item it has more than 128 KiB, so the C library maps it by itself:
+// places that were never written take no memory, and the block goes back to the system when it is dropped.
 const LARGE_BLOCK: usize = 16_384;
 
 /// A list that grows by whole blocks. Contracts see the list (`items`), and for how many more there is room (`room`).
@@ -51,10 +54,8 @@ impl<X> Model for Blocks<X> {
 fn block_size(len: usize) -> usize
     ensures some { 0 < result }
 {
-    if len < FIRST_BLOCK {
-        FIRST_BLOCK
-    } else if len < DOUBLED_ITEMS {
-        len
+    if len < MANY_ITEMS {
+        len.clamp(FIRST_BLOCK, SMALL_BLOCK)
     } else {
         LARGE_BLOCK
     }

@@ -3,6 +3,8 @@
 #![tactic(auto)]
 
 #[cfg(test)]
+mod entries_checks;
+#[cfg(test)]
 mod meeting;
 #[cfg(test)]
 mod node_pool_checks;

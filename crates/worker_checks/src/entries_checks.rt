@@ -1,0 +1,32 @@
+//! A long list of entries, through all sizes of the blocks in which they lie.
+
+use alpha_core::Wire;
+use entries::{Entries, Entry};
+use std::test::Fail;
+
+// More than fit into the blocks that double and the first large one.
+const MANY: u32 = 21_000;
+
+// The entry at an index: one of a hundred has a payload.
+fn entry_at(index: u32) -> Entry<u64> {
+    match index % 100 {
+        0 => Entry::Put(index, Wire::Payload(1, u64::from(index))),
+        1 => Entry::Take(index, Wire::Ack(2)),
+        2 => Entry::Put(index, Wire::Close),
+        _ => Entry::Pulse(index),
+    }
+}
+
+#[test]
+fn entries_are_read_as_they_were_appended(rt: HostRuntime) -> Result<(), Fail> {
+    let mut entries = Entries::new(rt.alloc());
+    for index in 0..MANY {
+        entries.reserve()?;
+        entries.push_reserved(entry_at(index));
+    }
+    assert!(rt; entries.len() == MANY as usize);
+    for (entry, index) in entries.iter().zip(0..MANY) {
+        assert!(rt; entry == entry_at(index));
+    }
+    Ok(())
+}
