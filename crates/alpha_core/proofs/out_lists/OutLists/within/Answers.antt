@@ -1,26 +1,34 @@
-use Rattle.std.proofs.Common.{map, ap, sym, ◌∙◌, arith}
-use Rattle.alpha_core.specs.Rows.{all_within}
-use Rattle.alpha_core.proofs.OutLists.{fit-more, within-all, within-not}
+use Rattle.std.proofs.Common.{◌<◌, ◌≤◌, [], length, ap, sym, ◌∙◌, arith}
+use Rattle.std.specs.Prelude.{vec_capacity}
+use Rattle.alpha_core.specs.Rows.{out_at, all_within}
+use Rattle.std.proofs.lemmas.List.{get_or_default, map-id}
+use Rattle.alpha_core.proofs.OutLists.{fit-more, within-all, within-not, outs-length}
 use Rattle.alpha_core.proofs.out_lists.OutLists.within.Goals as goal
 
-pub loop-list-preserved : goal.loop-list-preserved
-loop-list-preserved g c =
-    fit-more (λ v. v.items) c.args.most c.deref-list-items.result.now c.loop-list.list-index c.list-item.result c.loop-list.invariant c.loop-list-test.true
-    c.list-item.is (omega (arith, c.len.ensures, c.list-item.result.ok.0, c.if-len-most.false))
+pub count-requires : goal.count-requires
+count-requires g c = record { port = omega (arith, c.loop-port-test.true, c.len-port-end.ensures, ap length c.self.view_is, outs-length (λ v. v.items) (λ v. 3 ≤ vec_capacity v) c.self.inside.firsts.items c.self.inside.others.items c.self.invariant.0) }
 
-pub returns-then-len-most : goal.returns-then-len-most
-returns-then-len-most g c =
+pub loop-port-preserved : goal.loop-port-preserved
+loop-port-preserved g c =
+    let outs = c.args.self.now in
+    let below : c.loop-port.port < length outs = omega (arith, c.loop-port-test.true, c.len-port-end.ensures, ap length c.self.view_is, outs-length (λ v. v.items) (λ v. 3 ≤ vec_capacity v) c.self.inside.firsts.items c.self.inside.others.items c.self.invariant.0) in
+    fit-more (λ out. out) c.args.most outs c.loop-port.port (out_at outs c.loop-port.port) c.loop-port.invariant below
+        (get_or_default outs c.loop-port.port [] (out_at outs c.loop-port.port) below) (omega (arith, c.count.ensures.count, c.if-count-most.false))
+
+pub returns-then-count-most : goal.returns-then-count-most
+returns-then-count-most g c =
+    let outs = c.args.self.now in
+    let below : c.loop-port.port < length outs = omega (arith, c.loop-port-test.true, c.len-port-end.ensures, ap length c.self.view_is, outs-length (λ v. v.items) (λ v. 3 ≤ vec_capacity v) c.self.inside.firsts.items c.self.inside.others.items c.self.invariant.0) in
     record {
-      within = sym (ap (λ outs. all_within c.args.most outs) (sym c.self.view_is ∙
-          ap (λ xs. map (λ v. v.items) xs) (sym c.deref-list-items.ensures.value))
-          ∙ within-not (λ v. v.items) c.args.most c.deref-list-items.result.now c.loop-list.list-index c.list-item.result c.loop-list-test.true c.list-item.is
-          (omega (arith, c.len.ensures, c.list-item.result.ok.0, c.if-len-most.true)));
+      within = sym (ap (λ outs. all_within c.args.most outs) (sym (map-id outs)) ∙ within-not (λ out. out) c.args.most outs c.loop-port.port
+          (out_at outs c.loop-port.port) below (get_or_default outs c.loop-port.port [] (out_at outs c.loop-port.port) below)
+          (omega (arith, c.count.ensures.count, c.if-count-most.true)));
     }
 
 pub returns : goal.returns
 returns g c =
-    let lists = c.deref-list-items.result.now in
+    let outs = c.args.self.now in
     record {
-      within = sym (ap (λ outs. all_within c.args.most outs) (sym c.self.view_is ∙ ap (λ xs. map (λ v. v.items) xs) (sym c.deref-list-items.ensures.value))
-          ∙ within-all (λ v. v.items) c.args.most lists (λ k d lt. c.loop-list.invariant k d (omega (arith, c.loop-list-test.false, lt))));
+      within = sym (ap (λ outs. all_within c.args.most outs) (sym (map-id outs)) ∙ within-all (λ out. out) c.args.most outs
+          (λ k d lt. c.loop-port.invariant k d (omega (arith, lt, c.loop-port-test.false, c.len-port-end.ensures, ap length c.self.view_is, outs-length (λ v. v.items) (λ v. 3 ≤ vec_capacity v) c.self.inside.firsts.items c.self.inside.others.items c.self.invariant.0))));
     }
