@@ -8,3 +8,4 @@ mod Playing
 mod Working
 mod Recording
 mod Replays
+mod RefusedLines

@@ -1,5 +1,5 @@
 -- The answer to a network and the transcript behind it.
-use Rattle.std.specs.Prelude.{◌≡◌, ℕ, List, Result, Ok, Err, slice_index_or}
+use Rattle.std.specs.Prelude.{◌≡◌, ℕ, List, Some, Result, Ok, Err, slice_index_or}
 use Rattle.dimacs_col.specs.Lines.{Line, lines_of}
 use Rattle.dimacs_col.specs.Reading.{IsFault}
 use Rattle.interference.specs.Net.{Net, IsNetwork}
@@ -12,8 +12,9 @@ use Rattle.event_texts.specs.StateText.{ColourState, state_text}
 use Rattle.replay.specs.Replays.{IsReplay, Stops}
 use Rattle.replay.specs.declared.refused.ReplayRefused.{ReplayRefused}
 use Rattle.replay.specs.declared.refused.ReplayRefused.TheVariants as replay
-use Rattle.transcripts.specs.Behind.{entry_lines, network_lines, reading_behind}
+use Rattle.transcripts.specs.Behind.{entry_lines, entry_on, network_lines, reading_behind}
 use Rattle.transcripts.specs.Reading.{Transcript}
+use Rattle.transcripts.specs.TranscriptText.{Row}
 use Rattle.transcripts.specs.declared.fault.TextFault.{TextFault}
 use Rattle.transcripts.specs.declared.fault.TextFault.TheVariants as text
 use Rattle.byte_functions.specs.Answers.{LinesReadAs}
@@ -54,10 +55,25 @@ fault_at lines (replay.Run (run.NoSuch k)) = fault.NoSuch (line_at lines k)
 fault_at lines (replay.Run run.Memory) = fault.Memory
 fault_at lines (replay.WrongWire k) = fault.WrongWire (line_at lines k)
 
--- the entries of the transcript in the lines stop, and this is the refusal, with the line of the entry
-abbrev pub IsRefusal : Net → List Line → ReplayFault → Type 0
-IsRefusal net lines told = (read : Transcript Payload) × (refused : ReplayRefused) × (transcript_in lines ≡ Ok read)
-    × Stops colouring net read.1 refused × (told ≡ fault_at (entry_lines lines) refused)
+-- the line whose number a refusal has is this entry; out of memory has no number
+abbrev pub HasLineOf : List Line → Row Payload → ReplayFault → Type 0
+HasLineOf lines row (fault.Syntax n) = ⊥
+HasLineOf lines row (fault.NotReady n) = entry_on payload_from lines n ≡ Some row
+HasLineOf lines row (fault.NothingToPut n) = entry_on payload_from lines n ≡ Some row
+HasLineOf lines row (fault.LinkEmpty n) = entry_on payload_from lines n ≡ Some row
+HasLineOf lines row (fault.NoSuch n) = entry_on payload_from lines n ≡ Some row
+HasLineOf lines row (fault.WrongWire n) = entry_on payload_from lines n ≡ Some row
+HasLineOf lines row fault.Memory = Unit {0}
+
+-- The entries of the transcript in the lines stop, and this is the refusal, with the number of a line in place of the
+-- entry's index: that line is the entry.
+pub record IsRefusal (net : Net) (lines : List Line) (told : ReplayFault) : Type 0 where
+  pub read : Transcript Payload
+  pub refused : ReplayRefused
+  pub is_read : transcript_in lines ≡ Ok read
+  pub stops : Stops colouring net read.1 refused
+  pub is_told : told ≡ fault_at (entry_lines lines) refused
+  pub has_line : HasLineOf lines stops.row told
 
 -- the fault of the transcript in the lines: its first wrong line, or else the refusal of its entries; that memory ran
 -- out says nothing

@@ -11,14 +11,17 @@ use Rattle.entries.specs.declared.entry.Entry.TheVariants as entry
 use Rattle.net_core.specs.declared.event.Event.{Event}
 use Rattle.net_core.specs.declared.event.Event.TheVariants.{Pulse, Put, Take}
 use Rattle.net_core.specs.declared.refused.StepRefused.{StepRefused}
-use Rattle.net_core.specs.declared.refused.StepRefused.TheVariants.{NoSuch}
+use Rattle.net_core.specs.declared.refused.RunRefused.TheVariants as run
+use Rattle.net_core.specs.declared.refused.StepRefused.TheVariants.{LinkEmpty, Memory, NoSuch, NotReady, NothingToPut}
 use Rattle.net_core.specs.State.{State, link_to, node_of, start}
 use Rattle.net_core.specs.Step.{go_on, has_port, run_from, step}
 use Rattle.net_core.proofs.NetKept.{port_from}
 use Rattle.replay.specs.declared.refused.EntryRefused.{EntryRefused}
 use Rattle.replay.specs.declared.refused.EntryRefused.TheVariants.{Step, WrongWire}
+use Rattle.replay.specs.declared.refused.ReplayRefused.{ReplayRefused}
+use Rattle.replay.specs.declared.refused.ReplayRefused.TheVariants as replay
 use Rattle.replay.specs.Laws.{ReplaysAreExact}
-use Rattle.replay.specs.Replays.{WhyNot}
+use Rattle.replay.specs.Replays.{WhyNot, at_entry}
 use Rattle.replay.specs.Rows.{Row, event_of, if_made, row_of, rows_from}
 
 head-is : {A : Type 0} (x y : A) (xs ys : List A) → x ∷ xs ≡ y ∷ ys → x ≡ y
@@ -155,3 +158,14 @@ module _ {S M E : Type 0} (program : Program S M E) (net : Net) (ok : IsNetwork 
         stop.is_replay.is_run stop.is_replay.rows_are in
         refused-not stop.reached next.0 stop.row stop.reason next.1 next.2 stop.why;
   }
+
+-- the refusal of an entry has the entry's index, unless memory ran out
+pub by-index : (P : ReplayRefused → Type 0) (k : ℕ) → P (replay.Run (run.NotReady k)) → P (replay.Run (run.NothingToPut k)) →
+    P (replay.Run (run.LinkEmpty k)) → P (replay.Run (run.NoSuch k)) → P (replay.Run run.Memory) → P (replay.WrongWire k) → (reason : EntryRefused) →
+    P (at_entry k reason)
+by-index P k ready put take such memory wire (Step NotReady) = ready
+by-index P k ready put take such memory wire (Step NothingToPut) = put
+by-index P k ready put take such memory wire (Step LinkEmpty) = take
+by-index P k ready put take such memory wire (Step NoSuch) = such
+by-index P k ready put take such memory wire (Step Memory) = memory
+by-index P k ready put take such memory wire WrongWire = wire

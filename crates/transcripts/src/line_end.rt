@@ -31,7 +31,7 @@ impl Model for LineEnd {
 
 impl LineEnd {
     pub(crate) fn new() -> LineEnd
-        ensures { result ≡ [] }
+        ensures empty { result ≡ [] }
     {
         LineEnd {
             bytes: [0; ROOM],
@@ -41,7 +41,7 @@ impl LineEnd {
 
     #[inline(always)]
     pub(crate) fn clear(&mut self)
-        ensures { self.new ≡ [] }
+        ensures empty { self.new ≡ [] }
     {
         self.start = ROOM;
     }
@@ -60,7 +60,7 @@ impl LineEnd {
     #[inline(always)]
     pub(crate) fn put_bytes(&mut self, bytes: &[u8])
         requires room { length bytes.now + length self.old ≤ ROOM }
-        ensures { self.new ≡ bytes.now ++ self.old }
+        ensures put { self.new ≡ bytes.now ++ self.old }
     {
         let start = self.start - bytes.len();
         self.bytes[start..self.start].copy_from_slice(bytes);
@@ -69,7 +69,7 @@ impl LineEnd {
 
     #[inline(always)]
     pub(crate) fn as_slice(&self) -> &[u8]
-        ensures { result.now ≡ self.now }
+        ensures bytes { result.now ≡ self.now }
     {
         &self.bytes[self.start..]
     }

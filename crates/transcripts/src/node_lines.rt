@@ -90,7 +90,7 @@ pub fn push_entries<T: PayloadText>(
     vertex: u32,
     entries: &Entries<T>,
 ) -> Result<(), AllocError>
-    ensures { IfOk result (λ _. text.new.items ≡ text.old.items
+    ensures text { IfOk result (λ _. text.new.items ≡ text.old.items
         ++ flat_map (row_text T.word_of T.number_of) (map (λ entry. (vertex, entry)) entries.now.items)) }
 {
     let mut line = LineEnd::new();

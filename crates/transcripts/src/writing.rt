@@ -55,7 +55,7 @@ fn push_rows<T: PayloadText>(text: &mut Vec<u8>, rows: &[(u32, Entry<T>)]) -> Re
 ///
 /// If a growth is refused; `text` may then end in a beginning of the line.
 pub fn push_first_line(text: &mut Vec<u8>, nodes: u32) -> Result<(), AllocError>
-    ensures { IfOk result (λ _. text.new.items ≡ text.old.items ++ first_line nodes) }
+    ensures text { IfOk result (λ _. text.new.items ≡ text.old.items ++ first_line nodes) }
 {
     push_numbered(text, b"transcript 1 ", u128::from(nodes))?;
     Ok(text.push(b'\n')?)
