@@ -5,4 +5,6 @@ pub mod PortLists
 mod Changed
 mod PortRows
 mod OutLists
+mod OldestWires
+mod KeptOuts
 mod Moved
