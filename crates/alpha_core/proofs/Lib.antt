@@ -6,4 +6,6 @@ mod Changed
 mod Counts
 mod PortRows
 mod OutLists
+mod OldestWires
+mod KeptOuts
 mod Moved

@@ -52,7 +52,12 @@ impl<T: Copy> OutLists<T> {
             let list = Vec::with_capacity(alloc, 3)?;
             others.push(list)?;
         }
-        Ok(OutLists { firsts, others, behind: 0, full: 0 })
+        Ok(OutLists {
+            firsts,
+            others,
+            behind: 0,
+            full: 0,
+        })
     }
 
     // How many wires a port has.

@@ -2,7 +2,7 @@ use Rattle.std.proofs.Common.{◌≤◌, ◌++◌, ◌∷◌, [], map, replicate
 use Rattle.std.specs.Prelude.{All, vec_capacity}
 use Rattle.std.proofs.lemmas.List.{map-append, replicate_more}
 use Rattle.std.proofs.lemmas.List.Elements.{All-nil, All-push}
-use Rattle.alpha_core.proofs.OutLists.{kept-empty}
+use Rattle.alpha_core.proofs.KeptOuts.{kept-empty}
 use Rattle.alpha_core.proofs.out_lists.OutLists.new.Goals as goal
 
 pub loop-port-init : goal.loop-port-init
