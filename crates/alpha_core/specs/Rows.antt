@@ -58,7 +58,8 @@ port_with m present early out = record {
 }
 
 abbrev pub port_of : {M : Type 0} → Rows M → ℕ → Port M
-port_of rows i = port_with (marks_at rows.marks i) (at_port rows.present i) (at_port rows.early i) (slice_index_or rows.outs i [])
+port_of rows i =
+  port_with (marks_at rows.marks i) (at_port rows.present i) (at_port rows.early i) (slice_index_or rows.outs i [])
 
 -- the ports, one for each entry of the rows
 unfoldable pub ports_of : {M : Type 0} → Rows M → List (Port M)

@@ -1,8 +1,8 @@
 //! What a node writes down of each of its events, so that its run can be read and replayed.
 //!
 //! `actor` writes a node's own entries into an `Entries`, which takes 12 bytes an entry and the bytes of a payload
-//! where there is one. It grows by blocks, so an entry is never moved. `replay` plays lists of entries, and `transcripts`
-//! writes them as text and reads them.
+//! where there is one. It grows by blocks, so an entry is never moved. `replay` plays lists of entries, and
+//! `transcripts` writes them as text and reads them.
 //!
 //! ```text
 //! let mut entries = Entries::new(alloc);

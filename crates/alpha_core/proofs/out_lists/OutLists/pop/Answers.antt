@@ -21,7 +21,8 @@ invariant_of-self g c =
     omega (arith, c.requires.port, ap length c.self.view_is, outs-length (λ v. v.items) (λ v. 3 ≤ vec_capacity v) a.firsts.items a.others.items same) in
     let at1 = element-at a.firsts.items c.args.port below in
     let at = element-at a.others.items c.args.port (omega (arith, below, same)) in
-    (last-popped (λ v. v.items) (λ v. 3 ≤ vec_capacity v) a.firsts.items a.others.items c.args.port at1.0 at.0 below same at1.1 at.1 a.behind a.full c.self.invariant
+    (last-popped (λ v. v.items) (λ v. 3 ≤ vec_capacity v) a.firsts.items a.others.items c.args.port at1.0 at.0 below same at1.1 at.1 a.behind a.full
+    c.self.invariant
     c.if-self-eq0.true).0
 
 pub returns-then-self-eq0 : goal.returns-then-self-eq0
@@ -33,7 +34,8 @@ returns-then-self-eq0 g c =
     let at1 = element-at a.firsts.items c.args.port below in
     let at = element-at a.others.items c.args.port (omega (arith, below, same)) in
     record {
-      outs = (last-popped (λ v. v.items) (λ v. 3 ≤ vec_capacity v) a.firsts.items a.others.items c.args.port at1.0 at.0 below same at1.1 at.1 a.behind a.full c.self.invariant
+      outs = (last-popped (λ v. v.items) (λ v. 3 ≤ vec_capacity v) a.firsts.items a.others.items c.args.port at1.0 at.0 below same at1.1 at.1
+      a.behind a.full c.self.invariant
           c.if-self-eq0.true).1
           ∙ ap (λ outs. slice_set outs c.args.port (drop 1 (out_at outs c.args.port))) c.self.view_is;
     }

@@ -71,7 +71,8 @@ invariant_of-self g c =
     let roomy : 3 ≤ vec_capacity c.index_mut.result.now =
     capacity-at (λ v. 3 ≤ vec_capacity v) a.others.items c.args.port c.index_mut.result.now (omega (arith, below, same))
     c.index_mut.ensures.value c.self.invariant.1 in
-    (pushed-behind (λ v. v.items) (λ v. 3 ≤ vec_capacity v) a.firsts.items a.others.items c.args.port at.0 c.index_mut.result.now below same at.1 c.index_mut.ensures.value
+    (pushed-behind (λ v. v.items) (λ v. 3 ≤ vec_capacity v) a.firsts.items a.others.items c.args.port at.0 c.index_mut.result.now below same at.1
+    c.index_mut.ensures.value
     a.behind a.full (a.behind + c.one_if.result) (a.full + c.one_if-2.result) c.args.wire c.push_last-count.new.list c.self.invariant
     (omega (arith, roomy, c.push_last-count.ensures.capacity))
     (omega (arith, c.requires.some, was)) c.push_last-count.ensures.items
@@ -92,7 +93,8 @@ returns g c =
     capacity-at (λ v. 3 ≤ vec_capacity v) a.others.items c.args.port c.index_mut.result.now (omega (arith, below, same))
     c.index_mut.ensures.value c.self.invariant.1 in
     record {
-      outs = (pushed-behind (λ v. v.items) (λ v. 3 ≤ vec_capacity v) a.firsts.items a.others.items c.args.port at.0 c.index_mut.result.now below same at.1 c.index_mut.ensures.value
+      outs = (pushed-behind (λ v. v.items) (λ v. 3 ≤ vec_capacity v) a.firsts.items a.others.items c.args.port at.0 c.index_mut.result.now below same
+      at.1 c.index_mut.ensures.value
           a.behind a.full (a.behind + c.one_if.result) (a.full + c.one_if-2.result) c.args.wire c.push_last-count.new.list c.self.invariant
           (omega (arith, roomy, c.push_last-count.ensures.capacity))
           (omega (arith, c.requires.some, was)) c.push_last-count.ensures.items
