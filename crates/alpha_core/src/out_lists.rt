@@ -16,7 +16,7 @@ pub(crate) struct OutLists<T> {
     firsts: Vec<Option<Wire<T>>>,
     // Those behind it, each with a capacity of three at least. Empty where there is no oldest one.
     others: Vec<Vec<Wire<T>>>,
-    // How many ports have wires behind the oldest: mostly none, and then `others` isn't read.
+    // How many ports have wires behind the oldest: mostly none, and then `pop` doesn't read `others`.
     behind: usize,
     // How many lists are full: that there is none is asked at each wire.
     full: usize,

@@ -1,7 +1,7 @@
 //! What a node writes down of each of its events, so that its run can be read and replayed.
 //!
 //! `actor` writes a node's own entries into an `Entries`, which takes 12 bytes an entry and the bytes of a payload
-//! where there is one. It grows by blocks, so an entry is never moved. `replay` plays lists of entries, and
+//! where there is one. The 12 bytes lie in blocks that are never moved. `replay` plays lists of entries, and
 //! `transcripts` writes them as text and reads them.
 //!
 //! ```text

@@ -4,7 +4,7 @@ use alpha_core::Wire;
 use entries::{Entries, Entry};
 use std::test::Fail;
 
-// More than fit into the blocks that double and the first large one.
+// More than fit into the small blocks and the first large one.
 const MANY: u32 = 21_000;
 
 // The entry at an index: one of a hundred has a payload.

@@ -39,10 +39,10 @@ overflow_sub-self g c =
       arith,
       c.one_if.ensures.one ∙ ap (λ n. bit (nat_eq n 1)) count,
       fallen (λ v. v.items) (λ v. 3 ≤ vec_capacity v) a.firsts.items a.others.items c.args.port at.0 c.index_mut-others.result.now below same at.1
-      c.index_mut-others.ensures.value 1 (omega (arith, c.requires.some, was)),
+          c.index_mut-others.ensures.value 1 (omega (arith, c.requires.some, was)),
       c.self.invariant.3,
       counted (λ v. v.items) (λ v. 3 ≤ vec_capacity v) a.firsts.items a.others.items c.args.port at.0 c.index_mut-others.result.now below same at.1
-      c.index_mut-others.ensures.value (λ l. nat_lt 1 (length l)),
+          c.index_mut-others.ensures.value (λ l. nat_lt 1 (length l)),
     )
 
 pub overflow_sub-self-2 : goal.overflow_sub-self-2
@@ -63,10 +63,10 @@ overflow_sub-self-2 g c =
       arith,
       c.one_if-2.ensures.one ∙ ap (λ n. bit (nat_eq n 3)) count,
       fallen (λ v. v.items) (λ v. 3 ≤ vec_capacity v) a.firsts.items a.others.items c.args.port at.0 c.index_mut-others.result.now below same at.1
-      c.index_mut-others.ensures.value 3 (omega (arith, c.requires.some, was)),
+          c.index_mut-others.ensures.value 3 (omega (arith, c.requires.some, was)),
       c.self.invariant.4,
       counted (λ v. v.items) (λ v. 3 ≤ vec_capacity v) a.firsts.items a.others.items c.args.port at.0 c.index_mut-others.result.now below same at.1
-      c.index_mut-others.ensures.value (λ l. nat_lt 3 (length l)),
+          c.index_mut-others.ensures.value (λ l. nat_lt 3 (length l)),
     )
 
 pub invariant_of-self : goal.invariant_of-self
@@ -107,7 +107,7 @@ returns g c =
     let count : c.len-count.result ≡ length c.index_mut-others.result.now.items = omega (arith, c.len-count.ensures, c.index_mut-others.result.now.ok.0) in
     record {
       outs = (moved-up (λ v. v.items) (λ v. 3 ≤ vec_capacity v) a.firsts.items a.others.items c.args.port at.0 c.index_mut-others.result.now below
-      same at.1 c.index_mut-others.ensures.value
+          same at.1 c.index_mut-others.ensures.value
           a.behind a.full (a.behind - c.one_if.result) (a.full - c.one_if-2.result) c.take_first.result c.take_first.new.list c.self.invariant
           (omega (arith, roomy, c.take_first.ensures.capacity))
           (omega (arith, c.requires.some, was)) c.take_first.ensures.first c.take_first.ensures.items

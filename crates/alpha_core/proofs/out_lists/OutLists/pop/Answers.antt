@@ -35,7 +35,7 @@ returns-then-self-eq0 g c =
     let at = element-at a.others.items c.args.port (omega (arith, below, same)) in
     record {
       outs = (last-popped (λ v. v.items) (λ v. 3 ≤ vec_capacity v) a.firsts.items a.others.items c.args.port at1.0 at.0 below same at1.1 at.1
-      a.behind a.full c.self.invariant
+          a.behind a.full c.self.invariant
           c.if-self-eq0.true).1
           ∙ ap (λ outs. slice_set outs c.args.port (drop 1 (out_at outs c.args.port))) c.self.view_is;
     }

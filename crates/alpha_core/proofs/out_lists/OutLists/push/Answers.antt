@@ -42,7 +42,7 @@ push_behind-requires-clause-some g c =
       arith,
       some-out c.index.result.now at.0.items c.if-is_none.ensures,
       ap length (out-is (λ v. v.items) (λ v. 3 ≤ vec_capacity v) a.firsts.items a.others.items c.args.port c.index.result.now at.0 below same
-      c.index.ensures at.1 ∙ ap (λ outs. out_at outs c.args.port) c.self.view_is),
+          c.index.ensures at.1 ∙ ap (λ outs. out_at outs c.args.port) c.self.view_is),
     )
 
 pub returns-then-is_none : goal.returns-then-is_none
@@ -54,7 +54,7 @@ returns-then-is_none g c =
     let at = element-at a.others.items c.args.port (omega (arith, below, same)) in
     record {
       outs = (first-pushed (λ v. v.items) (λ v. 3 ≤ vec_capacity v) a.firsts.items a.others.items c.args.port c.index.result.now at.0 below same
-      c.index.ensures at.1
+          c.index.ensures at.1
           a.behind a.full c.args.wire c.self.invariant (none_is c.index.result.now c.if-is_none.ensures)).1
           ∙ ap (λ outs. push_out outs c.args.port c.args.wire) c.self.view_is;
     }

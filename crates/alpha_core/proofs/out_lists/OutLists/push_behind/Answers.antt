@@ -94,7 +94,7 @@ returns g c =
     c.index_mut.ensures.value c.self.invariant.1 in
     record {
       outs = (pushed-behind (λ v. v.items) (λ v. 3 ≤ vec_capacity v) a.firsts.items a.others.items c.args.port at.0 c.index_mut.result.now below same
-      at.1 c.index_mut.ensures.value
+          at.1 c.index_mut.ensures.value
           a.behind a.full (a.behind + c.one_if.result) (a.full + c.one_if-2.result) c.args.wire c.push_last-count.new.list c.self.invariant
           (omega (arith, roomy, c.push_last-count.ensures.capacity))
           (omega (arith, c.requires.some, was)) c.push_last-count.ensures.items
