@@ -8,8 +8,8 @@ use std::alloc::{AllocError, Global};
 use std::marker::Model;
 use std::mem::replace;
 
-// How many items the first block has. A further one has as many as all before it, up to SMALL_BLOCK: so up to MANY_ITEMS
-// few of all places are unused.
+// How many items the first block has. A further one has as many as all before it, up to SMALL_BLOCK: so up to
+// MANY_ITEMS few of all places are unused.
 const FIRST_BLOCK: usize = 16;
 
 const SMALL_BLOCK: usize = 128;
@@ -18,8 +18,8 @@ const SMALL_BLOCK: usize = 128;
 const MANY_ITEMS: usize = 1_024;
 
 // How many items a large block has. At 12 bytes an item it has more than 128 KiB, from which on the C library maps a
-// block by itself, unless a mapped block as large was freed before. Places of a mapped block that were never written take
-// address space alone, and it goes back to the system when it is dropped.
+// block by itself, unless a mapped block as large was freed before. Places of a mapped block that were never written
+// take address space alone, and it goes back to the system when it is dropped.
 const LARGE_BLOCK: usize = 16_384;
 
 /// A list that grows by whole blocks. Contracts see the list (`items`), and for how many more there is room (`room`).
