@@ -3,3 +3,4 @@ pub mod Kept
 pub mod Steps
 pub mod Written
 pub mod Writes
+pub mod Rows

@@ -1,3 +1,4 @@
 pub mod Written
 pub mod Props
 pub mod Node
+pub mod Tables

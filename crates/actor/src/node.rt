@@ -14,7 +14,8 @@ ghost use Rattle.actor.specs.Written.{IsTranscript};
 
 use crate::aside::Aside;
 use alpha_core::AlphaNode;
-use ends::{WiredPut, WiredTake, Wiring};
+use crate::wired::{WiredPut, WiredTake};
+use crate::wiring::Wiring;
 use entries::Entries;
 use interference::{Memory, Network};
 use node_api::NodeProgram;

@@ -3,7 +3,8 @@
 ghost use Rattle.std.specs.Prelude.{◌≡◌, ◌<◌, ◌++◌, ◌∷◌, [], IsTrue, IfErr, OnOk, if◌then◌else◌};
 
 use alpha_core::Wire;
-use ends::{WiredTake, Wiring};
+use crate::wired::WiredTake;
+use crate::wiring::Wiring;
 use entries::{Entries, Entry};
 use interference::Memory;
 

@@ -22,7 +22,7 @@ use Rattle.actor.specs.declared.aside.Aside.{Aside}
 use Rattle.actor.specs.Node.{IsAside, by_port, reacted_to}
 use Rattle.actor.specs.Written.{IsTranscript}
 use Rattle.entries.specs.declared.entry.Entry.{Entry}
-use Rattle.crossing.specs.Rows.{AreCrossed, row_at}
+use Rattle.node_pool.specs.Rows.{AreCrossed, row_at}
 use Rattle.gather_laws.specs.Laws.{EndsHaveMet}
 use Rattle.gather_laws.specs.Outcome.{IsOutcome, Outcome, alpha_in, entries_in, link_in, link_into, no_history, node_in, row_in, start_of}
 use Rattle.gather_laws.proofs.Asides.{met_simulate}

@@ -1,1 +1,5 @@
 pub mod Gathers
+pub mod Rows
+pub mod Makes
+pub mod News
+pub mod Meets

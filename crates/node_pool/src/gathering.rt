@@ -2,16 +2,17 @@
 
 ghost use Rattle.std.specs.Prelude.{◌≡◌, ◌≤◌, ℕ, All, IfOk, map};
 ghost use Rattle.interference.specs.Net.{vertices};
-ghost use Rattle.crossing.specs.Rows.{HasShape};
+ghost use Rattle.node_pool.specs.Rows.{HasShape};
 ghost use Rattle.link_queue.specs.Ends.{link_capacity};
-ghost use Rattle.ends.specs.Tables.{tables_of};
+ghost use Rattle.actor.specs.Tables.{tables_of};
 ghost use Rattle.gather_laws.specs.Outcome.{IsOutcome};
 
 use crate::outcome::Outcome;
 use actor::Node;
-use crossing::crossed;
-use ends::Wiring;
-use gather::{Parts, apart, meet_rows};
+use crate::cross::crossed;
+use actor::Wiring;
+use crate::meeting::meet_rows;
+use crate::parts::{Parts, apart};
 use interference::{Memory, Network};
 use link_queue::Link;
 use node_api::NodeProgram;

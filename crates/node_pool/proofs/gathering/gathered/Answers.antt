@@ -5,12 +5,12 @@ use Rattle.interference.specs.Net.{IsNetwork}
 use Rattle.actor.proofs.Lists.{as_long}
 use Rattle.actor.specs.Node.{by_port, reacted_to}
 use Rattle.actor.specs.Written.{IsTranscript}
-use Rattle.crossing.proofs.ReadLists.{map-twice}
-use Rattle.crossing.specs.Rows.{AreCrossed, HasShape}
-use Rattle.ends.specs.Tables.{table_at, table_of}
+use Rattle.node_pool.proofs.ReadLists.{map-twice}
+use Rattle.node_pool.specs.Rows.{AreCrossed, HasShape}
+use Rattle.actor.specs.Tables.{table_at, table_of}
 use Rattle.link_queue.specs.Ends.{held_of, put_list, taken_list}
-use Rattle.gather.proofs.Sides.{all_by}
-use Rattle.gather.specs.Meets.{history_of, put_of, taken_of}
+use Rattle.node_pool.proofs.Sides.{all_by}
+use Rattle.node_pool.specs.Meets.{history_of, put_of, taken_of}
 use Rattle.gather_laws.specs.Outcome.{IsOutcome, Outcome}
 use Rattle.node_pool.specs.Gathers.{gathered_of}
 use Rattle.node_pool.proofs.Rows.{all_rows, of_fields, of_items, shape_of}
