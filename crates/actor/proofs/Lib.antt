@@ -4,3 +4,4 @@ pub mod Steps
 pub mod Written
 pub mod Writes
 pub mod Rows
+pub mod alpha_core

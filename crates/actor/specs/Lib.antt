@@ -2,3 +2,8 @@ pub mod Written
 pub mod Props
 pub mod Node
 pub mod Tables
+pub mod interference
+pub mod alpha_core
+pub mod link_rule
+pub mod entries
+pub mod link_queue

@@ -36,3 +36,8 @@ pub use links::Links;
 pub use node::Node;
 pub use wired::{WiredPut, WiredTake};
 pub use wiring::Wiring;
+
+// What crates above name of lower ones.
+pub use alpha_laws::{AlphaNode, Memory, NodeProgram};
+pub use entries::{Entries, Entry};
+pub use link_queue::{Link, Met, PutEnd, TakeEnd};

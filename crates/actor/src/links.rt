@@ -7,9 +7,8 @@ ghost use Rattle.actor.specs.Tables.{LinkWasFull, table_at, table_of, tables_of}
 
 use crate::wired::{WiredPut, WiredTake};
 use crate::wiring::Wiring;
-use alpha_core::Wire;
+use alpha_laws::{NodeProgram, Wire};
 use link_queue::{Full, Link};
-use node_api::NodeProgram;
 use std::marker::PhantomData;
 use std::sync::Wait;
 

@@ -4,12 +4,12 @@ use Rattle.std.proofs.Common.{◌≡◌, ℕ, zero, suc, ◌+◌, ◌-◌, ◌<�
 use Rattle.std.proofs.lemmas.List.{get_or-map, length-map}
 use Rattle.std.proofs.lemmas.Option.{slice_get-get_or}
 use Rattle.atomic_table.specs.Seated.{TableId}
-use Rattle.interference.specs.Net.{Net, IsNetwork, IsVertex, count_of, degree_of, neighbour_of, back_port_of}
-use Rattle.link_queue.specs.declared.ends.PutSide.{PutSide}
-use Rattle.link_queue.specs.declared.ends.TakeSide.{TakeSide}
-use Rattle.link_queue.specs.declared.link.Link.{Link}
-use Rattle.link_queue.specs.Ends.{link_capacity}
-use Rattle.link_rule.specs.declared.name.LinkName.{LinkName}
+use Rattle.alpha_laws.specs.interference.Net.{Net, IsNetwork, IsVertex, count_of, degree_of, neighbour_of, back_port_of}
+use Rattle.actor.specs.link_queue.PutSide.{PutSide}
+use Rattle.actor.specs.link_queue.TakeSide.{TakeSide}
+use Rattle.actor.specs.link_queue.Link.{Link}
+use Rattle.actor.specs.link_queue.Ends.{link_capacity}
+use Rattle.actor.specs.link_rule.LinkName.{LinkName}
 use Rattle.actor.specs.Tables.{IsEndAt, table_of, tables_of, table_at}
 use Rattle.node_pool.specs.Rows.{AreCrossed, row_at, thing_at}
 use Rattle.node_pool.specs.Makes.{AreLinksOf, AreMade}

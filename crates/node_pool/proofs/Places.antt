@@ -5,7 +5,7 @@ use Rattle.std.specs.Prelude.{option_map}
 use Rattle.std.specs.List.{range_with_len}
 use Rattle.std.proofs.lemmas.Option.{slice_get-map}
 use Rattle.atomic_table.specs.Seated.{TableId}
-use Rattle.interference.specs.Net.{Net, IsNetwork, degree_of, neighbour_of, back_port_of, vertices}
+use Rattle.alpha_laws.specs.interference.Net.{Net, IsNetwork, degree_of, neighbour_of, back_port_of, vertices}
 use Rattle.alpha_laws.proofs.Across.{over}
 use Rattle.actor.specs.Node.{links_in, links_out}
 use Rattle.node_pool.proofs.ReadLists.{map-twice}

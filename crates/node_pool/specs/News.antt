@@ -1,10 +1,10 @@
 -- Ends of a run at which nothing was put or taken.
 use Rattle.std.specs.Prelude.{◌≡◌, ℕ, List, [], length, Some, slice_get}
 use Rattle.atomic_table.specs.Seated.{TableId}
-use Rattle.interference.specs.Net.{Net, IsVertex, back_port_of, degree_of, neighbour_of}
-use Rattle.link_queue.specs.declared.ends.PutSide.{PutSide}
-use Rattle.link_queue.specs.declared.ends.TakeSide.{TakeSide}
-use Rattle.link_queue.specs.Ends.{put_list, put_name, take_name, taken_list}
+use Rattle.alpha_laws.specs.interference.Net.{Net, IsVertex, back_port_of, degree_of, neighbour_of}
+use Rattle.actor.specs.link_queue.PutSide.{PutSide}
+use Rattle.actor.specs.link_queue.TakeSide.{TakeSide}
+use Rattle.actor.specs.link_queue.Ends.{put_list, put_name, take_name, taken_list}
 use Rattle.actor.specs.Tables.{IsEndAt}
 use Rattle.node_pool.specs.Rows.{HasShape, thing_at}
 

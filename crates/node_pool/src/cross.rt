@@ -2,10 +2,10 @@
 
 ghost use Rattle.std.specs.Prelude.{◌≡◌, ◌≢◌, ◌<◌, ℕ, IfOk, OnOk, None, Some, map};
 ghost use Rattle.std.specs.List.{range_with_len};
-ghost use Rattle.interference.specs.Net.{IsNetwork, IsVertex, back_port_of, degree_of, neighbour_of};
+ghost use Rattle.alpha_laws.specs.interference.Net.{IsNetwork, IsVertex, back_port_of, degree_of, neighbour_of};
 ghost use Rattle.node_pool.specs.Rows.{AreCrossed, HasShape, set_slot, slot_at};
 
-use interference::Network;
+use alpha_laws::Network;
 use std::alloc::{AllocError, Global};
 
 /// The things of a row, each in a slot.

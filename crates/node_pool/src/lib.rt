@@ -28,9 +28,12 @@ mod run;
 mod starting;
 mod wires;
 
-pub use actor::{Gate, OpenGate};
 pub use crate::parts::Actor;
+pub use actor::{Gate, OpenGate};
 pub use outcome::Outcome;
 pub use pool::PoolFault;
 pub use run::run_workers;
-pub use run_options::Options;
+
+// What crates above name of lower ones.
+pub use gather_laws::laws::whole_outcomes_are_complete;
+pub use run_options::{MAX_CAPACITY, MAX_WORKERS, Options};

@@ -1,12 +1,11 @@
 //! The links of a network.
 
 ghost use Rattle.std.specs.Prelude.{◌≡◌, ◌<◌, ◌≤◌, IfOk, map};
-ghost use Rattle.interference.specs.Net.{IsVertex, degree_of};
+ghost use Rattle.alpha_laws.specs.interference.Net.{IsVertex, degree_of};
 ghost use Rattle.node_pool.specs.Makes.{AreLinksOf, AreMade};
 
-use interference::{Memory, Network};
-use link_queue::{Link, PutEnd, TakeEnd};
-use node_api::NodeProgram;
+use actor::{Link, PutEnd, TakeEnd};
+use alpha_laws::{Memory, Network, NodeProgram};
 use run_options::MAX_CAPACITY;
 use std::alloc::Global;
 

@@ -1,15 +1,13 @@
 //! Each link's ends meet.
 
 ghost use Rattle.std.specs.Prelude.{◌≡◌, ◌≤◌, ℕ, All, IfOk, Some, length, map};
-ghost use Rattle.link_queue.specs.Ends.{HasMet, held_of, link_capacity, put_list, put_name, taken_list};
+ghost use Rattle.actor.specs.link_queue.Ends.{HasMet, held_of, link_capacity, put_list, put_name, taken_list};
 ghost use Rattle.actor.specs.Tables.{table_at, table_of};
 ghost use Rattle.node_pool.specs.Meets.{AreMet, RowsAreMet};
 
 use crate::pairs::pairs;
-use actor::{WiredPut, WiredTake, Wiring};
-use interference::Memory;
-use link_queue::{Link, Met};
-use node_api::NodeProgram;
+use actor::{Link, Met, WiredPut, WiredTake, Wiring};
+use alpha_laws::{Memory, NodeProgram};
 use std::alloc::Global;
 use std::sync::Wait;
 

@@ -2,11 +2,8 @@
 
 ghost use Rattle.std.specs.Prelude.{◌≡◌, IfOk, map};
 
-use actor::Node;
-use alpha_core::AlphaNode;
-use actor::{WiredPut, WiredTake, Wiring};
-use entries::Entries;
-use node_api::NodeProgram;
+use actor::{AlphaNode, Entries, Node, WiredPut, WiredTake, Wiring};
+use alpha_laws::NodeProgram;
 use std::alloc::{AllocError, Global};
 
 /// A node after the run, with its vertex and its entries.

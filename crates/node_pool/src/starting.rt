@@ -1,17 +1,14 @@
 //! The nodes of a network, each with the ends of its links.
 
 ghost use Rattle.std.specs.Prelude.{◌≡◌, ◌∷◌, ◌++◌, ◌<◌, [], All, IfOk, map, reverse, vec_len};
-ghost use Rattle.interference.specs.Net.{IsVertex, vertices};
-ghost use Rattle.alpha_core.specs.Program.{start_node};
+ghost use Rattle.alpha_laws.specs.interference.Net.{IsVertex, vertices};
+ghost use Rattle.actor.specs.alpha_core.Program.{start_node};
 ghost use Rattle.node_pool.specs.News.{AreNewEnds, AreNewPutsFrom, AreNewTakesTo};
 
-use crate::wires::{wired_puts, wired_takes};
-use actor::Node;
 use crate::cross::crossed;
-use actor::Wiring;
-use interference::{Memory, Network};
-use link_queue::{PutEnd, TakeEnd};
-use node_api::NodeProgram;
+use crate::wires::{wired_puts, wired_takes};
+use actor::{Node, PutEnd, TakeEnd, Wiring};
+use alpha_laws::{Memory, Network, NodeProgram};
 use std::alloc::Global;
 
 // Takes the last row off.

@@ -1,16 +1,14 @@
 //! Ends that know the place of their link.
 
 ghost use Rattle.std.specs.Prelude.{◌≡◌, ◌≤◌, [], All, IfOk, map};
-ghost use Rattle.interference.specs.Net.{IsVertex, degree_of};
-ghost use Rattle.interference.specs.declared.limits.TheConstants.{MAX_DEGREE};
-ghost use Rattle.link_queue.specs.Ends.{put_list, taken_list};
+ghost use Rattle.alpha_laws.specs.interference.Net.{IsVertex, degree_of};
+ghost use Rattle.alpha_laws.below.interference.specs.declared.limits.TheConstants.{MAX_DEGREE};
+ghost use Rattle.actor.specs.link_queue.Ends.{put_list, taken_list};
 ghost use Rattle.actor.specs.Node.{links_in, links_out};
 ghost use Rattle.node_pool.specs.News.{AreNewPutsFrom, AreNewTakesTo};
 
-use actor::{WiredPut, WiredTake, Wiring};
-use interference::Network;
-use link_queue::{PutEnd, TakeEnd};
-use node_api::NodeProgram;
+use actor::{PutEnd, TakeEnd, WiredPut, WiredTake, Wiring};
+use alpha_laws::{Network, NodeProgram};
 use std::alloc::{AllocError, Global};
 
 /// The ends that put, of the links out of a vertex.

@@ -3,11 +3,9 @@
 ghost use Rattle.std.specs.Prelude.{◌≡◌, [], map};
 ghost use Rattle.crossbeam_queue.specs.Passes.{view};
 
-use actor::Node;
-use actor::Wiring;
-use node_api::NodeProgram;
-use std::thread::Promise;
 use crate::pass::{Pool, PoolPass, Worked};
+use actor::{Node, NodeProgram, Wiring};
+use std::thread::Promise;
 
 /// The promise that what a worker hands back is of this pool.
 #[derive(Drop)]

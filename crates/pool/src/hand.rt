@@ -3,10 +3,8 @@
 //! Three kinds of step are the pool's own: push of a node, pop of a node, and pop refused as empty. Besides, by one
 //! caller that has all passes, the making of the queue, the splitting of a pass and the joining of passes.
 
-use actor::Node;
+use actor::{Node, NodeProgram, Wiring};
 use crossbeam_queue::protocol::{Join, Lesson, Outcome, Protocol, Split};
-use actor::Wiring;
-use node_api::NodeProgram;
 use std::collections::LinkedList;
 use std::marker::PhantomData;
 
@@ -24,7 +22,7 @@ pub struct AllNodes<J> {
 
 impl<J: Wiring, P: NodeProgram> Protocol<Box<Node<J, P>>, Hand> for AllNodes<J> {
     ghost use Rattle.std.specs.Prelude.{map, reverse};
-    ghost use Rattle.interference.specs.Net.{vertices};
+    ghost use Rattle.actor.specs.interference.Net.{vertices};
     ghost use Rattle.pool.specs.Hands.{EachOnce, all_parts, hand};
 
     ghost holds = { λ items views. EachOnce (vertices J.net) (map (λ b. b.value.vertex) items) views };
@@ -67,7 +65,7 @@ impl<J: Wiring, P: NodeProgram> Outcome<Box<Node<J, P>>, Hand> for Gives<J> {
 
 impl<J: Wiring, P: NodeProgram> Lesson<Box<Node<J, P>>, Hand> for Gives<J> {
     ghost use Rattle.std.specs.Prelude.{◌≤◌, ◌+◌, length};
-    ghost use Rattle.interference.specs.Net.{vertices};
+    ghost use Rattle.actor.specs.interference.Net.{vertices};
 
     ghost fact = { λ v items. length v.out + length items ≤ length (vertices J.net) };
 }
@@ -79,7 +77,7 @@ pub struct Gets<J> {
 
 impl<J: Wiring, P: NodeProgram> Outcome<Box<Node<J, P>>, Hand> for Gets<J> {
     ghost use Rattle.std.specs.Prelude.{◌≡◌, ◌<◌, [], ◌∷◌, ◌++◌, length};
-    ghost use Rattle.interference.specs.Net.{vertices};
+    ghost use Rattle.actor.specs.interference.Net.{vertices};
     ghost use Rattle.pool.specs.Hands.{hand};
 
     ghost then = { λ v x w. (w ≡ hand v.parts (v.out ++ x.value.vertex ∷ []))
@@ -88,7 +86,7 @@ impl<J: Wiring, P: NodeProgram> Outcome<Box<Node<J, P>>, Hand> for Gets<J> {
 
 impl<J: Wiring, P: NodeProgram> Lesson<Box<Node<J, P>>, Hand> for Gets<J> {
     ghost use Rattle.std.specs.Prelude.{map};
-    ghost use Rattle.interference.specs.Net.{vertices};
+    ghost use Rattle.actor.specs.interference.Net.{vertices};
     ghost use Rattle.pool.specs.Hands.{KnowsAll};
 
     ghost fact = { λ v items. KnowsAll (vertices J.net) v (map (λ b. b.value.vertex) items) };

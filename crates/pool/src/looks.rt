@@ -1,17 +1,14 @@
 //! What a worker does.
 
 ghost use Rattle.std.specs.Prelude.{◌≡◌, ◌≤◌, [], length, map, vec_capacity};
-ghost use Rattle.interference.specs.Net.{vertices};
+ghost use Rattle.actor.specs.interference.Net.{vertices};
 ghost use Rattle.crossbeam_queue.specs.Passes.{IsPassOf, ruled_capacity, view};
 ghost use Rattle.pool.specs.Hands.{hand};
 
 use crate::hand::{Gets, Gives};
 use crate::pass::{Places, Pool, PoolPass, Worked};
 use crate::signals::Signals;
-use actor::{Gate, Node};
-use actor::{Links, Wiring};
-use interference::Memory;
-use node_api::NodeProgram;
+use actor::{Gate, Links, Memory, Node, NodeProgram, Wiring};
 use std::sync::Wait;
 use std::thread;
 

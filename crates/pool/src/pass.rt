@@ -1,15 +1,12 @@
 //! A pass at the pool, with the nodes that are out by it.
 
 ghost use Rattle.std.specs.Prelude.{◌≡◌, ◌≤◌, [], length, map, vec_capacity};
-ghost use Rattle.interference.specs.Net.{vertices};
+ghost use Rattle.actor.specs.interference.Net.{vertices};
 ghost use Rattle.crossbeam_queue.specs.Passes.{view};
 
 use crate::hand::{AllNodes, Hand};
-use actor::Node;
+use actor::{Memory, Node, NodeProgram, Wiring};
 use crossbeam_queue::{Pass, RuledArrayQueue};
-use actor::Wiring;
-use interference::Memory;
-use node_api::NodeProgram;
 
 /// The pool of a run.
 pub type Pool<J: Wiring, P: NodeProgram> = RuledArrayQueue<Box<Node<J, P>>, Hand, AllNodes<J>>;

@@ -1,6 +1,6 @@
 use Rattle.std.proofs.Common.{◌≡◌, ◌+◌, Some, length, map, sym, ap, ◌∙◌, arith}
 use Rattle.std.proofs.lemmas.List.{length-map, map-append}
-use Rattle.interference.specs.Net.{IsVertex, count_of}
+use Rattle.alpha_laws.specs.interference.Net.{IsVertex, count_of}
 use Rattle.node_pool.proofs.ReadLists.{map-twice}
 use Rattle.node_pool.proofs.Crosses.{starts_shape, starts_at, full, more_rows, more_at, less_left}
 use Rattle.node_pool.proofs.cross.crossed.Goals as goal

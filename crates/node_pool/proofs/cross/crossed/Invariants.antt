@@ -1,5 +1,5 @@
 use Rattle.std.proofs.Common.{◌≡◌, ◌<◌, ◌≤◌, ℕ, map, vec_len, length}
-use Rattle.interference.specs.Net.{IsVertex, back_port_of, degree_of, neighbour_of}
+use Rattle.alpha_laws.specs.interference.Net.{IsVertex, back_port_of, degree_of, neighbour_of}
 use Rattle.node_pool.specs.Rows.{HasShape, row_at, slot_at, thing_at}
 use Rattle.node_pool.proofs.cross.crossed.Given as goal
 

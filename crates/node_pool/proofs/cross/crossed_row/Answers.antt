@@ -1,5 +1,5 @@
 use Rattle.std.proofs.Common.{◌<◌, None, map, sym, ap, ◌∙◌, arith}
-use Rattle.interference.specs.Net.{back_port_of, degree_of, neighbour_of}
+use Rattle.alpha_laws.specs.interference.Net.{back_port_of, degree_of, neighbour_of}
 use Rattle.node_pool.specs.Rows.{set_slot, slot_at}
 use Rattle.node_pool.proofs.Crosses.{out_shape, out_row, out_left, out_others}
 use Rattle.node_pool.proofs.cross.crossed_row.Goals as goal

@@ -4,7 +4,7 @@ use Rattle.std.proofs.lemmas.List.{map-append}
 use Rattle.std.proofs.lemmas.List.Elements.{All-pop, All-push, All-same}
 use Rattle.std.proofs.lemmas.Iterator.Consumers.{YieldsList-end, YieldsList-turn}
 use Rattle.std.proofs.lemmas.Iterator.Adapters.{YieldsList-from_vec}
-use Rattle.link_queue.specs.Ends.{held_of, link_capacity, put_list, taken_list}
+use Rattle.actor.specs.link_queue.Ends.{held_of, link_capacity, put_list, taken_list}
 use Rattle.actor.specs.Tables.{table_at, table_of}
 use Rattle.node_pool.specs.Meets.{RowsAreMet}
 use Rattle.node_pool.proofs.MetRows.{one_row_met}

@@ -1,6 +1,6 @@
 use Rattle.std.proofs.Common.{◌≤◌, ℕ, length, map}
 use Rattle.std.specs.Prelude.{All}
-use Rattle.link_queue.specs.Ends.{held_of, link_capacity, put_list, taken_list}
+use Rattle.actor.specs.link_queue.Ends.{held_of, link_capacity, put_list, taken_list}
 use Rattle.node_pool.specs.Meets.{AreMet}
 use Rattle.node_pool.proofs.meeting.meet_row.Given as goal
 

@@ -1,6 +1,6 @@
 use Rattle.std.proofs.Common.{◌≤◌, ℕ, Some, map, sym, ◌∙◌, subst}
 use Rattle.std.specs.Prelude.{All, List}
-use Rattle.link_queue.specs.Ends.{link_capacity, put_list, taken_list}
+use Rattle.actor.specs.link_queue.Ends.{link_capacity, put_list, taken_list}
 use Rattle.actor.specs.Tables.{table_at, table_of}
 use Rattle.node_pool.specs.Meets.{RowsAreMet}
 use Rattle.node_pool.proofs.Sides.{all_by, firsts, middles, lasts, same_each, ok_says}

@@ -1,6 +1,6 @@
 use Rattle.std.proofs.Common.{◌<◌, ◌++◌, ◌∷◌, [], arith, ap, sym, ◌∙◌}
 use Rattle.crossbeam_queue.specs.Passes.{view}
-use Rattle.interference.specs.Net.{vertices}
+use Rattle.actor.specs.interference.Net.{vertices}
 use Rattle.std.proofs.lemmas.Grind.{common_steps}
 use Rattle.pool.proofs.Rule.{gets, gives, learns, room}
 use Rattle.pool.proofs.looks.look.Goals as goal

@@ -1,6 +1,6 @@
 use Rattle.std.proofs.Common.{◌≡◌, ◌≤◌, length, map, vec_capacity}
 use Rattle.crossbeam_queue.specs.Passes.{view, IsPassOf}
-use Rattle.interference.specs.Net.{vertices}
+use Rattle.actor.specs.interference.Net.{vertices}
 use Rattle.pool.proofs.looks.work.Given as goal
 
 abbrev pub invariant-loop : goal.invariant-loop

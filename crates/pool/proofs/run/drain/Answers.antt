@@ -1,5 +1,5 @@
 use Rattle.std.proofs.Common.{map, arith, ap, sym, ◌∙◌}
-use Rattle.interference.specs.Net.{vertices}
+use Rattle.actor.specs.interference.Net.{vertices}
 use Rattle.pool.specs.Hands.{weigh}
 use Rattle.pool.proofs.Rule.{gets, learns, settled}
 use Rattle.pool.proofs.run.drain.Goals as goal

@@ -1,6 +1,6 @@
 use Rattle.std.proofs.Common.{◌<◌, ap, map, arith, ◌∙◌}
 use Rattle.crossbeam_queue.specs.Passes.{view}
-use Rattle.interference.specs.Net.{vertices}
+use Rattle.actor.specs.interference.Net.{vertices}
 use Rattle.pool.proofs.Rule.{gives, map_snoc, room}
 use Rattle.pool.proofs.run.give_one.Goals as goal
 

@@ -1,4 +1,4 @@
-use Rattle.interference.specs.Net.{vertices}
+use Rattle.actor.specs.interference.Net.{vertices}
 use Rattle.pool.proofs.Rule.{forks}
 use Rattle.pool.proofs.run.hire.Goals as goal
 

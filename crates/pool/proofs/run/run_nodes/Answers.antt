@@ -1,5 +1,5 @@
 use Rattle.std.proofs.Common.{ℕ}
-use Rattle.interference.specs.Net.{vertices}
+use Rattle.actor.specs.interference.Net.{vertices}
 use Rattle.pool.proofs.Rule.{begins}
 use Rattle.pool.proofs.run.run_nodes.Goals as goal
 
