@@ -100,6 +100,7 @@ module _ {S M E : Type 0} {program : Program S M E} {net : Net} (ok : IsNetwork 
         λ both. (kept.each v vertex).spoken both.0 both.1,
       );
     };
+    within_last = λ v vertex. (kept.each v vertex).ports.within;
     at_most_once_in_order = λ v i vertex lt. begins_from (taken_over net taken v i) (held v i) (sent v i) (kept.splits v i vertex lt);
     all_before_close = λ v i vertex lt has. complete v i vertex lt has;
     none_after_close = λ v i vertex lt before after is.
