@@ -4,3 +4,4 @@ pub mod Position
 pub mod Kept
 pub mod Laws
 pub mod Counts
+pub mod Progress
