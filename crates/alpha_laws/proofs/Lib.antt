@@ -35,3 +35,4 @@ pub mod Whole
 pub mod Short
 pub mod Sums
 pub mod Bounded
+pub mod PulseAfter
