@@ -6,9 +6,9 @@ use Rattle.node_api.specs.Program.{Program, last_pulse_on}
 use Rattle.alpha_core.specs.declared.wire.Wire.{Wire}
 use Rattle.alpha_core.specs.Wires.{payloads_of}
 use Rattle.alpha_core.specs.Streams.{sent_pulses}
-use Rattle.alpha_core.specs.Program.{sends}
+use Rattle.alpha_core.specs.Program.{sends, IsLegal}
 use Rattle.alpha_core.specs.View.{Node}
-use Rattle.alpha_laws.specs.Simulates.{Simulates, IsCompleteOn, emitted_at, taken_over}
+use Rattle.alpha_laws.specs.Simulates.{IsCompleteOn, taken_over}
 
 -- how many wires the lists of all links have
 abbrev pub wires_on : {M : Type 0} → Net → (ℕ → ℕ → List (Wire M)) → ℕ
@@ -34,13 +34,11 @@ CompleteListsAreCounted {S} {M} program net =
     → (payloads_on net sent ≡ payloads_sent program net)
     × (wires_on net sent ≡ 2 * payloads_on net sent + 2 * edge_count_of net * (last_pulse_on program net + 1))
 
--- No list of a link has more than 3·R + 1 wires, where R is the last pulse: a payload and a safe for each pulse below
--- R, an acknowledgement for each payload that comes the other way, and Close.
-abbrev pub ListsAreShort : {S M E : Type 0} → Program S M E → Net → Type 0
-ListsAreShort {S} {M} program net =
-    (nodes : ℕ → Node S M) (sent taken : ℕ → ℕ → List (Wire M)) → Simulates program net nodes sent taken
-    → (v i : ℕ) → IsVertex net v → i < degree_of net v
-    → length (emitted_at (nodes v) (sent v) i) ≤ 3 * last_pulse_on program net + 1
+-- A legal list of a link has at most 3·R + 1 wires, where R is the last pulse: a payload and a safe for each pulse
+-- below R, an acknowledgement for each payload that comes the other way, and Close.
+abbrev pub LegalListsAreShort : {S M E : Type 0} → Program S M E → Net → Type 0
+LegalListsAreShort {S} {M} program net =
+    (v w : ℕ) (ws : List (Wire M)) → IsLegal program net v w ws → length ws ≤ 3 * last_pulse_on program net + 1
 
 -- how many wires the links of a whole run carry: each payload that the synchronous run sends, with its acknowledgement,
 -- and R + 1 for each direction of each edge, which are the safes of the pulses below R, and Close

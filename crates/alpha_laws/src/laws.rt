@@ -3,7 +3,7 @@
 
 ghost use Rattle.interference.specs.Net.{IsNetwork, Net};
 ghost use Rattle.node_api.specs.Program.{Program};
-ghost use Rattle.alpha_laws.specs.Counts.{CompleteListsAreCounted, ListsAreShort};
+ghost use Rattle.alpha_laws.specs.Counts.{CompleteListsAreCounted, LegalListsAreShort};
 ghost use Rattle.alpha_laws.specs.Laws.{KeptSimulate, OnEveryNetwork, PulsesKeep, PutsKeep, StartsKeep, TakesKeep};
 ghost use Rattle.alpha_laws.specs.Progress.{EventsAreBounded, SomeNodeCanMove, WholeNetworksHaveEnded};
 
@@ -27,10 +27,9 @@ pub fn complete_lists_are_counted<S, M, E>()
     ensures law { (program : Program S M E) (net : Net) → IsNetwork net → CompleteListsAreCounted program net }
 {}
 
-/// No list of a link ever has more than 3·R + 1 wires, where R is the last pulse, with those that are still in the
-/// out-list.
-pub fn lists_are_short<S, M, E>()
-    ensures law { (program : Program S M E) → OnEveryNetwork program (ListsAreShort program) }
+/// A legal list of a link has at most 3·R + 1 wires, where R is the last pulse. So no link is pushed more often.
+pub fn legal_lists_are_short<S, M, E>()
+    ensures law { (program : Program S M E) (net : Net) → LegalListsAreShort program net }
 {}
 
 /// Nodes that simulate the synchronous run never all wait for each other: over links of any capacity but none, some

@@ -25,7 +25,7 @@ OutcomesCanGoOn {S} {M} program net =
     → ((v : ℕ) × IsVertex net v × CanMove capacity program net (node_in program net outcome) (held_in outcome) v)
     ⊎ (is_whole outcome ≡ true)
 
--- how many events the nodes of an outcome have made: their pulses, the wires put on its links, and those taken from them
+-- how many events the nodes of an outcome have made: their pulses, the wires put on its links, and those taken
 abbrev pub events_in : {S M E : Type 0} → Program S M E → Net → Outcome S M → ℕ
 events_in program net outcome =
     events_made net (node_in program net outcome) (put_in outcome) (taken_in net outcome)
