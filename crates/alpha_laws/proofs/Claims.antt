@@ -1,9 +1,7 @@
 -- What is kept says what is claimed: nodes that keep their links simulate the synchronous run.
-use Rattle.std.proofs.Common.{◌≡◌, ℕ, suc, ◌+◌, ◌<◌, ◌≤◌, true, false, not, List, [], ◌∷◌, ◌++◌, length, get_or, refl, sym, ap, ◌∙◌, arith, subst, ⊎_elim}
-use Rattle.std.proofs.Common.{le-leb}
+use Rattle.std.proofs.Common.{◌≡◌, ℕ, suc, ◌+◌, ◌<◌, ◌≤◌, List, [], ◌∷◌, ◌++◌, length, get_or, refl, sym, ap, ◌∙◌, arith, subst, ⊎_elim}
 use Rattle.std.specs.Prelude.{Contains}
 use Rattle.std.specs.List.{range_with_len}
-use Rattle.std.proofs.lemmas.Bool.{and_from}
 use Rattle.std.proofs.lemmas.List.{length-append, length-map, get_or-map, same_lists}
 use Rattle.std.proofs.lemmas.List.FromFn.{length-range_with_len, get_or-range_with_len}
 use Rattle.alpha_core.specs.interference.Net.{Net, IsNetwork, IsVertex, degree_of, neighbours, neighbour_of, port_to}
@@ -13,10 +11,11 @@ use Rattle.alpha_core.specs.node_api.Run.{outbox_at}
 use Rattle.alpha_core.specs.declared.wire.Wire.{Wire}
 use Rattle.alpha_core.specs.Wires.{payload_at}
 use Rattle.alpha_core.specs.Streams.{Legal}
-use Rattle.alpha_core.specs.View.{Port, Node, none_waits, new_port, port_at, all_out_within}
+use Rattle.alpha_core.specs.View.{Node, port_at}
 use Rattle.alpha_core.specs.Program.{sends}
 use Rattle.alpha_core.proofs.Wires.{legal-front}
 use Rattle.alpha_laws.specs.Simulates.{Simulates, taken_over, emitted_at}
+use Rattle.alpha_laws.proofs.EachPort.{none_from, out_from}
 use Rattle.alpha_laws.proofs.Lawful.{legal_emitted}
 use Rattle.alpha_laws.proofs.Runs.{Runs}
 use Rattle.alpha_laws.proofs.Across.{mine, theirs, whole', near_at, two_in_flight}
@@ -33,14 +32,6 @@ use Rattle.alpha_laws.proofs.PortClaims.{port_fits}
 use Rattle.alpha_laws.proofs.Heard.{passed_at, heard}
 use Rattle.alpha_laws.proofs.NodePulses.{inbox_is, can_below}
 use Rattle.alpha_laws.proofs.Next.{next_reacts, next_pulse}
-
-room_from : {M : Type 0} (ports : List (Port M)) → ((i : ℕ) → i < length ports → length (get_or ports i new_port).out ≤ 3) → all_out_within 3 ports ≡ true
-room_from [] each = refl
-room_from (port ∷ ports) each = and_from _ _ (le-leb (length port.out) 3 (each 0 (omega arith))) (room_from ports (λ i lt. each (suc i) (omega arith)))
-
-none_from : {M : Type 0} (ports : List (Port M)) → ((i : ℕ) → i < length ports → (get_or ports i new_port).waits ≡ false) → none_waits ports ≡ true
-none_from [] each = refl
-none_from (port ∷ ports) each = and_from _ _ (ap (λ b. not b) (each 0 (omega arith))) (none_from ports (λ i lt. each (suc i) (omega arith)))
 
 -- what stands before and after an entry
 parts : {A : Type 0} (xs : List A) (x : A) → Contains xs x → (before : List A) × (after : List A) × (xs ≡ before ++ (x ∷ after))
@@ -100,6 +91,7 @@ module _ {S M E : Type 0} {program : Program S M E} {net : Net} (ok : IsNetwork 
         λ both. (kept.each v vertex).spoken both.0 both.1,
       );
     };
+    within_last = λ v vertex. (kept.each v vertex).ports.within;
     at_most_once_in_order = λ v i vertex lt. begins_from (taken_over net taken v i) (held v i) (sent v i) (kept.splits v i vertex lt);
     all_before_close = λ v i vertex lt has. complete v i vertex lt has;
     none_after_close = λ v i vertex lt before after is.
@@ -124,7 +116,7 @@ module _ {S M E : Type 0} {program : Program S M E} {net : Net} (ok : IsNetwork 
       length-append (sent v i) (port_at (nodes v).view i).out,
       sym (length-append (taken_over net taken v i) (held v i)) ∙ ap (λ (l : List (Wire M)). length l) (kept.splits v i vertex lt),
     );
-    always_can_take = λ v vertex. room_from (nodes v).view.ports (λ i lt. omega (arith, two_at v i vertex (in_ports v i vertex lt)));
+    always_can_take = λ v vertex. out_from 3 (nodes v).view.ports (λ i lt. omega (arith, two_at v i vertex (in_ports v i vertex lt)));
     no_wire_refused = λ v i vertex lt w more is. subst (λ r. IsOk r) (sym (next_reacts ok runs kept v i vertex lt w more is)) refl;
     no_pulse_refused = λ v vertex can. subst (λ r. IsOk r) (sym (next_pulse ok runs kept v vertex can)) refl;
   }

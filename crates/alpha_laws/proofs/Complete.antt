@@ -17,7 +17,7 @@ module _ {M : Type 0} where
   data-payloads (Safe q ∷ ws) = data-payloads ws
   data-payloads (Close ∷ ws) = data-payloads ws
 
-  data_and_acks : (ws : List (Wire M)) → length ws ≡ length (data_of ws) + length (acks_of ws)
+  pub data_and_acks : (ws : List (Wire M)) → length ws ≡ length (data_of ws) + length (acks_of ws)
   data_and_acks [] = refl
   data_and_acks (Payload q x ∷ ws) = omega (arith, data_and_acks ws)
   data_and_acks (Ack q ∷ ws) = omega (arith, data_and_acks ws)
@@ -40,7 +40,7 @@ module _ {M : Type 0} where
     length-round n None = refl
     length-round n (Some x) = refl
 
-    length-rounds : (n : ℕ) → length (rounds sends n) ≡ length (sent_pulses sends n) + n
+    pub length-rounds : (n : ℕ) → length (rounds sends n) ≡ length (sent_pulses sends n) + n
     length-rounds zero = refl
     length-rounds (suc n) =
         omega (

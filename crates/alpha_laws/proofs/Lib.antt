@@ -26,5 +26,15 @@ pub mod Next
 pub mod Claims
 pub mod Complete
 pub mod Counts
+pub mod EachPort
+pub mod Search
+pub mod UpTo
+pub mod Quiet
+pub mod Moves
+pub mod Whole
+pub mod Short
+pub mod Sums
+pub mod Bounded
+pub mod PulseAfter
 pub mod interference
 pub mod alpha_core

@@ -4,6 +4,7 @@ pub mod Position
 pub mod Kept
 pub mod Laws
 pub mod Counts
+pub mod Progress
 pub mod interference
 pub mod node_api
 pub mod alpha_core

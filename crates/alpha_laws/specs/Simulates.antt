@@ -46,6 +46,8 @@ pub record Simulates {S M E : Type 0} (program : Program S M E) (net : Net) (nod
     (sent taken : ℕ → ℕ → List (Wire M)) : Type 0 where
   -- Every node fits its links; so a node at pulse p is in the state of the synchronous run at p.
   pub fits : (v : ℕ) → IsVertex net v → NodeFits program net v (nodes v) (sent v) (taken v)
+  -- No node is past the last pulse.
+  pub within_last : (v : ℕ) → IsVertex net v → (nodes v).view.pulse ≤ last_pulse_on program net
   -- Each link hands over every message at most once, first in first out: what was taken begins what was put, wire for
   -- wire.
   pub at_most_once_in_order : (v i : ℕ) → IsVertex net v → i < degree_of net v →

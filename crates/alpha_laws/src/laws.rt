@@ -3,8 +3,9 @@
 
 ghost use Rattle.alpha_core.specs.interference.Net.{IsNetwork, Net};
 ghost use Rattle.alpha_core.specs.node_api.Program.{Program};
-ghost use Rattle.alpha_laws.specs.Counts.{CompleteListsAreCounted};
+ghost use Rattle.alpha_laws.specs.Counts.{CompleteListsAreCounted, LegalListsAreShort};
 ghost use Rattle.alpha_laws.specs.Laws.{KeptSimulate, OnEveryNetwork, PulsesKeep, PutsKeep, StartsKeep, TakesKeep};
+ghost use Rattle.alpha_laws.specs.Progress.{EventsAreBounded, SomeNodeCanMove, WholeNetworksHaveEnded};
 
 /// Each event of a node by itself leaves what it keeps of its links.
 pub fn each_event_keeps_the_links<S, M, E>()
@@ -24,4 +25,27 @@ pub fn kept_links_simulate<S, M, E>()
 /// 2·payloads + 2·edges·(R + 1) wires, where R is the last pulse.
 pub fn complete_lists_are_counted<S, M, E>()
     ensures law { (program : Program S M E) (net : Net) → IsNetwork net → CompleteListsAreCounted program net }
+{}
+
+/// A legal list of a link has at most 3·R + 1 wires, where R is the last pulse. So no link is pushed more often.
+pub fn legal_lists_are_short<S, M, E>()
+    ensures law { (program : Program S M E) (net : Net) → LegalListsAreShort program net }
+{}
+
+/// Nodes that simulate the synchronous run never all wait for each other: over links of any capacity but none, some
+/// node can take a wire, put one or make a pulse, or every node is drained and no link holds a wire.
+pub fn some_node_can_move<S, M, E>()
+    ensures law { (program : Program S M E) → OnEveryNetwork program (SomeNodeCanMove program) }
+{}
+
+/// Nor do they go on for ever: they make at most n·R + 2·wires events, where wires is 2·payloads + 2·edges·(R + 1), and
+/// payloads are those of the synchronous run. They have made as many exactly if the network is whole.
+pub fn events_are_bounded<S, M, E>()
+    ensures law { (program : Program S M E) → OnEveryNetwork program (EventsAreBounded program) }
+{}
+
+/// And there is one end. If the network is whole, each node is in the last state of the synchronous run, with nothing
+/// left at its ports: it is the same node whatever the order of the events was. And the list of each link is complete.
+pub fn whole_networks_have_ended<S, M, E>()
+    ensures law { (program : Program S M E) → OnEveryNetwork program (WholeNetworksHaveEnded program) }
 {}

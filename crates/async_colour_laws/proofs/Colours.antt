@@ -1,6 +1,6 @@
 -- The colours of halted nodes.
 use Rattle.std.proofs.Common.{◌≡◌, ℕ, ◌≤◌, sym, ap, ◌∙◌, subst}
-use Rattle.std.proofs.lemmas.Bool.{eqb-true}
+use Rattle.std.proofs.lemmas.Bool.{and_parts, eqb-true}
 use Rattle.std.proofs.lemmas.List.{get_or_default}
 use Rattle.alpha_laws.specs.interference.Net.{Net, IsNetwork, IsVertex, IsEdge, neighbours, forest_count_of, greatest_degree_of}
 use Rattle.alpha_laws.specs.node_api.Program.{last_pulse_on}
@@ -15,7 +15,8 @@ use Rattle.colour_laws.proofs.Proper.{colours_proper}
 use Rattle.colour_laws.proofs.Rounds.{rounds_are_program}
 use Rattle.colour_laws.proofs.Starts.{colour_at_last}
 use Rattle.net_core.proofs.KeptRuns.{reached_simulates}
-use Rattle.async_colour_laws.specs.Coloured.{HaltedAreColoured, HaltedOutcomesAreColoured, HaltedRunsAreColoured}
+use Rattle.progress_laws.proofs.Maximal.{end_of}
+use Rattle.async_colour_laws.specs.Coloured.{HaltedAreColoured, HaltedOutcomesAreColoured, HaltedRunsAreColoured, MaximalRunsAreColoured}
 
 -- a neighbour is a vertex
 neighbour_is : (net : Net) → IsNetwork net → (v w : ℕ) → IsEdge net v w → IsVertex net w
@@ -47,3 +48,8 @@ module _ (net : Net) (ok : IsNetwork net) where
 
   pub outcomes_coloured : HaltedOutcomesAreColoured net
   outcomes_coloured capacity transcript outcome is halted = halted_are_coloured _ _ _ is.simulates halted
+
+  pub maximal_coloured : MaximalRunsAreColoured net
+  maximal_coloured events state is terminal =
+      let end = end_of ok (runs colouring rounds_are_program net ok) events state is terminal in
+      runs_coloured events state is (λ v vertex. (and_parts _ _ (and_parts _ _ (end.whole.drained v vertex)).0).0)

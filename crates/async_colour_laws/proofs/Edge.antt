@@ -1,7 +1,12 @@
--- The network of the small run keeps what every network keeps.
-use Rattle.std.proofs.Common.{◌≡◌, ◌≢◌, ℕ, zero, suc, ◌<◌, ◌≤◌, refl, arith}
+-- The network of the small run keeps what every network keeps, and is whole if it is at both vertices.
+use Rattle.std.proofs.Common.{◌≡◌, ◌≢◌, ℕ, zero, suc, ◌<◌, ◌≤◌, true, Result, Ok, Err, [], refl, arith}
+use Rattle.std.specs.Prelude.{IfOk}
 use Rattle.alpha_laws.specs.interference.Net.{IsNetwork, IsVertex, id_of, id_bound, degree_of, neighbour_of, back_port_of}
 use Rattle.alpha_laws.below.interference.specs.declared.limits.TheConstants.{MAX_DEGREE}
+use Rattle.alpha_laws.specs.node_api.Program.{Program, last_pulse_on}
+use Rattle.alpha_laws.specs.alpha_core.View.{is_drained}
+use Rattle.net_core.specs.State.{State, node_of, link_at}
+use Rattle.progress_laws.specs.Ends.{IsWholeState}
 use Rattle.async_colour_laws.specs.Small.{edge}
 
 -- what holds at the two vertices holds at every vertex, and what holds at port 0 at every port
@@ -40,3 +45,19 @@ edge_is_network = record {
       (at_first (λ port. back_port_of edge 2 port < degree_of edge (neighbour_of edge 2 port)) (omega arith) port)
       v vertex.0 vertex.1 lt;
 }
+
+-- both nodes are drained, and neither link holds a wire
+abbrev pub BothDone : {S M E : Type 0} → Program S M E → State S M → Type 0
+BothDone program state =
+    (is_drained (last_pulse_on program edge) (node_of program edge state 1).view ≡ true)
+    × (is_drained (last_pulse_on program edge) (node_of program edge state 2).view ≡ true)
+    × ((link_at state.links 1 0).held ≡ []) × ((link_at state.links 2 0).held ≡ [])
+
+pub whole_if : {S M E X : Type 0} (program : Program S M E) (r : Result (State S M) X) → IfOk r (λ state. BothDone program state)
+    → IfOk r (λ state. IsWholeState program edge state)
+whole_if program (Ok state) (a, b, c, d) = record {
+  drained = λ v vertex. at_both (λ v. is_drained (last_pulse_on program edge) (node_of program edge state v).view ≡ true) a b v vertex.0 vertex.1;
+  empty = λ v i vertex. at_both (λ v. i < degree_of edge v → (link_at state.links v i).held ≡ [])
+      (at_first (λ i. (link_at state.links 1 i).held ≡ []) c i) (at_first (λ i. (link_at state.links 2 i).held ≡ []) d i) v vertex.0 vertex.1;
+}
+whole_if program (Err refused) done = done

@@ -13,6 +13,7 @@ use Rattle.colour_laws.specs.Colours.{colours}
 use Rattle.net_core.specs.declared.event.Event.{Event}
 use Rattle.net_core.specs.State.{State, node_of}
 use Rattle.net_core.specs.Step.{run}
+use Rattle.progress_laws.specs.Ends.{IsTerminal}
 
 -- every node is at the last pulse
 abbrev pub AllHalted : {S M E : Type 0} → Program S M E → Net → (ℕ → Node S M) → Type 0
@@ -43,3 +44,10 @@ HaltedOutcomesAreColoured net =
     (capacity : ℕ) (transcript : Bool) (outcome : Outcome colour.Node Payload)
     → IsOutcome colouring net capacity transcript outcome → AllHalted colouring net (node_in colouring net outcome)
     → AreColoured net (node_in colouring net outcome)
+
+-- After a list of events after which no event is possible, the nodes have these colours.
+abbrev pub MaximalRunsAreColoured : Net → Type 0
+MaximalRunsAreColoured net =
+    (events : List Event) (state : State colour.Node Payload)
+    → run colouring net events ≡ Ok state → IsTerminal colouring net state
+    → AreColoured net (node_of colouring net state)

@@ -6,6 +6,7 @@ use Rattle.net_core.specs.declared.event.Event.{Event}
 use Rattle.net_core.specs.declared.event.Event.TheVariants.{Pulse, Put, Take}
 use Rattle.net_core.specs.Step.{run}
 use Rattle.sync_rounds.specs.Spread.{spread}
+use Rattle.progress_laws.specs.Ends.{IsWholeState}
 
 abbrev pub edge : Net
 edge = record { ids = 1 ∷ 2 ∷ []; ports = (2 ∷ []) ∷ (1 ∷ []) ∷ [] }
@@ -22,3 +23,7 @@ whole_run = exchange ++ exchange ++ exchange ++ (Pulse 1 ∷ Pulse 2 ∷ exchang
 abbrev pub EndsWithTheGreatest : Type 0
 EndsWithTheGreatest = IfOk (run (spread 1) edge whole_run) (λ state.
     (map (λ node. node.view.pulse) state.nodes ≡ 1 ∷ 1 ∷ []) × (map (λ node. node.state.best) state.nodes ≡ 2 ∷ 2 ∷ []))
+
+-- and both are drained, and no link holds a wire
+abbrev pub EndsWhole : Type 0
+EndsWhole = IfOk (run (spread 1) edge whole_run) (λ state. IsWholeState (spread 1) edge state)

@@ -1,13 +1,15 @@
 //! What holds of nodes of the two programs. Each law is a function that does nothing: its contract is the law.
 
-ghost use Rattle.std.specs.Prelude.{IsOk, ℕ};
+ghost use Rattle.std.specs.Prelude.{◌≡◌, IsOk, length, ℕ};
 ghost use Rattle.alpha_laws.specs.interference.Net.{IsNetwork, Net};
+ghost use Rattle.alpha_laws.specs.Counts.{events_of_run};
 ghost use Rattle.sync_rounds.specs.Spread.{spread};
 ghost use Rattle.colour_laws.specs.colour_rules.Program.{colouring};
 ghost use Rattle.net_core.specs.Laws.{RunsAreExact, RunsSimulate};
 ghost use Rattle.net_core.specs.Step.{run};
 ghost use Rattle.async_colour_laws.specs.Coloured.{HaltedAreColoured, HaltedOutcomesAreColoured, HaltedRunsAreColoured};
-ghost use Rattle.async_colour_laws.specs.Small.{EndsWithTheGreatest, edge, whole_run};
+ghost use Rattle.async_colour_laws.specs.Coloured.{MaximalRunsAreColoured};
+ghost use Rattle.async_colour_laws.specs.Small.{EndsWhole, EndsWithTheGreatest, edge, whole_run};
 
 /// If all nodes of the colouring have halted, each has its colour of the definition; so neighbours differ,
 /// and there are at most Δ + 1 colours. The first clause holds of whatever ran the nodes, the second of lists
@@ -16,6 +18,12 @@ pub fn halted_nodes_are_coloured()
     ensures nodes { (net : Net) → IsNetwork net → HaltedAreColoured net }
     ensures runs { (net : Net) → IsNetwork net → HaltedRunsAreColoured net }
     ensures outcomes { (net : Net) → IsNetwork net → HaltedOutcomesAreColoured net }
+{}
+
+/// A list of events of the colouring after which no event is possible has coloured all nodes. Every list of events can
+/// be continued to one of these, since no list of events deadlocks (`progress_laws`).
+pub fn maximal_runs_are_coloured()
+    ensures law { (net : Net) → IsNetwork net → MaximalRunsAreColoured net }
 {}
 
 /// The simulation at the colouring.
@@ -30,9 +38,13 @@ pub fn runs_of_the_greatest()
     ensures exact { (last : ℕ) (net : Net) → IsNetwork net → RunsAreExact (spread last) net }
 {}
 
-/// A small run meets all premises, and halts: the two nodes of an edge end with the greater identifier.
+/// A small run meets all premises, and halts: the two nodes of an edge end with the greater identifier. It has 18
+/// events, which is as many as any run of this program there can have, and its state is whole.
 pub fn a_small_run_halts()
     ensures network { IsNetwork edge }
     ensures accepted { IsOk (run (spread 1) edge whole_run) }
     ensures ends { EndsWithTheGreatest }
+    ensures most { events_of_run (spread 1) edge ≡ 18 }
+    ensures many { length whole_run ≡ 18 }
+    ensures whole { EndsWhole }
 {}

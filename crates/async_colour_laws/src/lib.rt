@@ -5,7 +5,8 @@
 //! async_colour_laws::laws::halted_nodes_are_coloured(); // brings the law into a proof
 //! ```
 //!
-//! Limits: it is laws alone. That nodes halt is promised nowhere.
+//! Limits: it is laws alone. That nodes halt is promised nowhere: every list of events can be continued until they
+//! have, but whoever picks the events needn't pick these.
 #![tactic(auto)]
 
 pub mod laws;

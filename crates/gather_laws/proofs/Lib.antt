@@ -1,3 +1,4 @@
 pub mod Asides
 pub mod Whole
 pub mod Counts
+pub mod Progress

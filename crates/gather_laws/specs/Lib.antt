@@ -2,3 +2,4 @@ pub mod Outcome
 pub mod Laws
 pub mod Whole
 pub mod Counts
+pub mod Progress

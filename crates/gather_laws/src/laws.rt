@@ -5,6 +5,7 @@ ghost use Rattle.alpha_laws.specs.node_api.Program.{Program};
 ghost use Rattle.alpha_laws.specs.Laws.{OnEveryNetwork};
 ghost use Rattle.gather_laws.specs.Counts.{WholeOutcomesAreCounted};
 ghost use Rattle.gather_laws.specs.Laws.{MetNodesSimulate};
+ghost use Rattle.gather_laws.specs.Progress.{OutcomesAreBounded, OutcomesCanGoOn, WholeOutcomesHaveEnded};
 ghost use Rattle.gather_laws.specs.Whole.{WholeOutcomesAreComplete};
 ghost use Rattle.alpha_laws.specs.interference.Net.{IsNetwork, Net};
 
@@ -24,4 +25,23 @@ pub fn whole_outcomes_are_complete<S, M, E>()
 /// R is the last pulse; and the payloads are as many as the synchronous run sends.
 pub fn whole_outcomes_are_counted<S, M, E>()
     ensures law { (program : Program S M E) (net : Net) → IsNetwork net → WholeOutcomesAreCounted program net }
+{}
+
+/// No outcome deadlocks: it is whole, or one of its nodes can take a wire, put one or make a pulse, over links of any
+/// capacity but none. So a run that stopped before its end was stopped by its looks or a fault, and not because all
+/// nodes waited for each other.
+pub fn stopped_outcomes_can_go_on<S, M, E>()
+    ensures law { (program : Program S M E) → OnEveryNetwork program (OutcomesCanGoOn program) }
+{}
+
+/// The nodes of an outcome have made at most n·R + 2·wires events, where wires is 2·payloads + 2·edges·(R + 1), and
+/// payloads are those of the synchronous run. They have made as many exactly if the outcome is whole.
+pub fn outcomes_are_bounded<S, M, E>()
+    ensures law { (program : Program S M E) → OnEveryNetwork program (OutcomesAreBounded program) }
+{}
+
+/// If an outcome is whole, each node is in the last state of the synchronous run, with nothing left at its ports: it is
+/// the same node in every whole outcome, and after every list of events that can't be continued.
+pub fn whole_outcomes_have_ended<S, M, E>()
+    ensures law { (program : Program S M E) → OnEveryNetwork program (WholeOutcomesHaveEnded program) }
 {}

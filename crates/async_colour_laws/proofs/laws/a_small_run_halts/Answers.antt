@@ -1,6 +1,19 @@
 use Rattle.std.proofs.Common.{refl}
-use Rattle.async_colour_laws.proofs.Edge.{edge_is_network}
+use Rattle.std.specs.Prelude.{◌≡◌}
+use Rattle.alpha_laws.specs.node_api.Run as sync
+use Rattle.alpha_laws.specs.Counts.{events_of_run}
+use Rattle.sync_rounds.specs.Spread.{spread}
+use Rattle.net_core.specs.Step.{run}
+use Rattle.async_colour_laws.specs.Small.{EndsWhole, edge, whole_run}
+use Rattle.async_colour_laws.proofs.Edge.{edge_is_network, whole_if}
 use Rattle.async_colour_laws.proofs.laws.a_small_run_halts.Goals as goal
 
+most : events_of_run (spread 1) edge ≡ 18
+unfolding sync.node_at
+most = refl
+
+whole : EndsWhole
+whole = whole_if (spread 1) (run (spread 1) edge whole_run) (refl, refl, refl, refl)
+
 pub returns : goal.returns
-returns c = record { network = edge_is_network; accepted = refl; ends = (refl, refl) }
+returns c = record { network = edge_is_network; accepted = refl; ends = (refl, refl); most = most; many = refl; whole = whole }

@@ -1,0 +1,24 @@
+use Rattle.alpha_laws.proofs.Bounded.{bounded, counted_whole, whole_counted}
+use Rattle.gather_laws.specs.Outcome.{node_in}
+use Rattle.gather_laws.specs.Progress.{held_in, put_in, taken_in}
+use Rattle.gather_laws.proofs.Progress.{whole_from}
+use Rattle.gather_laws.proofs.Whole.{link_splits, whole_is}
+use Rattle.gather_laws.proofs.laws.outcomes_are_bounded.Goals as goal
+
+pub returns : goal.returns
+returns g c = record {
+  law = λ program laws net ok capacity transcript outcome is.
+      let nodes = node_in program net outcome in
+      let put = put_in outcome in
+      let taken = taken_in net outcome in
+      let held = held_in outcome in
+      let splits = link_splits program net ok capacity transcript outcome is in (
+        bounded program net ok nodes put taken held is.simulates splits,
+        (
+          λ whole. whole_counted program net ok nodes put taken held is.simulates splits
+              (whole_is program net ok capacity transcript outcome is whole),
+          λ many. whole_from program net ok capacity transcript outcome is
+              (counted_whole program net ok nodes put taken held is.simulates splits many),
+        ),
+      );
+}

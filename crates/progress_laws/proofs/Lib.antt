@@ -1,0 +1,6 @@
+pub mod Deadlock
+pub mod Counted
+pub mod Maximal
+pub mod Tables
+pub mod Fires
+pub mod Commute

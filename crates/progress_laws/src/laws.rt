@@ -1,0 +1,37 @@
+//! How far every list of events can go. Each law is a function that does nothing: its contract is the law.
+
+ghost use Rattle.alpha_laws.specs.node_api.Program.{Program};
+ghost use Rattle.alpha_laws.specs.Laws.{OnEveryNetwork};
+ghost use Rattle.progress_laws.specs.Commute.{EventsCommute};
+ghost use Rattle.progress_laws.specs.Laws.{MaximalRunsAgree, MaximalRunsEnd, NoDeadlock, RunsAreBounded};
+ghost use Rattle.progress_laws.specs.Laws.{RunsAreCounted, RunsCanBeCompleted, WholeStatesAreTerminal};
+
+/// In every state that a list of events reaches, some event is possible, or every node is drained and no link holds a
+/// wire; over links of any capacity but none. In a state of the second kind no event is possible.
+pub fn no_deadlock<S, M, E>()
+    ensures moves { (program : Program S M E) → OnEveryNetwork program (NoDeadlock program) }
+    ensures rests { (program : Program S M E) → OnEveryNetwork program (WholeStatesAreTerminal program) }
+{}
+
+/// A list of events has as many events as its state shows, so all lists that lead to one state are equally long. It has
+/// at most n·R + 2·wires events, where wires is 2·payloads + 2·edges·(R + 1); it has as many exactly if its state is
+/// whole; and it can be continued to a whole state, over links of any capacity but none.
+pub fn runs_are_bounded<S, M, E>()
+    ensures counted { (program : Program S M E) → OnEveryNetwork program (RunsAreCounted program) }
+    ensures bounded { (program : Program S M E) → OnEveryNetwork program (RunsAreBounded program) }
+    ensures completed { (program : Program S M E) → OnEveryNetwork program (RunsCanBeCompleted program) }
+{}
+
+/// A list of events after which no event is possible leads to a whole state, in which each node is in the last state of
+/// the synchronous run, with nothing left at its ports, and the list of each link is complete. So any two such lists
+/// are equally long, and each node is the same after both.
+pub fn one_end<S, M, E>()
+    ensures ends { (program : Program S M E) → OnEveryNetwork program (MaximalRunsEnd program) }
+    ensures agree { (program : Program S M E) → OnEveryNetwork program (MaximalRunsAgree program) }
+{}
+
+/// Of two events of different nodes that are possible in a state, each is possible after the other, and both orders
+/// lead to the same state. A put on a link and a take from it are events of different nodes.
+pub fn events_commute<S, M, E>()
+    ensures law { (program : Program S M E) → OnEveryNetwork program (EventsCommute program) }
+{}
