@@ -15,4 +15,6 @@ mod replay_checks;
 #[cfg(test)]
 mod runs;
 #[cfg(test)]
+mod stopped_checks;
+#[cfg(test)]
 mod transcript_checks;
