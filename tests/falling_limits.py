@@ -1,7 +1,6 @@
 """Each command with less and less address space (as `ulimit -v` sets it), until the program can't even be loaded: at each limit
 the answer is the right bytes, or one line that has a name."""
 import os
-import resource
 import subprocess
 import tempfile
 
@@ -13,6 +12,7 @@ from slow_reader import PROGRAM_OF, answer_to
 
 LIMIT = 60
 MOST, LEAST, FINE_STEPS = 2**30, 2**20, 40
+LINE = 'ulimit -v "$0"; export LD_PRELOAD="$1" STARTED="$2"; shift 2; exec "$@"'
 PATH = b"p edge 2000 1999\n" + b"".join(b"e %d %d\n" % (v, v + 1) for v in range(1, 2000))
 TRIANGLE = b"p edge 3 3\ne 1 2\ne 1 3\ne 2 3\n"
 PLAYED = 2 * (ALL_PUT + ALL_TAKE).replace("|", "\n").encode()
@@ -56,14 +56,11 @@ def limits_row(paths, front, words, data):
 def answer_within(program, front, data, limit):
     """The answer, or None if the program wasn't loaded."""
     reading, writing = os.pipe()
-    try:
-        done = subprocess.run(program, input=data, capture_output=True, timeout=LIMIT, pass_fds=(writing,),
-                              env={"LD_PRELOAD": front, "STARTED": str(writing)},
-                              preexec_fn=lambda: resource.setrlimit(resource.RLIMIT_AS, (limit, limit)))
-        os.close(writing)
-        return (done.returncode, done.stdout, done.stderr) if os.read(reading, 1) else None
-    finally:
-        os.close(reading)
+    with os.fdopen(reading, "rb") as mark:
+        with os.fdopen(writing, "wb"):
+            done = subprocess.run(["bash", "-c", LINE, str(limit // 1024), front, str(writing), *program], input=data,
+                                  capture_output=True, timeout=LIMIT, pass_fds=(writing,))
+        return (done.returncode, done.stdout, done.stderr) if mark.read(1) else None
 
 
 def is_allowed(name, words, data, answer):

@@ -27,14 +27,14 @@ TOP = os.path.dirname(os.path.dirname(os.path.abspath(__file__)))
 BATCH = 20_000
 TALLY = {"passed": 0, "failed": 0}
 
-# Of each command a small good text, and how often a random text is one of the command's, of 100 of them.
+# Of each command a small good text.
 SMALL = {
     "forests": "p edge 3 3|e 1 2|e 1 3|e 2 3|",
     "plain": "c|p col 2 1|e 1 2|",
     "plan": "p edge 2 1|e 2 1|",
     "check": EDGE + "plan|2 2|1 1|",
     "events": EDGE + "put 1 0|take 2 0|",
-    "replay": EDGE + "transcript 1 2|1 put 2 payload 0 hello 1|2 take 1 payload 0 hello 1|",
+    "replay": EDGE + "transcript 1 2|1 put 2 payload 0 hello 1|",
     "rounds": "p edge 1 0|n 1|",
 }
 # Texts of which each beginning is a text besides.
@@ -42,6 +42,9 @@ WHOLE = {
     "check": TRIANGLE + "plan|1 2|2 3|3 1|",
     "replay": EDGE + "transcript 1 2|1 put 2 close|2 put 1 close|1 take 2 close|2 take 1 close|",
 }
+# Commands that read a text of their own; the others read a network as `forests` does.
+READERS = ("forests", "check", "events", "replay")
+# How many of 100 random texts are for a command.
 SHARES = {"forests": 30, "plain": 3, "plan": 3, "check": 20, "events": 20, "replay": 20, "rounds": 4}
 # One worker, since a thread takes longer to start than a text to be read.
 WORDS = {"plan": ["plan", "--workers", "1"]}
@@ -102,7 +105,7 @@ def without_20_000_nodes(texts):
 
 
 def long_lines(data, length=2**20):
-    """A line as long as a megabyte, in front of the text, in the middle of it and behind it; and a number as long."""
+    """A line of a megabyte before the text, in the middle of it and behind it; and many blank lines."""
     for line in (b"c" * length, b" " * length, b"\t" * length, b"q" * length, b"e" * length, b"1" * length, b"\0" * length,
                  b"\xff" * length, b"\r" * length, b"c" + b"\r" * length, b"e 1 2 " + b"9 " * (length // 2),
                  b"e 1 " + b"0" * length + b"2", b"e 1 " + b"9" * length, b" " * length + b"e 1 2", b"p edge " + b"1" * length + b" 1"):
@@ -110,9 +113,9 @@ def long_lines(data, length=2**20):
         yield line + b"\n" + data
         yield data[:middle] + line + b"\n" + data[middle:]
         yield data + line
-    yield b"\n" * (16 * length) + data
-    yield data + b"\n" * (16 * length)
-    yield data + b"\r\n" * (8 * length)
+    for blank in (b"\n", b"\r\n", b" \n"):
+        yield blank * (length // 4) + data
+        yield data + blank * (length // 4)
 
 
 def main():
@@ -138,12 +141,12 @@ def all_rows(programs, count, seed):
     for command, small in SMALL.items():
         data = text(small)
         programs.row("each beginning", command, beginnings(text(WHOLE.get(command, small))))
-        programs.row("each byte at each place", command, each_byte(data))
         numbers = each_number(data)
         programs.row("numbers around powers of two", command,
                      numbers if command in ("forests", "check") else without_20_000_nodes(numbers))
-    for command in ("forests", "check", "events", "replay"):
-        programs.row("lines of a megabyte", command, long_lines(text(SMALL[command])))
+        if command in READERS:
+            programs.row("each byte at each place", command, each_byte(data))
+            programs.row("lines of a megabyte", command, long_lines(data))
     for command, share in SHARES.items():
         made, good = programs.row(f"random texts, seed {seed}", command, islice(texts_of(command, seed), count * share // 100))
         note(f"some of the texts are good, and most are not, {command}", made < 100 or made // 10 < good < made // 2, (made, good))

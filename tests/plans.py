@@ -108,13 +108,16 @@ def turn_rows(program):
             yield (f"{needed} turns for {data[:12]!r} with capacity {capacity}, and no less",
                    got == [(3, b"", STOPPED), (0, plan_text(data), b"")], got)
     for capacity in (1, 4):
-        needed, wrong = Run(network_of(TRIANGLE), capacity).looks, []
-        for turns in range(201):
-            got = answer_with(program, TRIANGLE, capacity, turns)
-            if got != ((3, b"", STOPPED) if turns < needed else (0, TRIANGLE_PLAN, b"")):
-                wrong.append((turns, got))
-        yield f"0 to 200 turns of one worker with capacity {capacity}: stopped, or the plan", not wrong, wrong[:3]
+        whole = Run(network_of(TRIANGLE), capacity)
+        for command, answer in (("plan", TRIANGLE_PLAN), ("transcript", whole.text())):
+            wrong = []
+            for turns in range(201):
+                got = answer_with(program, TRIANGLE, capacity, turns, command)
+                if got != ((3, b"", STOPPED) if turns < whole.looks else (0, answer, b"")):
+                    wrong.append((turns, got))
+            yield f"{command} by 0 to 200 turns of one worker with capacity {capacity}: stopped, or the answer", not wrong, wrong[:3]
 
 
-def answer_with(program, data, capacity, turns):
-    return answer_of(program, plan_words(1, capacity) + ["--turns", str(turns)], data)
+def answer_with(program, data, capacity, turns, command="plan"):
+    words = [command, "--workers", "1", "--capacity", str(capacity), "--turns", str(turns)]
+    return answer_of(program, words, data)

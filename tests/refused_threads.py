@@ -37,7 +37,10 @@ class Counted:
         """The answer; how many growths and threads were asked for, and how many threads were joined."""
         given = {"PATH": os.environ.get("PATH", ""), "LD_PRELOAD": self.front, "REFUSE": str(growth), "REFUSE_THREAD": str(thread),
                  "COUNT": self.growths, "COUNT_THREADS": self.threads}
-        done = subprocess.run([self.program, *words], input=data, capture_output=True, timeout=LIMIT, env=given)
+        try:
+            done = subprocess.run([self.program, *words], input=data, capture_output=True, timeout=LIMIT, env=given)
+        except subprocess.TimeoutExpired:
+            return "no end", 0, 0, 0
         return (done.returncode, done.stdout, done.stderr), numbers_in(self.growths)[0], *numbers_in(self.threads)
 
 
