@@ -9,6 +9,7 @@
   the program; and so is what its answers say of small networks and of a row of six.
 - These definitions fit together: on small networks the rounds, and any order of events, end with the colours.
 - Each excerpt of code, a fence whose first line names its file, has its lines in that file, in this order.
+- No crate is reached along more paths through crates.txt than tools/paths.py allows.
 - README.md names each crate. Each file named in backquotes exists, each link leads to a page and a heading, and each
   function and clause that a row of docs/PROMISES.md names is in the code.
 """
@@ -24,6 +25,8 @@ from plain_definition import Network, bit, colours, drop, merge, network_of, shi
 from shell import run_line
 
 TOP = os.path.dirname(os.path.dirname(os.path.abspath(__file__)))
+sys.path.insert(0, os.path.join(TOP, "tools"))
+from paths import MOST, paths
 PAGES = ["README.md"] + sorted(f"docs/{name}" for name in os.listdir(os.path.join(TOP, "docs")) if name.endswith(".md"))
 LIMIT = 60
 TALLY = {"passed": 0, "failed": 0}
@@ -303,7 +306,16 @@ def check_crates():
     note("crates in README.md", not missing, f"not named: {missing}")
 
 
+def check_paths():
+    """No crate is reached along so many paths through crates.txt that each check of it is slow."""
+    found = paths()
+    note("paths in crates.txt", max(found.values()) <= MOST, max(found, key=found.get))
+
+
 def main():
+    if sys.argv[1:] in (["--help"], ["-h"]):
+        print(__doc__.strip())
+        return 0
     programs = [os.path.join(TOP, "crates", name, "out", name) for name in ("forestplan", "forestplay")]
     if len(sys.argv) > 2:
         programs = [os.path.abspath(word) for word in sys.argv[1:3]]
@@ -316,6 +328,7 @@ def main():
         check_names(page)
         check_excerpts(page)
     check_crates()
+    check_paths()
     check_tutorial()
     check_definitions()
     check_promises()

@@ -18,9 +18,8 @@ TESTS = tests_of("node_checks")
 TRIED_AGAIN = ("net_core_checks::refused_growths::a_state_goes_on_after_a_refused_growth",
                "net_core_checks::refused_growths::a_list_runs_again_after_a_refused_growth",
                "link_queue_checks::a_link_meets_again_after_a_refused_growth")
-# Tests that return the same bytes or that memory ran out.
-BYTES_OR_MEMORY = (("checks", "byte_functions_checks::each_function_returns_its_bytes_or_runs_out_of_memory"),
-                   ("worker_checks", "plan_checks::plans_and_transcripts_are_the_same_or_run_out_of_memory"))
+# A test whose calls return the same bytes or that memory ran out.
+BYTES_OR_MEMORY = "memory_checks::each_function_returns_its_bytes_or_runs_out_of_memory"
 MOST = 5000
 
 
@@ -47,10 +46,10 @@ def refused_memory_rows(program, network, answer):
         rows.append(sweep(program, front, ["forests"], b"q\n", (1, b"", b"forestplan: F8 line 1\n")))
         rows.append(sweep(program, front, ["nothing"], b"", None))
         rows.append(sweep(program, front, ["--help"], b"", None))
-        for crate in ("node_checks", "checks", "worker_checks"):
+        for crate in ("node_checks", "worker_checks"):
             if not os.path.isfile(tests_of(crate)):
                 return rows + [(f"the tests of crates/{crate} are built", False, f"no file {tests_of(crate)}")]
-        rows += [bytes_or_memory(front, folder, tests_of(crate), name) for crate, name in BYTES_OR_MEMORY]
+        rows.append(bytes_or_memory(front, folder, tests_of("worker_checks"), BYTES_OR_MEMORY))
         return rows + [tried_again(front, folder, name) for name in TRIED_AGAIN]
 
 

@@ -1,13 +1,12 @@
 //! The answers to a text by the byte functions alone, and the report of each fault.
 
-use byte_functions::{
-    PlanFault, PoolFault, check_bytes, events_bytes, fault_report, forest_bytes, plain_bytes,
-    replay_bytes, rounds_bytes,
-};
 use channel_plan::CheckFault;
 use dimacs_col::ColFault;
-use event_texts::EventFault;
 use interference::NetFault;
+use serving::{
+    EventFault, PlanFault, PoolFault, check_bytes, events_bytes, fault_report, forest_bytes,
+    plain_bytes,
+};
 use std::alloc::Global;
 use std::process::Abort;
 use std::test::Fail;
@@ -175,55 +174,5 @@ fn plays_events(rt: HostRuntime) -> Result<(), Fail> {
     assert!(rt; answer.as_slice() == wanted.as_bytes());
     let fault = events_bytes(alloc, b"p edge 2 1\ne 1 2\nc\ntake 2 0\n");
     assert!(rt; fault.is_err_and(|fault| fault == PlanFault::Event(EventFault::LinkEmpty(4))));
-    Ok(())
-}
-
-const TRIANGLE: &[u8] = b"p edge 3 3\ne 1 2\ne 1 3\ne 2 3\n";
-
-const TRIANGLE_AND_PLAN: &[u8] = b"p edge 3 3\ne 1 2\ne 1 3\ne 2 3\nplan\n1 2\n2 3\n3 1\n";
-
-const EDGE_AND_EVENTS: &[u8] = b"p edge 2 1\ne 1 2\nput 1 0\ntake 2 0\nput 2 0\n";
-
-const EDGE_AND_TRANSCRIPT: &[u8] = b"p edge 2 1\ne 1 2\ntranscript 1 2\n\
-1 put 2 payload 0 hello 1\n2 take 1 payload 0 hello 1\n2 put 1 payload 0 hello 2\n";
-
-const EDGE_STATE: &[u8] =
-    b"node 1 pulse 0\nlink 1 2 taken 1\nnode 2 pulse 0\nlink 2 1 taken 0 payload 0 hello 2\n";
-
-const ONE_NODE_ROUNDS: &[u8] = b"rounds 1 1 0 0 12\n\
-pulse 0 greet\npulse 1 orient\npulse 2 seed\npulse 3 step\npulse 4 step\npulse 5 step\npulse 6 step\n\
-pulse 7 shift\npulse 8 drop\npulse 9 shift\npulse 10 drop\npulse 11 shift\npulse 12 drop\n";
-
-// tests/refused_memory.py runs this test with each allocation refused in turn: the bytes are the same, or the fault is
-// reported as memory.
-#[test]
-fn each_function_returns_its_bytes_or_runs_out_of_memory(rt: HostRuntime) -> Result<(), Fail> {
-    let alloc = rt.alloc();
-    let answers = [
-        (
-            forest_bytes(alloc, TRIANGLE),
-            b"forests 3 2\n0 1 2\n0 2 3\n1 1 3\n".as_slice(),
-        ),
-        (
-            plain_bytes(alloc, TRIANGLE),
-            b"plan\n1 2\n2 3\n3 1\n".as_slice(),
-        ),
-        (
-            check_bytes(alloc, TRIANGLE_AND_PLAN),
-            b"proper 3\n".as_slice(),
-        ),
-        (events_bytes(alloc, EDGE_AND_EVENTS), EDGE_STATE),
-        (replay_bytes(alloc, EDGE_AND_TRANSCRIPT), EDGE_STATE),
-        (rounds_bytes(alloc, b"p edge 1 0\n"), ONE_NODE_ROUNDS),
-    ];
-    for (answer, wanted) in answers {
-        match answer {
-            Ok(bytes) => assert!(rt; bytes.as_slice() == wanted),
-            Err(fault) => {
-                let report = fault_report(alloc, "name", fault)?;
-                assert!(rt; report.line.as_bytes() == b"name: memory\n".as_slice());
-            }
-        }
-    }
     Ok(())
 }

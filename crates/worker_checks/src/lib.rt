@@ -7,6 +7,8 @@ mod entries_checks;
 #[cfg(test)]
 mod meeting;
 #[cfg(test)]
+mod memory_checks;
+#[cfg(test)]
 mod node_pool_checks;
 #[cfg(test)]
 mod plan_checks;

@@ -2,9 +2,8 @@
 
 use crate::meeting::Meeting;
 use crate::runs::{greatest, path, small, triangle};
-use colour_program::Colouring;
-use interference::Network;
-use node_pool::{OpenGate, Options, PoolFault, run_workers};
+use alpha_core::Network;
+use byte_functions::{Colouring, OpenGate, Options, PoolFault, run_workers};
 use std::alloc::Global;
 use std::sync::Wait;
 use std::test::*;

@@ -3,9 +3,8 @@
 use crate::meeting::Meeting;
 use crate::node_pool_checks::PULSES;
 use byte_functions::{
-    OpenGate, Options, PlanFault, PoolFault, fault_report, plan_bytes, transcript_bytes,
+    ColFault, OpenGate, Options, PlanFault, PoolFault, plan_bytes, transcript_bytes,
 };
-use dimacs_col::ColFault;
 use std::test::Fail;
 
 const TRIANGLE: &[u8] = b"p edge 3 3\ne 1 2\ne 1 3\ne 2 3\n";
@@ -127,36 +126,5 @@ fn two_workers_make_a_transcript_at_once(rt: HostRuntime) -> Result<(), Fail> {
     let transcript = transcript_bytes(&rt, rt.alloc(), TRIANGLE, options(2, 4, AMPLE), &gate)?;
     assert!(rt; gate.saw_two_at_once(PULSES));
     assert!(rt; transcript.as_slice().starts_with(b"transcript 1 3\n"));
-    Ok(())
-}
-
-// tests/refused_memory.py runs this test with each allocation refused in turn: the bytes are the same, or the fault is
-// reported as memory, or as a thread, which takes memory to start.
-#[test]
-fn plans_and_transcripts_are_the_same_or_run_out_of_memory(rt: HostRuntime) -> Result<(), Fail> {
-    let alloc = rt.alloc();
-    let options = options(1, 4, AMPLE);
-    let answers = [
-        (
-            plan_bytes(&rt, alloc, TRIANGLE, options, &OpenGate),
-            TRIANGLE_PLAN,
-        ),
-        (
-            transcript_bytes(&rt, alloc, APART, options, &OpenGate),
-            APART_TRANSCRIPT,
-        ),
-    ];
-    for (answer, wanted) in answers {
-        match answer {
-            Ok(bytes) => assert!(rt; bytes.as_slice() == wanted),
-            Err(fault) => {
-                let report = fault_report(alloc, "name", fault)?;
-                let line = report.line.as_bytes();
-                assert!(rt;
-                    line == b"name: memory\n".as_slice() || line == b"name: threads\n".as_slice()
-                );
-            }
-        }
-    }
     Ok(())
 }

@@ -2,9 +2,8 @@
 
 use crate::runs::{holds, run_of_one, triangle};
 use alpha_core::Wire;
-use colour_program::{Colouring, Payload};
+use byte_functions::{Colouring, OpenGate, Options, Payload, run_workers};
 use entries::{Entries, Entry};
-use node_pool::{OpenGate, Options, run_workers};
 use std::alloc::Global;
 use std::test::Fail;
 

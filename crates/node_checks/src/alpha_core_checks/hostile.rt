@@ -2,10 +2,8 @@
 //! those it took.
 
 use crate::alpha_core_checks::alone::{Act, Played, ask, leaf, play, put_next};
-use alpha_core::{AlphaNode, AlphaRefused, Wire};
+use alpha_core::{AlphaNode, AlphaRefused, Network, Refused, Wire};
 use colour_program::{Colouring, Payload};
-use interference::Network;
-use node_api::Refused;
 use std::test::Fail;
 use sync_rounds::Greatest;
 

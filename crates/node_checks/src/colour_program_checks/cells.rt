@@ -2,10 +2,9 @@
 
 use crate::colour_program_checks::fed::made;
 use crate::colour_program_checks::twins::{go_on_alike, show};
+use alpha_core::{Network, Refused};
 use colour_program::Payload;
 use colour_program::rules::{AFTER_HALT, WRONG_KIND, WRONG_ROLE};
-use interference::Network;
-use node_api::Refused;
 use std::alloc::Global;
 use std::process::Abort;
 use std::test::Fail;

@@ -2,15 +2,14 @@
 //! both go on alike.
 
 ghost use Rattle.std.specs.Prelude.{◌≡◌, IfOk};
-ghost use Rattle.interference.specs.Net.{IsVertex, degree_of};
-ghost use Rattle.colour_rules.specs.Node.{ports};
+ghost use Rattle.alpha_core.specs.interference.Net.{IsVertex, degree_of};
+ghost use Rattle.colour_program.specs.colour_rules.Node.{ports};
 
 use crate::colour_program_checks::fed::{feed, made};
+use alpha_core::{Memory, Network, Refused};
 use colour_program::Payload::{Chosen, Colour, Hello, Label};
 use colour_program::rules::{AFTER_HALT, COLOUR_RANGE, FOREST_RANGE, WRONG_KIND, WRONG_ROLE};
 use colour_program::{Colouring, Payload};
-use interference::{Memory, Network};
-use node_api::Refused;
 use std::alloc::Global;
 use std::test::Fail;
 
