@@ -1,5 +1,5 @@
 """`plan` and `transcript` if a thread is refused, or memory while threads run: they end in one line or in the right answer, and
-each thread that was started has been joined."""
+each thread that was started comes to its end."""
 import os
 import subprocess
 import tempfile
@@ -34,13 +34,13 @@ class Counted:
         self.growths, self.threads = os.path.join(folder, "growths"), os.path.join(folder, "threads")
 
     def run(self, words, data, growth=0, thread=0):
-        """The answer; how many growths and threads were asked for, and how many threads were joined."""
+        """The answer; how many growths were asked for; and how many threads were, how many started, and how many ended."""
         given = {"PATH": os.environ.get("PATH", ""), "LD_PRELOAD": self.front, "REFUSE": str(growth), "REFUSE_THREAD": str(thread),
                  "COUNT": self.growths, "COUNT_THREADS": self.threads}
         try:
             done = subprocess.run([self.program, *words], input=data, capture_output=True, timeout=LIMIT, env=given)
         except subprocess.TimeoutExpired:
-            return "no end", 0, 0, 0
+            return "no end", 0, 0, 0, 0
         return (done.returncode, done.stdout, done.stderr), numbers_in(self.growths)[0], *numbers_in(self.threads)
 
 
@@ -54,16 +54,16 @@ def numbers_in(name):
 
 def each_thread(counted, title, data, numbers):
     """With each number of workers: as many threads are asked for, and if the first, the second, .. of them is refused, no other is
-    asked for, and those before it are joined."""
+    asked for, and those before it end."""
     wrong, refused = [], 0
     for workers in numbers:
         words = ["plan", "--workers", str(workers)]
         for thread in range(workers + 1):
-            answer, _, asked, joined = counted.run(words, data, thread=thread)
-            wanted = (THREADS, thread, thread - 1) if thread else ((0, plan_text(data), b""), workers, workers)
+            answer, _, *threads = counted.run(words, data, thread=thread)
+            wanted = (THREADS, [thread, thread - 1, thread - 1]) if thread else ((0, plan_text(data), b""), [workers] * 3)
             refused += thread > 0
-            if (answer, asked, joined) != wanted:
-                wrong.append((workers, thread, answer, asked, joined))
+            if (answer, threads) != wanted:
+                wrong.append((workers, thread, answer, threads))
     return f"each of 1 to {max(numbers)} threads refused in turn: plan of {title}, {refused} refusals", not wrong, wrong[:3]
 
 
@@ -82,14 +82,14 @@ def growths_of_workers(counted, command):
     wrong, late, whole = [], 0, 0
     for workers in (2, 4, 16) * 3:
         words = [command, "--workers", str(workers)]
-        _, ample, _, _ = counted.run(words, TRIANGLE)
+        _, ample, *_ = counted.run(words, TRIANGLE)
         for growth in range(1, ample + 20):
-            answer, _, asked, joined = counted.run(words, TRIANGLE, growth=growth)
+            answer, _, _, started, ended = counted.run(words, TRIANGLE, growth=growth)
             is_refused = answer == THREADS or answer == MEMORY
-            late += answer == MEMORY and asked == workers
+            late += answer == MEMORY and started == workers
             whole += not is_refused
-            if not (is_refused or is_right(command, answer)) or joined != asked - (answer == THREADS):
-                wrong.append((workers, growth, answer, asked, joined))
+            if not (is_refused or is_right(command, answer)) or ended != started:
+                wrong.append((workers, growth, answer, started, ended))
     late_enough = late > 0 or command == "plan"
     return (f"each growth refused in turn: {command} with 2, 4 and 16 workers, {late} of them once all threads were started",
             not wrong and whole > 0 and late_enough, wrong[:3] or (late, whole))
