@@ -21,6 +21,7 @@ from plain_definition import forests_text, plan_text
 from plain_networks import plain_network_rows
 from plans import plan_rows
 from refused_memory import refused_memory_rows
+from refused_threads import refused_thread_rows
 from verdicts import verdict_rows
 
 TOP = os.path.dirname(os.path.dirname(os.path.abspath(__file__)))
@@ -335,7 +336,7 @@ def main():
             note("the second compiler built the program", os.path.isfile(given.second), given.second)
             if os.path.isfile(given.second):
                 second_compiler_rows(os.path.abspath(given.second))
-        more = plain_network_rows(PROGRAM) + plan_rows(PROGRAM, queens())
+        more = plain_network_rows(PROGRAM) + plan_rows(PROGRAM) + refused_thread_rows(PROGRAM, queens())
         more += refused_memory_rows(PROGRAM, text(TRIANGLE), text(TRIANGLE_FORESTS))
         more += allocation_rows(PROGRAM) + verdict_rows(PROGRAM, os.path.join(TOP, "examples"))
         for name, good, what in more:

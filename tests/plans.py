@@ -1,18 +1,15 @@
-"""`plan`, which runs the nodes on worker threads: its bytes beside those of `plain`, whatever its options are; runs that
-stop; threads and memory that are refused. No time decides a result, but that a run of more than a minute has failed.
+"""`plan`, which runs the nodes on worker threads: its bytes beside those of `plain`, whatever its options are; and runs that
+stop. No time decides a result, but that a run of more than a minute has failed.
 
 That the bytes are the right ones is shown of `plain`, by plain_networks.py."""
 import itertools
-import os
 import random
 import subprocess
-import tempfile
 
-from plain_definition import plan_text
+from one_worker import Run
+from plain_definition import network_of, plan_text
 from plain_networks import FAMILIES, SEED, text_of
-from refused_memory import build_front, sweep
 
-HERE = os.path.dirname(os.path.abspath(__file__))
 LIMIT = 60
 MOST_TOLD = 2000
 
@@ -21,7 +18,7 @@ SMALL_FAMILY, SMALL_NETWORKS = "random on up to 12 nodes", 20
 
 TRIANGLE = b"p edge 3 3\ne 1 2\ne 1 3\ne 2 3\n"
 TRIANGLE_PLAN = b"plan\n1 2\n2 3\n3 1\n"
-STOPPED, THREADS = b"forestplan: stopped\n", b"forestplan: threads\n"
+STOPPED = b"forestplan: stopped\n"
 
 # (words behind `plan`, input, status, standard output, standard error)
 WORKED_RUNS = [
@@ -42,12 +39,11 @@ WORKED_RUNS = [
      for workers in (1, 2, 8, 64) for capacity in (1, 4)]
 
 
-def plan_rows(program, queens):
-    """Rows (name, good, what). `queens` is a network on which threads are refused besides."""
+def plan_rows(program):
+    """Rows (name, good, what)."""
     rows = [one_row(program, *row) for row in WORKED_RUNS]
     rows += [family_row(program, index) for index in range(len(FAMILIES))]
-    rows.append(small_row(program))
-    return rows + refused_rows(program, queens)
+    return rows + [small_row(program)] + list(turn_rows(program))
 
 
 def answer_of(program, words, data, environment=None):
@@ -102,37 +98,26 @@ def texts_of(family):
         yield text_of(source, nodes, edges)
 
 
-def refused_rows(program, queens):
-    with tempfile.TemporaryDirectory() as folder:
-        growths, failure = build_front(folder)
-        threads, thread_failure = build_front(folder, "refuse_thread")
-        if failure is not None or thread_failure is not None:
-            return [("the libraries that refuse growths and threads build", False, failure or thread_failure)]
-        rows = [thread_row(program, threads, folder, plan_words(workers, 4), name, network)
-                for workers, name, network in [(1, "triangle", TRIANGLE), (4, "triangle", TRIANGLE), (4, "queen5_5", queens),
-                                               (64, "triangle", TRIANGLE)]]
-        # To start a thread takes memory of the system's own; where that is refused, the thread is. With one worker the
-        # transcript is the same each time; that it is right is for transcripts.py.
-        words = ["transcript", "--workers", "1"]
-        for one, wanted in [(["plan", "--workers", "1"], (0, TRIANGLE_PLAN, b"")), (words, answer_of(program, words, TRIANGLE))]:
-            rows.append(sweep(program, growths, one, TRIANGLE, wanted, or_else=(4, b"", THREADS)))
-        return rows
+def turn_rows(program):
+    """One worker stops with one turn less than its run needs, by the definition of a turn, and with as many it has the plan. A
+    link that held another number of wires, or another number of turns, would move that limit."""
+    for data in (TRIANGLE, b"p edge 2 0\n", b"p edge 2 1\ne 1 2\n", b"p edge 5 5\ne 1 2\ne 2 3\ne 3 4\ne 4 5\ne 1 5\n"):
+        for capacity in (1, 2, 64):
+            needed = Run(network_of(data), capacity).looks
+            got = [answer_with(program, data, capacity, turns) for turns in (needed - 1, needed)]
+            yield (f"{needed} turns for {data[:12]!r} with capacity {capacity}, and no less",
+                   got == [(3, b"", STOPPED), (0, plan_text(data), b"")], got)
+    for capacity in (1, 4):
+        whole = Run(network_of(TRIANGLE), capacity)
+        for command, answer in (("plan", TRIANGLE_PLAN), ("transcript", whole.text())):
+            wrong = []
+            for turns in range(201):
+                got = answer_with(program, TRIANGLE, capacity, turns, command)
+                if got != ((3, b"", STOPPED) if turns < whole.looks else (0, answer, b"")):
+                    wrong.append((turns, got))
+            yield f"{command} by 0 to 200 turns of one worker with capacity {capacity}: stopped, or the answer", not wrong, wrong[:3]
 
 
-def thread_row(program, front, folder, words, title, network):
-    """Refuses thread 1, 2, .. until a run asks for fewer: each answer is `threads`, and the last the plan."""
-    name = f"each thread refused in turn: {' '.join(words)} of {title}"
-    counted = os.path.join(folder, "threads")
-    plan, refusal = (0, plan_text(network), b""), (4, b"", THREADS)
-    for k in range(1, 1000):
-        if os.path.exists(counted):
-            os.remove(counted)
-        given = {"PATH": os.environ.get("PATH", ""), "LD_PRELOAD": front, "REFUSE": str(k), "COUNT": counted}
-        got = answer_of(program, words, network, given)
-        with open(counted, encoding="ascii") as file:
-            asked = int(file.read())
-        if got != (plan if asked < k else refusal):
-            return name, False, f"thread {k} of {asked}: {got}"
-        if asked < k:
-            return name, k > 1, f"{asked} threads"
-    return name, False, "still refused after 1000 threads"
+def answer_with(program, data, capacity, turns, command="plan"):
+    words = [command, "--workers", "1", "--capacity", str(capacity), "--turns", str(turns)]
+    return answer_of(program, words, data)

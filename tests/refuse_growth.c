@@ -2,11 +2,12 @@
    how many calls there were to the file COUNT. Both are words of the environment. For LD_PRELOAD. */
 #define _GNU_SOURCE
 #include <dlfcn.h>
+#include <stdatomic.h>
 #include <stddef.h>
 #include <stdio.h>
 #include <stdlib.h>
 
-static long calls, refused = -1;
+static atomic_long calls, refused = -1;
 
 static int is_refused(void) {
     if (refused < 0) {

@@ -6,10 +6,20 @@ import tempfile
 from plain_definition import plan_text
 
 HERE = os.path.dirname(os.path.abspath(__file__))
-# Built by `rt ci`, or by `rt test` in crates/node_checks.
-TESTS = os.path.join(os.path.dirname(HERE), "crates", "node_checks", "out", "node_checks_tests")
+
+
+def tests_of(crate):
+    """The tests of a crate, built by `rt ci`, or by `rt test` in that crate."""
+    return os.path.join(os.path.dirname(HERE), "crates", crate, "out", crate + "_tests")
+
+
+TESTS = tests_of("node_checks")
 # Tests that try again what memory is refused to once.
-TRIED_AGAIN = ("a_state_goes_on_after_a_refused_growth", "a_list_runs_again_after_a_refused_growth")
+TRIED_AGAIN = ("net_core_checks::refused_growths::a_state_goes_on_after_a_refused_growth",
+               "net_core_checks::refused_growths::a_list_runs_again_after_a_refused_growth",
+               "link_queue_checks::a_link_meets_again_after_a_refused_growth")
+# A test whose calls return the same bytes or that memory ran out.
+BYTES_OR_MEMORY = "memory_checks::each_function_returns_its_bytes_or_runs_out_of_memory"
 MOST = 5000
 
 
@@ -36,14 +46,25 @@ def refused_memory_rows(program, network, answer):
         rows.append(sweep(program, front, ["forests"], b"q\n", (1, b"", b"forestplan: F8 line 1\n")))
         rows.append(sweep(program, front, ["nothing"], b"", None))
         rows.append(sweep(program, front, ["--help"], b"", None))
-        if not os.path.isfile(TESTS):
-            return rows + [("the tests of crates/node_checks are built", False, f"no file {TESTS}")]
+        for crate in ("node_checks", "worker_checks"):
+            if not os.path.isfile(tests_of(crate)):
+                return rows + [(f"the tests of crates/{crate} are built", False, f"no file {tests_of(crate)}")]
+        rows.append(bytes_or_memory(front, folder, tests_of("worker_checks"), BYTES_OR_MEMORY))
         return rows + [tried_again(front, folder, name) for name in TRIED_AGAIN]
+
+
+def bytes_or_memory(front, folder, tests, name):
+    """Refuses each growth of a test in turn: it passes, and most refusals are the end of a call, so that fewer growths follow."""
+    ample = count(front, folder, [tests, name]) or 0
+    counts = [count(front, folder, [tests, name], refused=refused) for refused in range(1, ample + 1)]
+    wrong = [k for k, made in enumerate(counts, 1) if made is None]
+    fewer = sum(made is not None and made < ample for made in counts)
+    return f"each growth refused in turn: {name}", not wrong and 2 * fewer > ample > 0, f"of {ample} growths: {wrong}, {fewer} led to fewer"
 
 
 def tried_again(front, folder, name):
     """Refuses each growth of a test in turn: it passes, and then asks more often for memory than if nothing is refused."""
-    words = [TESTS, f"net_core_checks::refused_growths::{name}"]
+    words = [TESTS, name]
     ample = count(front, folder, words) or 0
     counts = [count(front, folder, words, refused=refused) for refused in range(1, ample + 1)]
     wrong = [k for k, made in enumerate(counts, 1) if made is None or made <= ample]

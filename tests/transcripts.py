@@ -18,6 +18,7 @@ import tempfile
 from alpha_definition import NetState, Refused, last_pulse, wire_words
 from check_transcript import Wrong, find_order, first_refused, in_order, make, read, unfinished, whole_run
 from made_transcripts import MISTAKES, made_transcript, mixed_text, transcript_text, with_mistake
+from one_worker import Run
 from plain_definition import network_of
 from plain_networks import all_small, cycle, path, random_of, star, text_of, tree, two_sided
 
@@ -347,8 +348,17 @@ def program_rows(program):
     for workers in WORKERS:
         done = transcript_by(program, ["--workers", str(workers)], b"p col 2 0\n")
         note(f"two nodes apart, {workers} workers", done == (0, text(APART), b""), done)
-    once, again = (transcript_by(program, ["--workers", "1"], networks()[-1][0]) for _ in range(2))
-    note("one worker writes the same again", once == again, once[0])
+
+
+def one_worker_rows(program):
+    """With one worker the whole text is known: what it does in a look is defined, and nobody else does anything."""
+    wrong, count = [], 0
+    for count, (network, net) in enumerate(networks(), 1):
+        capacity = CAPACITIES[count % 3]
+        done = transcript_by(program, ["--workers", "1", "--capacity", str(capacity)], network)
+        if done != (0, Run(net, capacity).text(), b""):
+            wrong.append((network, capacity, done))
+    note(f"the transcripts of one worker of {count} networks, by the definition", not wrong, f"{len(wrong)}: {wrong[:1]}")
 
 
 def transcript_by(program, words, network):
@@ -376,6 +386,7 @@ def main():
     mistake_rows(given.play and os.path.abspath(given.play))
     if given.program:
         program_rows(os.path.abspath(given.program))
+        one_worker_rows(os.path.abspath(given.program))
     print(f"{TALLY['passed']} passed, {TALLY['failed']} failed")
     return 1 if TALLY["failed"] else 0
 

@@ -9,79 +9,158 @@ use std::thread::Threads;
 
 const FORESTS: [&str; 2] = ["forestplan", "forests"];
 
-// 29 bytes: ten reads of three, and one that meets the end.
 const TRIANGLE: &[u8] = b"p edge 3 3\ne 1 2\ne 1 3\ne 2 3\n";
 
-// 30 bytes: ten writes of three.
 const TRIANGLE_FORESTS: &[u8] = b"forests 3 2\n0 1 2\n0 2 3\n1 1 3\n";
+
+const TRIANGLE_PLAN: &[u8] = b"plan\n1 2\n2 3\n3 1\n";
 
 const STREAM: &[u8] = b"forestplan: stream\n";
 
+// Of each command the program, the words, a text, and the answer.
+const COMMANDS: [(Program, &[&str], &[u8], &[u8]); 8] = [
+    (Program::Forestplan, &FORESTS, TRIANGLE, TRIANGLE_FORESTS),
+    (
+        Program::Forestplan,
+        &["forestplan", "plain"],
+        TRIANGLE,
+        TRIANGLE_PLAN,
+    ),
+    (
+        Program::Forestplan,
+        &["forestplan", "plan", "--workers", "2"],
+        TRIANGLE,
+        TRIANGLE_PLAN,
+    ),
+    (
+        Program::Forestplan,
+        &["forestplan", "transcript", "--workers", "2"],
+        b"p edge 2 0\n",
+        b"transcript 1 2\n\
+1 pulse 1\n1 pulse 2\n1 pulse 3\n1 pulse 4\n1 pulse 5\n1 pulse 6\n\
+1 pulse 7\n1 pulse 8\n1 pulse 9\n1 pulse 10\n1 pulse 11\n1 pulse 12\n\
+2 pulse 1\n2 pulse 2\n2 pulse 3\n2 pulse 4\n2 pulse 5\n2 pulse 6\n\
+2 pulse 7\n2 pulse 8\n2 pulse 9\n2 pulse 10\n2 pulse 11\n2 pulse 12\n",
+    ),
+    (
+        Program::Forestplan,
+        &["forestplan", "check"],
+        b"p edge 2 1\ne 1 2\nplan\n1 2\n2 1\n",
+        b"proper 2\n",
+    ),
+    (
+        Program::Forestplay,
+        &["forestplay", "events"],
+        b"p edge 2 1\ne 1 2\nput 1 0\n",
+        b"node 1 pulse 0\nlink 1 2 taken 0 payload 0 hello 1\nnode 2 pulse 0\nlink 2 1 taken 0\n",
+    ),
+    (
+        Program::Forestplay,
+        &["forestplay", "replay"],
+        b"p edge 1 0\ntranscript 1 1\n1 pulse 1\n1 pulse 2\n",
+        b"node 1 pulse 2\n",
+    ),
+    (
+        Program::Forestplay,
+        &["forestplay", "rounds"],
+        b"p edge 1 0\n",
+        b"rounds 1 1 0 0 12\n\
+pulse 0 greet\npulse 1 orient\npulse 2 seed\npulse 3 step\npulse 4 step\npulse 5 step\npulse 6 step\n\
+pulse 7 shift\npulse 8 drop\npulse 9 shift\npulse 10 drop\npulse 11 shift\npulse 12 drop\n",
+    ),
+];
+
+// The line of a stream that failed.
+fn stream_line(program: Program) -> &'static [u8] {
+    match program {
+        Program::Forestplan => STREAM,
+        Program::Forestplay => b"forestplay: stream\n",
+    }
+}
+
+// How often so many bytes are read, or written: three at a time.
+fn turns_of(bytes: &[u8]) -> u32 {
+    bytes.len().div_ceil(3) as u32
+}
+
+// One read more meets the end, and the one behind that never comes.
 #[test]
-fn fails_at_each_read(rt: HostRuntime) -> Result<(), Fail> {
+fn each_command_fails_at_each_read(rt: HostRuntime) -> Result<(), Fail> {
     let alloc = rt.alloc();
-    for k in 0..12 {
-        let mut input = Reader::new(TRIANGLE, k);
-        let mut output = Writer::new(alloc, NEVER, false);
-        let mut errors = Writer::new(alloc, NEVER, false);
-        let status = serve(
-            &rt,
-            alloc,
-            Program::Forestplan,
-            &FORESTS,
-            &mut input,
-            &mut output,
-            &mut errors,
-        );
-        let is_failed = k < 11;
-        assert_eq!(rt; status, if is_failed { 4 } else { 0 }, "at read {k}");
-        assert_eq!(rt;
-            input.reads,
-            if is_failed { k + 1 } else { 11 },
-            "at read {k}"
-        );
-        if is_failed {
-            assert!(rt; output.bytes.is_empty(), "at read {k}");
-            assert!(rt; errors.bytes.as_slice() == STREAM, "at read {k}");
-        } else {
-            assert!(rt; output.bytes.as_slice() == TRIANGLE_FORESTS, "at read {k}");
-            assert!(rt; errors.bytes.is_empty(), "at read {k}");
+    for (program, words, text, answer) in COMMANDS {
+        let reads = turns_of(text) + 1;
+        for k in 0..reads + 1 {
+            let mut input = Reader::new(text, k);
+            let mut output = Writer::new(alloc, NEVER, false);
+            let mut errors = Writer::new(alloc, NEVER, false);
+            let status = serve(
+                &rt,
+                alloc,
+                program,
+                words,
+                &mut input,
+                &mut output,
+                &mut errors,
+            );
+            let is_failed = k < reads;
+            let (written, line): (&[u8], &[u8]) = if is_failed {
+                (b"", stream_line(program))
+            } else {
+                (answer, b"")
+            };
+            assert_eq!(rt;
+                status,
+                if is_failed { 4 } else { 0 },
+                "{words:?}, read {k}"
+            );
+            assert_eq!(rt;
+                input.reads,
+                if is_failed { k + 1 } else { reads },
+                "{words:?}, read {k}"
+            );
+            assert!(rt; output.bytes.as_slice() == written, "{words:?}, read {k}");
+            assert!(rt; errors.bytes.as_slice() == line, "{words:?}, read {k}");
         }
     }
     Ok(())
 }
 
-// The write after the last byte is one that never comes.
+// The write behind the last byte never comes.
 #[test]
-fn fails_at_each_write(rt: HostRuntime) -> Result<(), Fail> {
+fn each_command_fails_at_each_write(rt: HostRuntime) -> Result<(), Fail> {
     let alloc = rt.alloc();
-    for takes_none in [false, true] {
-        for k in 0..11 {
-            let mut input = Reader::new(TRIANGLE, NEVER);
-            let mut output = Writer::new(alloc, k, takes_none);
+    for (program, words, text, answer) in COMMANDS {
+        let writes = turns_of(answer);
+        for k in 0..2 * (writes + 1) {
+            let mut input = Reader::new(text, NEVER);
+            let mut output = Writer::new(alloc, k / 2, k % 2 == 1);
             let mut errors = Writer::new(alloc, NEVER, false);
             let status = serve(
                 &rt,
                 alloc,
-                Program::Forestplan,
-                &FORESTS,
+                program,
+                words,
                 &mut input,
                 &mut output,
                 &mut errors,
             );
-            let is_failed = k < 10;
-            assert_eq!(rt; status, if is_failed { 4 } else { 0 }, "at write {k}");
+            let is_failed = k / 2 < writes;
+            let (count, line): (usize, &[u8]) = if is_failed {
+                (3 * (k / 2) as usize, stream_line(program))
+            } else {
+                (answer.len(), b"")
+            };
             assert_eq!(rt;
-                output.writes,
-                if is_failed { k + 1 } else { 10 },
-                "at write {k}"
+                status,
+                if is_failed { 4 } else { 0 },
+                "{words:?}, write {k}"
             );
+            assert!(rt; output.bytes.len() == count, "{words:?}, write {k}");
             assert!(rt;
-                output.bytes.as_slice() == &TRIANGLE_FORESTS[..3 * k as usize],
-                "at write {k}"
+                answer.starts_with(output.bytes.as_slice()),
+                "{words:?}, write {k}"
             );
-            let line: &[u8] = if is_failed { STREAM } else { b"" };
-            assert!(rt; errors.bytes.as_slice() == line, "at write {k}");
+            assert!(rt; errors.bytes.as_slice() == line, "{words:?}, write {k}");
         }
     }
     Ok(())

@@ -2,4 +2,5 @@
 
 mod alone;
 mod cells;
+mod hostile;
 mod runs;

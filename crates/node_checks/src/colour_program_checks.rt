@@ -3,3 +3,4 @@
 mod cells;
 mod fed;
 mod refusals;
+mod twins;

@@ -1,11 +1,11 @@
-//! A link of capacity 1 in one thread, at the colouring.
+//! Links of capacity 1 in one thread, at the colouring.
 
 ghost use Rattle.std.specs.Prelude.{◌≡◌};
 ghost use Rattle.node_checks.specs.LinkRows.{pair_net};
 
 use alpha_core::{Memory, Network, Wire};
 use colour_program::{Colouring, Payload};
-use link_queue::{Full, Link};
+use link_queue::{Full, Link, MeetRefused};
 use std::alloc::Global;
 use std::sync::Wait;
 
@@ -51,4 +51,38 @@ pub fn one_after_another<R: Wait>(rt: &R, alloc: Global, network: &Network) -> R
         taken_again,
         held,
     })
+}
+
+/// The one wire that a link holds when its ends meet after a put. If memory is refused to the meeting, the ends meet again.
+pub fn met_again<R: Wait>(
+    rt: &R,
+    alloc: Global,
+    network: &Network,
+) -> Result<Option<Wire<Payload>>, Memory>
+    requires network { network.now ≡ pair_net }
+{
+    let (link, mut put_end, take_end) = Link::<Colouring>::new(alloc, network, 1, 0, 1)?;
+    if link
+        .put(rt, &mut put_end, Wire::Payload(0, Payload::Hello(1)))
+        .is_err()
+    {
+        return Ok(None);
+    }
+    let met = match link.meet(rt, alloc, put_end, take_end) {
+        Ok(met) => met,
+        Err(
+            MeetRefused {
+                link,
+                put_end,
+                take_end,
+            },
+        ) => match link.meet(rt, alloc, put_end, take_end) {
+            Ok(met) => met,
+            Err(_) => return Ok(None),
+        },
+    };
+    match met.held() {
+        [wire] => Ok(Some(*wire)),
+        _ => Ok(None),
+    }
 }

@@ -3,7 +3,7 @@
 ghost use Rattle.std.specs.Prelude.{◌≡◌, ◌<◌, ◌≤◌, IfOk};
 ghost use Rattle.node_checks.specs.LinkRows.{pair_net};
 
-use crate::link_alone::one_after_another;
+use crate::link_alone::{met_again, one_after_another};
 use crate::link_threads::hand_over;
 use alpha_core::{NetFault, Network, Wire, edges_fit};
 use colour_program::Payload;
@@ -36,6 +36,22 @@ fn one_thread_puts_and_takes(rt: HostRuntime) -> Result<(), Fail> {
     assert!(rt; steps.put_again);
     assert!(rt; steps.taken_again == Some(Wire::Safe(0)));
     assert_eq!(rt; steps.held, 0);
+    Ok(())
+}
+
+// tests/refused_memory.py runs this test with each allocation refused in turn. What memory was refused to is tried again.
+#[test]
+fn a_link_meets_again_after_a_refused_growth(rt: HostRuntime) -> Result<(), Fail> {
+    let alloc: Global = rt.alloc();
+    let network = match pair(&rt, alloc) {
+        Ok(network) => network,
+        Err(_) => pair(&rt, alloc)?,
+    };
+    let held = match met_again(&rt, alloc, &network) {
+        Ok(held) => held,
+        Err(_) => met_again(&rt, alloc, &network)?,
+    };
+    assert!(rt; held == Some(Wire::Payload(0, Payload::Hello(1))));
     Ok(())
 }
 

@@ -7,6 +7,8 @@ mod entries_checks;
 #[cfg(test)]
 mod meeting;
 #[cfg(test)]
+mod memory_checks;
+#[cfg(test)]
 mod node_pool_checks;
 #[cfg(test)]
 mod plan_checks;
@@ -14,5 +16,7 @@ mod plan_checks;
 mod replay_checks;
 #[cfg(test)]
 mod runs;
+#[cfg(test)]
+mod stopped_checks;
 #[cfg(test)]
 mod transcript_checks;

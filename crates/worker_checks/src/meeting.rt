@@ -34,15 +34,24 @@ impl Counts {
             None => 0,
         }
     }
+
+    fn are_those_of(&self, other: &Counts) -> bool {
+        self.of(0) == other.of(0)
+            && self.of(1) == other.of(1)
+            && self.of(2) == other.of(2)
+            && self.of(3) == other.of(3)
+    }
 }
 
 /// Holds the worker that is the first in the middle of a turn until the other of two has left a turn, and counts the
-/// turns that workers (0 and 1) and nodes (1 to 3) have left.
+/// turns that workers (0 and 1) and nodes (1 to 3) have entered and left.
 #[derive(Drop)]
 pub struct Meeting {
     is_held: AtomicBool,
     holds: AtomicU64,
     was_alone: AtomicBool,
+    entered_by_worker: Counts,
+    entered_by_node: Counts,
     by_worker: Counts,
     by_node: Counts,
 }
@@ -53,20 +62,24 @@ impl Meeting {
             is_held: AtomicBool::new(false),
             holds: AtomicU64::new(0),
             was_alone: AtomicBool::new(false),
+            entered_by_worker: Counts::new(),
+            entered_by_node: Counts::new(),
             by_worker: Counts::new(),
             by_node: Counts::new(),
         }
     }
 
     /// Whether a worker was held once, until the other had left a turn, both left turns, and so did each node, at least
-    /// this often.
+    /// this often; and whether they left as many turns as they entered.
     pub fn saw_two_at_once(&self, least: u64) -> bool {
         let met = self.holds.load(Ordering::SeqCst) == 1 && !self.was_alone.load(Ordering::SeqCst);
         let workers = self.by_worker.of(0) > 0 && self.by_worker.of(1) > 0;
         let nodes = self.by_node.of(1) >= least
             && self.by_node.of(2) >= least
             && self.by_node.of(3) >= least;
-        met && workers && nodes
+        let pairs = self.entered_by_worker.are_those_of(&self.by_worker)
+            && self.entered_by_node.are_those_of(&self.by_node);
+        met && workers && nodes && pairs
     }
 
     // Waits until a worker has left a turn. Returns whether it has, after so many looks at most.
@@ -82,7 +95,10 @@ impl Meeting {
 }
 
 impl Gate for Meeting {
-    fn enter<R: Wait>(&self, _rt: &R, _worker: u32, _node: u32) {}
+    fn enter<R: Wait>(&self, _rt: &R, worker: u32, node: u32) {
+        self.entered_by_worker.add(worker);
+        self.entered_by_node.add(node);
+    }
 
     fn middle<R: Wait>(&self, _rt: &R, worker: u32, _node: u32) {
         if self.is_held.swap(true, Ordering::SeqCst) {

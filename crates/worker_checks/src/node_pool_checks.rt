@@ -1,10 +1,9 @@
 //! Runs of nodes on worker threads.
 
 use crate::meeting::Meeting;
-use crate::runs::{each_holds, greatest, path, small, triangle};
-use alpha_core::{Network, Wire};
-use byte_functions::{Colouring, OpenGate, Options, Payload, PoolFault, run_workers};
-use entries::Entry;
+use crate::runs::{greatest, path, small, triangle};
+use alpha_core::Network;
+use byte_functions::{Colouring, OpenGate, Options, PoolFault, run_workers};
 use std::alloc::Global;
 use std::sync::Wait;
 use std::test::*;
@@ -28,41 +27,6 @@ fn two_workers_are_in_turns_at_once(rt: HostRuntime) -> Result<(), Fail> {
     let outcome = run_workers::<Colouring, Meeting, _>(&rt, alloc, &net, options, &gate)?;
     assert!(rt; gate.saw_two_at_once(PULSES));
     assert!(rt; outcome.is_whole());
-    Ok(())
-}
-
-// One look of one worker: node 1 puts its two greetings, writes that down, and nothing else happens.
-#[test]
-fn one_look_leaves_a_run_that_is_not_whole(rt: HostRuntime) -> Result<(), Fail> {
-    let alloc: Global = rt.alloc();
-    let net = triangle(alloc)?;
-    let options = Options {
-        workers: 1,
-        capacity: 4,
-        turns: 1,
-        transcript: true,
-    };
-    let outcome = run_workers::<Colouring, OpenGate, _>(&rt, alloc, &net, options, &OpenGate)?;
-    assert!(rt; !outcome.is_whole());
-    let hello = Wire::Payload(0, Payload::Hello(1));
-    let puts = [Entry::Put(2, hello), Entry::Put(3, hello)];
-    let mut vertices = 0u32;
-    for actor in outcome.actors() {
-        vertices = vertices.wrapping_add(1);
-        assert_eq!(rt; actor.node(), vertices);
-        assert_eq!(rt; actor.alpha().pulse_number(), 0);
-        let entries = if vertices == 1 { 2 } else { 0 };
-        assert_eq!(rt; actor.entries().len(), entries);
-        for (entry, put) in actor.entries().iter().zip(puts) {
-            assert!(rt; entry == put);
-        }
-    }
-    assert_eq!(rt; vertices, 3);
-    let greeting = [hello];
-    for v in 1..net.nodes() + 1 {
-        let put = if v == 1 { 1 } else { 0 };
-        assert!(rt; each_holds(&net, &outcome, v, &greeting[..put]));
-    }
     Ok(())
 }
 

@@ -12,7 +12,7 @@ use std::alloc::Global;
 use std::test::Fail;
 use sync_rounds::{Best, Greatest};
 
-const WHOLE: &[u8] =
+pub const WHOLE: &[u8] =
     b"transcript 1 2\n1 put 2 close\n2 put 1 close\n1 take 2 close\n2 take 1 close\n";
 
 fn drained(state: &NetState<Greatest<0>>) -> (bool, bool)

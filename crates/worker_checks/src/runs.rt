@@ -70,21 +70,42 @@ pub fn greatest<const D: u32, R: Threads + Wait + Sync>(
     Ok(Some(bests))
 }
 
-/// Whether each link out of a vertex holds just these wires after a run of the colouring.
-pub fn each_holds(
+/// Whether the links out of a vertex hold just these wires after a run of the colouring, by port.
+pub fn holds(
     net: &Network,
     outcome: &Outcome<Colouring>,
     vertex: u32,
-    wires: &[Wire<Payload>],
+    by_port: &[&[Wire<Payload>]],
 ) -> bool
     requires vertex { IsVertex net.now vertex }
     requires rows { length outcome.now.links ≡ length (vertices net.now) }
     requires row { length (row_in outcome.now vertex) ≡ degree_of net.now vertex }
 {
     for port in 0..net.degree(vertex) {
-        if outcome.link(vertex, port).held() != wires {
+        let held = outcome.link(vertex, port).held();
+        if by_port
+            .get(port as usize)
+            .is_none_or(|wires| held != *wires)
+        {
             return false;
         }
     }
     true
+}
+
+/// The run of one worker with a transcript, after so many looks.
+pub fn run_of_one<R: Threads + Wait + Sync>(
+    rt: &R,
+    alloc: Global,
+    net: &Network,
+    capacity: u32,
+    turns: u64,
+) -> Result<Outcome<Colouring>, Fail> {
+    let options = Options {
+        workers: 1,
+        capacity,
+        turns,
+        transcript: true,
+    };
+    Ok(run_workers::<Colouring, OpenGate, R>(rt, alloc, net, options, &OpenGate)?)
 }

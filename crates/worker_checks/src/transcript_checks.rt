@@ -1,5 +1,6 @@
 //! Transcripts that are read, and the line of each that isn't.
 
+use crate::replay_checks::WHOLE;
 use byte_functions::{Payload, TextFault, read_transcript, transcript_text};
 use std::alloc::Global;
 use std::test::Fail;
@@ -50,7 +51,7 @@ fn rewritten(alloc: Global, text: &[u8]) -> Result<Vec<u8>, Fail> {
     Ok(transcript_text(alloc, nodes, &rows)?)
 }
 
-// What a beginning of `SHORT` is read as: it ends in a line, or in the middle of one, which is then wrong.
+// What a beginning of `SHORT` or `WHOLE` is read as: it ends in a line, or in the middle of one, which is then wrong.
 fn expected(beginning: &[u8], rest: &[u8]) -> Result<usize, TextFault> {
     let lines = beginning.iter().filter(|byte| **byte == b'\n').count();
     if rest.starts_with(b"\n") {
@@ -79,12 +80,14 @@ fn texts_are_read_or_refused_by_their_first_wrong_line(rt: HostRuntime) -> Resul
 #[test]
 fn each_beginning_of_a_text_is_read_or_refused(rt: HostRuntime) -> Result<(), Fail> {
     let alloc = rt.alloc();
-    for cut in 0..SHORT.len() {
-        let (beginning, rest) = SHORT.split_at(cut);
-        assert!(rt;
-            count(alloc, beginning) == expected(beginning, rest),
-            "{cut}"
-        );
+    for text in [SHORT, WHOLE] {
+        for cut in 0..text.len() {
+            let (beginning, rest) = text.split_at(cut);
+            assert!(rt;
+                count(alloc, beginning) == expected(beginning, rest),
+                "{cut}"
+            );
+        }
     }
     Ok(())
 }

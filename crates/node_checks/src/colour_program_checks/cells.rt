@@ -1,6 +1,7 @@
 //! The table of what may come to a node: 96 cells, by phase, kind of payload and role of the port.
 
-use crate::colour_program_checks::fed::{feed, made};
+use crate::colour_program_checks::fed::made;
+use crate::colour_program_checks::twins::{go_on_alike, show};
 use alpha_core::{Network, Refused};
 use colour_program::Payload;
 use colour_program::rules::{AFTER_HALT, WRONG_KIND, WRONG_ROLE};
@@ -72,7 +73,8 @@ const TABLE: [(u32, Payload, [Option<u16>; 3]); 32] = [
     (19, CHOSEN, [P6, P6, P6]),
 ];
 
-// What a node made anew returns on a payload, once others came at the pulses from 1 on.
+// What a node made anew returns on a payload, once others came at the pulses from 1 on. If it refuses the payload, it shows
+// the same from then on as its twin that wasn't fed it.
 fn answer(
     rt: &impl Abort,
     alloc: Global,
@@ -85,11 +87,19 @@ fn answer(
     assert!(rt; 1 <= v && v <= net.nodes());
     assert!(rt; net.degree(v) == 1 && earlier.len() <= 2);
     let mut node = made(alloc, net, v)?;
+    let mut twin = made(alloc, net, v)?;
     for i in 0..earlier.len() {
-        let (answer, _) = feed(alloc, &mut node, i as u32 + 1, &[Some(earlier[i])])?;
-        assert_eq!(rt; answer, Ok(()));
+        let (came, at) = (Some(earlier[i]), i as u32 + 1);
+        assert_eq!(rt; show(alloc, &mut node, at, came)?.answer, Ok(()));
+        assert_eq!(rt; show(alloc, &mut twin, at, came)?.answer, Ok(()));
     }
-    let (answer, _) = feed(alloc, &mut node, pulse, &[Some(payload)])?;
+    let answer = show(alloc, &mut node, pulse, Some(payload))?.answer;
+    if answer.is_err() {
+        assert!(rt;
+            go_on_alike(alloc, &mut node, &mut twin, v, 1)?,
+            "{payload:?} at {pulse}"
+        );
+    }
     Ok(answer)
 }
 

@@ -162,7 +162,7 @@ fn a_refusal_has_its_rule_and_its_port(rt: HostRuntime) -> Result<(), Fail> {
     let path = Network::try_new(alloc, &[1, 2, 3], &[(1, 2), (2, 3)])?;
     assert!(rt; path.nodes() == 3);
     let mut node = node_after(&rt, alloc, &path, 2, 0)?;
-    let (answer, _) = deliver(alloc, &mut node, (1, [Some(Hello(4)), Some(Hello(3))]))?;
+    let (answer, _) = deliver(alloc, &mut node, (1, [Some(Hello(5)), Some(Hello(6))]))?;
     assert_eq!(rt;
         answer,
         Err(Refused {

@@ -3,4 +3,4 @@ use Rattle.colour_program.specs.colour_rules.Node.{ports}
 use Rattle.node_checks.proofs.colour_program_checks.cells.answer.Given as goal
 
 abbrev pub invariant-loop-i : goal.invariant-loop-i
-invariant-loop-i g l = ports l.node ≡ 1
+invariant-loop-i g l = (ports l.node ≡ 1) × (ports l.twin ≡ 1)

@@ -1,0 +1,12 @@
+use Rattle.std.proofs.Common.{Some, [], ◌∷◌, ◌++◌, ap, refl, ◌∙◌}
+use Rattle.alpha_core.specs.declared.wire.Wire.TheVariants.{Payload, Safe}
+use Rattle.colour_program.specs.colour_rules.Payload.TheVariants.{Hello}
+use Rattle.link_rule.specs.Legal.{name_of}
+use Rattle.node_checks.proofs.LinkRows.{colour_front}
+use Rattle.node_checks.proofs.link_alone.met_again.Goals as goal
+
+pub put-requires-clause-legal : goal.put-requires-clause-legal
+put-requires-clause-legal g c κs within =
+    let made = c.in_ok-link.ensures.put_end in
+    colour_front (Payload 0 (Hello 1) ∷ []) (Safe 0 ∷ []) _ _ refl (ap (λ l. l ++ Payload 0 (Hello 1) ∷ []) made.put) (made.named ∙
+    ap (λ n. Some (name_of n 1 0)) c.requires.network)

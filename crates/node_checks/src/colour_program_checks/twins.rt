@@ -1,0 +1,170 @@
+//! The nodes of an edge at the pulses of their rounds, and twins: of two nodes in one state one refuses what comes, and then
+//! both go on alike.
+
+ghost use Rattle.std.specs.Prelude.{◌≡◌, IfOk};
+ghost use Rattle.alpha_core.specs.interference.Net.{IsVertex, degree_of};
+ghost use Rattle.colour_program.specs.colour_rules.Node.{ports};
+
+use crate::colour_program_checks::fed::{feed, made};
+use alpha_core::{Memory, Network, Refused};
+use colour_program::Payload::{Chosen, Colour, Hello, Label};
+use colour_program::rules::{AFTER_HALT, COLOUR_RANGE, FOREST_RANGE, WRONG_KIND, WRONG_ROLE};
+use colour_program::{Colouring, Payload};
+use std::alloc::Global;
+use std::test::Fail;
+
+// What comes to vertices 1 and 2 of an edge at the pulses from 1 on, worked by hand: vertex 2 is the root of the one forest,
+// its colours there are 2, then 0 after each bit step, then 1, 1, 0, 0, 1, 1. Vertex 1 chooses at pulse 13, vertex 2 at 15.
+const CAME: [[Option<Payload>; 18]; 2] = [
+    [
+        Some(Hello(2)),
+        None,
+        Some(Colour(2)),
+        Some(Colour(0)),
+        Some(Colour(0)),
+        Some(Colour(0)),
+        Some(Colour(0)),
+        Some(Colour(1)),
+        Some(Colour(1)),
+        Some(Colour(0)),
+        Some(Colour(0)),
+        Some(Colour(1)),
+        None,
+        None,
+        None,
+        Some(Chosen(1)),
+        None,
+        None,
+    ],
+    [
+        Some(Hello(1)),
+        Some(Label(0)),
+        None,
+        None,
+        None,
+        None,
+        None,
+        None,
+        None,
+        None,
+        None,
+        None,
+        None,
+        Some(Chosen(0)),
+        None,
+        None,
+        None,
+        None,
+    ],
+];
+
+// A vertex, a pulse, what comes at it in place of what is due, and the rule and port of the refusal.
+const REFUSALS: [(u32, u32, Payload, u16, Option<u32>); 8] = [
+    (1, 1, Hello(1), COLOUR_RANGE, Some(0)),
+    (1, 2, Label(0), WRONG_ROLE, Some(0)),
+    (1, 4, Colour(256), COLOUR_RANGE, Some(0)),
+    (1, 19, Hello(5), AFTER_HALT, Some(0)),
+    (2, 2, Label(1), FOREST_RANGE, Some(0)),
+    (2, 2, Hello(1), WRONG_KIND, Some(0)),
+    // No colour of 0 and 1 is free: 0 came at pulse 14.
+    (2, 15, Chosen(1), COLOUR_RANGE, None),
+    (2, 19, Hello(5), AFTER_HALT, Some(0)),
+];
+
+/// What a node shows of a pulse.
+#[derive(Clone, Copy, Debug, PartialEq, Eq)]
+pub struct Shown {
+    pub answer: Result<(), Refused>,
+    is_quiet: bool,
+    colour: u16,
+    forest_colour: Option<u64>,
+}
+
+/// Feeds a node at its one port.
+pub fn show(
+    alloc: Global,
+    node: &mut Colouring,
+    pulse: u32,
+    payload: Option<Payload>,
+) -> Result<Shown, Memory>
+    requires ports { ports node.old ≡ 1 }
+    ensures ports { ports node.new ≡ 1 }
+{
+    let (answer, out) = feed(alloc, node, pulse, &[payload])?;
+    let shown = node.node();
+    Ok(Shown {
+        answer,
+        is_quiet: out.is_quiet(),
+        colour: node.colour(),
+        forest_colour: (shown.forests() > 0).then(|| shown.forest_colour(0)),
+    })
+}
+
+// What comes to a vertex of the edge at a pulse.
+fn came(v: u32, pulse: u32) -> Option<Payload> {
+    let row = CAME.as_slice().get(v.wrapping_sub(1) as usize)?;
+    *row.as_slice().get(pulse.wrapping_sub(1) as usize)?
+}
+
+/// Whether two nodes show the same at each pulse from one to the last, with what comes to a vertex of the edge.
+pub fn go_on_alike(
+    alloc: Global,
+    one: &mut Colouring,
+    other: &mut Colouring,
+    v: u32,
+    from: u32,
+) -> Result<bool, Memory>
+    requires ports { (ports one.old ≡ 1) × (ports other.old ≡ 1) }
+{
+    for pulse in from..19 {
+        let payload = came(v, pulse);
+        if show(alloc, one, pulse, payload)? != show(alloc, other, pulse, payload)? {
+            return Ok(false);
+        }
+    }
+    Ok(true)
+}
+
+// The node of a vertex of the edge as it is before a pulse of the rounds.
+fn brought(alloc: Global, net: &Network, v: u32, pulse: u32) -> Result<Colouring, Memory>
+    requires vertex { IsVertex net.now v }
+    requires one { degree_of net.now v ≡ 1 }
+    ensures ports { IfOk result (λ node. ports node ≡ 1) }
+{
+    let mut node = made(alloc, net, v)?;
+    for earlier in 1..pulse {
+        show(alloc, &mut node, earlier, came(v, earlier))?;
+    }
+    Ok(node)
+}
+
+#[test]
+fn a_node_goes_on_after_a_refusal_as_its_twin(rt: HostRuntime) -> Result<(), Fail> {
+    let alloc = rt.alloc();
+    let net = Network::try_new(alloc, &[1, 2], &[(1, 2)])?;
+    for (v, pulse, payload, rule, port) in REFUSALS {
+        assert!(rt; 1 <= v && v <= net.nodes());
+        assert!(rt; net.degree(v) == 1);
+        let mut node = brought(alloc, &net, v, pulse)?;
+        let mut twin = brought(alloc, &net, v, pulse)?;
+        let before = node.colour();
+        let shown = show(alloc, &mut node, pulse, Some(payload))?;
+        assert_eq!(rt;
+            shown.answer,
+            Err(Refused { rule, port }),
+            "{payload:?} at {pulse}"
+        );
+        assert!(rt;
+            shown.is_quiet && shown.colour == before,
+            "{payload:?} at {pulse}"
+        );
+        assert!(rt;
+            go_on_alike(alloc, &mut node, &mut twin, v, pulse)?,
+            "{payload:?} at {pulse}"
+        );
+        // The colours of the edge: those of the plan less one. After the last pulse nothing comes, and that is right.
+        assert_eq!(rt; u32::from(node.colour()), v - 1);
+        assert_eq!(rt; show(alloc, &mut node, 19, None)?.answer, Ok(()));
+    }
+    Ok(())
+}

@@ -1,0 +1,156 @@
+#!/usr/bin/env python3
+"""Feeds the built programs texts that nobody would write, and compares each answer with that of a slow reader written from
+docs/FORMATS.md (slow_reader.py). The last line is 'N passed, M failed'.
+
+  hostile.py [--texts N] [--seed SEED] [--program PROGRAM] [--play PLAY]
+      N         how many random texts, over all commands; default 100000
+      SEED      of the random texts; default 2026
+      PROGRAM   default: the built forestplan
+      PLAY      default: the built forestplay
+
+Besides the random texts: each byte at each place of a small text, numbers around powers of two, lines of a megabyte; and less and
+less address space. It needs a C compiler, `cc`."""
+import argparse
+import os
+import sys
+import tempfile
+from itertools import chain, islice, product
+
+from events import EDGE, TRIANGLE, text
+from falling_limits import falling_limit_rows
+from hostile_texts import NUMBERS, texts_of
+from refused_memory import build_front
+from run_each import answers_to
+from slow_reader import PROGRAM_OF, answer_to
+
+TOP = os.path.dirname(os.path.dirname(os.path.abspath(__file__)))
+BATCH = 20_000
+TALLY = {"passed": 0, "failed": 0}
+
+# Of each command a small good text.
+SMALL = {
+    "forests": "p edge 3 3|e 1 2|e 1 3|e 2 3|",
+    "plain": "c|p col 2 1|e 1 2|",
+    "plan": "p edge 2 1|e 2 1|",
+    "check": EDGE + "plan|2 2|1 1|",
+    "events": EDGE + "put 1 0|take 2 0|",
+    "replay": EDGE + "transcript 1 2|1 put 2 payload 0 hello 1|",
+    "rounds": "p edge 1 0|n 1|",
+}
+# Texts of which each beginning is a text besides.
+WHOLE = {
+    "check": TRIANGLE + "plan|1 2|2 3|3 1|",
+    "replay": EDGE + "transcript 1 2|1 put 2 close|2 put 1 close|1 take 2 close|2 take 1 close|",
+}
+# Commands that read a text of their own; the others read a network as `forests` does.
+READERS = ("forests", "check", "events", "replay")
+# How many of 100 random texts are for a command.
+SHARES = {"forests": 30, "plain": 3, "plan": 3, "check": 20, "events": 20, "replay": 20, "rounds": 4}
+# One worker, since a thread takes longer to start than a text to be read.
+WORDS = {"plan": ["plan", "--workers", "1"]}
+
+
+def note(name, good, what=""):
+    TALLY["passed" if good else "failed"] += 1
+    if not good:
+        print(f"FAILED {name}: {str(what)[:4000]}")
+
+
+class Programs:
+    """The built programs behind the library that runs them on many texts."""
+
+    def __init__(self, paths, front):
+        self.paths, self.front = paths, front
+
+    def differences(self, command, texts):
+        """Of texts in batches: how many there were, how many had no fault, and the first that is answered otherwise."""
+        count, good, rest = 0, 0, iter(texts)
+        while batch := list(islice(rest, BATCH)):
+            given = answers_to(self.front, [self.paths[PROGRAM_OF[command]]] + WORDS.get(command, [command]), batch)
+            for data, got in zip(batch, given):
+                wanted = answer_to(command, data)
+                if got != wanted:
+                    return count, good, (data[:3000], len(data), wanted, got)
+                count, good = count + 1, good + (wanted[0] == 0)
+        return count, good, None
+
+    def row(self, name, command, texts):
+        count, good, different = self.differences(command, texts)
+        note(f"{name}, {command}", different is None and count > 0, different)
+        return count, good
+
+
+def each_byte(data):
+    """Each byte in place of each of the text, and before it."""
+    places, values = range(len(data) + 1), [bytes([b]) for b in range(256)]
+    return chain((data[:at] + value + data[at + 1:] for at, value in product(places, values)),
+                 (data[:at] + value + data[at:] for at, value in product(places, values)))
+
+
+def beginnings(data):
+    return [data[:k] for k in range(len(data) + 1)]
+
+
+def each_number(data):
+    """Each number in place of each field, and a second field behind it."""
+    for line, fields in enumerate(rows := [line.split(b" ") for line in data.split(b"\n")]):
+        for at, other in product(range(len(fields)), NUMBERS):
+            changed = rows[:line] + [fields[:at] + [other] + fields[at + 1:]] + rows[line + 1:]
+            yield b"\n".join(b" ".join(row) for row in changed)
+
+
+def without_20_000_nodes(texts):
+    """The definitions of some commands are slow where each of so many vertices has a node."""
+    return (data for data in texts if b" 20000 " not in data and b" 19999 " not in data)
+
+
+def long_lines(data, length=2**20):
+    """A line of a megabyte before the text, in the middle of it and behind it; and many blank lines."""
+    for line in (b"c" * length, b" " * length, b"\t" * length, b"q" * length, b"e" * length, b"1" * length, b"\0" * length,
+                 b"\xff" * length, b"\r" * length, b"c" + b"\r" * length, b"e 1 2 " + b"9 " * (length // 2),
+                 b"e 1 " + b"0" * length + b"2", b"e 1 " + b"9" * length, b" " * length + b"e 1 2", b"p edge " + b"1" * length + b" 1"):
+        middle = data.index(b"\n") + 1
+        yield line + b"\n" + data
+        yield data[:middle] + line + b"\n" + data[middle:]
+        yield data + line
+    for blank in (b"\n", b"\r\n", b" \n"):
+        yield blank * (length // 4) + data
+        yield data + blank * (length // 4)
+
+
+def main():
+    words = argparse.ArgumentParser(description=__doc__, formatter_class=argparse.RawDescriptionHelpFormatter)
+    words.add_argument("--texts", type=int, default=100_000)
+    words.add_argument("--seed", default="2026")
+    for name, program in (("--program", "forestplan"), ("--play", "forestplay")):
+        words.add_argument(name, default=os.path.join(TOP, "crates", program, "out", program))
+    given = words.parse_args()
+    with tempfile.TemporaryDirectory() as folder:
+        front, failure = build_front(folder, "run_each")
+        note("the library that runs a program on many texts builds", failure is None, failure)
+        programs = Programs({"forestplan": os.path.abspath(given.program), "forestplay": os.path.abspath(given.play)}, front)
+        if failure is None:
+            all_rows(programs, given.texts, given.seed)
+        for row in falling_limit_rows(programs.paths):
+            note(*row)
+    print(f"{TALLY['passed']} passed, {TALLY['failed']} failed")
+    return 1 if TALLY["failed"] else 0
+
+
+def all_rows(programs, count, seed):
+    for command, small in SMALL.items():
+        data = text(small)
+        programs.row("each beginning", command, beginnings(text(WHOLE.get(command, small))))
+        numbers = each_number(data)
+        programs.row("numbers around powers of two", command,
+                     numbers if command in ("forests", "check") else without_20_000_nodes(numbers))
+        if command in READERS:
+            programs.row("each byte at each place", command, each_byte(data))
+            programs.row("lines of a megabyte", command, long_lines(data))
+    for command, share in SHARES.items():
+        made, good = programs.row(f"random texts, seed {seed}", command, islice(texts_of(command, seed), count * share // 100))
+        note(f"some of the texts are good, and most are not, {command}", made < 100 or made // 10 < good < made // 2, (made, good))
+
+
+if __name__ == "__main__":
+    sys.exit(main())

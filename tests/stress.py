@@ -1,0 +1,141 @@
+#!/usr/bin/env python3
+"""Runs `forestplan transcript` over and over on small networks while processors are taken away from its threads, and checks each
+transcript. It is no part of the gate. The last line is 'N passed, M failed', over the runs.
+
+  stress.py [--runs N] [--minutes M] [--seed SEED] [--program PROGRAM] [--play PLAY]
+      N         how many runs; default 1000
+      M         stop after so many minutes, if N runs take longer
+      SEED      of networks and options; default 2026. Which thread does what, and when, is another thing in each run
+      PROGRAM   default: the built forestplan
+      PLAY      default: the built forestplay
+
+Each run is of a network of 2 to 40 nodes, with 1 to 64 workers and a capacity of 1 to 64. Meanwhile its threads are moved to other
+processors, some of the time all to one, every millisecond or so, and in some runs a busy loop beside takes processors too. A
+transcript has to be accepted by check_transcript.py, and in the order that it finds by `forestplay replay`."""
+import argparse
+import contextlib
+import os
+import random
+import subprocess
+import sys
+import threading
+import time
+from collections import Counter
+
+from check_transcript import Wrong, find_order, in_order, read, whole_run
+from plain_definition import network_of
+from plain_networks import cycle, path, star, text_of, tree
+from transcripts import is_counted, replayed_by
+
+TOP = os.path.dirname(os.path.dirname(os.path.abspath(__file__)))
+LIMIT = 300
+PROCESSORS = sorted(os.sched_getaffinity(0))
+BUSY = "while :; do :; done"
+
+
+def network(source):
+    """Any density up to six nodes; beyond, a shape with a few edges more, since runs grow with the degrees."""
+    nodes = source.randint(2, 40)
+    names = source.sample(range(1, nodes + 1), nodes)
+    if nodes <= 6:
+        density = source.random()
+        pairs = [(v, w) for v in names for w in names if v < w and source.random() < density]
+    else:
+        shape = source.choice((path, cycle, tree, tree, star if nodes < 20 else tree))
+        pairs = list(shape(source, names)) + [source.sample(names, 2) for _ in range(source.choice((0, 0, 1, 3)))]
+    return text_of(source, nodes, {(min(pair), max(pair)) for pair in pairs})
+
+
+def number_up_to_64(source):
+    return source.choice((1, 2, 3, 4, source.randint(1, 64), 64))
+
+
+def disturbed(source, words, data):
+    """The answer to a text, and how often threads were moved."""
+    with contextlib.ExitStack() as beside:
+        for _ in range(source.choice((0, 0, 0, 1, len(PROCESSORS)))):
+            busy = beside.enter_context(subprocess.Popen(["bash", "-c", BUSY]))
+            beside.callback(busy.kill)
+        started = subprocess.Popen(words, stdin=subprocess.PIPE, stdout=subprocess.PIPE, stderr=subprocess.PIPE,
+                                   preexec_fn=lambda: os.nice(source.choice((0, 0, 5))))
+        mover = beside.enter_context(Mover(source, started.pid))
+        try:
+            output, errors = started.communicate(data, timeout=LIMIT)
+        except subprocess.TimeoutExpired:
+            started.kill()
+            output, errors = started.communicate()
+        return (started.returncode, output, errors), mover.moves
+
+
+class Mover:
+    """Moves the threads of a process between processors while it runs."""
+
+    def __init__(self, source, pid):
+        self.source, self.pid, self.moves = random.Random(source.random()), pid, 0
+
+    def __enter__(self):
+        self.is_over = threading.Event()
+        self.thread = threading.Thread(target=self.move_on)
+        self.thread.start()
+        return self
+
+    def __exit__(self, *_):
+        self.is_over.set()
+        self.thread.join()
+
+    def move_on(self):
+        while not self.is_over.wait(self.source.choice((0.0002, 0.001, 0.005))):
+            with contextlib.suppress(OSError):
+                self.move_all()
+
+    def move_all(self):
+        only = [self.source.choice(PROCESSORS)] if self.source.random() < 0.3 else None
+        for thread in os.listdir(f"/proc/{self.pid}/task"):
+            some = only or self.source.sample(PROCESSORS, self.source.randint(1, len(PROCESSORS)))
+            os.sched_setaffinity(int(thread), some)
+            self.moves += 1
+
+
+def fault_in(play, data, answer):
+    """What is wrong with an answer, or None."""
+    status, output, errors = answer
+    if (status, errors) != (0, b""):
+        return f"status {status}, {errors[:300]!r}"
+    net = network_of(data)
+    try:
+        said = whole_run(net, output)[1]
+    except Wrong as wrong:
+        return str(wrong)
+    if not is_counted(net, output, said):
+        return f"other numbers: {said}"
+    ordered = in_order(find_order(net, read(output)[1]).made, output)
+    return replayed_by(play, data, net, ordered)
+
+
+def main():
+    words = argparse.ArgumentParser(description=__doc__, formatter_class=argparse.RawDescriptionHelpFormatter)
+    words.add_argument("--runs", type=int, default=1000)
+    words.add_argument("--minutes", type=float, default=None)
+    words.add_argument("--seed", default="2026")
+    for name, program in (("--program", "forestplan"), ("--play", "forestplay")):
+        words.add_argument(name, default=os.path.join(TOP, "crates", program, "out", program))
+    given = words.parse_args()
+    end = None if given.minutes is None else time.monotonic() + 60 * given.minutes
+    source, counts = random.Random(given.seed), Counter()
+    for number in range(1, given.runs + 1):
+        if end is not None and time.monotonic() > end:
+            break
+        data, workers, capacity = network(source), number_up_to_64(source), number_up_to_64(source)
+        answer, moves = disturbed(source, [os.path.abspath(given.program), "transcript", "--workers", str(workers),
+                                           "--capacity", str(capacity)], data)
+        fault = fault_in(os.path.abspath(given.play), data, answer)
+        counts.update(runs=1, failed=fault is not None, moves=moves, entries=answer[1].count(b"\n") - 1)
+        if fault is not None:
+            print(f"FAILED run {number}, {workers} workers, capacity {capacity}: {fault}; network {data!r}", flush=True)
+    print(f"seed {given.seed}: {counts['entries']} entries in all, threads moved {counts['moves']} times")
+    print(f"{counts['runs'] - counts['failed']} passed, {counts['failed']} failed")
+    return 1 if counts["failed"] else 0
+
+
+if __name__ == "__main__":
+    sys.exit(main())
