@@ -8,7 +8,8 @@
 - Each table of docs/TUTORIAL.md is worked out from the definitions (plain_definition.py, alpha_definition.py), not from
   the program; and so is what its answers say of small networks and of a row of six.
 - These definitions fit together: on small networks the rounds, and any order of events, end with the colours.
-- Each excerpt of code, a fence whose first line names its file, has its lines in that file, in this order.
+- Each excerpt of code, a fence whose first line names its file, has its lines in that file, in this order; a comment `..`
+  stands for lines that are left out.
 - README.md or docs/LAYERS.md names each crate, and README.md is at most 120 lines. No line of a page is wider than 150 columns.
 - Each file named in backquotes exists, each link leads to a page and a heading, and each function and clause that
   docs/PROMISES.md names is in the code.
@@ -249,7 +250,8 @@ def check_excerpts(page):
         for _, line in lines:
             if line.strip() == "```":
                 break
-            excerpt.append(line.strip())
+            if line.strip() not in ("// ..", "-- .."):
+                excerpt.append(line.strip())
         source = iter([line.strip() for line in lines_of(path)])
         missing = [line for line in excerpt if line not in source]
         note(f"{page}:{number} excerpt of {path}", not missing, f"not there, or not in this order: {missing}")
