@@ -314,6 +314,9 @@ def check_lengths():
 
 
 def main():
+    if sys.argv[1:] in (["-h"], ["--help"]):
+        print(__doc__)
+        return 0
     programs = [os.path.join(TOP, "crates", name, "out", name) for name in ("forestplan", "forestplay")]
     if len(sys.argv) > 2:
         programs = [os.path.abspath(word) for word in sys.argv[1:3]]
