@@ -8,10 +8,12 @@
 - Each table of docs/TUTORIAL.md is worked out from the definitions (plain_definition.py, alpha_definition.py), not from
   the program; and so is what its answers say of small networks and of a row of six.
 - These definitions fit together: on small networks the rounds, and any order of events, end with the colours.
-- Each excerpt of code, a fence whose first line names its file, has its lines in that file, in this order.
+- Each excerpt of code, a fence whose first line names its file, has its lines in that file, in this order; a comment `..`
+  stands for lines that are left out.
 - No crate is reached along more paths through crates.txt than tools/paths.py allows.
-- README.md names each crate. Each file named in backquotes exists, each link leads to a page and a heading, and each
-  function and clause that a row of docs/PROMISES.md names is in the code.
+- README.md or docs/LAYERS.md names each crate, and README.md is at most 120 lines. No line of a page is wider than 150 columns.
+- Each file named in backquotes exists, each link leads to a page and a heading, and each function and clause that
+  docs/PROMISES.md names is in the code.
 """
 import itertools
 import os
@@ -29,6 +31,7 @@ sys.path.insert(0, os.path.join(TOP, "tools"))
 from paths import MOST, paths
 PAGES = ["README.md"] + sorted(f"docs/{name}" for name in os.listdir(os.path.join(TOP, "docs")) if name.endswith(".md"))
 LIMIT = 60
+WIDEST, LONGEST_README = 150, 120
 TALLY = {"passed": 0, "failed": 0}
 
 
@@ -250,7 +253,8 @@ def check_excerpts(page):
         for _, line in lines:
             if line.strip() == "```":
                 break
-            excerpt.append(line.strip())
+            if line.strip() not in ("// ..", "-- .."):
+                excerpt.append(line.strip())
         source = iter([line.strip() for line in lines_of(path)])
         missing = [line for line in excerpt if line not in source]
         note(f"{page}:{number} excerpt of {path}", not missing, f"not there, or not in this order: {missing}")
@@ -281,29 +285,35 @@ def clauses_of_crate(crate):
 
 
 def check_promises():
-    crates = {}
-    for number, _, rows in tables_of(lines_of("docs/PROMISES.md")):
-        if rows[0][1:2] != ["Carried by"]:
-            continue
-        for row in rows[2:]:
-            for path, clauses in re.findall(r"`(\w+(?:::\w+)+)`(?:: ((?:`\w+`(?:, |))+))?", row[1]):
-                parts = path.split("::")
-                crate = crates.setdefault(parts[0], clauses_of_crate(parts[0]))
-                name = parts[-1]
-                missing = [] if name in crate else [name]
-                for clause in re.findall(r"`(\w+)`", clauses):
-                    if clause not in crate.get(name, set()) and clause not in crate.get("ghost", set()):
-                        missing.append(clause)
-                note(f"docs/PROMISES.md:{number} {path}", not missing, f"not in the code: {missing}")
+    """A promise is written as `crate::function`: `clause`, `clause`; it may go on in the next line."""
+    crates, text = {}, " ".join(line.strip() for line in lines_of("docs/PROMISES.md"))
+    promises = re.findall(r"`((?!crate::)[a-z_]+(?:::\w+)+)`(?:: ((?:`\w+`(?:, |))+))?", text)
+    for path, clauses in promises:
+        parts = path.split("::")
+        crate = crates.setdefault(parts[0], clauses_of_crate(parts[0]))
+        name = parts[-1]
+        missing = [] if name in crate else [name]
+        for clause in re.findall(r"`(\w+)`", clauses):
+            if clause not in crate.get(name, set()) and clause not in crate.get("ghost", set()):
+                missing.append(clause)
+        note(f"docs/PROMISES.md {path}", not missing, f"not in the code: {missing}")
+    note("promises of docs/PROMISES.md", len(promises) > 200, f"{len(promises)} are found")
 
 
 def check_crates():
-    """README names each crate of crates.txt, and each crate of the toolchain that it lists."""
-    readme, names = "\n".join(lines_of("README.md")), set()
+    """README or LAYERS names each crate of crates.txt, and each crate of the toolchain that it lists."""
+    pages, names = "\n".join(lines_of("README.md") + lines_of("docs/LAYERS.md")), set()
     for line in lines_of("crates.txt"):
         names |= set(line.partition("#")[0].replace(":", " ").split())
-    missing = sorted(name for name in names if f"`{name}`" not in readme)
-    note("crates in README.md", not missing, f"not named: {missing}")
+    missing = sorted(name for name in names if f"`{name}`" not in pages)
+    note("crates in README.md and docs/LAYERS.md", not missing, f"not named: {missing}")
+
+
+def check_lengths():
+    wide = [f"{page}:{number}" for page in PAGES for number, line in enumerate(lines_of(page), 1) if len(line) > WIDEST]
+    note(f"lines of pages wider than {WIDEST} columns", not wide, wide[:5])
+    length = len(lines_of("README.md")) - 1
+    note("length of README.md", length <= LONGEST_README, f"{length} lines")
 
 
 def check_paths():
@@ -328,6 +338,7 @@ def main():
         check_names(page)
         check_excerpts(page)
     check_crates()
+    check_lengths()
     check_paths()
     check_tutorial()
     check_definitions()
