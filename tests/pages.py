@@ -6,13 +6,13 @@
 - Each command shown, a line `$ ..`, is run at the top of the repository, by bash; what stands under it, in the same columns,
   has to be its output (notes behind two blanks are left out), or its refusal.
 - Each table of docs/TUTORIAL.md is worked out from the definitions (plain_definition.py, alpha_definition.py), not from
-  the program; and so is what its answers say of small networks and of a row of six.
+  the program; and so is what it says of small networks, of rows, and of nodes that break a rule (tutorial_facts.py).
 - These definitions fit together: on small networks the rounds, and any order of events, end with the colours.
 - Each excerpt of code, a fence whose first line names its file, has its lines in that file, in this order.
 - README.md names each crate. Each file named in backquotes exists, each link leads to a page and a heading, and each
   function and clause that a row of docs/PROMISES.md names is in the code.
 """
-import itertools
+import argparse
 import os
 import random
 import re
@@ -20,8 +20,9 @@ import subprocess
 import sys
 
 from alpha_definition import NetState, synchronous_run, text_of_wire
-from plain_definition import Network, bit, colours, drop, merge, network_of, shift, three
+from plain_definition import Network, colours, merge, three
 from shell import run_line
+from tutorial_facts import channels_of, example, fact_rows, pulses_of
 
 TOP = os.path.dirname(os.path.dirname(os.path.abspath(__file__)))
 PAGES = ["README.md"] + sorted(f"docs/{name}" for name in os.listdir(os.path.join(TOP, "docs")) if name.endswith(".md"))
@@ -75,28 +76,8 @@ def tables_of(lines):
             start = None
 
 
-def example(name):
-    with open(os.path.join(TOP, name), "rb") as file:
-        return network_of(file.read())
-
-
 def entries(c):
     return [str(c[v]) for v in sorted(c)]
-
-
-def pulses_of(net, f):
-    """The colours in forest f after each of the pulses 2 to 12."""
-    c = net.identifiers
-    rows = [entries(c)]
-    for _ in range(4):
-        c = bit(net, f, c)
-        rows.append(entries(c))
-    for x in (5, 4, 3):
-        before, c = c, shift(net, f, c)
-        rows.append(entries(c))
-        c = drop(x, net, f, c, before)
-        rows.append(entries(c))
-    return rows
 
 
 def merges_of(net):
@@ -149,8 +130,9 @@ def tutorial_table(title, rows):
     found = re.match(r"Forest (\d+) of `(.*)`, pulse by pulse:", title)
     if found:
         net, f = example(found.group(2)), int(found.group(1))
-        parents = [str(net.parent(f, v) or "-") for v in sorted(net.neighbours)]
-        return [entries(net.identifiers), parents] + pulses_of(net, f)
+        joined = [v for v in sorted(net.neighbours) if net.neighbours[v]]
+        parents = [str(net.parent(f, v) or "-") for v in joined]
+        return [[str(v) for v in joined], parents] + [[str(c[v]) for v in joined] for c in pulses_of(net, f)]
     found = re.match(r"Merges of `(.*)`:", title)
     if found:
         net = example(found.group(1))
@@ -170,10 +152,6 @@ def tutorial_table(title, rows):
     return None
 
 
-def channels_of(net):
-    return max(colours(net).values(), default=-1) + 1
-
-
 def check_tutorial():
     count = 0
     for number, title, rows in tables_of(lines_of("docs/TUTORIAL.md")):
@@ -183,34 +161,8 @@ def check_tutorial():
             got = [row[1:1 + len(wanted[0])] for row in rows[:1] + rows[2:]]
             note(f"docs/TUTORIAL.md:{number}", got == wanted, f"wanted {wanted}")
     note("tables of the tutorial", count == 6, count)
-    check_too_many()
-    check_row_of_six()
-
-
-def fewest_colours(nodes, edges):
-    return next(k for k in range(nodes + 1) for c in itertools.product(range(k), repeat=nodes)
-                if all(c[v - 1] != c[w - 1] for v, w in edges))
-
-
-def check_too_many():
-    """Of the networks of up to four nodes, these two alone take a channel more than is needed."""
-    found = []
-    for nodes in range(1, 5):
-        pairs = list(itertools.combinations(range(1, nodes + 1), 2))
-        for edges in itertools.chain(*(itertools.combinations(pairs, r) for r in range(len(pairs) + 1))):
-            net = Network({v: v for v in range(1, nodes + 1)}, set(edges))
-            if channels_of(net) > fewest_colours(nodes, edges):
-                found.append(edges)
-    note("networks with a channel too many", found == [((1, 3), (1, 4), (2, 4)), ((1, 4), (2, 3), (2, 4))], found)
-
-
-def check_row_of_six():
-    """If node 1 makes no pulse and the others do all that they can, they come as far as the tutorial says."""
-    state = NetState(example("examples/chain6.col"))
-    while event := next((event for event in state.possible() if event[:2] != ("Pulse", 1)), None):
-        state.step(*event)
-    pulses = [node.pulse_number for _, node in sorted(state.nodes.items())]
-    note("pulses of a row of six with node 1 at rest", pulses == [0, 1, 2, 3, 4, 5], pulses)
+    for name, good, what in fact_rows():
+        note(name, good, what)
 
 
 def heading_anchor(line):
@@ -304,9 +256,15 @@ def check_crates():
 
 
 def main():
+    words = argparse.ArgumentParser(prog="pages.py", usage="pages.py [PROGRAM PLAY]", description=__doc__.partition("\n\n  pages.py")[0],
+                                    epilog=__doc__.partition("build them\n\n")[2], formatter_class=argparse.RawDescriptionHelpFormatter)
+    words.add_argument("programs", metavar="PROGRAM PLAY", nargs="*", help="the built forestplan and forestplay; if left out, they are built")
+    given = words.parse_args().programs
+    if len(given) not in (0, 2):
+        words.error("two programs, or none")
     programs = [os.path.join(TOP, "crates", name, "out", name) for name in ("forestplan", "forestplay")]
-    if len(sys.argv) > 2:
-        programs = [os.path.abspath(word) for word in sys.argv[1:3]]
+    if given:
+        programs = [os.path.abspath(word) for word in given]
     else:
         for name in ("forestplan", "forestplay"):
             built = subprocess.run([os.path.join(TOP, name), "--help"], stdout=subprocess.DEVNULL)
