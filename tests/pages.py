@@ -22,7 +22,7 @@ import sys
 from alpha_definition import NetState, synchronous_run, text_of_wire
 from plain_definition import Network, colours, merge, three
 from shell import run_line
-from tutorial_facts import channels_of, example, fact_rows, pulses_of
+from tutorial_facts import channels_of, dropped, example, fact_rows, pulses_of
 
 TOP = os.path.dirname(os.path.dirname(os.path.abspath(__file__)))
 PAGES = ["README.md"] + sorted(f"docs/{name}" for name in os.listdir(os.path.join(TOP, "docs")) if name.endswith(".md"))
@@ -130,9 +130,10 @@ def tutorial_table(title, rows):
     found = re.match(r"Forest (\d+) of `(.*)`, pulse by pulse:", title)
     if found:
         net, f = example(found.group(2)), int(found.group(1))
-        joined = [v for v in sorted(net.neighbours) if net.neighbours[v]]
+        joined, changed = [v for v in sorted(net.neighbours) if net.neighbours[v]], dropped(net, f)
         parents = [str(net.parent(f, v) or "-") for v in joined]
-        return [[str(v) for v in joined], parents] + [[str(c[v]) for v in joined] for c in pulses_of(net, f)]
+        return [[str(v) for v in joined], parents] + [
+            [f"**{c[v]}**" if (p, v) in changed else str(c[v]) for v in joined] for p, c in enumerate(pulses_of(net, f), 2)]
     found = re.match(r"Merges of `(.*)`:", title)
     if found:
         net = example(found.group(1))
