@@ -101,7 +101,7 @@ def drop_rows():
 
 
 class Hasty(AlphaNode):
-    """A node that says safe at once, whatever is acknowledged."""
+    """A node that says safe at once, and takes no notice of acknowledgements."""
 
     def settle(self):
         if self.pulse_number < self.last and not self.said:
@@ -110,18 +110,18 @@ class Hasty(AlphaNode):
                 port.out.append(("Safe", self.pulse_number))
 
     def on_wire(self, at, wire):
-        if wire[0] == "Ack":
-            self.ports[at].waits = False
-        else:
+        if wire[0] != "Ack":
             super().on_wire(at, wire)
 
 
 def acknowledgement_rows():
-    """Two hasty nodes have all their inboxes, too; but not if a safe overtakes a greeting."""
+    """Two hasty nodes have all their inboxes, too; but not if a safe overtakes a greeting. A search by width, which was written
+    apart from this one, counted the same states."""
     two = Network({1: 1, 2: 2}, {(1, 2)})
-    for kind, wanted in ((AlphaNode, 641), (Hasty, 2720)):
-        found = states_of(two, kind)
-        yield f"states of two nodes: {kind.__name__}", found == (wanted, True), found
+    for kind, wanted in ((AlphaNode, (281, 641)), (Hasty, (536, 2061))):
+        for puts_apart in (False, True):
+            found = states_of(two, kind, puts_apart)
+            yield f"states of two nodes: {kind.__name__}, {puts_apart}", found == (wanted[puts_apart], True), found
     state = start_of(two, Hasty)
     state.step("Put", 1, 0)
     state.step("Put", 1, 0)
@@ -151,9 +151,18 @@ def inboxes_of(net):
     return inboxes
 
 
-def states_of(net, kind):
-    """How many states events lead to, and whether each pulse that is possible in one of them has its inbox."""
+def put_all(state):
+    """The state after all puts that are possible."""
+    while event := next((event for event in state.possible() if event[0] == "Put"), None):
+        state.step(*event)
+    return state
+
+
+def states_of(net, kind, puts_apart):
+    """How many states events lead to, and whether each pulse that is possible in one of them has its inbox. If puts aren't
+    counted apart, each is made as soon as it can be."""
     inboxes, start = inboxes_of(net), start_of(net, kind)
+    start = start if puts_apart else put_all(start)
     seen, left, is_right = {frozen(start)}, [start], True
     while left:
         state = left.pop()
@@ -163,6 +172,7 @@ def states_of(net, kind):
                 is_right &= inbox_of(node) == inboxes[node.pulse_number + 1, event[1]]
             after = copy.deepcopy(state)
             after.step(*event)
+            after = after if puts_apart else put_all(after)
             if frozen(after) not in seen:
                 seen.add(frozen(after))
                 left.append(after)
