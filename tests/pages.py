@@ -12,7 +12,6 @@
 - README.md names each crate. Each file named in backquotes exists, each link leads to a page and a heading, and each
   function and clause that a row of docs/PROMISES.md names is in the code.
 """
-import argparse
 import os
 import random
 import re
@@ -257,15 +256,12 @@ def check_crates():
 
 
 def main():
-    words = argparse.ArgumentParser(prog="pages.py", usage="pages.py [PROGRAM PLAY]", description=__doc__.partition("\n\n  pages.py")[0],
-                                    epilog=__doc__.partition("build them\n\n")[2], formatter_class=argparse.RawDescriptionHelpFormatter)
-    words.add_argument("programs", metavar="PROGRAM PLAY", nargs="*", help="the built forestplan and forestplay; if left out, they are built")
-    given = words.parse_args().programs
-    if len(given) not in (0, 2):
-        words.error("two programs, or none")
+    if sys.argv[1:] in (["-h"], ["--help"]):
+        print(__doc__)
+        return 0
     programs = [os.path.join(TOP, "crates", name, "out", name) for name in ("forestplan", "forestplay")]
-    if given:
-        programs = [os.path.abspath(word) for word in given]
+    if len(sys.argv) > 2:
+        programs = [os.path.abspath(word) for word in sys.argv[1:3]]
     else:
         for name in ("forestplan", "forestplay"):
             built = subprocess.run([os.path.join(TOP, name), "--help"], stdout=subprocess.DEVNULL)
