@@ -6,7 +6,7 @@
 - Each command shown, a line `$ ..`, is run at the top of the repository, by bash; what stands under it, in the same columns,
   has to be its output (notes behind two blanks are left out), or its refusal.
 - Each table of docs/TUTORIAL.md is worked out from the definitions (plain_definition.py, alpha_definition.py), not from
-  the program; and so is what its answers say of small networks and of a row of six.
+  the program; and so is what it says of small networks, of rows, and of nodes that break a rule (tutorial_facts.py).
 - These definitions fit together: on small networks the rounds, and any order of events, end with the colours.
 - Each excerpt of code, a fence whose first line names its file, has its lines in that file, in this order; a comment `..`
   stands for lines that are left out.
@@ -15,7 +15,6 @@
 - Each file named in backquotes exists, each link leads to a page and a heading, and each function and clause that
   docs/PROMISES.md names is in the code.
 """
-import itertools
 import os
 import random
 import re
@@ -23,8 +22,9 @@ import subprocess
 import sys
 
 from alpha_definition import NetState, synchronous_run, text_of_wire
-from plain_definition import Network, bit, colours, drop, merge, network_of, shift, three
+from plain_definition import Network, colours, merge, three
 from shell import run_line
+from tutorial_facts import channels_of, dropped, example, fact_rows, pulses_of
 
 TOP = os.path.dirname(os.path.dirname(os.path.abspath(__file__)))
 sys.path.insert(0, os.path.join(TOP, "tools"))
@@ -81,28 +81,8 @@ def tables_of(lines):
             start = None
 
 
-def example(name):
-    with open(os.path.join(TOP, name), "rb") as file:
-        return network_of(file.read())
-
-
 def entries(c):
     return [str(c[v]) for v in sorted(c)]
-
-
-def pulses_of(net, f):
-    """The colours in forest f after each of the pulses 2 to 12."""
-    c = net.identifiers
-    rows = [entries(c)]
-    for _ in range(4):
-        c = bit(net, f, c)
-        rows.append(entries(c))
-    for x in (5, 4, 3):
-        before, c = c, shift(net, f, c)
-        rows.append(entries(c))
-        c = drop(x, net, f, c, before)
-        rows.append(entries(c))
-    return rows
 
 
 def merges_of(net):
@@ -155,8 +135,10 @@ def tutorial_table(title, rows):
     found = re.match(r"Forest (\d+) of `(.*)`, pulse by pulse:", title)
     if found:
         net, f = example(found.group(2)), int(found.group(1))
-        parents = [str(net.parent(f, v) or "-") for v in sorted(net.neighbours)]
-        return [entries(net.identifiers), parents] + pulses_of(net, f)
+        joined, changed = [v for v in sorted(net.neighbours) if net.neighbours[v]], dropped(net, f)
+        parents = [str(net.parent(f, v) or "-") for v in joined]
+        return [[str(v) for v in joined], parents] + [
+            [f"**{c[v]}**" if (p, v) in changed else str(c[v]) for v in joined] for p, c in enumerate(pulses_of(net, f), 2)]
     found = re.match(r"Merges of `(.*)`:", title)
     if found:
         net = example(found.group(1))
@@ -176,10 +158,6 @@ def tutorial_table(title, rows):
     return None
 
 
-def channels_of(net):
-    return max(colours(net).values(), default=-1) + 1
-
-
 def check_tutorial():
     count = 0
     for number, title, rows in tables_of(lines_of("docs/TUTORIAL.md")):
@@ -189,34 +167,8 @@ def check_tutorial():
             got = [row[1:1 + len(wanted[0])] for row in rows[:1] + rows[2:]]
             note(f"docs/TUTORIAL.md:{number}", got == wanted, f"wanted {wanted}")
     note("tables of the tutorial", count == 6, count)
-    check_too_many()
-    check_row_of_six()
-
-
-def fewest_colours(nodes, edges):
-    return next(k for k in range(nodes + 1) for c in itertools.product(range(k), repeat=nodes)
-                if all(c[v - 1] != c[w - 1] for v, w in edges))
-
-
-def check_too_many():
-    """Of the networks of up to four nodes, these two alone take a channel more than is needed."""
-    found = []
-    for nodes in range(1, 5):
-        pairs = list(itertools.combinations(range(1, nodes + 1), 2))
-        for edges in itertools.chain(*(itertools.combinations(pairs, r) for r in range(len(pairs) + 1))):
-            net = Network({v: v for v in range(1, nodes + 1)}, set(edges))
-            if channels_of(net) > fewest_colours(nodes, edges):
-                found.append(edges)
-    note("networks with a channel too many", found == [((1, 3), (1, 4), (2, 4)), ((1, 4), (2, 3), (2, 4))], found)
-
-
-def check_row_of_six():
-    """If node 1 makes no pulse and the others do all that they can, they come as far as the tutorial says."""
-    state = NetState(example("examples/chain6.col"))
-    while event := next((event for event in state.possible() if event[:2] != ("Pulse", 1)), None):
-        state.step(*event)
-    pulses = [node.pulse_number for _, node in sorted(state.nodes.items())]
-    note("pulses of a row of six with node 1 at rest", pulses == [0, 1, 2, 3, 4, 5], pulses)
+    for name, good, what in fact_rows():
+        note(name, good, what)
 
 
 def heading_anchor(line):

@@ -219,7 +219,7 @@ def main():
             matrix_rows(draw, name, network)
             forests_rows(draw, name, network)
         matrix_rows(draw, "all on channel 1", all_of["petersen"], lambda network: b"plan\n" + b"".join(b"%d 1\n" % v for v in range(1, 11)))
-        for name in ("petersen", "triangle", "star", "four_cycle", "path", "chain6"):
+        for name in ("petersen", "triangle", "star", "four_cycle", "path", "chain6", "drops"):
             rounds_rows(draw, name, all_of[name])
         rounds_rows(draw, "queen5_5", all_of["queen5_5"], "--forest", 1)
         for name, v in (("petersen", 6), ("queen5_5", 5), ("star", 1)):
