@@ -56,10 +56,11 @@ KINDS = {
     "matrix": ("Who interferes with whom, sorted by channel.", "Pairs on one channel are red. At most 2,000 nodes.",
                "./picture matrix examples/queen5_5.col > queen5_5-matrix.svg"),
     "forests": ("Each forest with its three colours, and the plan after each merge.",
-                "At most 400 nodes; of more than six forests the first four and the last.",
+                "At most 400 nodes; of more than six forests the first four and the last, or up to\nsix others with --forests.",
                 "./picture forests examples/four_cycle.col > four_cycle-forests.svg"),
     "rounds": ("The colours of each node in each forest, and when it chooses which channel.",
-               "At most 100 nodes, and 400 rows: one forest alone with --forest.",
+               "At most 100 nodes. A row for each node of each forest: without --forests the first\n"
+               "forests, as many as have 40 rows together, and with it at most 400 rows.",
                "./picture rounds examples/triangle.col > triangle-rounds.svg"),
     "bits": ("One node above its parent, digit by digit, over the four bit steps.",
              "Without --vertex, the least one that has a parent. Vertices' names are their own\nnumbers, so they have few digits.",
@@ -93,6 +94,10 @@ def pulses(text):
     return int(found.group(1)), int(found.group(2))
 
 
+def one(text):
+    return pulses(f"{text}..{text}")
+
+
 def wires(text):
     kinds = text.split(",")
     if not set(kinds) <= set(run_picture.KINDS):
@@ -120,7 +125,10 @@ def add_options(kind, name):
         kind.add_argument("--workers", metavar="N", help="the run's worker threads")
         kind.add_argument("--capacity", metavar="N", help="how many wires its links hold")
         kind.add_argument("--pulses", type=pulses, metavar="A..B", help="these pulses alone")
-    if name in ("rounds", "bits"):
+    if name in ("forests", "rounds"):
+        kind.add_argument("--forests", type=pulses, metavar="A..B", help="these forests alone, counted from 0")
+        kind.add_argument("--forest", dest="forests", type=one, metavar="F", help="this forest alone")
+    if name == "bits":
         kind.add_argument("--forest", type=int, metavar="F", help="one forest, counted from 0")
     if name in ("bits", "node"):
         kind.add_argument("--vertex", type=int, metavar="V", help="a vertex, counted from 1")
@@ -171,9 +179,9 @@ def drawn(given):
 
 def drawn_rounds(given, rounds):
     if given.kind == "forests":
-        return forests_picture.draw(rounds)
+        return forests_picture.draw(rounds, given.forests)
     if given.kind == "rounds":
-        return rounds_picture.draw(rounds, given.forest)
+        return rounds_picture.draw(rounds, given.forests)
     if given.kind == "bits":
         return bits_picture.draw(rounds, given.forest or 0, given.vertex)
     return player_page.draw(rounds) if given.frame is None else player_page.draw_frame(rounds, given.frame)
