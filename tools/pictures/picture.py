@@ -1,6 +1,7 @@
 """The door: `./picture KIND NETWORK [options] > x.svg`. Reads the network, has the programs write what is to be drawn (or
 reads it from a file), and writes the picture, or one line on standard error and no part of it."""
 import argparse
+import gc
 import re
 import sys
 
@@ -17,9 +18,10 @@ import run_picture
 import tally_picture
 import timing_picture
 from networks import read_network, stem
+from places import note
 from plans import read_plan
 from rounds import read_rounds
-from sizes import check_size
+from sizes import MANY_WIRES, check_run, check_size, last_pulse, least_wires
 from transcripts import read_transcript
 from wrong import Wrong
 
@@ -148,33 +150,57 @@ def file_text(path):
         raise Wrong(f"{path}: {why.strerror}") from None
 
 
-def told(given, network_text):
+def told(given, network, network_text):
     """The text that is drawn: the file's, or what the program writes."""
     if given.text:
         return file_text(given.text)
     if given.kind in OF_PLAN:
         return programs.text_of("forestplan", ["plain"], network_text)
-    if given.kind in OF_ROUNDS:
+    if given.kind in OF_ROUNDS or tallies_rounds(given, network):
         return programs.text_of("forestplay", ["rounds"], network_text)
+    if check_run(given.kind, network):
+        note(f"a run of {network.name} has more than {least_wires(network):,} wires, so its text takes a while")
     options = [f"--{name}={value}" for name, value in (("workers", given.workers), ("capacity", given.capacity)) if value]
     return programs.text_of("forestplan", ["transcript", *options], network_text)
+
+
+def tallies_rounds(given, network):
+    """Whether the wires are counted by the rounds: a run would be long, and each has as many."""
+    return given.kind == "tally" and not given.text and least_wires(network) > MANY_WIRES
 
 
 def drawn(given):
     """The picture of a kind."""
     network_text = file_text(given.network)
-    network = read_network(network_text, given.network)
+    network = read_network(network_text, "standard input" if given.network == "-" else given.network)
     check_size(given.kind, network)
-    text = told(given, network_text.encode())
+    text = told(given, network, network_text.encode())
     name = given.text or {"plan": "the plan", "rounds": "the rounds"}.get(given.kind, f"the text of {network.name}")
     if given.kind in OF_PLAN:
         kind = plan_picture if given.kind == "plan" else matrix_picture
         return kind.draw(network, read_plan(text, name, network))
     if given.kind in OF_ROUNDS:
         return drawn_rounds(given, read_rounds(text, name, network))
-    run = read_transcript(text, name, network)
+    if tallies_rounds(given, network):
+        counts = tally_picture.counts_by(read_rounds(text, name, network))
+        return tally_picture.draw(network, network.name, counts, given.pulses, by_rounds=True)
+    run = read_transcript(text, name, network, until_of(given, network))
     run.name = stem(given.text) if given.text and given.text != "-" else network.name
     return drawn_run(given, run)
+
+
+def until_of(given, network):
+    """The last pulse that is drawn; None if all are."""
+    if given.kind == "tally":
+        return None
+    if given.pulses:
+        return given.pulses[1]
+    last = last_pulse(network)
+    if given.kind == "run":
+        return run_picture.usual(network, last)[1]
+    if given.kind == "overview":
+        return overview_picture.usual(last)[1]
+    return (automaton_picture.usual(network, last) if given.vertex is None else timing_picture.usual(last))[1]
 
 
 def drawn_rounds(given, rounds):
@@ -193,15 +219,14 @@ def drawn_run(given, run):
     if given.kind == "overview":
         return overview_picture.draw(run, given.pulses)
     if given.kind == "tally":
-        return tally_picture.draw(run, given.pulses)
+        return tally_picture.draw(run.network, run.name, tally_picture.counts_of(run), given.pulses)
     if given.vertex is None:
-        if given.pulses:
-            raise Wrong("node draws the steps of all pulses: --pulses needs --vertex")
-        return automaton_picture.draw(run)
+        return automaton_picture.draw(run, given.pulses)
     return timing_picture.draw(run, given.vertex, given.pulses)
 
 
 def main(words):
+    gc.disable()  # It draws one picture and ends; on long texts the collector would take a third of the time.
     given = command_line().parse_args(words)
     try:
         picture = drawn(given)
