@@ -53,6 +53,7 @@ SCRIPT = """(function () {
   function look() {
     var picture = all[at].querySelector("svg");
     var panel = chosen() && picture.querySelector('.panel[data-forest="' + chosen() + '"]');
+    picture.querySelectorAll(".panel").forEach(function (other) { other.style.display = panel && other !== panel ? "none" : ""; });
     picture.setAttribute("viewBox", panel ? panel.getAttribute("data-box") : "0 0 SIZE SIZE");
     var link = "#pulse-" + all[at].getAttribute("data-pulse") + (chosen() ? "-forest-" + chosen() : "");
     if (location.hash !== link) { try { history.replaceState(null, "", link); } catch (refused) { location.hash = link; } }

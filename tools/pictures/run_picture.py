@@ -168,7 +168,7 @@ def write_words(svg, window, words):
             x, y = x1 + dx * part, y1 + dy * part + 3
             off = (y - 3 - TOP) % window.row_height
             is_inside = LEFT + half < x < window.x(window.stop) - half
-            if is_inside and min(off, window.row_height - off) > 11 and all(abs(x - a) > half + b or abs(y - c) > 11 for a, c, b in used):
+            if is_inside and min(off, window.row_height - off) > 11 and all(abs(x - a) > half + b or abs(y - c) > 13 for a, c, b in used):
                 used.append((x, y, half))
                 svg.text(x, y, text, 9.5, WIRES["payload"], "middle", bold=True, halo=3, mark="words")
                 break
@@ -194,9 +194,10 @@ def early_words(window, kinds):
         return "No clock is shared, and nothing is put in these pulses."
     named = "payload" if list(kinds) == ["payload"] else "wire"
     of_them = "" if named == "payload" or not early else f" ({payloads} of them {'a payload' if payloads == 1 else 'payloads'})"
-    come = "none comes" if not early else f"{len(early)} {'comes' if len(early) == 1 else 'come'}"
+    come = "none comes early, before its" if not early else "1 comes early, before its" if len(early) == 1 else \
+        f"{len(early)} come early, before their"
     kept = " They are kept:" if len(early) > 1 else " It is kept:" if early else ""
-    return (f"No clock is shared: of {counted(len(seen), named)} put here {come} early, before its pulse has begun at the taker"
+    return (f"No clock is shared: of {counted(len(seen), named)} put here {come} pulse has begun at the taker"
             f"{of_them}.{kept} {'a' if early else 'A'} payload of pulse p is read when pulse p + 1 begins, never before.")
 
 
