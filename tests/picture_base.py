@@ -51,6 +51,13 @@ class Drawing:
                   "tally": "--transcript"}.get(kind, "--rounds")
         return call([kind, self.file("net.col", network), option, self.file("text", text), *map(str, options)], **more)
 
+    def by_rounds(self, network, text, *options):
+        """The tally that is counted by a text of rounds."""
+        status, picture, fault = call(["tally", self.file("net.col", network), "--rounds", self.file("text", text), *options])
+        if status:
+            raise AssertionError(f"tally is refused: {fault.decode()}")
+        return picture.decode()
+
     def __call__(self, kind, network, text, *options):
         status, picture, fault = self.run(kind, network, text, *options)
         if status:

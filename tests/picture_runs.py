@@ -4,9 +4,11 @@ from collections import Counter
 
 from alpha_definition import NetState, last_pulse
 from check_transcript import find_order, read
+from made_transcripts import transcript_text
 from picture_base import note
 from picture_marks import ends, gap, marks, number, parsed, texts, title, titles
 from plain_definition import network_of
+from rounds_definition import rounds_text
 
 WIRES = ("payload", "ack", "safe", "close")
 
@@ -121,10 +123,15 @@ def times_of(network, text):
     return found
 
 
+def usual(last):
+    """The pulses of an overview or tally for which none are named: all, or of more than 100 the first 40."""
+    return (0, last) if last <= 100 else (0, 39)
+
+
 def overview_rows(draw, name, network, text, window=None):
     """All pulses, or some: the ticks of them and of the next one, as far apart as their times; those of others are grey."""
     last, times = last_pulse(network_of(network)), times_of(network, text)
-    first, final = window or (0, last)
+    first, final = window or usual(last)
     name = f"overview of {name}, pulses {first} to {final}"
     root = parsed(draw("overview", network, text, *(["--pulses", f"{first}..{final}"] if window else [])))
     wanted = sorted((v, times[v, p]) for v, p in times if first <= p <= final + 1)
@@ -211,9 +218,15 @@ def fill_of(kind, wire):
 def tally_rows(draw, name, network, text, window=None):
     """All pulses, or the bars of some; the title counts all wires."""
     net, last = network_of(network), last_pulse(network_of(network))
-    first, final = window or (0, last)
+    first, final = window or usual(last)
     name = f"{name}, pulses {first} to {final}"
     root = parsed(draw("tally", network, text, *(["--pulses", f"{first}..{final}"] if window else [])))
+    tally_marks(name, root, net, text, (first, final), last)
+
+
+def tally_marks(name, root, net, text, window, last):
+    """A tally's bars and title, beside the transcript of a whole run."""
+    first, final = window
     counts = Counter()
     for own in entries_of(text).values():
         counts.update((f[3], last if f[3] == "close" else int(f[4])) for f in own if f[1] == "put")
@@ -226,9 +239,15 @@ def tally_rows(draw, name, network, text, window=None):
     note(f"tally of {name}: a bar for each kind and pulse", shown == wanted, shown)
     heights = [(number(group[1], "height"), int(title(group).split()[-1])) for kind in WIRES for group in marks(root, kind)]
     unit = sum(height for height, _ in heights) / sum(count for _, count in heights)
+    bars = sorted({(number(group[1], "x"), number(group[1], "width")) for kind in WIRES for group in marks(root, kind)})
+    # A figure with one decimal place may be off by a twentieth.
+    gaps = [b - a - wide for (a, wide), (b, _) in zip(bars, bars[1:])]
+    note(f"tally of {name}: bars don't overlap, and narrow ones leave no gap",
+         all(gap > -0.2 and (wide > 2 or gap < 0.2) for gap, (_, wide) in zip(gaps, bars)), gaps[:5])
     note(f"tally of {name}: bars as high as their counts", all(abs(height - unit * count) < 0.2 for height, count in heights), heights)
     total, payloads = sum(counts.values()), sum(count for (kind, _), count in counts.items() if kind == "payload")
-    said = f"{total} wires = 2 · {payloads} payloads + 2 · {len(net.number)} edges · ({last} + 1)"
+    edges = "1 edge" if len(net.number) == 1 else f"{len(net.number)} edges"
+    said = f"{total} wires = 2 · {payloads} payloads + 2 · {edges} · ({last} + 1)"
     note(f"tally of {name}: its title", texts(root)[0] == said and total == 2 * payloads + 2 * len(net.number) * (last + 1), texts(root)[0])
 
 
@@ -246,3 +265,90 @@ def run_rows(draw, name, network, texts_of, v):
         node_rows(draw, label, network, text, v, 0, min(4, last))
     if lower:
         note(f"the lower half of {name} is the same for each of {len(texts_of)} runs", len(lower) == 1 < len(texts_of))
+
+
+def lockstep_text(net):
+    """The transcript of the run in which all nodes go from pulse to pulse together: {vertex: its lines}."""
+    lines, last, sent = {v: [] for v in net.neighbours}, last_pulse(net), {}
+    for f in map(str.split, rounds_text(net).decode().split("\n")):
+        if f[1:2] == ["put"]:
+            sent.setdefault(int(f[4]), []).append((int(f[0]), int(f[2]), " ".join(f[3:])))
+    for p in range(last + 1):
+        now, pairs = sent.get(p, []), [(v, w) for v in lines for w in sorted(net.neighbours[v])]
+        wire, senders = f"safe {p}" if p < last else "close", {v for v, _, _ in now}
+        # Who sends no payload is safe at once, before it acknowledges any.
+        for v, w in pairs:
+            lines[v] += [f"{v} put {w} {wire}"] if v not in senders else []
+        for v, w, payload in now:
+            lines[v].append(f"{v} put {w} {payload}")
+        for v, w, payload in now:
+            lines[w] += [f"{w} take {v} {payload}", f"{w} put {v} ack {p}"]
+        for v, w, _ in now:
+            lines[v] += [f"{v} take {w} {wire}"] if w not in senders else []
+            lines[v].append(f"{v} take {w} ack {p}")
+        for v, w in pairs:
+            lines[v] += [f"{v} put {w} {wire}"] if v in senders else []
+        taken = {(v, w) for v, w, _ in now if w not in senders}
+        for v, w in pairs:
+            lines[v] += [f"{v} take {w} {wire}"] if (v, w) not in taken else []
+        for v in lines:
+            lines[v] += [f"{v} pulse {p + 1}"] if p < last else []
+    return lines
+
+
+def long_rows(draw):
+    """Of a long run the first 40 pulses are drawn, and only what they depend on is read: the same picture as of a run that was
+    stopped a little later. The tally is the same by the rounds."""
+    network = b"p edge 12 66\n" + b"".join(b"e %d %d\n" % (v, w) for w in range(1, 13) for v in range(1, w))
+    net = network_of(network)
+    lines, last = lockstep_text(net), last_pulse(net)
+    text = transcript_text(12, lines)
+    note("a long text is long", text.count(b"\n") > 100_000, text.count(b"\n"))
+    short = transcript_text(12, {v: own[:own.index(f"{v} pulse 60")] for v, own in lines.items()})
+    for kind, words in (("overview", ()), ("node", ("--pulses", "0..39")), ("node", ("--vertex", 3)), ("run", ())):
+        note(f"{kind} {words} of a long text", draw(kind, network, text, *words) == draw(kind, network, short, *words))
+    picture = draw("overview", network, text)
+    said = texts(parsed(picture))
+    note("overview of a long run: what it says", ": pulses 0 to 39 of 408," in said[0] and "the first 40 pulses of 409:" in said[-1], said[-1])
+    note("node of a long run: what it says", "in pulses 0 to 39 of the run" in texts(parsed(draw("node", network, text)))[1])
+    root, whole = parsed(draw("tally", network, text)), parsed(draw.by_rounds(network, rounds_text(net), "--pulses", f"0..{last}"))
+    tally_marks("a long run", root, net, text, (0, 39), last)
+    tally_marks("a long run, all of it by the rounds", whole, net, text, (0, last), last)
+    note("tally of a long run: what it says", any("the first 40 pulses of 409" in words for words in texts(root)))
+    by_rounds = parsed(draw.by_rounds(network, rounds_text(net)))
+    tally_marks("a long run, by the rounds", by_rounds, net, text, (0, 39), last)
+    note("tally by the rounds says so", "; counted by the rounds" in texts(by_rounds)[1], texts(by_rounds)[1])
+    at = next(k for k, line in enumerate(lines[5]) if line == "5 put 7 safe 20")
+    wrong = dict(lines) | {5: lines[5][:at] + ["5 put 7 safe 21"] + lines[5][at + 1:]}
+    status, picture, _ = draw.run("overview", network, transcript_text(12, wrong))
+    note("a long text with a mistake in these pulses", (status, picture) == (1, b""))
+
+
+def words_rows(draw, name, network, text):
+    """Neither the payloads' words nor the names of pulses overlap or reach over the edge. A bold letter of DejaVu Sans is 0.7 of
+    its size wide on average."""
+    root = parsed(draw("run", network, text))
+    for mark_name, before in (("words", 0.5), ("name", 0)):
+        boxes = []
+        for mark in marks(root, mark_name):
+            size = number(mark, "font-size")
+            wide = 0.7 * size * len(mark.text)
+            boxes.append((number(mark, "x") - before * wide, number(mark, "y") - size, wide, size))
+        wrong = [(a, b) for at, a in enumerate(boxes) for b in boxes[:at]
+                 if a[0] < b[0] + b[2] and b[0] < a[0] + a[2] and a[1] < b[1] + b[3] and b[1] < a[1] + a[3]]
+        note(f"run of {name}: its {mark_name} don't overlap", not wrong, wrong[:2])
+        note(f"run of {name}: its {mark_name} are within the picture",
+             all(x > 0 and x + wide < number(root, "width") for x, _, wide, _ in boxes), boxes)
+    return len(marks(root, "words"))
+
+
+def cut_rows(draw, network, text):
+    """A text that ends too early is said to."""
+    lines = text.split(b"\n")
+    nodes = len(network_of(network).neighbours)
+    for part in (0.1, 0.3, 0.6, 0.95):
+        at = int(len(lines) * part)
+        v = int(lines[at - 1].split()[0])
+        status, picture, fault = draw.run("tally", network, b"\n".join(lines[:at]) + b"\n")
+        missing = "node %d:" % nodes if v == nodes - 1 else f"{v + 1}" if v < nodes else f"ends with node {v} at pulse"
+        note(f"a transcript cut at line {at}", (status, picture) == (1, b"") and b"is it cut?" in fault and missing.encode() in fault, fault)

@@ -14,17 +14,19 @@ import re
 import subprocess
 import sys
 import tempfile
+from collections import Counter
 
 import check_transcript
 from made_transcripts import MISTAKES, made_transcript, transcript_text, with_mistake
 from picture_base import LIMIT, SEED, TALLY, TOP, Drawing, call, example, examples, note, transcript, transcript_by
-from picture_maps import bits_rows, forests_rows, matrix_rows, plan_rows, player_rows, rounds_rows
-from picture_marks import gap, parsed, texts
-from picture_runs import run_rows, whole_run_rows
+from picture_maps import (bits_rows, crowded_rows, forests_rows, grid_rows, matrix_rows, parts_rows, plan_rows, player_rows,
+                          rounds_rows)
+from picture_marks import gap, parsed, texts, titles
+from picture_runs import cut_rows, long_rows, run_rows, whole_run_rows, words_rows
 from plain_definition import network_of, plan_text
 from rounds_definition import rounds_text
 
-EDGE, ROW = b"p edge 2 1\ne 1 2\n", b"p edge 4 3\ne 1 2\ne 2 3\ne 3 4\n"
+ONE, EDGE, ROW = b"p edge 1 0\n", b"p edge 2 1\ne 1 2\n", b"p edge 4 3\ne 1 2\ne 2 3\ne 3 4\n"
 WRONG_NETWORKS = {
     b"": b"(F1)", b"p edge 2 1\ne 1 2\np edge 2 1\n": b"(F2)", b"e 1 2\n": b"(F3)", b"p edge 2\n": b"(F4)", b"p edge 2 1\ne 1\n": b"(F4)",
     b"p edge 2 1\ne 1 x\n": b"(F4)", b"p map 2 1\n": b"(F4)", b"p edge 2 1\ne 1 3\n": b"(F5)", b"p edge 2 1\ne 0 1\n": b"(F5)",
@@ -32,6 +34,8 @@ WRONG_NETWORKS = {
 }
 ALL_JOINED = b"p edge 8 28\n" + b"".join(
     b"e %d %d\nc at %d %d %d\n" % (v, w, v, v, v * v) for v in range(1, 9) for w in range(1, 9) if v != w)
+# Eight vertices with a place for two or three of them.
+CROWD = b"p edge 8 4\ne 1 2\ne 2 3\ne 1 3\ne 5 6\n" + b"".join(b"c at %d %d %d\n" % (v, v // 3, v // 5) for v in range(1, 9))
 APART = b"p edge 5 3\ne 1 2\ne 2 3\ne 1 3\n"
 # How often a mistake is tried until it makes a transcript wrong: most do at once.
 TRIES = 1000
@@ -129,22 +133,43 @@ def pulses_rows(draw):
         for words in (["run"], ["overview"], ["node", "--vertex", 1], ["tally"]):
             refused(f"{words[0]} of pulses {pulses}", draw.run(words[0], APART, text, *words[1:], "--pulses", pulses),
                     f"among 0 to {last}\n".encode())
-    refused("node of some pulses without its vertex", draw.run("node", APART, text, "--pulses", "1..2"), b"needs --vertex")
+    parts = Counter()
+    for pulses in (f"0..{last // 2}", f"{last // 2 + 1}..{last}", f"0..{last}"):
+        for words in titles(parsed(draw("node", APART, text, "--pulses", pulses)), "step"):
+            parts[words.rsplit(": ", 1)[0]] += int(words.rsplit(": ", 1)[1]) * (-1 if pulses == f"0..{last}" else 1)
+    note("the steps of both halves of a run are its steps", len(parts) > 10 and not any(parts.values()), parts)
     star = b"p edge 64 63\n" + b"".join(b"e %d 64\n" % v for v in range(1, 64))
     refused("overview of a pulse that no node begins", draw.run("overview", star, b"transcript 1 64\n", "--pulses", "1..2"), b"no node")
-    for pulses, said in (([], "205 pulses, too many"), (["--pulses", "0..100"], "101 pulses, too many"), (["--pulses", "0..99"], "")):
+    for pulses, said in (([], "the first 40 pulses of 205"), (["--pulses", "0..100"], "101 pulses, too many"), (["--pulses", "0..99"], "")):
         caption = texts(parsed(draw("overview", star, b"transcript 1 64\n", *pulses)))[-1]
-        note(f"overview of {pulses or 'all'} pulses: its caption", (said in caption) if said else "too many" not in caption, caption)
+        note(f"overview of {pulses or 'no'} pulses: its caption", said in caption and ("too many" in caption) == ("too many" in said), caption)
+
+
+def one_node_rows(draw):
+    """Networks with one or two nodes: what has nothing to show is refused in words, and one thing isn't called several."""
+    for name, network in (("one", ONE), ("two", EDGE)):
+        text, rounds = transcript(network, "few"), rounds_text(network_of(network))
+        texts_of = {"plan": plan_text(network), "matrix": plan_text(network)} | dict.fromkeys(("run", "overview", "node", "tally"), text)
+        for kind in ("plan", "matrix", "run", "overview", "node", "tally", "player", "forests", "rounds", "bits"):
+            if network == ONE and kind in ("forests", "rounds", "bits"):
+                refused(f"{kind} of one node", draw.run(kind, network, rounds), b"has no edge")
+                continue
+            picture = draw(kind, network, texts_of.get(kind, rounds))
+            wrong = re.findall(r"\b1 (?:node|time|wire|payload|pulse|edge|pair|transmitter|neighbour|forest)s\b", picture)
+            note(f"{kind} of {name}: one is one", not wrong, wrong)
+        words_rows(draw, name, network, text)
 
 
 def word_rows(draw):
     """The command line, help, places that aren't given, and the same bytes twice."""
     for words in ([], ["plan"], ["map", "x"], ["plan", "x", "y"], ["run", "x", "--pulses", "3"], ["overview", "x", "--pulses", "3,5"],
-                  ["run", "x", "--only", "hello"], ["bits", "x", "--vertex", "y"]):
-        status, picture, _ = call(words)
-        note(f"the words {words}", (status, picture) == (2, b""))
+                  ["run", "x", "--only", "hello"], ["bits", "x", "--vertex", "y"], ["forests", "x", "--forests", "2"]):
+        status, picture, fault = call(words)
+        prog = b"picture " + words[0].encode() if words and words[0] != "map" else b"picture"
+        note(f"the words {words}", (status, picture) == (2, b"") and fault.split(b"\n")[-2].startswith(prog + b": error: "), fault)
     status, told, fault = call(["--help"])
     kinds = re.findall(r"^  ([a-z]+) {2,}", told.decode().split("positional")[0], re.M)
+    note("help names standard input", b"./picture plan - <" in told)
     note("help", (status, fault, len(kinds)) == (0, b"", 10), kinds)
     for kind in kinds:
         status, told, fault = call([kind, "--help"])
@@ -155,16 +180,18 @@ def word_rows(draw):
     for kind, text in texts_of.items():
         once, again = (draw.run(kind, network, text, env=dict(os.environ, PYTHONHASHSEED=seed)) for seed in "12")
         note(f"{kind}: the same bytes twice", once == again and once[0] == 0)
-    bare = os.path.join(draw.folder, "bin")
-    os.mkdir(bare)
-    for tool in ("bash", "dirname"):
-        os.symlink(f"/usr/bin/{tool}" if os.path.exists(f"/usr/bin/{tool}") else f"/bin/{tool}", os.path.join(bare, tool))
-    os.symlink(sys.executable, os.path.join(bare, "python3"))
+    status, picture, fault = call(["plan", "-", "--plan", draw.file("text", plan_text(network))], network)
+    note("a network on standard input", (status, fault) == (0, b"") and b"Channel plan of standard input" in picture, fault)
+    refused("two texts on standard input", call(["plan", "-", "--plan", "-"], network), b"standard input has one text")
+    queen = example("queen5_5.col")
+    rounds = rounds_text(network_of(queen))
+    for asked, said in (("0..6", b"at most 6 forests side by side"), ("3..12", b"forests 0 to 11"), ("12..12", b"forests 0 to 11")):
+        refused(f"forests {asked} of 12", draw.run("forests", queen, rounds, "--forests", asked), said)
     plain = b"".join(line + b"\n" for line in network.split(b"\n") if not line.startswith(b"c at"))
     some = plain + b"c at 1 0 0\n"
-    for name, data, said in (("given", network, b""), ("none", plain, b"on a circle"), ("some", some, b"for 1 of 10 vertices")):
-        status, picture, fault = draw.run("plan", data, plan_text(network), env={"PATH": bare})
-        note(f"places: {name}", status == 0 and picture and said in fault and bool(said) == fault.startswith(b"picture: "), fault)
+    for name, data, said in (("given", network, b""), ("none", plain, b""), ("some", some, b"for 1 of 10 vertices")):
+        once, again = (draw.run("plan", data, plan_text(network), env=dict(os.environ, PYTHONHASHSEED=seed)) for seed in "12")
+        note(f"places: {name}", once == again and once[0] == 0 and said in once[2] and bool(said) == bool(once[2]), once[2])
 
 
 def stored_rows(play):
@@ -221,14 +248,24 @@ def main():
         matrix_rows(draw, "all on channel 1", all_of["petersen"], lambda network: b"plan\n" + b"".join(b"%d 1\n" % v for v in range(1, 11)))
         for name in ("petersen", "triangle", "star", "four_cycle", "path", "chain6", "drops"):
             rounds_rows(draw, name, all_of[name])
-        rounds_rows(draw, "queen5_5", all_of["queen5_5"], "--forest", 1)
+        rounds_rows(draw, "queen5_5", all_of["queen5_5"])
+        rounds_rows(draw, "queen5_5", all_of["queen5_5"], [1], "--forest", 1)
+        rounds_rows(draw, "queen5_5", all_of["queen5_5"], [4, 5], "--forests", "4..5")
+        forests_rows(draw, "queen5_5", all_of["queen5_5"], list(range(4, 10)))
+        crowded_rows(draw, "a crowd", CROWD)
+        grid_rows(draw, 10, 10)
+        grid_rows(draw, 4, 7)
+        parts_rows(draw)
+        large = circle_of(2000)
+        matrix_rows(draw, "a ring of 2000", large)
         for name, v in (("petersen", 6), ("queen5_5", 5), ("star", 1)):
             bits_rows(draw, name, all_of[name], v)
         with open(os.path.join(TOP, "docs", "pictures", "long_ids.rounds"), "rb") as file:
             text = file.read()
         names = {int(v): int(name) for v, name in re.findall(rb"^(\d+) put \d+ payload 0 hello (\d+)", text, re.M)}
         bits_rows(draw, "long_ids", all_of["chain6"], 1, text, names)
-        for name, network in (("triangle", all_of["triangle"]), ("petersen", all_of["petersen"]), ("all joined", ALL_JOINED)):
+        for name, network in (("triangle", all_of["triangle"]), ("petersen", all_of["petersen"]), ("all joined", ALL_JOINED),
+                              ("one", ONE), ("three apart", b"p edge 3 0\n"), ("two", EDGE)):
             player_rows(draw, name, network)
         for name, network in (("two", EDGE), ("path", all_of["path"]), ("chain6", all_of["chain6"])):
             for seed in (1, 2):
@@ -239,6 +276,12 @@ def main():
             if program:
                 runs |= {f"{workers} workers": transcript_by(program, network, workers) for workers in "24"}
             run_rows(draw, name, network, runs, v)
+        for seed in range(4):
+            count = words_rows(draw, f"triangle, made {seed}", all_of["triangle"], transcript(all_of["triangle"], seed))
+            note(f"run of triangle, made {seed}: payloads have their words", count > 5, count)
+        cut_rows(draw, all_of["petersen"], transcript(all_of["petersen"], "cut"))
+        long_rows(draw)
+        one_node_rows(draw)
         refused_rows(draw)
         size_rows(draw)
         pulses_rows(draw)

@@ -2,7 +2,9 @@
 from math import sqrt
 
 from palette import HAIRLINE, INK, PAPER, SOFT, WIRES
-from svg import Svg
+from overview_picture import USUAL
+from sizes import MANY_WIRES, least_wires
+from svg import Svg, counted
 from synchroniser import steps_of
 
 ROW_OF_NODE, ROW_OF_PORT = 182, 520
@@ -14,19 +16,28 @@ LEVELS = [((0, False), "behind"), ((0, True), "payload p"), ((1, False), "safe p
 FILLS = {0: "#E8F1F8", 1: "#FBEFE4", 2: "#FBE3CF"}
 
 
-def draw(run):
-    nodes, ports = steps_of(run)
+def usual(network, last):
+    """The pulses that are counted if none are asked for: all, or the first ones of a long run."""
+    return (0, last) if least_wires(network) <= MANY_WIRES else (0, min(USUAL - 1, last))
+
+
+def draw(run, pulses=None):
+    first, last = run.window(pulses, usual(run.network, run.last))
+    nodes, ports = steps_of(run, first, last)
     svg = Svg(1120, 670, f"Synchroniser of {run.name}")
+    said, others = "the run", ""
+    if (first, last) != (0, run.last):
+        said, others = f"pulses {first} to {last} of the run", "" if pulses else " Count others with --pulses A..B."
     svg.heading("How a node knows that a round is over: the synchroniser",
-                f"How often each step is made in the run of {run.name} ({run.network.nodes} nodes, {run.last} pulses); "
-                "the wider, the oftener.")
+                f"How often each step is made in {said} of {run.name} ({counted(run.network.nodes, 'node')}, "
+                f"{counted(run.last, 'pulse')}); the wider, the oftener.{others}")
     most = max([1, *nodes.values(), *ports.values()])
     draw_node(Automaton(svg, nodes, most))
     draw_port(Automaton(svg, ports, most))
     closes = sum(count for (_, cause, _), count in ports.items() if cause == "close")
     pulses = sum(count for (_, cause, _), count in nodes.items() if cause == "pulse")
-    svg.text(20, 652, f"A wire that no arrow takes is refused. After R safes a port takes close: {closes} times. In all {pulses} pulses, "
-             "and none begins before every port has passed “safe p”.", 11.5, SOFT)
+    svg.text(20, 652, f"A wire that no arrow takes is refused. After R safes a port takes close: {counted(closes, 'time')}. In all "
+             f"{counted(pulses, 'pulse')}, and none begins before every port has passed “safe p”.", 11.5, SOFT)
     return svg.document()
 
 
@@ -56,7 +67,7 @@ class Automaton:
             self.svg.path(steps, drawn, round(width, 1))
             self.svg.head(xb, yb, dx, dy, size, drawn)
             self.svg.text(*label, words, 11.5, colour if count else SOFT, anchor, bold=True, halo=4)
-            self.svg.text(label[0], label[1] + 13, f"{count} times" if count else "never here", 10, SOFT, anchor, halo=4)
+            self.svg.text(label[0], label[1] + 13, counted(count, "time") if count else "never here", 10, SOFT, anchor, halo=4)
 
 
 def draw_node(automaton):

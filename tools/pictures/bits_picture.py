@@ -13,6 +13,7 @@ LONG = 40
 
 def draw(rounds, forest=0, vertex=None):
     network = rounds.network
+    rounds.asked_forests((forest, forest))
     if vertex is None:
         vertex = next((v for v in network.vertices if (v, forest) in rounds.parents), None)
     if (vertex, forest) not in rounds.parents:

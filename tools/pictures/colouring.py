@@ -1,6 +1,8 @@
 """The rounds of the colouring by their definition (docs/DEFINITIONS.md), for all vertices at once: what a text of rounds or
 the payloads of a transcript have to be. Vertices carry identifiers, which need not be their numbers."""
 
+from wrong import Wrong
+
 GREET, ORIENT, SEED, LAST_COLOUR = 0, 1, 2, 12
 DROPPED = {8: 5, 10: 4, 12: 3}
 
@@ -117,6 +119,16 @@ class Rounds:
                 if v in pulse.chosen:
                     yield f"{v} chose {pulse.chosen[v]}"
                 yield from puts[v]
+
+    def asked_forests(self, asked):
+        """The forests A to B that are asked for, if the network has them; None if none are asked for."""
+        if not self.forests:
+            raise Wrong(f"{self.network.name} has no edge, so no forest")
+        if asked is None:
+            return None
+        if not 0 <= asked[0] <= asked[1] < self.forests:
+            raise Wrong(f"{self.network.name} has {'forest 0 alone' if self.forests == 1 else f'forests 0 to {self.forests - 1}'}")
+        return range(asked[0], asked[1] + 1)
 
     def in_forest(self, v, f):
         """Whether an edge of forest f ends at v."""

@@ -1,13 +1,13 @@
 """The forest sheet: one column a forest; above, its edges and three colours; below, the channels once it is merged."""
 from marks import alone_chip, channel_circle, colour_square, draw_edge
 from palette import FOREST_COLOURS, INK, PAPER, SOFT
-from places import bends, box_height, fit, label_places, places_of
+from places import OF_SQUARES, bends, box_height, label_places, moved, places_of, spaced
 from colouring import LAST_COLOUR
-from svg import Svg, text_width
-from wrong import Wrong
+from svg import Svg, counted, text_width
+from wrong import Wrong, at_most
 
-MOST_COLUMNS, PANEL, SPACE, GAP, LEFT, TOP = 6, 250, 26, 120, 20, 128
-FAINT = "#E6E6E6"
+MOST_COLUMNS, PANEL, SPACE, GAP, LEFT, TOP = 6, 250, 26, 120, 20, 140
+FAINT, LEGEND = "#E6E6E6", 640
 
 
 class Sheet:
@@ -17,52 +17,50 @@ class Sheet:
         network = rounds.network
         self.rounds, self.network = rounds, network
         self.is_large = network.nodes > 40
-        self.radius = 4.5 if self.is_large else 10 if network.nodes > 12 else 13
+        radius, least = (4.5, 3) if self.is_large else (10, 7) if network.nodes > 12 else (13, 10)
         places = places_of(network)
         margin = 14 if self.is_large else 34
         self.height = box_height(places, PANEL, margin, 100)
-        self.places = fit(places, PANEL, self.height, margin)
+        self.places, self.radius = spaced(places, PANEL, self.height, margin, radius, least, OF_SQUARES)
         self.bend = {} if self.is_large else bends(self.places, network.edges, self.radius + 1)
         self.labels = {}
         if network.nodes <= 12:
             self.labels = label_places(self.places, network.edges, self.bend, self.radius * 1.25 + 8)
         self.three = rounds.pulses[LAST_COLOUR].colours
 
-    def at(self, left, top, places):
-        return {v: (x + left, y + top) for v, (x, y) in places.items()}
 
-
-def draw(rounds):
-    network = rounds.network
-    if rounds.forests == 0:
+def draw(rounds, asked=None):
+    network, count = rounds.network, rounds.forests
+    if count == 0:
         raise Wrong(f"{network.name} has no edge, so no forest: use plan")
+    columns, width = columns_of(rounds.asked_forests(asked), rounds.forests)
     sheet = Sheet(rounds)
-    columns, width = columns_of(rounds.forests)
-    count = rounds.forests
-    said = (f"{network.name}: {len(network.edges)} edges in {count} forest{'' if count == 1 else 's'}; "
-            "merged, they are the plan")
-    svg = Svg(max(width, 60 + text_width(said, 17) * 1.1), TOP + 2 * sheet.height + 76, f"Forests of {network.name}")
+    said = f"{network.name}: {counted(len(network.edges), 'edge')} in {counted(count, 'forest')}; merged, they are the plan"
+    svg = Svg(max(width, LEGEND, 60 + text_width(said, 17) * 1.1), TOP + 2 * sheet.height + 76, f"Forests of {network.name}")
     svg.heading(said)
     legend(svg)
     shift = (svg.width - width) / 2
     for forest, left in columns:
-        if forest is None:
-            left_out(svg, left + shift, sheet, count)
+        if isinstance(forest, range):
+            left_out(svg, left + shift, sheet, forest)
         else:
             colours_panel(svg, left + shift, sheet, forest)
             merged_panel(svg, left + shift, sheet, forest)
     return svg.document()
 
 
-def columns_of(forests):
-    """(forest, left) of each column, None for those left out, and the width of all."""
-    shown = list(range(forests))
-    if forests > MOST_COLUMNS:
-        shown = shown[:MOST_COLUMNS - 2] + [None, forests - 1]
+def columns_of(asked, forests):
+    """(forest, left) of each column, a range for those left out, and the width of all: what is asked for, at most six; else all,
+    or the first four and the last."""
+    shown = list(range(forests)) if asked is None else list(asked)
+    if asked is not None:
+        at_most("forests", len(shown), "forests side by side", MOST_COLUMNS, "--forests A..B with fewer")
+    elif forests > MOST_COLUMNS:
+        shown = shown[:MOST_COLUMNS - 2] + [range(MOST_COLUMNS - 2, forests - 1), forests - 1]
     columns, left = [], LEFT
     for forest in shown:
         columns.append((forest, left))
-        left += GAP if forest is None else PANEL + SPACE
+        left += GAP if isinstance(forest, range) else PANEL + SPACE
     return columns, left - SPACE + LEFT
 
 
@@ -76,12 +74,19 @@ def legend(svg):
     svg.line(492, y, 510, y, INK, 1.8)
     svg.head(516, y, 1, 0, 8, INK)
     svg.text(524, y + 4, "to the parent", 11.5, SOFT)
+    alone_chip(svg, 28, y + 22, 5)
+    svg.text(80, y + 26, "no edge in this forest", 11.5, SOFT)
+    for x, colour, words in ((292, INK, "merged now"), (412, "#9A9A9A", "merged before"), (540, FAINT, "other edges")):
+        svg.line(x, y + 22, x + 18, y + 22, colour, 1.8)
+        svg.text(x + 24, y + 26, words, 11.5, SOFT)
 
 
-def left_out(svg, left, sheet, count):
+def left_out(svg, left, sheet, forests):
+    x = left + GAP / 2 - SPACE / 2
     for top in (TOP, TOP + sheet.height + 54):
-        svg.text(left + GAP / 2 - SPACE / 2, top + sheet.height / 2, "…", 40, SOFT, "middle")
-    svg.text(left + GAP / 2 - SPACE / 2, TOP + sheet.height / 2 + 26, f"forests {MOST_COLUMNS - 2} to {count - 2}", 11, SOFT, "middle")
+        svg.text(x, top + sheet.height / 2, "…", 40, SOFT, "middle")
+    svg.text(x, TOP + sheet.height / 2 + 26, f"forests {forests[0]} to {forests[-1]}", 11, SOFT, "middle")
+    svg.text(x, TOP + sheet.height / 2 + 42, "(--forests A..B)", 10, SOFT, "middle")
 
 
 def title(svg, left, top, text, under=None):
@@ -91,7 +96,7 @@ def title(svg, left, top, text, under=None):
 
 
 def numbers(svg, sheet, left, top):
-    for v, (x, y) in sheet.at(left, top, sheet.labels).items():
+    for v, (x, y) in moved(sheet.labels, left, top).items():
         svg.text(x, y + 3, v, 8.5, SOFT, "middle", halo=2.5, mark="number")
 
 
@@ -99,8 +104,8 @@ def colours_panel(svg, left, sheet, forest):
     """The forest's edges as arrows to the parents; a chip where a vertex has no edge in it."""
     edges = sheet.rounds.edges_of(forest)
     mine = {(min(e), max(e)) for e in edges}
-    title(svg, left, TOP, f"forest {forest}", f"{len(edges)} edge{'' if len(edges) == 1 else 's'}")
-    places, radius = sheet.at(left, TOP, sheet.places), sheet.radius
+    title(svg, left, TOP, f"forest {forest}", counted(len(edges), "edge"))
+    places, radius = moved(sheet.places, left, TOP), sheet.radius
     with svg.group("forest", f"forest {forest}"):
         for v, w in sheet.network.edges:
             if (v, w) not in mine:
@@ -124,7 +129,7 @@ def merged_panel(svg, left, sheet, forest):
     is_last = forest == rounds.forests - 1
     title(svg, left, top, "all merged: the plan" if is_last else
           "merged: forest 0" if forest == 0 else f"merged: forests 0 to {forest}")
-    places, merged = sheet.at(left, top, sheet.places), rounds.merged_after(forest)
+    places, merged = moved(sheet.places, left, top), rounds.merged_after(forest)
     later, before, now = [], [], []
     for e in sheet.network.edges:
         f = rounds.forest_of[e]

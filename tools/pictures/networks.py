@@ -1,5 +1,6 @@
 """The network of a text, with the places of its vertices where comment lines give them."""
 import re
+from functools import lru_cache
 
 from wrong import Wrong, wrong_line
 
@@ -33,6 +34,7 @@ def fields_of(line):
     return line.replace("\r", " ").replace("\t", " ").split(" ")
 
 
+@lru_cache(1 << 16)
 def whole(field):
     """The number of a field, or None."""
     return int(field) if re.fullmatch(r"[0-9]{1,20}", field) else None

@@ -5,8 +5,13 @@ from svg import Svg, text_width
 from wrong import Wrong
 
 LEFT, TOP, WIDTH = 64, 92, 1120
-# Above so many pulses a band is too narrow to be followed from node to node.
-MOST_READABLE = 100
+# Above so many pulses a band is too narrow to be followed from node to node, and so many are drawn of a run that has more.
+MOST_READABLE, USUAL = 100, 40
+
+
+def usual(last):
+    """The pulses that are drawn if none are asked for."""
+    return (0, last) if last <= MOST_READABLE else (0, USUAL - 1)
 
 
 class Overview:
@@ -42,7 +47,7 @@ class Overview:
 
 
 def draw(run, pulses=None):
-    first, last = run.window(pulses, (0, run.last))
+    first, last = run.window(pulses, usual(run.last))
     overview = Overview(run, first, last)
     svg = Svg(LEFT + WIDTH + 28, overview.bottom + 52, f"Overview of {run.name}")
     svg.heading(f"{run.name}: pulses {first} to {last} of {run.last}, without a clock",
@@ -50,16 +55,20 @@ def draw(run, pulses=None):
     draw_bands(svg, overview)
     for v in overview.nodes:
         draw_node(svg, overview, v)
-    words = "Each band is one pulse, from the tick at which a node begins it to its next: " + said_of(overview)
+    words = "Each band is one pulse, from the tick at which a node begins it to its next: " + said_of(overview, run.network)
+    if pulses is None and last < run.last:
+        words += f" These are the first {USUAL} pulses of {run.last + 1}: draw others with --pulses A..B."
     svg.text(20, overview.bottom + 36, words, 11.5, SOFT)
     return svg.document()
 
 
-def said_of(overview):
+def said_of(overview, network):
     """What is seen; or, of more bands than can be told apart, how many they are."""
     count = overview.last - overview.first + 1
     if count > MOST_READABLE:
         return f"{count} pulses, too many to follow one. Draw at most {MOST_READABLE} of them: --pulses A..B."
+    if not network.edges:
+        return "no node has a neighbour, so none waits for another."
     return "neighbours are never more than one pulse apart."
 
 

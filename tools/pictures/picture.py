@@ -1,6 +1,7 @@
 """The door: `./picture KIND NETWORK [options] > x.svg`. Reads the network, has the programs write what is to be drawn (or
 reads it from a file), and writes the picture, or one line on standard error and no part of it."""
 import argparse
+import gc
 import re
 import sys
 
@@ -17,9 +18,10 @@ import run_picture
 import tally_picture
 import timing_picture
 from networks import read_network, stem
+from places import note
 from plans import read_plan
 from rounds import read_rounds
-from sizes import check_size
+from sizes import MANY_WIRES, check_run, check_size, last_pulse, least_wires
 from transcripts import read_transcript
 from wrong import Wrong
 
@@ -35,13 +37,15 @@ Draws what the programs computed, as SVG on standard output.
   overview  the pulses of such a run from beginning to end
   node      the synchroniser as an automaton; with --vertex its timing
   tally     the wires of a run by pulse
-  player    a page with a slider over the pulses (HTML)
+  player    a page that plays the pulses (HTML)
 """
 
 MORE_HELP = """\
-NETWORK is a file in the DIMACS format. Comment lines `c at V X Y` place its
+NETWORK is a file in the DIMACS format, or - for standard input, as in
+`./picture plan - < net.col > net.svg`. Comment lines `c at V X Y` place its
 vertices, y growing downwards; they count if each vertex has one. Else up to six
-are on a circle, and more are laid out by Graphviz's neato, or on a circle too.
+are on a circle, and more are laid out by their edges. Vertices that would overlap
+are drawn smaller, and those still too near are pushed apart.
 
 Status: 0 done, 1 not drawn (one line on standard error says why), 2 the command
 line is refused; if a program refuses, its own line and status.
@@ -56,10 +60,11 @@ KINDS = {
     "matrix": ("Who interferes with whom, sorted by channel.", "Pairs on one channel are red. At most 2,000 nodes.",
                "./picture matrix examples/queen5_5.col > queen5_5-matrix.svg"),
     "forests": ("Each forest with its three colours, and the plan after each merge.",
-                "At most 400 nodes; of more than six forests the first four and the last.",
+                "At most 400 nodes; of more than six forests the first four and the last, or up to\nsix others with --forests.",
                 "./picture forests examples/four_cycle.col > four_cycle-forests.svg"),
     "rounds": ("The colours of each node in each forest, and when it chooses which channel.",
-               "At most 100 nodes, and 400 rows: one forest alone with --forest.",
+               "At most 100 nodes. A row for each node of each forest: without --forests the first\n"
+               "forests, as many as have 40 rows together, and with it at most 400 rows.",
                "./picture rounds examples/triangle.col > triangle-rounds.svg"),
     "bits": ("One node above its parent, digit by digit, over the four bit steps.",
              "Without --vertex, the least one that has a parent. Vertices' names are their own\nnumbers, so they have few digits.",
@@ -70,17 +75,24 @@ KINDS = {
             "./picture run examples/chain6.col --pulses 3..5 --transcript \\\n"
             "    examples/chain6_slow.transcript > chain6_slow-spacetime.svg"),
     "overview": ("The pulses of a run without a clock, from beginning to end.",
-                 "At most 100 nodes. More than 100 pulses can't be told apart: draw some with --pulses.",
+                 "At most 100 nodes. Of a run of more than 100 pulses the first 40, or others with\n"
+                 "--pulses; of a long text only what they depend on is read, and checked.",
                  "./picture overview examples/petersen.col > petersen-overview.svg\n"
                  "  ./picture overview examples/queen5_5.col --pulses 100..139 > queen5_5-overview.svg"),
     "node": ("How a node knows that a round is over: how often each step is made.",
-             "With --vertex V: what node V knew, entry by entry (at most 14 ports).",
+             "With --vertex V: what node V knew, entry by entry (at most 14 ports). Of a long run\n"
+             "the steps of the first 40 pulses, or of others with --pulses.",
              "./picture node examples/petersen.col > petersen-automaton.svg\n"
              "  ./picture node examples/petersen.col --vertex 1 > petersen-timing.svg"),
     "tally": ("The wires of a run by pulse, under the identity that counts them.",
-              "Any network; the run has to be whole. With --pulses the identity is still the whole run's.",
+              "Any network; the run has to be whole. Of more than 100 pulses the bars of the first 40,\n"
+              "or of others with --pulses; the identity is the whole run's. If a run would be long,\n"
+              "its wires are counted by the rounds: each whole run has the same.",
               "./picture tally examples/petersen.col > petersen-tally.svg"),
-    "player": ("A page with a slider: the network at each pulse.", "At most 40 nodes. Of more than 200 frames, only merges in which some node chooses.\nWith --frame N, frame N alone as SVG.",
+    "player": ("A page with a slider and a play button: the network at each pulse.",
+               "At most 40 nodes. Of more than 200 frames, only merges in which some node chooses.\n"
+               "Add #pulse-P to the page's address for a link to pulse P, and #pulse-P-forest-F for\n"
+               "one of its forests. With --frame N, frame N alone as SVG.",
                "./picture player examples/petersen.col > petersen.html"),
 }
 OF_PLAN, OF_ROUNDS, OF_RUN = ("plan", "matrix"), ("forests", "rounds", "bits", "player"), ("run", "overview", "node", "tally")
@@ -93,6 +105,10 @@ def pulses(text):
     return int(found.group(1)), int(found.group(2))
 
 
+def one(text):
+    return pulses(f"{text}..{text}")
+
+
 def wires(text):
     kinds = text.split(",")
     if not set(kinds) <= set(run_picture.KINDS):
@@ -101,15 +117,16 @@ def wires(text):
 
 
 def command_line():
+    """The parser, and the one of each kind."""
     words = argparse.ArgumentParser(prog="picture", usage="picture KIND NETWORK [options]", description=HELP, epilog=MORE_HELP,
                                     formatter_class=argparse.RawDescriptionHelpFormatter)
     kinds = words.add_subparsers(dest="kind", metavar="KIND", required=True, help="one of those above")
     for name, (what, more, example) in KINDS.items():
-        kind = kinds.add_parser(name, usage=f"picture {name} NETWORK [options]", description=f"{what}\n\n{more}",
+        kind = kinds.add_parser(name, prog=f"picture {name}", usage=f"picture {name} NETWORK [options]", description=f"{what}\n\n{more}",
                                 epilog=f"Example:\n  {example}", formatter_class=argparse.RawDescriptionHelpFormatter)
-        kind.add_argument("network", metavar="NETWORK", help="the network's file")
+        kind.add_argument("network", metavar="NETWORK", help="the network's file, or - for standard input")
         add_options(kind, name)
-    return words
+    return words, kinds.choices
 
 
 def add_options(kind, name):
@@ -120,10 +137,15 @@ def add_options(kind, name):
         kind.add_argument("--workers", metavar="N", help="the run's worker threads")
         kind.add_argument("--capacity", metavar="N", help="how many wires its links hold")
         kind.add_argument("--pulses", type=pulses, metavar="A..B", help="these pulses alone")
-    if name in ("rounds", "bits"):
+    if name in ("forests", "rounds"):
+        kind.add_argument("--forests", type=pulses, metavar="A..B", help="these forests alone, counted from 0")
+        kind.add_argument("--forest", dest="forests", type=one, metavar="F", help="this forest alone")
+    if name == "bits":
         kind.add_argument("--forest", type=int, metavar="F", help="one forest, counted from 0")
     if name in ("bits", "node"):
         kind.add_argument("--vertex", type=int, metavar="V", help="a vertex, counted from 1")
+    if name == "tally":
+        kind.add_argument("--rounds", metavar="FILE", help="a stored rounds text to count by, in place of a run")
     if name == "run":
         kind.add_argument("--only", type=wires, metavar="KINDS", help="some of payload,ack,safe,close")
     if name == "player":
@@ -140,40 +162,78 @@ def file_text(path):
         raise Wrong(f"{path}: {why.strerror}") from None
 
 
-def told(given, network_text):
+def stored(given):
+    """The file of a stored text, if one is named."""
+    return given.text or given.kind == "tally" and given.rounds or None
+
+
+def told(given, network, network_text):
     """The text that is drawn: the file's, or what the program writes."""
-    if given.text:
-        return file_text(given.text)
+    if stored(given):
+        return file_text(stored(given))
     if given.kind in OF_PLAN:
         return programs.text_of("forestplan", ["plain"], network_text)
-    if given.kind in OF_ROUNDS:
+    if given.kind in OF_ROUNDS or tallies_rounds(given, network):
         return programs.text_of("forestplay", ["rounds"], network_text)
+    if check_run(given.kind, network):
+        note(f"a run of {network.name} has more than {least_wires(network):,} wires, so its text takes a while")
     options = [f"--{name}={value}" for name, value in (("workers", given.workers), ("capacity", given.capacity)) if value]
     return programs.text_of("forestplan", ["transcript", *options], network_text)
 
 
+def tallies_rounds(given, network):
+    """Whether the wires are counted by the rounds: a run would be long, and each has as many."""
+    return given.kind == "tally" and not given.text and (given.rounds or least_wires(network) > MANY_WIRES)
+
+
+def name_of(given, network):
+    """What a fault of the text calls it."""
+    if stored(given):
+        return "standard input" if stored(given) == "-" else stored(given)
+    return {"plan": "the plan", "rounds": "the rounds"}.get(given.kind, f"the text of {network.name}")
+
+
 def drawn(given):
     """The picture of a kind."""
+    if given.network == stored(given) == "-":
+        raise Wrong("standard input has one text: name a file for the network or for the other text")
     network_text = file_text(given.network)
-    network = read_network(network_text, given.network)
+    network = read_network(network_text, "standard input" if given.network == "-" else given.network)
     check_size(given.kind, network)
-    text = told(given, network_text.encode())
-    name = given.text or {"plan": "the plan", "rounds": "the rounds"}.get(given.kind, f"the text of {network.name}")
+    text = told(given, network, network_text.encode())
+    name = name_of(given, network)
     if given.kind in OF_PLAN:
         kind = plan_picture if given.kind == "plan" else matrix_picture
         return kind.draw(network, read_plan(text, name, network))
     if given.kind in OF_ROUNDS:
         return drawn_rounds(given, read_rounds(text, name, network))
-    run = read_transcript(text, name, network)
+    if tallies_rounds(given, network):
+        counts = tally_picture.counts_by(read_rounds(text, name, network))
+        return tally_picture.draw(network, network.name, counts, given.pulses, by_rounds=True)
+    run = read_transcript(text, name, network, until_of(given, network))
     run.name = stem(given.text) if given.text and given.text != "-" else network.name
     return drawn_run(given, run)
 
 
+def until_of(given, network):
+    """The last pulse that is drawn; None if all are."""
+    if given.kind == "tally":
+        return None
+    if given.pulses:
+        return given.pulses[1]
+    last = last_pulse(network)
+    if given.kind == "run":
+        return run_picture.usual(network, last)[1]
+    if given.kind == "overview":
+        return overview_picture.usual(last)[1]
+    return (automaton_picture.usual(network, last) if given.vertex is None else timing_picture.usual(last))[1]
+
+
 def drawn_rounds(given, rounds):
     if given.kind == "forests":
-        return forests_picture.draw(rounds)
+        return forests_picture.draw(rounds, given.forests)
     if given.kind == "rounds":
-        return rounds_picture.draw(rounds, given.forest)
+        return rounds_picture.draw(rounds, given.forests)
     if given.kind == "bits":
         return bits_picture.draw(rounds, given.forest or 0, given.vertex)
     return player_page.draw(rounds) if given.frame is None else player_page.draw_frame(rounds, given.frame)
@@ -185,16 +245,18 @@ def drawn_run(given, run):
     if given.kind == "overview":
         return overview_picture.draw(run, given.pulses)
     if given.kind == "tally":
-        return tally_picture.draw(run, given.pulses)
+        return tally_picture.draw(run.network, run.name, tally_picture.counts_of(run), given.pulses)
     if given.vertex is None:
-        if given.pulses:
-            raise Wrong("node draws the steps of all pulses: --pulses needs --vertex")
-        return automaton_picture.draw(run)
+        return automaton_picture.draw(run, given.pulses)
     return timing_picture.draw(run, given.vertex, given.pulses)
 
 
 def main(words):
-    given = command_line().parse_args(words)
+    gc.disable()  # It draws one picture and ends; on long texts the collector would take a third of the time.
+    parser, kinds = command_line()
+    given, others = parser.parse_known_args(words)
+    if others:
+        kinds[given.kind].error(f"unrecognized arguments: {' '.join(others)}")
     try:
         picture = drawn(given)
     except Wrong as why:

@@ -1,27 +1,24 @@
-"""Where the vertices of a network are drawn: at given places, on a circle, or as Graphviz's `neato` lays them out."""
-import shutil
-import subprocess
+"""Where the vertices of a network are drawn: at given places, on a circle, or laid out by the edges (layout.py)."""
 import sys
 from math import sqrt
 
+from layout import laid_out
+
 LARGEST_CIRCLE = 6
+# How far apart two vertices are at least, in radii: circles don't touch then; and neither do squares of twice that width.
+OF_CIRCLES, OF_SQUARES = 2.3, 2.95
+PUSHES, REFITS = 200, 12
 FULL_TURN = 6.283185307179586
 
 
 def places_of(network):
-    """{vertex: (x, y)}: the comment lines `c at V X Y` if they name every vertex; else a circle for up to six; else neato's
-    places; else a circle, which is said on standard error."""
+    """{vertex: (x, y)}: the comment lines `c at V X Y` if they name every vertex; else a circle for up to six; else a layout."""
     named = [v for v in network.vertices if v in network.given]
     if len(named) == network.nodes:
         return {v: network.given[v] for v in network.vertices}
     if named:
         note(f"{network.name}: places are given for {len(named)} of {network.nodes} vertices, so they aren't used")
-    if network.nodes <= LARGEST_CIRCLE:
-        return circle(network.nodes)
-    if shutil.which("neato"):
-        return neato(network)
-    note(f"{network.name}: no places are given and Graphviz's neato isn't installed, so the vertices are on a circle")
-    return circle(network.nodes)
+    return circle(network.nodes) if network.nodes <= LARGEST_CIRCLE else laid_out(network)
 
 
 def note(what):
@@ -43,14 +40,6 @@ def circle(nodes):
     return {v: turned((v - 1) / nodes) for v in range(1, nodes + 1)}
 
 
-def neato(network):
-    graph = ["graph {", "start=1; overlap=false;"]
-    graph += [f"{v};" for v in network.vertices] + [f"{v} -- {w};" for v, w in network.edges] + ["}"]
-    told = subprocess.run(["neato", "-Tplain"], input="\n".join(graph), capture_output=True, text=True, check=True).stdout
-    rows = [line.split() for line in told.split("\n")]
-    return {int(row[1]): (float(row[2]), -float(row[3])) for row in rows if row[:1] == ["node"]}
-
-
 def extent(places):
     """Width and height of the places, at least a little."""
     xs, ys = [x for x, _ in places.values()], [y for _, y in places.values()]
@@ -64,6 +53,60 @@ def fit(places, width, height, margin, left=0, top=0):
     least_x, least_y = min(x for x, _ in places.values()), min(y for _, y in places.values())
     off_x, off_y = (width - scale * wide) / 2 + left, (height - scale * high) / 2 + top
     return {v: (off_x + scale * (x - least_x), off_y + scale * (y - least_y)) for v, (x, y) in places.items()}
+
+
+def spaced(places, width, height, margin, radius, least, apart=OF_CIRCLES):
+    """The places fitted into a box, and the radius that they leave: at most `radius`. Vertices too near for `least` are pushed
+    apart, as far as the box allows; no two of the radius overlap in any case."""
+    places = fit(places, width, height, margin)
+    for _ in range(REFITS):
+        if least_gap(places) >= apart * least:
+            break
+        places = fit(pushed_apart(places, 1.02 * apart * least), width, height, margin)
+    return places, max(0.1, min(radius, least_gap(places) / apart))
+
+
+def moved(places, left, top):
+    return {v: (x + left, y + top) for v, (x, y) in places.items()}
+
+
+def near_pairs(places, least):
+    """The pairs less than `least` apart, both one after the other."""
+    order = sorted(places, key=lambda v: (places[v][0], v))
+    for at, v in enumerate(order):
+        for w in order[at + 1:]:
+            if places[w][0] - places[v][0] >= least:
+                break
+            if gap(places[v], places[w]) < least:
+                yield v, w
+
+
+def least_gap(places):
+    """The distance of the two vertices that are nearest to each other."""
+    wide, high = extent(places)
+    guess = (wide + high) / len(places) + 1e-6
+    while len(places) > 1:
+        found = [gap(places[v], places[w]) for v, w in near_pairs(places, guess)]
+        if found:
+            return min(found)
+        guess *= 2
+    return 1e9
+
+
+def pushed_apart(places, least):
+    """Moves each pair that is too near apart, along its line, again and again; a pair on one point in a direction of its own."""
+    places = dict(places)
+    for _ in range(PUSHES):
+        near = list(near_pairs(places, least))
+        for v, w in near:
+            (x1, y1), (x2, y2) = places[v], places[w]
+            far = gap(places[v], places[w])
+            dx, dy = ((x2 - x1) / far, (y2 - y1) / far) if far > 1e-6 else turned((5 * v + 3 * w) % 16 / 16)
+            push = max(0, (least - far) / 2 + 0.01)
+            places[v], places[w] = (x1 - dx * push, y1 - dy * push), (x2 + dx * push, y2 + dy * push)
+        if not near:
+            break
+    return places
 
 
 def box_height(places, width, margin, least):

@@ -4,36 +4,46 @@ from colouring import LAST_COLOUR
 from marks import alone_chip, channel_circle, colour_square, number_square
 from palette import FOREST_COLOURS, INK, SOFT, channel_hue
 from svg import Svg, text_width
-from wrong import Wrong, at_most
+from wrong import at_most
 
-MOST_ROWS = 400
-COLUMN, ROW, LEFT, TOP = 27, 27, 112, 78
+MOST_ROWS, USUAL_ROWS = 400, 40
+COLUMN, ROW, LEFT, TOP = 27, 27, 112, 100
 FULL_STEPS = 40
-HEAD, FOOT = 56, 30
-GROUPS = [(2, 2, "start"), (3, 6, "bit steps"), (7, 8, "drop 5"), (9, 10, "drop 4"), (11, 12, "drop 3")]
+HEAD, FOOT = 68, 30
+GROUPS = [(2, 2, "start"), (3, 6, "bit steps"), (7, 7, "shift"), (8, 8, "drop 5"), (9, 9, "shift"), (10, 10, "drop 4"),
+          (11, 11, "shift"), (12, 12, "drop 3")]
 MERGES = LEFT + 11 * COLUMN + 34
 
 
-def draw(rounds, only=None):
-    network = rounds.network
-    forests = list(range(rounds.forests)) if only is None else [only]
-    if not set(forests) <= set(range(rounds.forests)) or not forests:
-        raise Wrong(f"{network.name} has {rounds.forests} forests, counted from 0")
+def draw(rounds, asked=None):
+    """The forests A to B that are asked for; else the first ones, as many as a slide has room for."""
+    network, asked = rounds.network, rounds.asked_forests(asked)
+    forests = list(asked or range(min(rounds.forests, max(1, USUAL_ROWS // network.nodes))))
     at_most("rounds", len(forests) * network.nodes, "rows", MOST_ROWS, "rounds --forest F, one forest at a time")
     steps = columns_of(rounds, forests)
     is_full = all(len(steps[f]) == 3 * rounds.width for f in forests)
     most = max(map(len, steps.values()))
     column = 21 if is_full or most > 12 else COLUMN
-    width = max(MERGES + most * column + 90, 860)
+    width = max(MERGES + most * column + 90, 980)
     block = network.nodes * ROW + HEAD + FOOT
-    svg = Svg(width, TOP + len(forests) * block - FOOT + 18, f"Rounds of {network.name}")
-    svg.heading(f"{network.name}: six colours at pulse 6, three at pulse 12, the plan at pulse {rounds.last}")
-    legend(svg)
+    left_out = left_out_of(rounds, forests)
+    top = TOP + 18 * len(left_out)
+    svg = Svg(width, top + len(forests) * block - FOOT + 18, f"Rounds of {network.name}")
+    svg.heading(f"{network.name}: six colours at pulse 6, three at pulse 12, the plan at pulse {rounds.last}", *left_out)
+    legend(svg, 50 + 18 * len(left_out))
     for number, forest in enumerate(forests):
-        strip = Strip(svg, rounds, forest, TOP + number * block, steps[forest], column)
+        strip = Strip(svg, rounds, forest, top + number * block, steps[forest], column)
         strip.colours()
         strip.merge(is_full)
     return svg.document()
+
+
+def left_out_of(rounds, forests):
+    """A line that says which forests are drawn, if not all are."""
+    if len(forests) == rounds.forests:
+        return []
+    shown = f"forest {forests[0]}" if len(forests) == 1 else f"forests {forests[0]} to {forests[-1]}"
+    return [f"Here {shown} of 0 to {rounds.forests - 1}; draw others with --forests A..B."]
 
 
 def columns_of(rounds, forests):
@@ -44,15 +54,20 @@ def columns_of(rounds, forests):
     return steps
 
 
-def legend(svg):
-    y = 50
+def legend(svg, y):
     for colour in range(6):
         colour_square(svg, 28 + 17 * colour, y, 7.5, colour, mark="legend")
     svg.text(130, y + 4, "square: colour in the forest; 3, 4, 5 are dropped", 11.5, SOFT)
     svg.rect(452, y - 7.5, 15, 15, "#D6D6D6", round_by=2)
     svg.text(474, y + 4, "still a name", 11.5, SOFT)
-    channel_circle(svg, 574, y, 8, 1, mark="legend")
-    svg.text(588, y + 4, "circle: the node chooses this channel", 11.5, SOFT)
+    alone_chip(svg, 574, y, COLUMN / 2 - 8)
+    svg.text(588, y + 4, "no edge in this forest", 11.5, SOFT)
+    y += 22
+    channel_circle(svg, 28, y, 8, 1, mark="legend")
+    svg.text(42, y + 4, "circle: the node chooses this channel", 11.5, SOFT)
+    svg.line(276, y, 300, y, channel_hue(1), 3, opacity="0.35")
+    svg.text(308, y + 4, "its channel meanwhile", 11.5, SOFT)
+    svg.text(452, y + 4, "K and J say whose turn it is: colour in the forest, colour so far (channel J + 1).", 11.5, SOFT)
 
 
 class Strip:
@@ -72,10 +87,11 @@ class Strip:
         svg.text(20, self.top + 20, f"forest {self.forest}", 13.5, INK, bold=True)
         for first, last, words in GROUPS:
             x1, x2 = LEFT + (first - 2) * COLUMN + 2, LEFT + (last - 1) * COLUMN - 2
-            svg.text((x1 + x2) / 2, self.top + 34, words, 10, INK, "middle")
-            svg.line(x1, self.top + 39, x2, self.top + 39, "#9A9A9A", 1)
+            svg.text((x1 + x2) / 2, self.top + 45, words, 10 if last > first else 7.5, INK, "middle", mark="group")
+            svg.line(x1, self.top + 50, x2, self.top + 50, "#9A9A9A", 1)
+        svg.text(LEFT - 4, self.top + 63, "pulse", 9, SOFT, "end")
         for pulse in range(2, LAST_COLOUR + 1):
-            svg.text(LEFT + (pulse - 1.5) * COLUMN, self.top + 51, pulse, 9, SOFT, "middle")
+            svg.text(LEFT + (pulse - 1.5) * COLUMN, self.top + 63, pulse, 9, SOFT, "middle")
         for v in self.rounds.network.vertices:
             y, parent = self.row(v), self.rounds.parents.get((v, self.forest))
             if v % 2 == 1:
@@ -107,24 +123,27 @@ class Strip:
             svg.text(MERGES + text_width(words, 13.5) + 22, top + 20, "(steps at which some node chooses)", 10, SOFT)
         self.step_heads()
         end = MERGES + len(self.steps) * self.column
-        svg.text(end + 24, top + 51, "after", 9, SOFT, "middle")
+        svg.text(end + 24, top + 63, "after", 9, SOFT, "middle")
         before = self.rounds.merged_after(self.forest - 1)
         with svg.group("choices", f"forest {self.forest}"):
             for v in self.rounds.network.vertices:
                 self.choices_of(v, before.get(v), end)
 
     def step_heads(self):
-        """Pulse numbers, and the three-colour whose turn it is."""
+        """Pulse numbers, and the pair (colour in this forest, colour so far) whose turn it is."""
         svg, before = self.svg, None
+        svg.text(MERGES - 6, self.top + 36, "K", 9.5, SOFT, "end")
+        svg.text(MERGES - 6, self.top + 50, "J", 9.5, SOFT, "end")
         for index, pulse in enumerate(self.steps):
-            x, colour = MERGES + index * self.column, pulse.step[1]
+            x, (_, colour, old) = MERGES + index * self.column, pulse.step
             if colour != before:
                 if index:
                     svg.line(x, self.top + 26, x, self.top + HEAD + self.nodes * ROW, "#C4C4C4", 1)
-                svg.rect(x + 3, self.top + 25, 12, 12, FOREST_COLOURS[colour], round_by=2)
-                svg.text(x + 9, self.top + 34.5, colour, 9.5, "#FFFFFF", "middle", bold=True)
+                svg.rect(x + self.column / 2 - 6, self.top + 27, 12, 12, FOREST_COLOURS[colour], round_by=2)
+                svg.text(x + self.column / 2, self.top + 36.5, colour, 9.5, "#FFFFFF", "middle", bold=True, mark="turn")
             before = colour
-            svg.text(x + self.column / 2, self.top + 51, pulse.number, 8 if pulse.number < 100 else 7, SOFT, "middle")
+            svg.text(x + self.column / 2, self.top + 50, old, 9, INK, "middle", mark="old")
+            svg.text(x + self.column / 2, self.top + 63, pulse.number, 8 if pulse.number < 100 else 7, SOFT, "middle")
 
     def choices_of(self, v, channel, end):
         svg, y, x0 = self.svg, self.row(v), MERGES

@@ -7,13 +7,15 @@ from math import sqrt
 
 from marks import dash_of, wire_arrow
 from palette import BAND, BORDER, INK, PAPER, PULSE, SOFT, WIRES
-from svg import Svg, text_width
+from svg import Svg, counted, text_width
 from wrong import at_most
 
 LEFT, TOP, WIDTH = 64, 136, 1214
 KINDS = ("payload", "ack", "safe", "close")
 NAMES = {"payload": "payload", "ack": "acknowledgement", "safe": "safe", "close": "close"}
 MOST_STEPS = 400
+# How much wider a text is in bold.
+BOLD = 1.15
 MOST_NODES_OF_ALL_KINDS = 6
 
 
@@ -49,9 +51,14 @@ class Window:
                         yield put
 
 
+def usual(network, last):
+    """The pulses that are drawn if none are asked for."""
+    return 0 if network.nodes <= 3 else 1, min(3, last)
+
+
 def draw(run, pulses=None, kinds=None):
     kinds = kinds or (KINDS if run.network.nodes <= MOST_NODES_OF_ALL_KINDS else ("payload",))
-    first, last = run.window(pulses, (0 if run.network.nodes <= 3 else 1, min(3, run.last)))
+    first, last = run.window(pulses, usual(run.network, run.last))
     window = Window(run, first, last)
     at_most("run", window.stop - window.start, "steps of time side by side", MOST_STEPS, "fewer pulses (--pulses A..B), or overview")
     nodes = run.network.nodes
@@ -105,13 +112,29 @@ def draw_bands(svg, window):
         points = [(window.x(window.ticks[v].get(pulse, window.ends[v])), window.y(v)) for v in nodes]
         return [(points[0][0], points[0][1] - over)] + points + [(points[-1][0], points[-1][1] + over)]
 
-    for pulse in range(window.first, window.last + 1):
+    pulses = range(window.first, window.last + 1)
+    for pulse in pulses:
         left, right = border(pulse), border(pulse + 1)
         svg.path(polygon(left + right[::-1]) + ["Z"], None, None, BAND if (pulse - window.first) % 2 == 0 else PAPER, mark="band")
         svg.path(polygon(left), BORDER, 1.2)
         if pulse == window.last:
             svg.path(polygon(right), BORDER, 1.2)
-        svg.text(max(left[0][0] + 5, LEFT), TOP - over - 6, f"pulse {pulse}", 11.5, PULSE, bold=True)
+    name_pulses(svg, {pulse: max(border(pulse)[0][0] + 5, LEFT) for pulse in pulses}, TOP - over - 6)
+
+
+def name_pulses(svg, places, y):
+    """A name over each band, or a number alone where names have no room; a band that is narrower than that has none."""
+    starts = sorted(places.values())
+    least = min((b - a for a, b in zip(starts, starts[1:])), default=1e9)
+    has_room = least > text_width(f"pulse {max(places)}", 11.5) * BOLD
+    if not has_room:
+        svg.text(20, y, "pulse", 11.5, PULSE, bold=True)
+    free = 0
+    for pulse, x in sorted(places.items()):
+        words = f"pulse {pulse}" if has_room else pulse
+        if x >= free:
+            svg.text(x, y, words, 11.5, PULSE, bold=True, mark="name")
+            free = x + text_width(words, 11.5) * BOLD + 3
 
 
 def polygon(points):
@@ -140,13 +163,14 @@ def write_words(svg, window, words):
     """The payloads' words along their arrows, left out where they would collide."""
     used = []
     for x1, y1, dx, dy, text in words:
-        half = text_width(text, 9.5) / 2
+        half = text_width(text, 9.5) * BOLD / 2 + 2
         for part in (0.5, 0.32, 0.68, 0.2, 0.8):
             x, y = x1 + dx * part, y1 + dy * part + 3
             off = (y - 3 - TOP) % window.row_height
-            if min(off, window.row_height - off) > 11 and all(abs(x - a) > half + b or abs(y - c) > 11 for a, c, b in used):
+            is_inside = LEFT + half < x < window.x(window.stop) - half
+            if is_inside and min(off, window.row_height - off) > 11 and all(abs(x - a) > half + b or abs(y - c) > 13 for a, c, b in used):
                 used.append((x, y, half))
-                svg.text(x, y, text, 9.5, WIRES["payload"], "middle", bold=True, halo=3)
+                svg.text(x, y, text, 9.5, WIRES["payload"], "middle", bold=True, halo=3, mark="words")
                 break
 
 
@@ -166,10 +190,15 @@ def early_words(window, kinds):
     seen = [put for put in window.arrows(kinds) if window.first <= put.during <= window.last]
     early = [put for put in seen if put.wire[0] in ("payload", "safe") and put.wire[1] > put.mate.during]
     payloads = sum(put.wire[0] == "payload" for put in early)
-    named = "payloads" if list(kinds) == ["payload"] else "wires"
-    of_them = "" if named == "payloads" else f" ({payloads} of them payloads)"
-    return (f"No clock is shared: of {len(seen)} {named} put here {len(early)} come early, before their pulse has begun at the taker"
-            f"{of_them}. They are kept: a payload of pulse p is read when pulse p + 1 begins, never before.")
+    if not seen:
+        return "No clock is shared, and nothing is put in these pulses."
+    named = "payload" if list(kinds) == ["payload"] else "wire"
+    of_them = "" if named == "payload" or not early else f" ({payloads} of them {'a payload' if payloads == 1 else 'payloads'})"
+    come = "none comes early, before its" if not early else "1 comes early, before its" if len(early) == 1 else \
+        f"{len(early)} come early, before their"
+    kept = " They are kept:" if len(early) > 1 else " It is kept:" if early else ""
+    return (f"No clock is shared: of {counted(len(seen), named)} put here {come} pulse has begun at the taker"
+            f"{of_them}.{kept} {'a' if early else 'A'} payload of pulse p is read when pulse p + 1 begins, never before.")
 
 
 def draw_rounds(svg, run, first, last, top, row_height):
@@ -202,8 +231,8 @@ def draw_rounds(svg, run, first, last, top, row_height):
         for v in nodes:
             for pulse in range(first, last + 2):
                 svg.line(x_of(pulse), y_of(v) - 8, x_of(pulse), y_of(v) + 8, INK, 3, mark="slot")
-        svg.text(20, height + 56, f"{len(puts)} payloads, all that are put in these pulses. Draw another run, with other workers: "
-                 "the upper half changes, this half does not.", 11.5, SOFT)
+        svg.text(20, height + 56, f"{counted(len(puts), 'payload')}, all that {'is' if len(puts) == 1 else 'are'} put in these pulses. Draw another run, "
+                 "with other workers: the upper half changes, this half does not.", 11.5, SOFT)
 
 
 def round_arrow(svg, x1, y1, x2, y2):

@@ -4,14 +4,17 @@ from collections import Counter
 from transcripts import make, nodes_of
 
 
-def steps_of(run):
-    """Counts of the node's steps (stage, cause, stage) and of its ports' (level, cause, level); a level is (safes, paid)."""
+def steps_of(run, first, last):
+    """Counts of the node's steps (stage, cause, stage) and of its ports' (level, cause, level), from a node's beginning of pulse
+    `first` until it begins the one after `last`; a level is (safes, paid)."""
     nodes, ports, states = Counter(), Counter(), nodes_of(run)
     for v, listed in run.entries.items():
         node = states[v]
         for entry in listed:
             stage, levels = node.stage(), {w: node.level(w) for w in node.ports}
             make(node, entry, run.name)
+            if not first <= node.pulse <= last:
+                continue
             cause = "pulse" if entry.kind == "pulse" else entry.wire[0]
             if entry.kind == "pulse" or entry.kind == "take" and node.stage() != stage:
                 nodes[stage, cause, node.stage()] += 1

@@ -9,12 +9,17 @@ LIMIT = 14
 MOST_ENTRIES = 300
 
 
+def usual(last):
+    """The pulses that are drawn if none are asked for."""
+    return 0, min(4, last)
+
+
 def draw(run, vertex, pulses=None):
     if vertex not in run.network.vertices:
         raise Wrong(f"{run.network.name} has no node {vertex}")
     neighbours = run.network.neighbours[vertex]
     at_most("node", len(neighbours), "ports of a node", LIMIT, "automaton: leave --vertex out")
-    first, last = run.window(pulses, (0, min(4, run.last)))
+    first, last = run.window(pulses, usual(run.last))
     moments = [moment for moment in moments_of(run, vertex) if first <= moment.pulse <= last]
     if not moments:
         raise Wrong(f"{run.name}: node {vertex} did nothing in pulses {first} to {last}")

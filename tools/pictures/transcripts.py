@@ -3,10 +3,16 @@
 A text is read only if some order of its entries is a run of the colouring on its network. Nodes are replayed one by one (a
 node's entries decide what it may do next), and a take may only come after its put; an entry that can come next can always
 come later too, so going on wherever one can finds an order if there is one."""
+from functools import lru_cache
+
 from alpha import Impossible, Node, words_of
 from colouring import Rounds
 from networks import fields_of, whole
 from wrong import Wrong, wrong_line
+
+# Texts of more lines are read only as far as the pulses that are drawn depend on them: so many pulses further at first, and
+# further still if nodes ran ahead of each other by more.
+LONG_TEXT, AHEAD = 100_000, 8
 
 PAYLOADS = {"hello", "label", "colour", "chosen"}
 
@@ -28,11 +34,12 @@ class Entry:
 
 
 class Run:
-    """`entries[v]` in v's order; `last` is R; `whole`, whether every node is through with its last pulse."""
+    """`entries[v]` in v's order; `last` is R; `whole`, whether every node is through with its last pulse; `read_to`, the pulse
+    up to which a long text was read, or None if it was read to its end."""
 
     def __init__(self, network, name, entries, rounds):
         self.network, self.name, self.entries, self.rounds = network, name, entries, rounds
-        self.last, self.whole = rounds.last, False
+        self.last, self.whole, self.read_to = rounds.last, False, None
 
     def all(self):
         return (entry for v in self.network.vertices for entry in self.entries[v])
@@ -42,19 +49,25 @@ class Run:
 
     def window(self, pulses, usual):
         """The first and the last pulse to be drawn: those asked for, or else the usual ones."""
-        first, last = pulses or usual
-        if not 0 <= first <= last <= self.last:
-            raise Wrong(f"{self.name}: pulses {first} to {last} are not among 0 to {self.last}")
-        return first, last
+        return window_of(self.name, self.last, pulses or usual)
 
     def ticks(self, v):
         """{pulse: x} of v, with pulse 0 at 0."""
         return {0: 0} | {entry.pulse: entry.x for entry in self.entries[v] if entry.kind == "pulse"}
 
 
+def window_of(name, greatest, pulses):
+    """The first and the last pulse to be drawn, if the run has them."""
+    first, last = pulses
+    if not 0 <= first <= last <= greatest:
+        raise Wrong(f"{name}: pulses {first} to {last} are not among 0 to {greatest}")
+    return first, last
+
+
+@lru_cache(1 << 16)
 def wire_of(fields):
     """(kind, pulse, payload) of the words of a wire, or None."""
-    if fields == ["close"]:
+    if fields == ("close",):
         return "close", None, None
     if len(fields) == 2 and fields[0] in ("ack", "safe") and whole(fields[1]) is not None:
         return fields[0], whole(fields[1]), None
@@ -70,24 +83,29 @@ def entry_of(name, line, fields, network):
         raise wrong_line(name, line, f"`{fields[0]}` is no node of {network.name}")
     if kind == "pulse" and len(fields) == 3 and whole(fields[2]) is not None:
         return Entry(line, vertex, kind, None, None, whole(fields[2]))
-    wire = wire_of(fields[3:])
+    wire = wire_of(tuple(fields[3:]))
     if kind not in ("put", "take") or wire is None:
-        raise wrong_line(name, line, "no entry of a transcript (X1)")
+        raise wrong_line(name, line, f"`{' '.join(fields)[:60]}` is no entry of a transcript (X1)")
     if whole(fields[2]) not in network.neighbours[vertex]:
         raise wrong_line(name, line, f"`{fields[2]}` is no neighbour of {vertex} in {network.name}")
     return Entry(line, vertex, kind, whole(fields[2]), wire, wire[1])
 
 
-def read_entries(text, name, network):
-    """The entries of each node, in its order."""
-    entries, begun = {v: [] for v in network.vertices}, False
+def read_entries(text, name, network, stop=None):
+    """The entries of each node, in its order; with `stop`, those before it begins that pulse."""
+    entries, begun, stopped = {v: [] for v in network.vertices}, False, set()
     for line, raw in enumerate(text.split("\n"), 1):
+        if raw.split(" ", 1)[0] in stopped:
+            continue
         fields = [field for field in fields_of(raw) if field]
         if not fields:
             continue
         if begun:
             entry = entry_of(name, line, fields, network)
-            entries[entry.vertex].append(entry)
+            if entry.kind == "pulse" and entry.pulse == stop:
+                stopped.add(fields[0])
+            else:
+                entries[entry.vertex].append(entry)
         elif fields != ["transcript", "1", str(network.nodes)]:
             raise wrong_line(name, line, f"no line `transcript 1 {network.nodes}` (X1)")
         begun = True
@@ -96,8 +114,8 @@ def read_entries(text, name, network):
     return entries
 
 
-def match(entries, name):
-    """Gives each take its put: the k-th of a link is the k-th."""
+def match(entries, name, last, is_part=False):
+    """Gives each take its put: the k-th of a link is the k-th. In a part of a text a take may lack it."""
     puts, takes = {}, {}
     for listed in entries.values():
         for entry in listed:
@@ -108,9 +126,26 @@ def match(entries, name):
     for link, taken in takes.items():
         put = puts.get(link, [])
         for k, take in enumerate(taken):
-            if k >= len(put) or put[k].wire != take.wire:
+            if k >= len(put) and is_part:
+                break
+            if k >= len(put):
+                raise never_put(entries, name, last, link[0], take)
+            if put[k].wire != take.wire:
                 raise wrong_line(name, take.line, f"{link[0]} never puts {words_of(take.wire)} there")
             take.mate, put[k].mate = put[k], take
+
+
+def never_put(entries, name, last, putter, take):
+    """A take of what its neighbour has no put for: said to be cut if the text ends before the neighbour does."""
+    listed, none = entries[putter], [v for v in entries if not entries[v]]
+    at = max((entry.pulse for entry in listed if entry.kind == "pulse"), default=0)
+    words = f"node {take.vertex} takes {words_of(take.wire)} of {putter}"
+    if not listed:
+        nodes = f"node {none[0]}" if len(none) == 1 else f"nodes {', '.join(map(str, none[:5]))}{' ..' if len(none) > 5 else ''}"
+        return wrong_line(name, take.line, f"{words}, but the text has no entry of {nodes}: is it cut?")
+    if at < last:
+        return wrong_line(name, take.line, f"{words}, but the text ends with node {putter} at pulse {at} of {last}: is it cut?")
+    return wrong_line(name, take.line, f"{putter} never puts {words_of(take.wire)} there")
 
 
 def identifiers_of(network, entries):
@@ -148,7 +183,8 @@ def make(node, entry, name):
 
 
 def set_in_time(run):
-    """Gives each entry its x: one more than the entry before it at its node, and more than its put if it is a take."""
+    """Gives each entry its x: one more than the entry before it at its node, and more than its put if it is a take. Of a part of a
+    text, what depends on the rest is left out."""
     done, last = dict.fromkeys(run.entries, 0), dict.fromkeys(run.entries, 0)
     left, moved = sum(map(len, run.entries.values())), True
     while moved:
@@ -156,11 +192,16 @@ def set_in_time(run):
         for v, listed in run.entries.items():
             while done[v] < len(listed):
                 entry = listed[done[v]]
-                if entry.kind == "take" and entry.mate.x is None:
+                if entry.kind == "take" and (entry.mate is None or entry.mate.x is None):
                     break
                 entry.x = last[v] = 1 + max(last[v], entry.mate.x if entry.kind == "take" else 0)
                 done[v], left, moved = done[v] + 1, left - 1, True
-    if left:
+    if run.read_to is not None:
+        for v, listed in run.entries.items():
+            del listed[done[v]:]
+        for put in run.puts():
+            put.mate = put.mate if put.mate and put.mate.x is not None else None
+    elif left:
         line = min(listed[done[v]].line for v, listed in run.entries.items() if done[v] < len(listed))
         raise wrong_line(run.name, line, "no order of the entries is a run: this one would have to come before itself")
 
@@ -171,14 +212,28 @@ def nodes_of(run):
     return {v: Node(run.network.neighbours[v], run.last, sends[v]) for v in run.network.vertices}
 
 
-def read_transcript(text, name, network):
-    """The run that a transcript tells of, or what is wrong with it."""
-    entries = read_entries(text, name, network)
+def read_transcript(text, name, network, until=None):
+    """The run that a transcript tells of, or what is wrong with it. Of a long text, with `until`, only what the pulses up to that
+    one depend on is read."""
+    if until is not None and text.count("\n") > LONG_TEXT:
+        ahead = AHEAD
+        while ahead <= network.nodes + AHEAD:
+            run = run_of(text, name, network, until + 1 + ahead)
+            if all(until + 1 in run.ticks(v) or until >= run.last for v in network.vertices):
+                return run
+            ahead *= 4
+    return run_of(text, name, network)
+
+
+def run_of(text, name, network, stop=None):
+    entries = read_entries(text, name, network, stop)
     identifiers = identifiers_of(network, entries)
     if len(set(identifiers.values())) < network.nodes:
         raise Wrong(f"{name}: two nodes have one identifier")
     run = Run(network, name, entries, Rounds(network, identifiers))
-    match(entries, name)
+    if stop is not None and stop <= run.last:
+        run.read_to = stop
+    match(entries, name, run.last, run.read_to is not None)
     nodes = nodes_of(run)
     for v, listed in entries.items():
         for entry in listed:
