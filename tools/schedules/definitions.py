@@ -10,10 +10,24 @@ for folder in ("tools/pictures", "tests"):
 
 from alpha_definition import AlphaNode, Colouring, Refused, last_pulse, ports_of, wire_words  # noqa: E402,F401
 from networks import read_network  # noqa: E402,F401
-from plain_definition import Network, colours  # noqa: E402,F401
+from plain_definition import Network, at_parent, bit, colours, drop, merged, other_than, shift  # noqa: E402,F401
 from wrong import Wrong  # noqa: E402,F401
 
 
 def network_of(read):
     """The definitions' network of one that was read: vertex V has the identifier V."""
     return Network({v: v for v in read.vertices}, set(read.edges))
+
+
+def network_at(path):
+    """(name, network) of a file, or of standard input for `-`."""
+    try:
+        if path == "-":
+            text = sys.stdin.buffer.read()
+        else:
+            with open(path, "rb") as file:
+                text = file.read()
+    except OSError as why:
+        raise Wrong(f"{path}: {why.strerror}") from None
+    read = read_network(text.decode("utf-8", "replace"), path)
+    return read.name, network_of(read)

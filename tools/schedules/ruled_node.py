@@ -1,19 +1,11 @@
-"""A node under the synchroniser with rules left out, and the rounds that it should simulate.
-
-Rules of the synchroniser, each a word:
-
-  safes   a node makes its next pulse once it is safe itself, and doesn't wait for its neighbours' safes
-  acks    a node says safe at once, and doesn't wait for acknowledgements
-  early   a payload of the next pulse has no place of its own: it is put where this pulse's payloads are
-  fifo    a wire may overtake those that were put on its link before it (a rule of the links: see space.py)
+"""A node under the synchroniser with rules left out, and the rounds that it should simulate. The rules are those of
+rules.OF_SCHEDULES; `fifo` is one of the links, so it is in space.py.
 
 What a pulse does with an inbox that no round has is the program's own matter: it refuses a payload that isn't due, and a
 missing one that is (docs/DEFINITIONS.md, refusals of the colouring), and goes on otherwise."""
 import copy
 
 from definitions import AlphaNode, Colouring, Refused, last_pulse, ports_of
-
-RULES = ("safes", "acks", "early", "fifo")
 
 
 class RuledNode(AlphaNode):
@@ -98,10 +90,10 @@ class Rounds:
         """How an inbox differs from the round's, at the first port at which it does; None if it doesn't."""
         for w, got, due in zip(self.ports[v], inbox, self.inbox[v, p]):
             if got is None and due is not None:
-                return f"node {v} makes pulse {p} without `{payload_words(due)}` of {w}"
+                return f"node {v} makes pulse {p} without `{payload_words(due)}` from {w}"
             if got != due:
                 instead = f", not with `{payload_words(due)}`" if due else ", which is of another round"
-                return f"node {v} makes pulse {p} with `{payload_words(got)}` of {w}{instead}"
+                return f"node {v} makes pulse {p} with `{payload_words(got)}` from {w}{instead}"
         return None
 
 

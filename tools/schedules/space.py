@@ -5,7 +5,7 @@
 
 `net` is a network of the definitions (definitions.network_of makes one of what the pictures read). A put is made as soon as it
 can be, so that a state has no wires that wait to be put; `puts=True` counts puts apart, as events of their own. `without`
-has rules of ruled_node.RULES. With a rule left out the search ends at the first event that goes wrong, which a shortest list
+has rules of rules.OF_SCHEDULES. With a rule left out the search ends at the first event that goes wrong, which a shortest list
 of events leads to; `beyond=True` goes on, from wherever the program doesn't refuse. More than `limit` states raise `TooMany`.
 
     space.vertices        [1, 2, 3]; space.ports[v] are v's neighbours, ascending (port 0 first)
@@ -27,6 +27,8 @@ of events leads to; `beyond=True` goes on, from wherever the program doesn't ref
     space.lines(events, eager)
                           the events as lines for `forestplay events`, with puts: as soon as they can be made (eager), so that
                           the state is s, or only those that are needed
+    space.schedules       how many lists of events lead from the start to an end; None if events are possible in different
+                          numbers, which they are not if no rule is left out
     space.farthest        the most pulses that two neighbours are apart in any state
     space.most_wires      the most wires that any link holds in any state
 """
@@ -132,7 +134,7 @@ class Space:
             node.on_wire(port, wire)
         except Refused:
             v = self.vertices[a]
-            return None, (), f"node {v} refuses `{wire_words(wire)}` of {self.ports[v][port]}"
+            return None, (), f"node {v} refuses `{wire_words(wire)}` from {self.ports[v][port]}"
         return *self.after(a, node), None
 
     def moves_of(self, a, i, arriving):
@@ -245,7 +247,7 @@ class Space:
         return all(self.locals[a][state[a]].drained() for a in range(len(self.vertices))) and not any(state[len(self.vertices):])
 
     def stuck_words(self, s):
-        waiting = [f"node {v} waits for {' and '.join(f'{wire} of {w}' for wire, w in node.waits)}"
+        waiting = [f"node {v} waits for {' and '.join(f'{wire} from {w}' for wire, w in node.waits)}"
                    for v, node in self.nodes(s).items() if node.waits]
         return "nothing is possible, and " + ", ".join(waiting)
 
@@ -282,6 +284,22 @@ class Space:
     @property
     def most_wires(self):
         return max(map(len, self.contents))
+
+    @property
+    def schedules(self):
+        if self.expanded < self.count:
+            return None
+        ways, found = [0] * self.count, 0
+        ways[0] = 1
+        for s in range(self.count):
+            targets = self.target[self.first[s]:self.first[s + 1]]
+            for t in targets:
+                if t == REFUSED or self.depth[t] != self.depth[s] + 1:
+                    return None
+                ways[t] += ways[s]
+            found += 0 if targets else ways[s]
+            ways[s] = 0
+        return found
 
     # Lists of events.
 
