@@ -4,6 +4,7 @@ import argparse
 import re
 import sys
 
+import adversary_page
 import automaton_picture
 import bits_picture
 import forests_picture
@@ -14,6 +15,8 @@ import player_page
 import programs
 import rounds_picture
 import run_picture
+import schedules_picture
+import schedules_space
 import tally_picture
 import timing_picture
 from networks import read_network, stem
@@ -36,6 +39,8 @@ Draws what the programs computed, as SVG on standard output.
   node      the synchroniser as an automaton; with --vertex its timing
   tally     the wires of a run by pulse
   player    a page with a slider over the pulses (HTML)
+  schedules every order of events of a tiny network, as a lattice
+  adversary a page on which you choose what happens next (HTML)
 """
 
 MORE_HELP = """\
@@ -82,7 +87,18 @@ KINDS = {
               "./picture tally examples/petersen.col > petersen-tally.svg"),
     "player": ("A page with a slider: the network at each pulse.", "At most 40 nodes. Of more than 200 frames, only merges in which some node chooses.\nWith --frame N, frame N alone as SVG.",
                "./picture player examples/petersen.col > petersen.html"),
+    "schedules": ("Every order of events of a tiny network: its states as a lattice, one column an event.",
+                  "At most four nodes and 200,000 states. Of long ones the first columns, or those of --events. With a rule left\n"
+                  "out, up to the first events that go wrong, which are red.",
+                  "./picture schedules examples/triangle.col --events 0..24 > triangle-schedules.svg\n"
+                  "  ./picture schedules examples/path.col --without safes > path-without-safes.svg"),
+    "adversary": ("A page on which you are the network: you choose which message comes next.",
+                  "At most four nodes and 200,000 states. With a rule left out, what goes wrong is there too, in a table of at\n"
+                  "most 20,000 states.",
+                  "./picture adversary examples/triangle.col > triangle.html\n"
+                  "  ./picture adversary examples/path.col --without safes > path-without-safes.html"),
 }
+OF_SPACE = ("schedules", "adversary")
 OF_PLAN, OF_ROUNDS, OF_RUN = ("plan", "matrix"), ("forests", "rounds", "bits", "player"), ("run", "overview", "node", "tally")
 
 
@@ -100,6 +116,13 @@ def wires(text):
     return [kind for kind in run_picture.KINDS if kind in kinds]
 
 
+def rules(text):
+    found = schedules_space.rules_of(text)
+    if found is None:
+        raise argparse.ArgumentTypeError(f"some of {','.join(schedules_space.OF_SCHEDULES)}")
+    return found
+
+
 def command_line():
     words = argparse.ArgumentParser(prog="picture", usage="picture KIND NETWORK [options]", description=HELP, epilog=MORE_HELP,
                                     formatter_class=argparse.RawDescriptionHelpFormatter)
@@ -114,6 +137,8 @@ def command_line():
 
 def add_options(kind, name):
     """A stored text in place of the program's, and what the kind can be told."""
+    if name in OF_SPACE:
+        return add_space_options(kind, name)
     text = "plan" if name in OF_PLAN else "rounds" if name in OF_ROUNDS else "transcript"
     kind.add_argument(f"--{text}", dest="text", metavar="FILE", help=f"a stored {text} text, or - for standard input")
     if name in OF_RUN:
@@ -128,6 +153,15 @@ def add_options(kind, name):
         kind.add_argument("--only", type=wires, metavar="KINDS", help="some of payload,ack,safe,close")
     if name == "player":
         kind.add_argument("--frame", type=int, metavar="N", help="frame N alone, counted from 0")
+
+
+def add_space_options(kind, name):
+    kind.add_argument("--without", type=rules, default=(), metavar="RULES", help=f"some of {','.join(schedules_space.OF_SCHEDULES)}")
+    if name == "schedules":
+        kind.add_argument("--events", type=pulses, metavar="A..B", help="the states after A to B events alone")
+        kind.add_argument("--run", metavar="FILE", help="the run drawn bold, as a list of events; else the one in step")
+    else:
+        kind.add_argument("--text", action="store_true", help="the page's table alone, as JSON")
 
 
 def file_text(path):
@@ -157,6 +191,8 @@ def drawn(given):
     network_text = file_text(given.network)
     network = read_network(network_text, given.network)
     check_size(given.kind, network)
+    if given.kind in OF_SPACE:
+        return drawn_space(given, network)
     text = told(given, network_text.encode())
     name = given.text or {"plan": "the plan", "rounds": "the rounds"}.get(given.kind, f"the text of {network.name}")
     if given.kind in OF_PLAN:
@@ -167,6 +203,13 @@ def drawn(given):
     run = read_transcript(text, name, network)
     run.name = stem(given.text) if given.text and given.text != "-" else network.name
     return drawn_run(given, run)
+
+
+def drawn_space(given, network):
+    space = schedules_space.space_of(network, given.kind, given.without, given.kind == "adversary")
+    if given.kind == "schedules":
+        return schedules_picture.draw(network, space, given.events, given.run and file_text(given.run))
+    return adversary_page.draw_table(space) if given.text else adversary_page.draw(network, space)
 
 
 def drawn_rounds(given, rounds):
