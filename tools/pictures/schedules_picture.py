@@ -6,7 +6,7 @@ from svg import Svg, text_width
 from wrong import Wrong
 
 COLUMNS, MOST_COLUMNS, STEPS, MOST_STEPS = 36, 108, 6_000, 12_000
-LEFT, HIGH, WIDE = 44, 560, 1150
+LEFT, HIGH, WIDE, LEAST_WIDTH = 44, 560, 1150, 780
 SWEEPS = 6
 APART = [BAND, "#CFE3F1", "#8FBBDD", "#56B4E9"]
 
@@ -154,14 +154,14 @@ class Lattice:
         return isinstance(s, tuple) or (s, None) in self.space.faults or any(node.wrong for node in self.space.nodes(s).values())
 
     def drawn(self):
-        width = max(720, LEFT + (len(self.columns) - 1) * self.step + 44)
+        width = max(LEAST_WIDTH, LEFT + (len(self.columns) - 1) * self.step + 44)
         lines = self.lines(width)
         top = 48 + 16 * len(lines)
         self.middle = top + self.radius + self.gap * (self.widest - 1) / 2
         bottom = top + 2 * self.radius + self.gap * (self.widest - 1) + 20
         svg = Svg(width, bottom + 46, f"every schedule of {self.network.name}")
         svg.heading(self.fact(), *lines)
-        for k in range(0, len(self.columns), 5 if len(self.columns) <= 60 else 10):
+        for k in range(0, len(self.columns), 1 if len(self.columns) <= 12 else 5 if len(self.columns) <= 60 else 10):
             svg.text(LEFT + k * self.step, bottom, self.low + k, 9, SOFT, "middle")
         svg.text(20, bottom + 16, "events so far: takes and pulses; a put is made as soon as it can be, and isn’t counted", 11.5, SOFT)
         self.draw_steps(svg)
@@ -181,7 +181,8 @@ class Lattice:
     def lines(self, width):
         space = self.space
         said = [left_out_words(space)] if space.without else []
-        said.append(f"A mark is a state of the whole network, and inside are the nodes’ pulses; a line is one event. "
+        inside = ", and inside are the nodes’ pulses" if self.number_size() >= 5 else ""
+        said.append(f"A mark is a state of the whole network{inside}; a line is one event. "
                     f"{space.count:,} states, {len(space.target):,} steps" + ("." if space.schedules is None
                                                                              else f", {rounded(space.schedules)} schedules."))
         if (self.low, self.high) != (0, self.last):
@@ -193,6 +194,14 @@ class Lattice:
         else:
             said.append("Bold: the run in which all that is sent comes before a node makes its pulse.")
         return wrapped(" ".join(said), 11.5, width - 40)
+
+    def number_size(self):
+        """How large the pulses inside a mark are: all as large as the longest ones may be."""
+        longest = max(len(self.pulses_words(s)) for s in self.columns[-1])
+        return min(8, self.radius * 3.1 / longest)
+
+    def pulses_words(self, s):
+        return ",".join(str(node.pulse) for node in self.space.nodes(s[0] if isinstance(s, tuple) else s).values())
 
     def draw_steps(self, svg):
         for s, e, event, t in sorted(self.steps, key=lambda step: step[:2] in self.bold):
@@ -222,17 +231,21 @@ class Lattice:
         with svg.group("state wrong" if is_wrong else "state", words):
             svg.circle(x, y, self.radius, WRONG if is_wrong else APART[min(apart, 3)], INK if is_bold else BORDER,
                        (1.8 if is_bold else 0.8) if self.radius > 4 else 0.5)
-            text = ",".join(map(str, pulses))
-            size = min(8, self.radius * 3.1 / len(text))
+            size = self.number_size()
             if size >= 5:
-                svg.text(x, y + size * 0.36, text, round(size, 1), PAPER if is_wrong else INK, "middle")
+                svg.text(x, y + size * 0.36, self.pulses_words(s), round(size, 1), PAPER if is_wrong else INK, "middle")
 
     def legend(self, svg, y):
-        x = 20
+        svg.text(20, y, "takes of", 11.5, SOFT)
+        x = 80
         for name, hue in [*WIRES.items(), ("pulse", PULSE)]:
             svg.line(x, y - 4, x + 22, y - 4, hue, 2)
-            svg.text(x + 27, y, name if name == "pulse" else f"take of {'an' if name == 'ack' else 'a'} {name}", 11.5, SOFT)
-            x += 148 if name != "pulse" else 85
+            svg.text(x + 27, y, name, 11.5, SOFT)
+            x += 27 + text_width(name, 11.5) + 14
+        for fill, words in ((APART[0], "all at one pulse"), (APART[1], "neighbours a pulse apart")):
+            svg.circle(x + 6, y - 4, 6, fill, BORDER, 0.8)
+            svg.text(x + 18, y, words, 11.5, SOFT)
+            x += 18 + text_width(words, 11.5)
 
 
 def wrapped(text, size, width):

@@ -68,8 +68,8 @@ def quoted(words):
 
 def left_out_words(space):
     """The rules that are left out, as a sentence."""
-    said = "; ".join(OF_SCHEDULES[rule].says for rule in space.without)
-    return f"Left out is the rule that {said}."
+    said = [f"that {OF_SCHEDULES[rule].says}" for rule in space.without]
+    return f"Left out {'is the rule' if len(said) == 1 else 'are the rules'} {'; '.join(said)}."
 
 
 def title_of(network, space):
