@@ -22,7 +22,7 @@ PAGE = os.path.join(os.path.dirname(os.path.abspath(__file__)), "adversary_page.
 def draw(network, space):
     table = table_of(space, wire_words)
     words = {"NAME": escaped(network.name), "TITLE": escaped(f"{title_of(network, space)}: you are the network"),
-             "ABOUT": escaped(about(space)), "PLAY": escaped(play_words(space)), "WIDTH": str(WIDTH), "HEIGHT": str(HEIGHT),
+             "ABOUT": escaped(about(space)), "PLAY": escaped(play_words(network, space)), "WIDTH": str(WIDTH), "HEIGHT": str(HEIGHT),
              "STATES": f"{space.count:,}", "STEPS": f"{len(space.target):,}", "TABLE": compact(table),
              "PLAN": compact(plan_of(network, space))}
     with open(PAGE, encoding="utf-8") as file:
@@ -47,11 +47,12 @@ def about(space):
             f"events all have halted, with channels {plan}.")
 
 
-def play_words(space):
+def play_words(network, space):
+    words = f"Store the list as list.events, and type (cat {network.name}.col; cat list.events) | ./forestplay events"
     if space.without:
-        return ("forestplay keeps all its rules. So it refuses the first event that can happen here alone, and names its line; "
-                "up to there it shows the same.")
-    return "Behind the network’s text the list is accepted, and forestplay shows these lines:"
+        return (f"{words}. It keeps all rules, so it names the line of the first event that can happen here alone; up to there it shows "
+                "the same as this page:")
+    return f"{words}. It accepts the list, and shows:"
 
 
 def plan_of(network, space):

@@ -27,20 +27,21 @@ from transcripts import read_transcript
 from wrong import Wrong
 
 HELP = """\
-Draws what the programs computed, as SVG on standard output.
+Draws what the programs computed, as SVG on standard output; the last two kinds
+draw what `./explore` searches.
 
-  plan      the plan on the map: who has which channel
-  matrix    the plan as a matrix: proper if the diagonal blocks are blank
-  forests   the forests with their colours, and the plan after each merge
-  rounds    the colours and choices of each node, pulse by pulse
-  bits      one node above its parent, digit by digit
-  run       space and time of a run without a clock, above its rounds
-  overview  the pulses of such a run from beginning to end
-  node      the synchroniser as an automaton; with --vertex its timing
-  tally     the wires of a run by pulse
-  player    a page with a slider over the pulses (HTML)
-  schedules every order of events of a tiny network, as a lattice
-  adversary a page on which you choose what happens next (HTML)
+  plan       the plan on the map: who has which channel
+  matrix     the plan as a matrix: proper if the diagonal blocks are blank
+  forests    the forests with their colours, and the plan after each merge
+  rounds     the colours and choices of each node, pulse by pulse
+  bits       one node above its parent, digit by digit
+  run        space and time of a run without a clock, above its rounds
+  overview   the pulses of such a run from beginning to end
+  node       the synchroniser as an automaton; with --vertex its timing
+  tally      the wires of a run by pulse
+  player     a page with a slider over the pulses (HTML)
+  schedules  every order of events of a tiny network, as a lattice
+  adversary  a page on which you choose what happens next (HTML)
 """
 
 MORE_HELP = """\
@@ -93,8 +94,8 @@ KINDS = {
                   "./picture schedules examples/triangle.col --events 0..24 > triangle-schedules.svg\n"
                   "  ./picture schedules examples/path.col --without safes > path-without-safes.svg"),
     "adversary": ("A page on which you are the network: you choose which message comes next.",
-                  "At most four nodes and 200,000 states. With a rule left out, what goes wrong is there too, in a table of at\n"
-                  "most 20,000 states.",
+                  "At most four nodes and 200,000 states. With a rule left out, what goes wrong is there too, in a table that\n"
+                  "may end early, which the page says.",
                   "./picture adversary examples/triangle.col > triangle.html\n"
                   "  ./picture adversary examples/path.col --without safes > path-without-safes.html"),
 }

@@ -14,7 +14,8 @@ from explore import rounded  # noqa: E402,F401
 from rules import OF_SCHEDULES  # noqa: E402
 from space import Space, TooMany  # noqa: E402
 
-MAX_STATES, BROKEN_STATES = 200_000, 20_000
+MAX_STATES = 200_000
+BROKEN_STATES = 20_000, 60_000, MAX_STATES
 
 
 class CutSpace(Space):
@@ -34,10 +35,14 @@ class CutSpace(Space):
 
 
 def space_of(network, kind, without=(), beyond=False):
-    """The space of a network that was read. With a rule left out it goes on behind what goes wrong if `beyond`, as far as
-    `BROKEN_STATES` states."""
+    """The space of a network that was read. With a rule left out it goes on behind what goes wrong if `beyond`, up to the first
+    of the numbers of `BROKEN_STATES` within which something does."""
     if without and beyond:
-        return CutSpace(network_of(network), without, BROKEN_STATES, beyond=True, progress=progress)
+        for limit in BROKEN_STATES:
+            space = CutSpace(network_of(network), without, limit, beyond=True, progress=progress)
+            if space.faults or not space.is_cut:
+                break
+        return space
     try:
         return Space(network_of(network), without, MAX_STATES + 1, progress=progress)
     except TooMany:
