@@ -1,7 +1,7 @@
 #!/usr/bin/env python3
 """Tests of `explore`, which plays every schedule of a tiny network. The last line is 'N passed, M failed'.
 
-  schedules.py [--program FORESTPLAN] [--play FORESTPLAY]
+  schedules.py [--program FORESTPLAN] [--play FORESTPLAY] [--first]
   schedules.py --plant          plants mistakes in copies of the explorer, and prints each that these tests let through
 
 The programs are by default those that the gate built. The table of states and steps is compared with a second search, which
@@ -17,6 +17,7 @@ import shutil
 import subprocess
 import sys
 import tempfile
+from concurrent.futures import ThreadPoolExecutor
 
 from alpha_definition import Colouring, NetState, bit_step, last_pulse, ports_of, wire_words
 from events import answer_of
@@ -30,6 +31,7 @@ import rules  # noqa: E402
 from space import Space, TooMany  # noqa: E402
 
 LIMIT = 120
+MOST = 200_000  # states; more show that a search goes on and on
 SEED = 2026
 TALLY = {"passed": 0, "failed": 0}
 
@@ -148,7 +150,7 @@ def shown(state, v):
 def table_rows(name, puts):
     """The table beside the second search, state by state and step by step."""
     net = net_of(name)
-    space, found = Space(net, puts=puts), second_search(net, puts)
+    space, found = Space(net, puts=puts, limit=MOST), second_search(net, puts)
     keys = [key_in_table(space, s) for s in range(space.count)]
     what = f"{name}{', puts apart' if puts else ''}"
     note(f"states of {what}", len(set(keys)) == space.count and set(keys) == set(found), (space.count, len(found)))
@@ -176,9 +178,14 @@ def puts_rows(name):
     note(f"puts as soon as they can be made, of {name}", made == set(eager), (len(made), len(eager)))
 
 
+def small_rows():
+    for name in ("alone", "apart", "two", "path"):
+        puts_rows(name)
+
+
 def trial_rows():
     for name, puts, states, steps in TRIAL:
-        space = Space(net_of(name), puts=puts)
+        space = Space(net_of(name), puts=puts, limit=MOST)
         note(f"numbers of {name}", (space.count, steps and len(space.target)) == (states, steps), (space.count, len(space.target)))
         if not puts:
             end_rows(name, space)
@@ -216,7 +223,7 @@ def end_rows(name, space):
 
 def formula_rows():
     for name in ("alone", "apart", "two", "path", "star"):
-        end_rows(f"{name}, puts apart", Space(net_of(name), puts=True))
+        end_rows(f"{name}, puts apart", Space(net_of(name), puts=True, limit=MOST))
 
 
 def schedules_rows():
@@ -229,7 +236,7 @@ def schedules_rows():
         return ways[key]
 
     start = net_key(put_all(NetState(net_of("two"))))
-    note("schedules of two", Space(net_of("two")).schedules == count(start), count(start))
+    note("schedules of two", Space(net_of("two"), limit=MOST).schedules == count(start), count(start))
 
 
 # Lists of events, and walks.
@@ -262,7 +269,7 @@ def walk_rows(play):
     """A hundred random walks: each state beside the definitions, and some of them, and the last, beside the program."""
     source, wrong, differ = random.Random(SEED), [], []
     for name in ["two"] * 30 + ["path"] * 30 + ["triangle"] * 40:
-        space = walk_rows.spaces.setdefault(name, Space(net_of(name)))
+        space = walk_rows.spaces.setdefault(name, Space(net_of(name), limit=MOST))
         state, s, events, taken = put_all(NetState(space.net)), 0, [], dict.fromkeys(space.links, 0)
         length = source.randrange(0, 400)
         while space.steps(s) and len(events) < length:
@@ -308,9 +315,9 @@ def broken_rows(play):
         with tempfile.NamedTemporaryFile("w", suffix=".col") as file:
             file.write(text_of(name))
             file.flush()
-            status, said, _ = explored(file.name, "--without", without)
-            _, listed, _ = explored(file.name, "--without", without, "--events")
-            _, apart, _ = explored(file.name, "--without", without, "--puts")
+            status, said, _ = explored(file.name, "--limit", str(MOST), "--without", without)
+            _, listed, _ = explored(file.name, "--limit", str(MOST), "--without", without, "--events")
+            _, apart, _ = explored(file.name, "--limit", str(MOST), "--without", without, "--puts")
         lines = listed.splitlines()
         first = said.split("\n")[0]
         note(f"{name} without {without}", status == 0 and (what is None or first == f"broken after {count} events: {what}"), said)
@@ -331,8 +338,8 @@ def whole_list_rows(play, program):
         with tempfile.NamedTemporaryFile("w", suffix=".col") as file:
             file.write(text_of(name))
             file.flush()
-            _, listed, _ = explored(file.name, "--events")
-            _, said, _ = explored(file.name)
+            _, listed, _ = explored(file.name, "--limit", str(MOST), "--events")
+            _, said, _ = explored(file.name, "--limit", str(MOST))
         status, out, _ = played(play, text_of(name), listed.splitlines())
         channels = [line.split()[-1] for line in out.decode().splitlines() if "channel" in line]
         plan = subprocess.run([program, "plain"], input=text_of(name).encode(), capture_output=True, timeout=LIMIT).stdout
@@ -343,9 +350,9 @@ def whole_list_rows(play, program):
 
 def not_broken_rows():
     """On links that keep the order, acknowledgements aren't needed; and nothing is broken if no rule is left out."""
-    space = Space(net_of("two"), without=("acks",))
+    space = Space(net_of("two"), without=("acks",), limit=MOST)
     note("two without acks", not space.faults and len(space.ends) == 1, space.faults)
-    beyond = Space(net_of("two"), without=("safes",), beyond=True)
+    beyond = Space(net_of("two"), without=("safes",), beyond=True, limit=MOST)
     plans = [{v: node.colour for v, node in beyond.nodes(s).items()} for s in beyond.ends]
     wrong = [plan for s, plan in zip(beyond.ends, plans) if plan != colours(beyond.net)]
     note("beyond the first fault, two without safes: neighbours far apart", beyond.farthest > 1, beyond.farthest)
@@ -457,8 +464,11 @@ def network_at_random(source, nodes):
 # The words of the command.
 
 def rule_rows():
-    """Each rule names a wrong body that is there, in one of the two folders."""
+    """Each rule has its part of docs/GALLERY.md, and names a wrong body that is there, in one of the two folders."""
+    with open(os.path.join(TOP, "docs", "GALLERY.md"), encoding="utf-8") as file:
+        gallery = file.read()
     for word, rule in rules.ALL.items():
+        note(f"{word} in the gallery", f"\n### `{word}`: " in gallery and f"--without {word}\n" in gallery)
         paths = [os.path.join(TOP, "crates", rule.crate, "must-fail"), os.path.join(TOP, "wrong-bodies", rule.crate)]
         found = [path for path in paths if os.path.exists(os.path.join(path, rule.edit + ".edit"))]
         note(f"the wrong body of {word}", len(found) == 1, rule)
@@ -487,6 +497,9 @@ def word_rows():
     note("explore at the limit", explored("examples/triangle.col", "--limit", "16473")[0] == 0)
     status, said, fault = explored("--help")
     note("explore --help", (status, fault) == (0, "") and all(f"  {word} " in said for word in rules.ALL), said)
+    with open("/dev/full", "wb") as full:
+        done = subprocess.run([os.path.join(TOP, "explore"), "examples/two.col"], cwd=TOP, stdout=full, stderr=subprocess.PIPE, timeout=LIMIT)
+    note("a full device", (done.returncode, done.stderr) == (1, b"explore: the output can't be written: No space left on device\n"), done)
     with tempfile.TemporaryDirectory() as folder:
         link = os.path.join(folder, "explore")
         os.symlink(os.path.join(TOP, "explore"), link)
@@ -537,56 +550,58 @@ MISTAKES = [
 
 
 def plant(program, play):
-    """Each mistake in a copy of its own, which these tests have to refuse."""
-    caught = 0
-    for number, (name, there, planted) in enumerate(MISTAKES, 1):
-        with tempfile.TemporaryDirectory(prefix="planted-") as folder:
-            for part in ("tools", "tests", "examples", "explore", "README.md", "wrong-bodies"):
-                copier = shutil.copytree if os.path.isdir(os.path.join(TOP, part)) else shutil.copy2
-                copier(os.path.join(TOP, part), os.path.join(folder, part))
-            for crate in {rule.crate for rule in rules.ALL.values()}:
-                from_, to = (os.path.join(top, "crates", crate, "must-fail") for top in (TOP, folder))
-                if os.path.isdir(from_):
-                    shutil.copytree(from_, to)
+    """Each mistake in a copy of its own, which these tests have to refuse, as they pass the copy without one."""
+    jobs = [(0, None, None, None), *((number, *mistake) for number, mistake in enumerate(MISTAKES, 1))]
+    with ThreadPoolExecutor(2) as pool:
+        verdicts = list(pool.map(lambda job: planted(*job, program, play), jobs))
+    for number, passed in enumerate(verdicts):
+        note(f"mistake {number} is caught" if number else "a copy without a mistake", passed == (number == 0))
+    print(f"{verdicts[1:].count(False)} of {len(MISTAKES)} mistakes caught")
+
+
+def planted(number, name, there, instead, program, play):
+    """Whether a copy with this mistake passes."""
+    with tempfile.TemporaryDirectory(prefix="planted-") as folder:
+        for part in ("tools", "tests", "docs", "examples", "explore", "README.md", "wrong-bodies"):
+            copier = shutil.copytree if os.path.isdir(os.path.join(TOP, part)) else shutil.copy2
+            copier(os.path.join(TOP, part), os.path.join(folder, part))
+        for crate in {rule.crate for rule in rules.ALL.values()}:
+            if os.path.isdir(os.path.join(TOP, "crates", crate, "must-fail")):
+                shutil.copytree(*(os.path.join(top, "crates", crate, "must-fail") for top in (TOP, folder)))
+        if number:
             path = os.path.join(folder, "tools", "schedules", name)
             with open(path, encoding="utf-8") as file:
                 source = file.read()
             if source.count(there) != 1:
-                note(f"mistake {number} can be planted", False, there)
-                continue
+                print(f"{number}: NOT PLANTED: {there}", flush=True)
+                return True
             with open(path, "w", encoding="utf-8") as file:
-                file.write(source.replace(there, planted))
-            done = subprocess.run([sys.executable, os.path.join(folder, "tests", "schedules.py"), "--program", program, "--play", play],
-                                  capture_output=True, timeout=900)
-        caught += done.returncode != 0
-        note(f"mistake {number}, in {name}, is caught", done.returncode != 0, planted)
-    print(f"{caught} of {len(MISTAKES)} mistakes caught")
+                file.write(source.replace(there, instead))
+        done = subprocess.run([sys.executable, os.path.join(folder, "tests", "schedules.py"), "--first", "--program", program,
+                               "--play", play], capture_output=True, timeout=1200)
+    first = (done.stdout + done.stderr).decode().strip().split("\n")
+    why = first[-1] if done.stderr else first[0]
+    print(f"{number}: {'caught' if done.returncode else 'passed'} ({why[:100]}): {instead}", flush=True)
+    return done.returncode == 0
 
 
 def main():
     words = argparse.ArgumentParser(description=__doc__, formatter_class=argparse.RawDescriptionHelpFormatter)
     words.add_argument("--program", default=os.path.join(TOP, "crates/forestplan/out/forestplan"))
     words.add_argument("--play", default=os.path.join(TOP, "crates/forestplay/out/forestplay"))
+    words.add_argument("--first", action="store_true", help="stop behind the first part in which something failed")
     words.add_argument("--plant", action="store_true", help="plant mistakes in the explorer")
     given = words.parse_args()
     program, play = os.path.abspath(given.program), os.path.abspath(given.play)
     if given.plant:
         plant(program, play)
     else:
-        rule_rows()
-        word_rows()
-        for name in ("alone", "apart", "two", "path"):
-            puts_rows(name)
-        for name in ("star", "triangle"):
-            table_rows(name, False)
-        trial_rows()
-        formula_rows()
-        schedules_rows()
-        not_broken_rows()
-        rounds_rows()
-        broken_rows(play)
-        whole_list_rows(play, program)
-        walk_rows(play)
+        for rows in (rule_rows, rounds_rows, not_broken_rows, lambda: broken_rows(play), lambda: whole_list_rows(play, program),
+                     small_rows, formula_rows, schedules_rows, word_rows, lambda: walk_rows(play), trial_rows,
+                     lambda: table_rows("star", False), lambda: table_rows("triangle", False)):
+            rows()
+            if given.first and TALLY["failed"]:
+                break
     print(f"{TALLY['passed']} passed, {TALLY['failed']} failed")
     return 1 if TALLY["failed"] else 0
 

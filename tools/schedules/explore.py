@@ -18,9 +18,10 @@ the synchroniser and its links allow, a put being made as soon as it can be. In
 every state it checks that each pulse had the round's inbox, and that something is
 possible unless all nodes are at the end and all links are empty.
 
-With --without it leaves rules out, and writes a shortest list of events that goes
-wrong, or `not broken`. For a rule of the rounds it looks at the rounds of NETWORK;
-without NETWORK, for a smallest network on which they go wrong.
+With --without it leaves rules out, and writes a list of events that goes wrong, with
+as few takes and pulses as there can be (and puts, with --puts), or `not broken`. For
+a rule of the rounds it looks at the rounds of NETWORK; without NETWORK, for a
+smallest network on which they go wrong.
 """
 
 MORE_HELP = f"""\
@@ -81,11 +82,24 @@ def main(words):
     if of_rounds and (given.events or given.puts):
         line.error("the rounds have no events: --events and --puts are for the rules " + ",".join(OF_SCHEDULES))
     try:
-        sys.stdout.write(rounds_text(given) if of_rounds else schedules_text(given))
+        text = rounds_text(given) if of_rounds else schedules_text(given)
+        sys.stdout.buffer.write(text.encode())
+        sys.stdout.flush()
     except Wrong as why:
-        print(f"explore: {why}", file=sys.stderr)
-        return 1
+        return failed(why)
+    except MemoryError:
+        return failed("out of memory")
+    except OSError as why:
+        sys.stdout = None
+        return failed(f"the output can't be written: {why.strerror}")
+    except KeyboardInterrupt:
+        return 130
     return 0
+
+
+def failed(why):
+    print(f"explore: {why}", file=sys.stderr)
+    return 1
 
 
 # The rounds.
@@ -108,13 +122,13 @@ def rounds_text(given):
 
 def said_of_rounds(given, rounds, where, what):
     if rounds is None:
-        return f"not broken: {what} go right\n"
+        return f"not broken: {what} go right\n{refused_words(given.without)}"
     return f"broken {where}\n{rounds.words()}\n{refused_words(given.without)}"
 
 
 def refused_words(without):
     """The wrong bodies that take these rules away."""
-    return "".join(f"the prover refuses this of `{ALL[word].crate}`: {ALL[word].edit}\n" for word in without)
+    return "".join(f"wrong body of `{ALL[word].crate}`, which the prover refuses: {ALL[word].edit}\n" for word in without)
 
 
 # The schedules.
@@ -164,7 +178,7 @@ def whole_text(given, name, space):
         "each pulse had the round's inbox, and something was possible until all was done",
         f"neighbours at most {space.farthest} pulse{'s' * (space.farthest != 1)} apart, "
         f"at most {space.most_wires} wires of a link under way",
-        f"{'one end' if len(channels) == 1 else f'{len(channels)} ends'}: channels {' or '.join(dict.fromkeys(channels))}"])
+        f"{'one end' if len(channels) == 1 else f'{len(channels)} ends'}: channels {' or '.join(dict.fromkeys(channels))}"]) + refused_words(given.without)
 
 
 def rounded(number):
@@ -177,7 +191,7 @@ def rounded(number):
 
 
 def broken_text(given, space):
-    what = next(iter(space.faults.values()))
+    what = space.faults[space.first_fault()]
     listed = space.with_puts(space.path_to_fault())
     return "".join([f"broken after {len(listed)} events: {what}\n", *event_lines(listed), refused_words(given.without)])
 

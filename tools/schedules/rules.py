@@ -43,4 +43,4 @@ ALL = OF_SCHEDULES | OF_ROUNDS
 
 def table():
     """The rules as lines of help."""
-    return "".join(f"  {word:9} {rule.says};\n            without it, {rule.without}\n" for word, rule in ALL.items())
+    return "".join(f"  {word:9} {rule.says};\n            left out: {rule.without}\n" for word, rule in ALL.items())

@@ -22,8 +22,9 @@ of events leads to; `beyond=True` goes on, from wherever the program doesn't ref
     space.ends            the states in which nothing is possible
     space.faults          {(s, e): what goes wrong in words}, e being the event's number in steps(s); and {(s, None): words} for
                           a state in which nothing is possible though some node waits
+    space.first_fault()   the key of a fault that the fewest events lead to
     space.path(s)         a shortest list of events from the start to state s; space.path_to_fault() one that ends with the
-                          first fault's event
+                          event of the first fault
     space.lines(events, eager)
                           the events as lines for `forestplay events`, with puts: as soon as they can be made (eager), so that
                           the state is s, or only those that are needed
@@ -310,9 +311,12 @@ class Space:
             s = self.from_state[s]
         return events[::-1]
 
+    def first_fault(self):
+        """The key of a fault that the fewest events lead to."""
+        return min(self.faults, key=lambda fault: self.depth[fault[0]] + (fault[1] is not None))
+
     def path_to_fault(self):
-        """The first fault is one of the least depth."""
-        s, e = next(iter(self.faults))
+        s, e = self.first_fault()
         return self.path(s) + ([] if e is None else [self.events[self.event_of[self.first[s] + e]]])
 
     def lines(self, events, eager=False):
