@@ -92,11 +92,15 @@ def plain(words):
 def table_rows(name, network, without=()):
     """The table against the explorer's space, state by state and step by step."""
     table = table_of(network, *(["--without", ",".join(without)] if without else []))
-    space = Space(network_of(network), without, beyond=bool(without))
+    net = network_of(network)
+    space = Space(net, without, beyond=bool(without))
     wrong = [s for s in range(space.count) if [row[0] for row in table.nodes(s)] != [node.pulse for node in space.nodes(s).values()]
              or [row[3] for row in table.nodes(s)] != [node.wrong for node in space.nodes(s).values()]
              or table.wires(s) != space.wires(s)]
     note(f"table of {name}: each state", len(table.node[0][1]) == space.count and not wrong, wrong[:3])
+    ports = [(v, w, net_port_to(net, v, w), net_port_to(net, w, v)) for v in net.neighbours for w in sorted(net.neighbours[v])]
+    shown = [(link["from"], link["to"], link["put"], link["take"]) for link in table.data["links"]]
+    note(f"table of {name}: its links and ports", shown == ports, shown)
     wrong = [s for s in range(space.count) if table.steps[s] != [((event.kind, event.v, event.port, event.place), t) for event, t in space.steps(s)]]
     note(f"table of {name}: each step", len(table.steps) == space.count and not wrong, wrong[:3])
     faults = {(s, e): plain(words) for (s, e), words in space.faults.items()}
@@ -116,7 +120,7 @@ def waits_of(net, v, node):
     else:
         wire, of = f"safe {p}", [w for w, port in ports if not port.safe]
     if of:
-        return f"waits for {wire} of {' and '.join(map(str, of))}"
+        return f"waits for {wire} of {', '.join(map(str, of[:-1]))}{' and ' if of[1:] else ''}{of[-1]}"
     return f"can make pulse {p + 1}" if p < last_pulse(net) else "has halted"
 
 
@@ -148,10 +152,11 @@ def walk_rows(name, network, table, play, walks):
         put_all(net, state, lines)
         stop = source.randrange(1, 700)
         while True:
-            nodes = [(node.pulse_number, waits_of(net, v, node)) for v, node in state.nodes.items()]
+            nodes = [(node.pulse_number, waits_of(net, v, node), node.program.merged + 1 if node.pulse_number == last_pulse(net) else 0)
+                     for v, node in state.nodes.items()]
             links = {(v, net_port(net, v, port)): [wire_words(wire) for wire in wires] for (v, port), wires in state.link.items()}
             events = {(kind.lower(), v, port, 0) for kind, v, port in state.possible()}
-            if ([row[:2] for row in table.nodes(s)], table.wires(s), {event for event, _ in table.steps[s]}) != (nodes, links, events):
+            if ([row[:3] for row in table.nodes(s)], table.wires(s), {event for event, _ in table.steps[s]}) != (nodes, links, events):
                 wrong.append((s, nodes, table.nodes(s)))
                 break
             if not table.steps[s] or stop == 0:
@@ -174,6 +179,10 @@ def walk_rows(name, network, table, play, walks):
 
 def net_port(net, v, port):
     return sorted(net.neighbours[v])[port]
+
+
+def net_port_to(net, v, w):
+    return sorted(net.neighbours[v]).index(w)
 
 
 def page_rows(name, network):

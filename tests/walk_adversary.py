@@ -22,6 +22,7 @@ SIZES = {"wide": (1024, 768), "phone": (390, 844)}
 NETWORKS = {
     "two": (b"p edge 2 1\ne 1 2\n", ()), "triangle": (b"p edge 3 3\ne 1 2\ne 1 3\ne 2 3\n", ()),
     "row of four": (b"p edge 4 3\ne 1 2\ne 2 3\ne 3 4\n", ()),
+    "star of four": (b"p edge 4 3\ne 1 4\ne 2 4\ne 3 4\n", ()), "ring of four": (b"p edge 4 4\ne 1 2\ne 2 3\ne 3 4\ne 1 4\n", ()),
     "two without safes": (b"p edge 2 1\ne 1 2\n", ("--without", "safes")),
     "two without early": (b"p edge 2 1\ne 1 2\n", ("--without", "early")),
     "all of four without safes": (b"p edge 4 6\ne 1 2\ne 1 3\ne 1 4\ne 2 3\ne 2 4\ne 3 4\n", ("--without", "safes")),

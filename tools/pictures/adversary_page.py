@@ -8,11 +8,11 @@ from math import sqrt
 from adversary_dares import dares_of
 from adversary_table import table_of
 from palette import WIRES, channel_hue, text_on
-from places import circle, fit, gap, places_of
+from places import circle, fit, gap
 from schedules_space import left_out_words, title_of, wire_words
 from svg import escaped, shown
 
-WIDTH, HEIGHT, MARGIN, RADIUS = 400, 330, 66, 25
+WIDTH, HEIGHT, MARGIN_X, MARGIN_Y, RADIUS = 430, 336, 84, 68, 25
 HALF_WIDTH, HALF_HEIGHT = 31, 9
 MOST_SLOTS, LEAST_EDGE = 4, 150
 PALE = {"payload": "#E3F0F8", "ack": "#F4F4F4", "safe": "#FBE8DC", "close": "#E4E4E4"}
@@ -76,12 +76,15 @@ def tidy(number):
 
 
 def places_on(network):
-    """The given places, if there is room for messages between them; else a circle."""
-    for places in (places_of(network), circle(network.nodes)):
-        fitted = fit(places, WIDTH, HEIGHT, MARGIN)
+    """The given places, if there is room for messages between them; else four on the corners, and fewer on a circle."""
+    if len([v for v in network.vertices if v in network.given]) == network.nodes:
+        fitted = fit(network.given, WIDTH - 2 * MARGIN_X, HEIGHT - 2 * MARGIN_Y, 0, MARGIN_X, MARGIN_Y)
         if all(gap(fitted[v], fitted[w]) >= LEAST_EDGE for v in fitted for w in fitted if v < w):
             return fitted
-    return fitted
+    if network.nodes == 4:
+        left, top, right, bottom = MARGIN_X, MARGIN_Y, WIDTH - MARGIN_X, HEIGHT - MARGIN_Y
+        return {1: (left, top), 2: (right, top), 3: (right, bottom), 4: (left, bottom)}
+    return fit(circle(network.nodes), WIDTH - 2 * MARGIN_X, HEIGHT - 2 * MARGIN_Y, 0, MARGIN_X, MARGIN_Y)
 
 
 def slots_of(start, end):

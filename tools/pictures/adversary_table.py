@@ -35,11 +35,11 @@ def numbered(values):
 
 
 def waiting(waits):
-    """`safe 4 of 3`, `safe 4 of 2 and 3`."""
+    """`safe 4 of 3`, `safe 4 of 2 and 3`, `safe 4 of 1, 2 and 3`."""
     of = {}
     for wire, w in waits:
         of.setdefault(wire, []).append(str(w))
-    return " and ".join(f"{wire} of {' and '.join(ws)}" for wire, ws in of.items())
+    return " and ".join(f"{wire} of {' and '.join(filter(None, [', '.join(ws[:-1]), ws[-1]]))}" for wire, ws in of.items())
 
 
 def node_words(node):
