@@ -235,6 +235,9 @@ def lattice_rows(name, network, table, low, high, *options):
     note(f"lattice of {name}: its steps", sum(lines) == sum(steps[d] for d in range(low, high)) and lines[1] == high - low, lines)
     run = sorted(ends(line) for group in marks(root, "bold") for line in list(group)[1:2])
     note(f"lattice of {name}: the bold run is one", all(a[1] == b[0] for a, b in zip(run, run[1:])), run[:3])
+    bold = {ends(list(group)[1])[0] for group in marks(root, "bold") if title(group).startswith("pulse")}
+    takes = {ends(list(group)[1])[0] for group in marks(root, "step") if title(group).startswith("take")}
+    note(f"lattice of {name}: the bold run takes before it pulses", bold and not bold & takes, bold & takes)
     kinds = Counter(words.split(":")[1].split()[0] if ":" in words else "pulse" for words in titles(root, "step") + titles(root, "bold"))
     wanted = Counter()
     for s in depth:
@@ -261,6 +264,18 @@ def broken_rows(name, network, without):
              centre(list(group)[1])[0] for group in marks(root, "state wrong")), len(marks(root, "bold")))
     words = " ".join(texts(root))
     note(f"{name} without {without}: its words", f"{last} events are enough to go wrong" in words and plain(said) in plain(words), words[:400])
+
+
+def beyond_rows(network, without, low, high):
+    """With --events, what comes behind the first event that goes wrong is there too: a node that has made a wrong pulse is red."""
+    space = Space(network_of(network), without, beyond=True)
+    root = parsed(drawn("schedules", network, "--without", ",".join(without), "--events", f"{low}..{high}"))
+    wrong = sum(low <= space.depth[s] <= high and any(node.wrong for node in space.nodes(s).values()) for s in range(space.count))
+    refused = sum(e is not None and low <= space.depth[s] < high and space.steps(s)[e][1] is None for s, e in space.faults)
+    red = len(marks(root, "state wrong"))
+    note(f"two without {without}, {low} to {high} events: red marks", red == wrong + refused and wrong + refused > 0, (red, wrong, refused))
+    right = sum(low <= space.depth[s] <= high for s in range(space.count)) - wrong
+    note(f"two without {without}, {low} to {high} events: other marks", len(marks(root, "state")) == right, (len(marks(root, "state")), right))
 
 
 def given_run_rows(folder, table):
@@ -316,5 +331,7 @@ def schedule_rows(folder, examples, play):
     for without in (("safes",), ("early",), ("fifo",), ("acks", "fifo")):
         broken_rows("two", TWO, without)
     broken_rows("triangle", examples["triangle"], ("safes",))
+    for without, low, high in ((("safes",), 0, 24), (("safes",), 72, 84), (("early",), 0, 30)):
+        beyond_rows(TWO, without, low, high)
     given_run_rows(folder, tables["two"])
     refused_rows()

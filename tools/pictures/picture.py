@@ -90,7 +90,7 @@ KINDS = {
                "./picture player examples/petersen.col > petersen.html"),
     "schedules": ("Every order of events of a tiny network: its states as a lattice, one column an event.",
                   "At most four nodes and 200,000 states. Of long ones the first columns, or those of --events. With a rule left\n"
-                  "out, up to the first events that go wrong, which are red.",
+                  "out, up to the first event that goes wrong, which is red; with --events what comes behind it, too.",
                   "./picture schedules examples/triangle.col --events 0..24 > triangle-schedules.svg\n"
                   "  ./picture schedules examples/path.col --without safes > path-without-safes.svg"),
     "adversary": ("A page on which you are the network: you choose which message comes next.",
@@ -207,7 +207,7 @@ def drawn(given):
 
 
 def drawn_space(given, network):
-    space = schedules_space.space_of(network, given.kind, given.without, given.kind == "adversary")
+    space = schedules_space.space_of(network, given.kind, given.without, given.kind == "adversary" or given.events is not None)
     if given.kind == "schedules":
         return schedules_picture.draw(network, space, given.events, given.run and file_text(given.run))
     return adversary_page.draw_table(space) if given.text else adversary_page.draw(network, space)

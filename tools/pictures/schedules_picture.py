@@ -13,7 +13,7 @@ APART = [BAND, "#CFE3F1", "#8FBBDD", "#56B4E9"]
 
 def draw(network, space, window, run_text):
     """The states after `window` events, or after the first ones; bold is the run of a list of events, or one of ours."""
-    last = max(space.depth[space.count - 1], max((space.depth[s] + (e is not None) for s, e in space.faults), default=0))
+    last = last_column(space)
     low, high = window or first_window(space, last)
     if not 0 <= low <= high <= last:
         raise Wrong(f"{network.name} has states after 0 to {last} events: --events takes two of these numbers, the lower one first")
@@ -25,6 +25,13 @@ def draw(network, space, window, run_text):
     bold = run_of(space, run_text) if run_text is not None else first_fault(space) if space.faults else in_step(space)
     what = "the run that was given" if run_text is not None else None
     return Lattice(network, space, low, high, last, bold, what).drawn().document()
+
+
+def last_column(space):
+    """The most events after which all states are known, one that is refused being a state of its own."""
+    if space.expanded < space.count:
+        return space.depth[space.expanded]
+    return max(space.depth[space.count - 1], max((space.depth[s] + (e is not None) for s, e in space.faults), default=0))
 
 
 def steps_between(space):
@@ -168,6 +175,7 @@ class Lattice:
         for column in self.columns:
             for s in column:
                 self.draw_state(svg, s)
+        self.most_apart = max(self.apart(s) for column in self.columns for s in column if not isinstance(s, tuple))
         self.legend(svg, bottom + 36)
         return svg
 
@@ -216,6 +224,11 @@ class Lattice:
                 svg.line(x1, y1, x2, y2, WRONG if is_wrong else PULSE if kind == "pulse" else WIRES[kind],
                          round(max(1.2, self.radius * 0.3), 1) if is_bold else 0.8 if self.radius < 4 else 1.4)
 
+    def apart(self, s):
+        """The most pulses that two neighbours are apart, three for all above."""
+        pulses = [node.pulse for node in self.space.nodes(s).values()]
+        return min(3, max((abs(pulses[v - 1] - pulses[w - 1]) for v, w in self.space.links), default=0))
+
     def draw_state(self, svg, s):
         x, y, is_wrong = self.x(s), self.y(s), self.is_wrong(s)
         if isinstance(s, tuple):
@@ -223,13 +236,12 @@ class Lattice:
                 svg.circle(x, y, self.radius, WRONG, INK, 1)
                 svg.text(x, y + self.radius * 0.42, "×", round(1.5 * self.radius, 1), PAPER, "middle", bold=True)
             return
-        pulses = [node.pulse for node in self.space.nodes(s).values()]
-        apart = max((abs(pulses[v - 1] - pulses[w - 1]) for v, w in self.space.links), default=0)
+        apart = self.apart(s)
         words = ", ".join(f"node {v} at pulse {node.pulse} {'has halted' if node.stage == 'whole' else node.stage}"
                           for v, node in self.space.nodes(s).items())
         is_bold = s in self.passed
         with svg.group("state wrong" if is_wrong else "state", words):
-            svg.circle(x, y, self.radius, WRONG if is_wrong else APART[min(apart, 3)], INK if is_bold else BORDER,
+            svg.circle(x, y, self.radius, WRONG if is_wrong else APART[apart], INK if is_bold else BORDER,
                        (1.8 if is_bold else 0.8) if self.radius > 4 else 0.5)
             size = self.number_size()
             if size >= 5:
@@ -242,7 +254,8 @@ class Lattice:
             svg.line(x, y - 4, x + 22, y - 4, hue, 2)
             svg.text(x + 27, y, name, 11.5, SOFT)
             x += 27 + text_width(name, 11.5) + 14
-        for fill, words in ((APART[0], "all at one pulse"), (APART[1], "neighbours a pulse apart")):
+        meant = ["all at one pulse", "neighbours a pulse apart", "two", "more"]
+        for fill, words in list(zip(APART, meant))[:max(2, self.most_apart + 1)]:
             svg.circle(x + 6, y - 4, 6, fill, BORDER, 0.8)
             svg.text(x + 18, y, words, 11.5, SOFT)
             x += 18 + text_width(words, 11.5)
