@@ -3,7 +3,7 @@
 
   pictures.py [--program PROGRAM] [--play PLAY]
       PROGRAM   has the command `transcript`
-      PLAY      has the command `rounds`; the rows of a program that isn't named are left out
+      PLAY      has the commands `rounds` and `events`; the rows of a program that isn't named are left out
 
 Each picture is counted against its text by other means: what it has to show comes from the text, or from the definitions in
 plain_definition.py and alpha_definition.py, and from nothing of tools/pictures."""
@@ -23,6 +23,7 @@ from picture_maps import (bits_rows, crowded_rows, forests_rows, grid_rows, matr
                           rounds_rows)
 from picture_marks import gap, parsed, texts, titles
 from picture_runs import cut_rows, long_rows, run_rows, whole_run_rows, words_rows
+from picture_schedules import schedule_rows
 from plain_definition import network_of, plan_text
 from rounds_definition import rounds_text
 
@@ -170,7 +171,7 @@ def word_rows(draw):
     status, told, fault = call(["--help"])
     kinds = re.findall(r"^  ([a-z]+) {2,}", told.decode().split("positional")[0], re.M)
     note("help names standard input", b"./picture plan - <" in told)
-    note("help", (status, fault, len(kinds)) == (0, b"", 10), kinds)
+    note("help", (status, fault, len(kinds)) == (0, b"", 12), kinds)
     for kind in kinds:
         status, told, fault = call([kind, "--help"])
         note(f"help of {kind}", (status, fault) == (0, b"") and f"  ./picture {kind} examples/".encode() in told, told)
@@ -211,7 +212,7 @@ def stored_rows(play):
 
 def stored_text(words, network, play):
     """The option and the text that stand for the program's; nothing if the command names a stored one."""
-    if any(word in ("--plan", "--rounds", "--transcript") for word in words):
+    if words[0] in ("schedules", "adversary") or any(word in ("--plan", "--rounds", "--transcript") for word in words):
         return [], b""
     if words[0] in ("plan", "matrix"):
         return ["--plan", "-"], plan_text(network)
@@ -286,6 +287,7 @@ def main():
         size_rows(draw)
         pulses_rows(draw)
         word_rows(draw)
+        schedule_rows(folder, all_of, play)
     place_rows()
     stored_rows(play)
     print(f"{TALLY['passed']} passed, {TALLY['failed']} failed")

@@ -94,9 +94,12 @@ def three(net, f):
 
 
 def merge(net, f, old):
+    return merged(net, f, old, three(net, f))
+
+
+def merged(net, f, old, colour_in_f):
     """The list that its own equation gives back: each vertex has the least colour that is not among those of the neighbours
     that it looks at. There is one such list, since these have lower pairs; the equation is applied until it holds."""
-    colour_in_f = three(net, f)
     pair = {v: (colour_in_f[v], old[v]) for v in old}
     looked_at = {v: [w for w in ws if net.number[frozenset((v, w))] <= f and pair[w] < pair[v]]
                  for v, ws in net.neighbours.items()}

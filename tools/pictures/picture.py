@@ -5,6 +5,7 @@ import gc
 import re
 import sys
 
+import adversary_page
 import automaton_picture
 import bits_picture
 import forests_picture
@@ -15,6 +16,8 @@ import player_page
 import programs
 import rounds_picture
 import run_picture
+import schedules_picture
+import schedules_space
 import tally_picture
 import timing_picture
 from networks import read_network, stem
@@ -26,18 +29,21 @@ from transcripts import read_transcript
 from wrong import Wrong
 
 HELP = """\
-Draws what the programs computed, as SVG on standard output.
+Draws what the programs computed, as SVG on standard output; the last two kinds
+draw what `./explore` searches.
 
-  plan      the plan on the map: who has which channel
-  matrix    the plan as a matrix: proper if the diagonal blocks are blank
-  forests   the forests with their colours, and the plan after each merge
-  rounds    the colours and choices of each node, pulse by pulse
-  bits      one node above its parent, digit by digit
-  run       space and time of a run without a clock, above its rounds
-  overview  the pulses of such a run from beginning to end
-  node      the synchroniser as an automaton; with --vertex its timing
-  tally     the wires of a run by pulse
-  player    a page that plays the pulses (HTML)
+  plan       the plan on the map: who has which channel
+  matrix     the plan as a matrix: proper if the diagonal blocks are blank
+  forests    the forests with their colours, and the plan after each merge
+  rounds     the colours and choices of each node, pulse by pulse
+  bits       one node above its parent, digit by digit
+  run        space and time of a run without a clock, above its rounds
+  overview   the pulses of such a run from beginning to end
+  node       the synchroniser as an automaton; with --vertex its timing
+  tally      the wires of a run by pulse
+  player     a page that plays the pulses (HTML)
+  schedules  every order of events of a tiny network, as a lattice
+  adversary  a page on which you choose what happens next (HTML)
 """
 
 MORE_HELP = """\
@@ -94,7 +100,18 @@ KINDS = {
                "Add #pulse-P to the page's address for a link to pulse P, and #pulse-P-forest-F for\n"
                "one of its forests. With --frame N, frame N alone as SVG.",
                "./picture player examples/petersen.col > petersen.html"),
+    "schedules": ("Every order of events of a tiny network: its states as a lattice, one column an event.",
+                  "At most four nodes and 200,000 states. Of long ones the first columns, or those of --events. With a rule left\n"
+                  "out, up to the first event that goes wrong, which is red; with --events what comes behind it, too.",
+                  "./picture schedules examples/triangle.col --events 0..24 > triangle-schedules.svg\n"
+                  "  ./picture schedules examples/path.col --without safes > path-without-safes.svg"),
+    "adversary": ("A page on which you are the network: you choose which message comes next.",
+                  "At most four nodes and 200,000 states. With a rule left out, what goes wrong is there too, in a table that\n"
+                  "may end early, which the page says.",
+                  "./picture adversary examples/triangle.col > triangle.html\n"
+                  "  ./picture adversary examples/path.col --without safes > path-without-safes.html"),
 }
+OF_SPACE = ("schedules", "adversary")
 OF_PLAN, OF_ROUNDS, OF_RUN = ("plan", "matrix"), ("forests", "rounds", "bits", "player"), ("run", "overview", "node", "tally")
 
 
@@ -116,6 +133,13 @@ def wires(text):
     return [kind for kind in run_picture.KINDS if kind in kinds]
 
 
+def rules(text):
+    found = schedules_space.rules_of(text)
+    if found is None:
+        raise argparse.ArgumentTypeError(f"some of {','.join(schedules_space.OF_SCHEDULES)}")
+    return found
+
+
 def command_line():
     """The parser, and the one of each kind."""
     words = argparse.ArgumentParser(prog="picture", usage="picture KIND NETWORK [options]", description=HELP, epilog=MORE_HELP,
@@ -131,6 +155,8 @@ def command_line():
 
 def add_options(kind, name):
     """A stored text in place of the program's, and what the kind can be told."""
+    if name in OF_SPACE:
+        return add_space_options(kind, name)
     text = "plan" if name in OF_PLAN else "rounds" if name in OF_ROUNDS else "transcript"
     kind.add_argument(f"--{text}", dest="text", metavar="FILE", help=f"a stored {text} text, or - for standard input")
     if name in OF_RUN:
@@ -150,6 +176,15 @@ def add_options(kind, name):
         kind.add_argument("--only", type=wires, metavar="KINDS", help="some of payload,ack,safe,close")
     if name == "player":
         kind.add_argument("--frame", type=int, metavar="N", help="frame N alone, counted from 0")
+
+
+def add_space_options(kind, name):
+    kind.add_argument("--without", type=rules, default=(), metavar="RULES", help=f"some of {','.join(schedules_space.OF_SCHEDULES)}")
+    if name == "schedules":
+        kind.add_argument("--events", type=pulses, metavar="A..B", help="the states after A to B events alone")
+        kind.add_argument("--run", metavar="FILE", help="the run drawn bold, as a list of events; else the one in step")
+    else:
+        kind.add_argument("--text", action="store_true", help="the page's table alone, as JSON")
 
 
 def file_text(path):
@@ -200,6 +235,8 @@ def drawn(given):
     network_text = file_text(given.network)
     network = read_network(network_text, "standard input" if given.network == "-" else given.network)
     check_size(given.kind, network)
+    if given.kind in OF_SPACE:
+        return drawn_space(given, network)
     text = told(given, network, network_text.encode())
     name = name_of(given, network)
     if given.kind in OF_PLAN:
@@ -227,6 +264,13 @@ def until_of(given, network):
     if given.kind == "overview":
         return overview_picture.usual(last)[1]
     return (automaton_picture.usual(network, last) if given.vertex is None else timing_picture.usual(last))[1]
+
+
+def drawn_space(given, network):
+    space = schedules_space.space_of(network, given.kind, given.without, given.kind == "adversary" or given.events is not None)
+    if given.kind == "schedules":
+        return schedules_picture.draw(network, space, given.events, given.run and file_text(given.run))
+    return adversary_page.draw_table(space) if given.text else adversary_page.draw(network, space)
 
 
 def drawn_rounds(given, rounds):

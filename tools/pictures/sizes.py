@@ -9,6 +9,8 @@ NODES = {
     "run": (12, "overview"),
     "overview": (100, "tally"),
     "player": (40, "rounds"),
+    "schedules": (4, "run, which draws one schedule"),
+    "adversary": (4, "player"),
 }
 
 

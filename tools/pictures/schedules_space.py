@@ -1,0 +1,82 @@
+"""All states of a tiny network and the steps between them, as tools/schedules/space.py finds them, for the kinds that draw
+every schedule. What is too large for a picture is refused here, in a sentence."""
+import os
+import re
+import sys
+
+from programs import TOP
+from wrong import Wrong
+
+sys.path.append(os.path.join(TOP, "tools", "schedules"))
+
+from definitions import network_of, wire_words  # noqa: E402,F401
+from explore import rounded  # noqa: E402,F401
+from rules import OF_SCHEDULES  # noqa: E402
+from space import Space, TooMany  # noqa: E402
+
+MAX_STATES = 200_000
+BROKEN_STATES = 20_000, 60_000, MAX_STATES
+
+
+class CutSpace(Space):
+    """A search that ends at its limit: states beyond `expanded` have no steps, and `is_cut` says that there are some."""
+
+    is_cut = False
+
+    def search(self, progress):
+        try:
+            super().search(progress)
+        except TooMany:
+            self.is_cut = True
+            self.expanded = len(self.first) - 1
+            del self.target[self.first[-1]:], self.event_of[self.first[-1]:]
+            for key in [key for key in self.faults if key[0] >= self.expanded]:
+                del self.faults[key]
+
+
+def space_of(network, kind, without=(), beyond=False):
+    """The space of a network that was read. With a rule left out it goes on behind what goes wrong if `beyond`, up to the first
+    of the numbers of `BROKEN_STATES` within which something does."""
+    if without and beyond:
+        for limit in BROKEN_STATES:
+            space = CutSpace(network_of(network), without, limit, beyond=True, progress=progress)
+            if space.faults or not space.is_cut:
+                break
+        return space
+    try:
+        return Space(network_of(network), without, MAX_STATES + 1, progress=progress)
+    except TooMany:
+        raise Wrong(f"{kind} draws at most {MAX_STATES:,} states, and {network.name} has more: leave out an edge or a node") from None
+
+
+def progress(states, events):
+    """A line for whoever waits at a terminal."""
+    if sys.stderr.isatty():
+        print(f"picture: {states:,} states, up to {events} events", file=sys.stderr)
+
+
+def rules_of(text):
+    """The rules of an option `--without RULE,RULE`, or None if one of them is none."""
+    rules = tuple(text.split(","))
+    return rules if set(rules) <= set(OF_SCHEDULES) and len(set(rules)) == len(rules) else None
+
+
+def fault_words(space, key=None):
+    """What goes wrong, of all that does the first by default."""
+    return quoted(space.faults[key] if key else next(iter(space.faults.values())))
+
+
+def quoted(words):
+    """The quotes of a picture for those of a terminal."""
+    return re.sub("`([^`]*)`", "‘\\1’", words)
+
+
+def left_out_words(space):
+    """The rules that are left out, as a sentence."""
+    said = [f"that {OF_SCHEDULES[rule].says}" for rule in space.without]
+    return f"Left out {'is the rule' if len(said) == 1 else 'are the rules'} {'; '.join(said)}."
+
+
+def title_of(network, space):
+    """The network, and the rules that it has to do without."""
+    return network.name + (f" without {' and '.join(space.without)}" if space.without else "")
