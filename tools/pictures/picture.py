@@ -1,8 +1,11 @@
 """The door: `./picture KIND NETWORK [options] > x.svg`. Reads the network, has the programs write what is to be drawn (or
 reads it from a file), and writes the picture, or one line on standard error and no part of it."""
 import argparse
+import os
 import re
 import sys
+
+sys.path.insert(1, os.path.join(os.path.dirname(os.path.dirname(os.path.abspath(__file__))), "shared"))
 
 import automaton_picture
 import bits_picture

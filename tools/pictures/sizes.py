@@ -1,5 +1,5 @@
 """Up to which number of nodes each kind is a picture, and which kind to use above it."""
-from wrong import at_most
+from wrong import Wrong, at_most
 
 NODES = {
     "plan": (400, "matrix"),
@@ -13,7 +13,9 @@ NODES = {
 
 
 def check_size(kind, network):
-    """Refuses a network that is too large for a kind, before any text of it is asked for."""
+    """Refuses a network without a node, or one too large for a kind, before any text of it is asked for."""
+    if network.nodes == 0:
+        raise Wrong(f"{network.name}: no node, so nothing to draw")
     if kind in NODES:
         limit, instead = NODES[kind]
         at_most(kind, network.nodes, "nodes", limit, instead)

@@ -1,0 +1,172 @@
+"""`./network tell`: what a network is, what a run on it comes to, and what is wrong with its text."""
+import os
+import re
+import subprocess
+
+from colouring import LAST_COLOUR, Rounds
+from networks import network_of_reading, reading_of
+from programs import TOP
+from reading import counted, read
+from wrong import Wrong
+
+# Up to so many edges times pulses the rounds are worked out here; above them `forestplay rounds` is asked, if it is built.
+MOST_HERE = 300_000
+
+
+class Run:
+    """What every whole run of a network comes to; `payloads` counts them, and `how` says who counted."""
+
+    def __init__(self, network):
+        higher = {v: sum(w > v for w in network.neighbours[v]) for v in network.vertices}
+        self.network, self.forests = network, max(higher.values(), default=0)
+        self.last = LAST_COLOUR + 3 * self.forests * (network.degree + 1)
+        self.payloads, self.bytes, self.how = counted_payloads(self)
+        self.wires = 2 * self.payloads + 2 * len(network.edges) * (self.last + 1)
+        self.entries = 2 * self.wires + network.nodes * self.last
+        self.bytes += plain_bytes(self)
+
+
+def digits(count):
+    """How many digits the numbers from 0 to count - 1 have together."""
+    total, least, length = 0, 0, 1
+    while least < count:
+        total += length * (min(count, 10 ** length) - least)
+        least, length = 10 ** length, length + 1
+    return total
+
+
+def plain_bytes(run):
+    """The bytes of a transcript without its payloads and acknowledgements: each safe and closing mark twice, and the pulses."""
+    network, total = run.network, len(f"transcript 1 {run.network.nodes}\n")
+    safes = run.last * len("safe ") + digits(run.last) + len("close")
+    for v in network.vertices:
+        total += run.last * (len(f"{v} pulse \n")) + digits(run.last + 1) - 1
+        total += sum((run.last + 1) * len(f"{v} put {w} \n{w} take {v} \n") + 2 * safes for w in network.neighbours[v])
+    return total
+
+
+def payload_bytes(v, w, pulse, words):
+    """A payload and its acknowledgement, each put and taken."""
+    ends = len(f"{v} put {w} \n{w} take {v} \n")
+    return 2 * ends + 2 * len(f"payload {pulse} {words}") + 2 * len(f"ack {pulse}")
+
+
+def counted_payloads(run):
+    """How many payloads a run has, the bytes of their entries, and who counted."""
+    network = run.network
+    if len(network.edges) * run.last <= MOST_HERE:
+        rounds = Rounds(network, {v: v for v in network.vertices})
+        puts = [payload_bytes(v, w, pulse.number, f"{word} {number}") for pulse in rounds.pulses for v, w, word, number in pulse.puts]
+        return len(puts), sum(puts), "counted by the definition of the rounds"
+    program = os.path.join(TOP, "crates", "forestplay", "out", "forestplay")
+    program = program if os.path.exists(program) else os.path.join(TOP, "forestplay")
+    if is_program(program):
+        return *payloads_by(program, network), "counted by `forestplay rounds`"
+    most = most_payloads(run)
+    ends = sum(len(f"{v}{w}") for v, w in network.edges) / max(1, len(network.edges))
+    return most, round(most * (2 * (2 * ends + 13) + 2 * 20 + 2 * 7)), "at most; `forestplay` isn't built, which counts them"
+
+
+def is_program(path):
+    """Whether it is the built program, and not the script that builds it."""
+    try:
+        with open(path, "rb") as file:
+            return file.read(4) == b"\x7fELF"
+    except OSError:
+        return False
+
+
+def payloads_by(program, network):
+    """The lines of the rounds that put a payload, read as they are written, and the bytes of their entries."""
+    text = f"p edge {network.nodes} {len(network.edges)}\n" + "".join(f"e {v} {w}\n" for v, w in network.edges)
+    count = size = 0
+    with subprocess.Popen([program, "rounds"], stdin=subprocess.PIPE, stdout=subprocess.PIPE) as started:
+        started.stdin.write(text.encode())
+        started.stdin.close()
+        for line in started.stdout:
+            found = re.match(rb"(\d+) put (\d+) payload (\d+) (.*)\n", line)
+            if found:
+                count += 1
+                size += payload_bytes(*(field.decode() for field in found.groups()))
+    if started.returncode:
+        raise Wrong(f"forestplay rounds ended with status {started.returncode}")
+    return count, size
+
+
+def most_payloads(run):
+    """A greeting both ways, a label and ten colours of each edge; and in each merge both ends of each edge choose."""
+    number = {}
+    for v in run.network.vertices:
+        for f, w in enumerate(w for w in run.network.neighbours[v] if w > v):
+            number[f] = number.get(f, 0) + 1
+    merged = sum(count * (run.forests - f) for f, count in number.items())
+    return 13 * len(run.network.edges) + 2 * merged
+
+
+def steps_in_turn(network):
+    """How many rounds it takes if a node chooses once all its neighbours with a lower number have."""
+    step = {}
+    for v in network.vertices:
+        step[v] = 1 + max((step[w] for w in network.neighbours[v] if w < v), default=0)
+    return max(step.values(), default=0)
+
+
+def facts(reading, path):
+    """(name, what) of each line that is told; and warnings."""
+    network = network_of_reading(reading, path)
+    run = Run(network)
+    degrees = [len(network.neighbours[v]) for v in network.vertices]
+    edges = len(network.edges)
+    again = reading.edge_lines - edges
+    return [
+        ("nodes", f"{network.nodes}, {degrees.count(0)} of them without a neighbour" if 0 in degrees else str(network.nodes)),
+        ("edges", f"{edges}" + (f", {counted(again, 'line')} more with an edge that was there before" if again else "")
+         + f"; the `p` line says {reading.promised}"),
+        ("neighbours", f"{min(degrees, default=0)} to {network.degree} of a node, so at most {counted(network.degree + 1, 'channel')}"),
+        ("forests", f"{run.forests}, so the last pulse is 12 + 3 * {run.forests} * {network.degree + 1} = {run.last}"),
+        ("in turn", f"{counted(steps_in_turn(network), 'round')}, if the nodes chose in the order of their numbers"),
+        ("payloads", f"{run.payloads}, {run.how}"),
+        ("wires", f"2 * {run.payloads} + 2 * {edges} * {run.last + 1} = {run.wires}"),
+        ("transcript", f"{run.entries + 1} lines, {size(run.bytes)}"),
+    ] + times(run)
+
+
+def times(run):
+    return []
+
+
+def size(count):
+    """Bytes, rounded up to two digits if they are many."""
+    for bound, unit in ((10 ** 9, "GB"), (10 ** 6, "MB"), (10 ** 3, "kB")):
+        if count >= bound:
+            tenths = -(-count * 10 // bound)
+            return f"{tenths / 10:g} {unit}" if tenths < 100 else f"{-(-count // bound)} {unit}"
+    return f"{count} bytes"
+
+
+def warnings(reading):
+    """What the programs read without a word, and a reader may not have meant."""
+    if reading.promised not in (len(reading.edges), reading.edge_lines, 2 * len(reading.edges)):
+        yield (f"the `p` line says {counted(reading.promised, 'edge')}, and the text has {len(reading.edges)}: is it cut? "
+               "The programs plan what is there")
+    for what, listed in (("place", reading.given), ("name", reading.names)):
+        beyond = [v for v in listed if not 1 <= v <= reading.nodes]
+        if beyond:
+            yield f"a {what} is given for vertex {min(beyond)}, which there isn't"
+
+
+def tell(text, path):
+    """The lines of a network, and what a reader is warned of; or what is wrong."""
+    reading = reading_of(text, path)
+    told = facts(reading, path)
+    width = max(len(name) for name, _ in told)
+    return [f"{name:{width}}  {what}" for name, what in told], list(warnings(reading))
+
+
+def other_form(data, path):
+    """Of a text that is no network: what `read` makes of it, or None."""
+    try:
+        _, said = read(data, path)
+    except Wrong:
+        return None
+    return said[0]
