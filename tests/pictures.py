@@ -157,7 +157,7 @@ def word_rows(draw):
         note(f"{kind}: the same bytes twice", once == again and once[0] == 0)
     bare = os.path.join(draw.folder, "bin")
     os.mkdir(bare)
-    for tool in ("bash", "dirname"):
+    for tool in ("bash", "dirname", "readlink"):
         os.symlink(f"/usr/bin/{tool}" if os.path.exists(f"/usr/bin/{tool}") else f"/bin/{tool}", os.path.join(bare, tool))
     os.symlink(sys.executable, os.path.join(bare, "python3"))
     plain = b"".join(line + b"\n" for line in network.split(b"\n") if not line.startswith(b"c at"))
