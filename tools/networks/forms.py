@@ -1,4 +1,4 @@
-"""The forms of a network that `./network read` reads: pairs, adjacency, DOT and DIMACS.
+"""The forms of a network that `./network read` reads: pairs, adjacency in one line or in several, DOT and DIMACS.
 
 Each function returns `Listed`: the edges by names, as they stand in the text, and what was guessed."""
 import codecs
@@ -9,10 +9,10 @@ import dot
 from networks import fields_of, name_of, place_of, shown, whole
 from wrong import Wrong, wrong_line
 
-FORMS = ("pairs", "adjacency", "dot", "dimacs")
+FORMS = ("pairs", "adjacency", "multiline", "dot", "dimacs")
 # Headings of the two columns that name an edge's ends, as Gephi, networkx, igraph and people write them.
-ENDS = {"source": "target", "from": "to", "node1": "node2", "node_1": "node_2", "node 1": "node 2", "u": "v", "v": "w", "a": "b",
-        "src": "dst", "start": "end", "id1": "id2", "vertex1": "vertex2", "node": "neighbour", "nodea": "nodeb", "x": "y"}
+ENDS = {"source": "target", "from": "to", "node1": "node2", "node_1": "node_2", "node 1": "node 2", "nodea": "nodeb",
+        "node_a": "node_b", "src": "dst", "start": "end", "id1": "id2", "vertex1": "vertex2", "node": "neighbour"}
 
 
 class Listed:
@@ -65,9 +65,10 @@ def listed(text, name, form, heading):
     rows, separator = rows_of(text)
     if not rows:
         raise Wrong(f"{name}: it has no line with a node")
-    if (form or guess(rows, separator)) == "adjacency":
-        return read_adjacency(rows)
-    return read_pairs(rows, name, separator, heading)
+    form = form or ("multiline" if "{" in text and groups_of(rows) else guess(rows, separator))
+    if form == "multiline":
+        return read_multiline(rows, name)
+    return read_adjacency(rows) if form == "adjacency" else read_pairs(rows, name, separator, heading)
 
 
 def rows_of(text):
@@ -111,6 +112,8 @@ def read_pairs(rows, name, separator, heading):
     if columns:
         found.form = "pairs with a heading"
         rows = rows[1:]
+        if not rows:
+            raise Wrong(f"{name}: there is no line behind the heading")
     one, other = columns or (0, 1)
     for line, fields in rows:
         ends = [fields[at] if at < len(fields) else "" for at in (one, other)]
@@ -133,6 +136,32 @@ def read_adjacency(rows):
         found.edges += [(line, node, other) for other in others]
         if not others:
             found.alone.append((line, node))
+    return found
+
+
+def groups_of(rows):
+    """(line, node, rows of its neighbours) if each node with a count is followed by as many rows of one field, some by one; else None."""
+    found, at = [], 0
+    while at < len(rows):
+        line, fields = rows[at]
+        if len(fields) != 2 or whole(fields[1]) is None:
+            return None
+        others = rows[at + 1: at + 1 + whole(fields[1])]
+        if len(others) < whole(fields[1]) or any(len(other) != 1 for _, other in others):
+            return None
+        found.append((line, fields[0], others))
+        at += 1 + len(others)
+    return found if any(others for _, _, others in found) else None
+
+
+def read_multiline(rows, name):
+    """A node and the number of its neighbours, and then a line for each of these, as networkx writes."""
+    found, groups = Listed("adjacency in several lines"), groups_of(rows)
+    if groups is None:
+        raise Wrong(f"{name}: not each node has as many lines of neighbours as it says")
+    for line, node, others in groups:
+        found.alone.append((line, node))
+        found.edges += [(at, node, other[0]) for at, other in others]
     return found
 
 

@@ -9,6 +9,8 @@ from texts import Made
 from wrong import Wrong
 
 SIDE = 1000
+# Half of a queen's directions: the other half leads back.
+WAYS_OF_A_QUEEN = ((1, 0), (0, 1), (1, 1), (-1, 1))
 
 
 def check_room(nodes, edges=0):
@@ -87,14 +89,17 @@ def queen(rows, columns):
     at_least(1, rows=rows, columns=columns)
     check_room(rows * columns)
     places = squares(rows, columns)
-    edges = ((v, w) for v, w in combinations(places, 2) if joins(places[v], places[w]))
+    number = {place: v for v, place in places.items()}
+    edges = ((v, w) for v, place in places.items() for way in WAYS_OF_A_QUEEN for w in squares_on(place, way, number))
     return Made(rows * columns, checked(rows * columns, edges), places=places)
 
 
-def joins(one, other):
-    """Whether a queen moves from one square to the other."""
-    across, down = abs(one[0] - other[0]), abs(one[1] - other[1])
-    return across == 0 or down == 0 or across == down
+def squares_on(place, way, number):
+    """The vertices from a square on in one direction, to the edge of the board."""
+    (x, y), (across, down) = place, way
+    while (x + across, y + down) in number:
+        x, y = x + across, y + down
+        yield number[x, y]
 
 
 def tree(nodes, seed):

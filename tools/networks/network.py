@@ -73,6 +73,7 @@ COMMANDS = {
              "  pairs      two nodes a line, as CSV, with tabs or with blanks; a heading may name\n"
              "             the columns, and a line may have a weight behind, which isn't read\n"
              "  adjacency  a node and its neighbours a line, with blanks between\n"
+             "  multiline  a node and how many neighbours it has, and then a line for each of these\n"
              "  dot        a graph in the language of Graphviz\n"
              "  dimacs     `p` and `e` lines, with mistakes that are mended if that can be\n"
              "The form is guessed unless --as names it. Numbers from 1 on are kept, those from 0\n"
@@ -174,7 +175,8 @@ def was_told(given):
     try:
         lines, warned = tell(data.decode("utf-8", "replace"), given.file)
     except Wrong as why:
-        other = other_form(data, given.file)
+        # Of a network that is too large `read` would say the same.
+        other = None if str(why).endswith(("(F7)", "(N1)")) else other_form(data, given.file)
         if other:
             raise Wrong(f"{why}\nnetwork: but `./network read {given.file}` can read it: {other}") from None
         raise

@@ -164,9 +164,10 @@ def tell(text, path):
 
 
 def other_form(data, path):
-    """Of a text that is no network: what `read` makes of it, or None."""
+    """Of a text that is no network: what `read` makes of it, or None. One that begins like a network isn't taken for pairs."""
     try:
         _, said = read(data, path)
     except Wrong:
         return None
-    return said[0]
+    is_other = said[0].startswith(("DOT", "DIMACS")) or data.split()[0] not in (b"c", b"p")
+    return said[0] if is_other else None

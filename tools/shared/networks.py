@@ -73,7 +73,8 @@ def name_of(line):
 
 def shown(field):
     """A field as it may be printed in one line."""
-    return (field if len(field) <= 40 else field[:37] + "..").encode("ascii", "backslashreplace").decode().replace("\r", "\\r")
+    short = field if len(field) <= 40 else field[:37] + ".."
+    return "".join(letter if letter.isprintable() else letter.encode("unicode_escape").decode() for letter in short)
 
 
 def why_no_number(fields, names):
