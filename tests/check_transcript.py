@@ -11,11 +11,10 @@ import sys
 from collections import namedtuple
 
 from alpha_definition import wire_words
-from plain_definition import network_of
+from plain_definition import fields_of, network_of
 from transcript_search import Search
-from verdicts import fields_of
 
-sys.path.insert(1, os.path.join(os.path.dirname(os.path.dirname(os.path.abspath(__file__))), "tools", "shared"))
+sys.path.insert(1, os.path.join(os.path.dirname(os.path.dirname(os.path.realpath(__file__))), "tools", "shared"))
 
 import networks
 from wrong import Wrong as WrongNetwork

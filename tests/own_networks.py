@@ -340,7 +340,7 @@ def told_of(data):
     """{name: what} of the lines of `tell`."""
     status, text, told = call("tell", "-", data=data)
     note("tell", status == 0, told)
-    return dict(re.findall(r"^(.*?)  +(.*)$", text.decode(), re.M)), told
+    return dict(re.findall(r"^(.*?): (.*)$", text.decode(), re.M)), told
 
 
 def numbers(text):

@@ -6,7 +6,7 @@ import io
 import os
 import sys
 
-sys.path.insert(1, os.path.join(os.path.dirname(os.path.dirname(os.path.abspath(__file__))), "shared"))
+sys.path.insert(1, os.path.join(os.path.dirname(os.path.dirname(os.path.realpath(__file__))), "shared"))
 
 import kinds
 from forms import FORMS

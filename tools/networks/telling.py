@@ -158,9 +158,7 @@ def warnings(reading):
 def tell(text, path):
     """The lines of a network, and what a reader is warned of; or what is wrong."""
     reading = reading_of(text, path)
-    told = facts(reading, path)
-    width = max(len(name) for name, _ in told)
-    return [f"{name:{width}}  {what}" for name, what in told], list(warnings(reading))
+    return [f"{name}: {what}" for name, what in facts(reading, path)], list(warnings(reading))
 
 
 def other_form(data, path):

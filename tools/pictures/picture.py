@@ -5,7 +5,7 @@ import os
 import re
 import sys
 
-sys.path.insert(1, os.path.join(os.path.dirname(os.path.dirname(os.path.abspath(__file__))), "shared"))
+sys.path.insert(1, os.path.join(os.path.dirname(os.path.dirname(os.path.realpath(__file__))), "shared"))
 
 import automaton_picture
 import bits_picture
