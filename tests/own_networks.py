@@ -344,7 +344,7 @@ def told_of(data):
 
 
 def numbers(text):
-    return list(map(int, re.findall(r"\d+", text)))
+    return [int(number.replace(",", "")) for number in re.findall(r"\d[\d,]*", text.replace(", ", " "))]
 
 
 def steps_in_order(net):
@@ -376,6 +376,7 @@ def tell_rows():
         note(f"tell of {name}: the transcript's lines", got["transcript"][0] == run.count(b"\n"), told)
         note(f"tell of {name}: the transcript's bytes", told["transcript"].endswith(f", {rounded(len(run))}"), (told, len(run)))
         note(f"tell of {name}: no warning", warned == b"", warned)
+        note(f"tell of {name}: the time", told["time"] == "less than a second", told)
     for data, said in ((b"p edge 3 99\ne 1 2\n", b"the `p` line says 99 edges, and the text has 1: is it cut?"),
                        (b"p edge 2 1\ne 1 2\nc at 3 0 0\n", b"a place is given for vertex 3"),
                        (b"p edge 2 1\ne 1 2\nc name 9 X\n", b"a name is given for vertex 9")):
@@ -451,7 +452,9 @@ def large_rows(play):
     told, _ = told_of(data)
     done = subprocess.run([play, "rounds"], input=data, capture_output=True, timeout=LIMIT)
     payloads = len(re.findall(rb"^\d+ put ", done.stdout, re.M))
-    note("payloads of a large network", told["payloads"] == f"{payloads}, counted by `forestplay rounds`", (told, payloads))
+    long = r"(plan|transcript) (less than a second|about \d+ (second|minute|hour)s?)"
+    note("the time of a large network", re.fullmatch(rf"{long}, {long}; by a run of [\d,]+ wires, made just now", told["time"]), told)
+    note("payloads of a large network", told["payloads"] == f"{payloads:,}, counted by `forestplay rounds`", (told, payloads))
 
 
 def main():

@@ -95,7 +95,9 @@ COMMANDS = {
              "  wires       what all links of such a run carry: the payloads, as many\n"
              "              acknowledgements, a safe of each pulse and a closing mark\n"
              "  transcript  what `transcript` prints of it\n"
-             "  time        about how long that takes, by its wires, on a processor of 2.5 GHz",
+             "  time        about how long `plan` and `transcript` take here, by the wires alone: a\n"
+             "              smaller run is measured meanwhile. Nodes without edges, other work on\n"
+             "              the machine and more workers than processors can double it.",
              "./network tell examples/petersen.col"),
     "names": ("Puts the names of a network on a plan, which it reads from standard input.",
               "A line has a node's name and its channel; a node without a name has its number.",

@@ -79,7 +79,7 @@ def kept(found, number):
 
 
 def counted(count, what):
-    return f"{count} {what}" if count == 1 else f"{count} {what}s"
+    return f"{count} {what}" if count == 1 else f"{count:,} {what}s"
 
 
 def check(made, name):

@@ -2,15 +2,20 @@
 import os
 import re
 import subprocess
+import time
 
+import kinds
 from colouring import LAST_COLOUR, Rounds
-from networks import network_of_reading, reading_of
+from networks import network_of_reading, read_network, reading_of
 from programs import TOP
 from reading import counted, read
+from texts import Made, text_of
 from wrong import Wrong
 
 # Up to so many edges times pulses the rounds are worked out here; above them `forestplay rounds` is asked, if it is built.
 MOST_HERE = 300_000
+# Up to so many wires nobody waits for a run.
+AN_INSTANT = 100_000
 
 
 class Run:
@@ -58,30 +63,37 @@ def counted_payloads(run):
         rounds = Rounds(network, {v: v for v in network.vertices})
         puts = [payload_bytes(v, w, pulse.number, f"{word} {number}") for pulse in rounds.pulses for v, w, word, number in pulse.puts]
         return len(puts), sum(puts), "counted by the definition of the rounds"
-    program = os.path.join(TOP, "crates", "forestplay", "out", "forestplay")
-    program = program if os.path.exists(program) else os.path.join(TOP, "forestplay")
-    if is_program(program):
+    program = built("forestplay")
+    if program:
         return *payloads_by(program, network), "counted by `forestplay rounds`"
     most = most_payloads(run)
     ends = sum(len(f"{v}{w}") for v, w in network.edges) / max(1, len(network.edges))
-    return most, round(most * (2 * (2 * ends + 13) + 2 * 20 + 2 * 7)), "at most; `forestplay` isn't built, which counts them"
+    return most, round(most * (2 * (2 * ends + 13) + 2 * 20 + 2 * 7)), "at most; forestplay isn't built, which counts them"
 
 
-def is_program(path):
-    """Whether it is the built program, and not the script that builds it."""
+def built(name):
+    """The program if it is built: in the tree, or in a folder in which it was installed, in place of the script that builds it."""
+    program = os.path.join(TOP, "crates", name, "out", name)
+    if os.path.exists(program):
+        return program
+    program = os.path.join(TOP, name)
     try:
-        with open(path, "rb") as file:
-            return file.read(4) == b"\x7fELF"
+        with open(program, "rb") as file:
+            return program if file.read(4) == b"\x7fELF" else None
     except OSError:
-        return False
+        return None
+
+
+def bytes_for(network):
+    """The network as the programs are given it."""
+    return text_of(Made(network.nodes, network.edges)).encode()
 
 
 def payloads_by(program, network):
     """The lines of the rounds that put a payload, read as they are written, and the bytes of their entries."""
-    text = f"p edge {network.nodes} {len(network.edges)}\n" + "".join(f"e {v} {w}\n" for v, w in network.edges)
     count = size = 0
     with subprocess.Popen([program, "rounds"], stdin=subprocess.PIPE, stdout=subprocess.PIPE) as started:
-        started.stdin.write(text.encode())
+        started.stdin.write(bytes_for(network))
         started.stdin.close()
         for line in started.stdout:
             found = re.match(rb"(\d+) put (\d+) payload (\d+) (.*)\n", line)
@@ -118,21 +130,62 @@ def facts(reading, path):
     degrees = [len(network.neighbours[v]) for v in network.vertices]
     edges = len(network.edges)
     again = reading.edge_lines - edges
+    most = "at most " if run.how.startswith("at most") else ""
     return [
-        ("nodes", f"{network.nodes}, {degrees.count(0)} of them without a neighbour" if 0 in degrees else str(network.nodes)),
-        ("edges", f"{edges}" + (f", {counted(again, 'line')} more with an edge that was there before" if again else "")
-         + f"; the `p` line says {reading.promised}"),
-        ("neighbours", f"{min(degrees, default=0)} to {network.degree} of a node, so at most {counted(network.degree + 1, 'channel')}"),
-        ("forests", f"{run.forests}, so the last pulse is 12 + 3 * {run.forests} * {network.degree + 1} = {run.last}"),
+        ("nodes", f"{network.nodes:,}" + (f", {degrees.count(0):,} of them without a neighbour" if 0 in degrees else "")),
+        ("edges", f"{edges:,}" + (f", {counted(again, 'line')} more with an edge that was there before" if again else "")
+         + f"; the `p` line says {reading.promised:,}"),
+        ("neighbours", f"{min(degrees, default=0):,} to {network.degree:,} of a node, so at most {counted(network.degree + 1, 'channel')}"),
+        ("forests", f"{run.forests:,}, so the last pulse is 12 + 3 * {run.forests:,} * {network.degree + 1:,} = {run.last:,}"),
         ("in turn", f"{counted(steps_in_turn(network), 'round')}, if the nodes chose in the order of their numbers"),
-        ("payloads", f"{run.payloads}, {run.how}"),
-        ("wires", f"2 * {run.payloads} + 2 * {edges} * {run.last + 1} = {run.wires}"),
-        ("transcript", f"{run.entries + 1} lines, {size(run.bytes)}"),
-    ] + times(run)
+        ("payloads", f"{run.payloads:,}, {run.how}"),
+        ("wires", f"{most}2 * {run.payloads:,} + 2 * {edges:,} * {run.last + 1:,} = {run.wires:,}"),
+        ("transcript", f"{most}{run.entries + 1:,} lines, {size(run.bytes)}"),
+        ("time", times(run)),
+    ]
 
 
 def times(run):
-    return []
+    """About how long `plan` and `transcript` take, by their wires, as measured on another network just now."""
+    if run.wires <= AN_INSTANT:
+        return "less than a second"
+    program = built("forestplan")
+    if not program:
+        return "unknown, since forestplan isn't built, by which it is measured"
+    known = network_for_time()
+    seconds = {command: run.wires / known.wires * seconds_of(program, command, known) for command in ("plan", "transcript")}
+    return (", ".join(f"{command} {in_words(took)}" for command, took in seconds.items())
+            + f"; by a run of {known.wires:,} wires, made just now")
+
+
+def network_for_time():
+    """A run of some tenths of a second."""
+    return Run(read_network(text_of(kinds.grid(40, 40)), "grid"))
+
+
+def seconds_of(program, command, run):
+    """The lesser time of two runs."""
+    took = []
+    for _ in range(2):
+        start = time.monotonic()
+        done = subprocess.run([program, command], input=bytes_for(run.network), stdout=subprocess.DEVNULL)
+        took.append(time.monotonic() - start)
+        if done.returncode:
+            raise Wrong(f"forestplan {command} ended with status {done.returncode}")
+    return min(took)
+
+
+def in_words(seconds):
+    """About so long, rounded up to one digit."""
+    if seconds < 1:
+        return "less than a second"
+    for bound, unit in ((5400, 3600), (90, 60), (0, 1)):
+        if seconds > bound:
+            count = -(-seconds // unit)
+            step = 10 ** (len(str(int(count))) - 1)
+            count = int(-(-count // step) * step)
+            return f"about {counted(count, {3600: 'hour', 60: 'minute', 1: 'second'}[unit])}"
+    raise AssertionError
 
 
 def size(count):
