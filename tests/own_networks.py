@@ -385,6 +385,16 @@ def tell_rows():
         note(f"not warned of {data}", told_of(data)[1] == b"")
 
 
+def bound_rows():
+    """What `tell` says without the program of a network that is too large to be worked out: bounds of what it says of a smaller one
+    are above the counts."""
+    from networks import read_network
+    from telling import Run, most_payloads
+    for words in ("complete 8", "random 30 80", "grid 5 5", "star 7", "tree 12", "disk 20 --seed 3"):
+        run = Run(read_network(call(*words.split())[1].decode(), "net"))
+        note(f"the most payloads of {words}", run.payloads <= most_payloads(run) <= 2 * run.payloads, (run.payloads, most_payloads(run)))
+
+
 def rounded(count):
     """Bytes in words, rounded up to two digits above 999."""
     unit = next((unit for unit in (10 ** 9, 10 ** 6, 10 ** 3) if count >= unit), None)
@@ -454,7 +464,7 @@ def large_rows(play):
     payloads = len(re.findall(rb"^\d+ put ", done.stdout, re.M))
     long = r"(plan|transcript) (less than a second|about \d+ (second|minute|hour)s?)"
     note("the time of a large network", re.fullmatch(rf"{long}, {long}; by a run of [\d,]+ wires, made just now", told["time"]), told)
-    note("payloads of a large network", told["payloads"] == f"{payloads:,}, counted by `forestplay rounds`", (told, payloads))
+    note("payloads of a large network", told["payloads"] == f"{payloads:,}; counted by `forestplay rounds`", (told, payloads))
 
 
 def main():
@@ -474,6 +484,7 @@ def main():
         name_rows(folder)
         script_rows(folder)
         tell_rows()
+        bound_rows()
         fault_rows(program)
         if play:
             large_rows(play)

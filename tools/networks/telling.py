@@ -12,19 +12,22 @@ from reading import counted, read
 from texts import Made, text_of
 from wrong import Wrong
 
-# Up to so many edges times pulses the rounds are worked out here; above them `forestplay rounds` is asked, if it is built.
-MOST_HERE = 300_000
+# Up to so many nodes times pulses the rounds are worked out here, in less than a second; above them `forestplay rounds` is asked,
+# and if it isn't built they are worked out here up to so many, in some seconds.
+MOST_AT_ONCE, MOST_HERE = 300_000, 5_000_000
 # Up to so many wires nobody waits for a run.
 AN_INSTANT = 100_000
 
 
 class Run:
-    """What every whole run of a network comes to; `payloads` counts them, and `how` says who counted."""
+    """What every whole run of a network comes to; `payloads` counts them, `how` says who counted, and `is_bound` that it is the most
+    that there can be."""
 
     def __init__(self, network):
         higher = {v: sum(w > v for w in network.neighbours[v]) for v in network.vertices}
         self.network, self.forests = network, max(higher.values(), default=0)
         self.last = LAST_COLOUR + 3 * self.forests * (network.degree + 1)
+        self.is_bound = False
         self.payloads, self.bytes, self.how = counted_payloads(self)
         self.wires = 2 * self.payloads + 2 * len(network.edges) * (self.last + 1)
         self.entries = 2 * self.wires + network.nodes * self.last
@@ -58,17 +61,17 @@ def payload_bytes(v, w, pulse, words):
 
 def counted_payloads(run):
     """How many payloads a run has, the bytes of their entries, and who counted."""
-    network = run.network
-    if len(network.edges) * run.last <= MOST_HERE:
+    network, steps, program = run.network, run.network.nodes * run.last, built("forestplay")
+    if steps <= MOST_AT_ONCE or steps <= MOST_HERE and not program:
         rounds = Rounds(network, {v: v for v in network.vertices})
         puts = [payload_bytes(v, w, pulse.number, f"{word} {number}") for pulse in rounds.pulses for v, w, word, number in pulse.puts]
         return len(puts), sum(puts), "counted by the definition of the rounds"
-    program = built("forestplay")
     if program:
         return *payloads_by(program, network), "counted by `forestplay rounds`"
     most = most_payloads(run)
     ends = sum(len(f"{v}{w}") for v, w in network.edges) / max(1, len(network.edges))
-    return most, round(most * (2 * (2 * ends + 13) + 2 * 20 + 2 * 7)), "at most; forestplay isn't built, which counts them"
+    run.is_bound = True
+    return most, round(most * (2 * (2 * ends + 13) + 2 * 20 + 2 * 7)), "forestplay isn't built, which counts them"
 
 
 def built(name):
@@ -130,7 +133,7 @@ def facts(reading, path):
     degrees = [len(network.neighbours[v]) for v in network.vertices]
     edges = len(network.edges)
     again = reading.edge_lines - edges
-    most = "at most " if run.how.startswith("at most") else ""
+    most = "at most " if run.is_bound else ""
     return [
         ("nodes", f"{network.nodes:,}" + (f", {degrees.count(0):,} of them without a neighbour" if 0 in degrees else "")),
         ("edges", f"{edges:,}" + (f", {counted(again, 'line')} more with an edge that was there before" if again else "")
@@ -138,7 +141,7 @@ def facts(reading, path):
         ("neighbours", f"{min(degrees, default=0):,} to {network.degree:,} of a node, so at most {counted(network.degree + 1, 'channel')}"),
         ("forests", f"{run.forests:,}, so the last pulse is 12 + 3 * {run.forests:,} * {network.degree + 1:,} = {run.last:,}"),
         ("in turn", f"{counted(steps_in_turn(network), 'round')}, if the nodes chose in the order of their numbers"),
-        ("payloads", f"{run.payloads:,}, {run.how}"),
+        ("payloads", f"{most}{run.payloads:,}; {run.how}"),
         ("wires", f"{most}2 * {run.payloads:,} + 2 * {edges:,} * {run.last + 1:,} = {run.wires:,}"),
         ("transcript", f"{most}{run.entries + 1:,} lines, {size(run.bytes)}"),
         ("time", times(run)),
