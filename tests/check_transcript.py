@@ -5,12 +5,19 @@ A transcript has the entries of each node in that node's own order, and says not
 looks for an order of all entries that is a run, and demands that the run is whole. `--help` says how to call it."""
 import argparse
 import functools
+import gc
+import os
 import sys
 from collections import namedtuple
 
-from alpha_definition import NetState, Refused, wire_words
-from plain_definition import network_of
-from verdicts import fields_of
+from alpha_definition import wire_words
+from plain_definition import fields_of, network_of
+from transcript_search import Search
+
+sys.path.insert(1, os.path.join(os.path.dirname(os.path.dirname(os.path.realpath(__file__))), "tools", "shared"))
+
+import networks
+from wrong import Wrong as WrongNetwork
 
 HELP = """\
 Checks a transcript of a run of nodes without a common clock.
@@ -46,18 +53,19 @@ or is no network.
 
 Example:
   ./forestplan transcript < examples/triangle.col > triangle.transcript
-  python3 tests/check_transcript.py examples/triangle.col triangle.transcript
+  ./check-transcript examples/triangle.col triangle.transcript
 """
 
 # The word of each payload of the colouring, and the bound of its number.
 PAYLOADS = {b"hello": 2**64, b"label": 2**16, b"colour": 2**64, b"chosen": 2**16}
 
-# `what` is the number of the pulse, or the wire. A pulse has no neighbour.
-Entry = namedtuple("Entry", "line vertex kind neighbour what")
+# `kind` is Pulse, Put or Take; `what` is the number of the pulse, or the wire, as alpha_definition.py has it. A pulse has no
+# neighbour. `text` is the line as the search takes it.
+Entry = namedtuple("Entry", "line vertex kind neighbour what text")
 
-# What a search finds: the entries made, in this order; the state after them; and of each node that isn't through, the entries
+# What a search finds: the entries made, in this order; the nodes after them; and of each node that isn't through, the entries
 # that are left, the next one last, and the code of that one's refusal.
-Found = namedtuple("Found", "made state left refusals")
+Found = namedtuple("Found", "made nodes left refusals")
 
 
 class Wrong(Exception):
@@ -76,7 +84,8 @@ def number(field, bound=2**32):
     return int(digits)
 
 
-def wire_of(fields):
+@functools.lru_cache(maxsize=2**16)
+def wire_of(*fields):
     match fields:
         case [b"payload", pulse, word, of_word] if word in PAYLOADS:
             return "Payload", number(pulse), (word.decode().title(), number(of_word, PAYLOADS[word]))
@@ -89,49 +98,47 @@ def wire_of(fields):
     raise ValueError
 
 
+@functools.lru_cache(maxsize=2**16)
+def words_of_wire(wire):
+    return wire_words(wire).encode()
+
+
 def entry_of(line, fields):
     match fields:
         case [vertex, b"pulse", pulse]:
-            return Entry(line, number(vertex), "Pulse", None, number(pulse))
-        case [vertex, b"put", neighbour, *wire]:
-            return Entry(line, number(vertex), "Put", number(neighbour), wire_of(wire))
-        case [vertex, b"take", neighbour, *wire]:
-            return Entry(line, number(vertex), "Take", number(neighbour), wire_of(wire))
+            v, p = number(vertex), number(pulse)
+            return Entry(line, v, "Pulse", None, p, b"%d pulse %d" % (v, p))
+        case [vertex, b"put" | b"take" as kind, neighbour, *of_wire]:
+            v, w, wire = number(vertex), number(neighbour), wire_of(*of_wire)
+            return Entry(line, v, kind.decode().title(), w, wire, b"%d %s %d %s" % (v, kind, w, words_of_wire(wire)))
     raise ValueError
 
 
 def read(text):
     """The line and the number of nodes of the first line, and the entries in the order of the text."""
-    head, entries = None, []
-    for line, fields in enumerate(map(fields_of, text.split(b"\n")), 1):
+    lines, entries = text.split(b"\n"), []
+    start, nodes = head_of(lines)
+    for line, raw in enumerate(lines[start:], start + 1):
         try:
-            if fields and head:
+            if fields := fields_of(raw):
                 entries.append(entry_of(line, fields))
-            elif fields:
-                if len(fields) != 3 or fields[:2] != [b"transcript", b"1"]:
-                    raise ValueError
-                head = line, number(fields[2])
         except ValueError:
-            raise Wrong(line, "X1", "not an entry" if head else "not `transcript 1 N`") from None
-    if head is None:
-        raise Wrong(1, "X1", "there is no line `transcript 1 N`")
-    return head, entries
+            is_cut = line == len(lines)
+            raise Wrong(line, "X1", "not an entry" + (", and no line feed behind it (is the text cut?)" if is_cut else "")) from None
+    return (start, nodes), entries
 
 
-def event_of(state, entry):
-    if entry.kind == "Pulse":
-        return entry.kind, entry.vertex
-    if (entry.vertex, entry.neighbour) not in state.port_to:
-        raise Refused("NoSuch")
-    return entry.kind, entry.vertex, state.port_to[entry.vertex, entry.neighbour]
-
-
-def make(state, entry):
-    """The event of an entry, if it is possible with what the entry says; otherwise nothing is changed."""
-    event = event_of(state, entry)
-    if state.carried(*event) != entry.what:
-        raise Refused("WrongWire")
-    state.step(*event)
+def head_of(lines):
+    """The line and the number of nodes of the first line."""
+    for line, fields in enumerate(map(fields_of, lines), 1):
+        if fields:
+            try:
+                if len(fields) == 3 and fields[:2] == [b"transcript", b"1"]:
+                    return line, number(fields[2])
+            except ValueError:
+                pass
+            raise Wrong(line, "X1", "not `transcript 1 N`")
+    raise Wrong(1, "X1", "there is no line `transcript 1 N`")
 
 
 def find_order(net, entries):
@@ -145,29 +152,13 @@ def find_order(net, entries):
     so it is possible, and the search wouldn't have stopped. The entries that are left, and why, are the same in every search.
 
     A node is looked at again only if a neighbour has put the wire that it waits for; so the time is linear."""
-    state, made, refusals, own = NetState(net), [], {}, {}
-    for entry in reversed(entries):
-        own.setdefault(entry.vertex, []).append(entry)
-    work = list(own)
-    while work:
-        v = work.pop()
-        refusals.pop(v, None)
-        for entry in make_own(state, own[v], refusals):
-            made.append(entry)
-            if entry.kind == "Put" and refusals.get(entry.neighbour) == "LinkEmpty" and own[entry.neighbour][-1].neighbour == v:
-                work.append(entry.neighbour)
-    return Found(made, state, {v: left for v, left in own.items() if left}, refusals)
-
-
-def make_own(state, left, refusals):
-    """The entries of one node that can be made now, each made and removed from the end of `left`."""
-    while left:
-        try:
-            make(state, left[-1])
-        except Refused as refused:
-            refusals[left[-1].vertex] = str(refused)
-            return
-        yield left.pop()
+    own, strays = {v: [] for v in net.neighbours}, {}
+    for entry in entries:
+        (own[entry.vertex] if entry.vertex in own else strays.setdefault(entry.vertex, [])).append(entry)
+    search = Search(net, {v: [entry.text for entry in own[v]] for v in own})
+    left = {v: own[v][node.at:][::-1] for v, node in search.nodes.items()} | {v: lost[::-1] for v, lost in strays.items()}
+    refusals = {v: node.refusal for v, node in search.nodes.items()} | dict.fromkeys(strays, "NoSuch")
+    return Found(search.made(own), search.nodes, {v: lost for v, lost in left.items() if lost}, refusals)
 
 
 def words(entry):
@@ -192,96 +183,162 @@ def refusal_of(found, entry):
 
 
 def why_no_such(found, entry):
-    if entry.vertex not in found.state.nodes:
-        return f"but the nodes are 1 to {len(found.state.nodes)}"
+    if entry.vertex not in found.nodes:
+        return f"but the nodes are 1 to {len(found.nodes)}"
     return f"which is no neighbour of {entry.vertex}"
 
 
 def why_not_ready(found, entry):
-    node, neighbours = found.state.nodes[entry.vertex], found.state.neighbours[entry.vertex]
-    p = node.pulse_number
+    node = found.nodes[entry.vertex]
+    p = node.pulse
     if p == node.last:
         return f"but {p} is the last"
     if not node.said:
-        return f"but it hasn't taken ack {p} from {next(w for w, port in zip(neighbours, node.ports) if port.waits)}"
-    for w, port in zip(neighbours, node.ports):
-        if not port.safe:
-            return f"but it hasn't taken safe {p} from {w}"
+        return f"but it hasn't taken ack {p} from {next(port.neighbour for port in node.all_ports if port.waits)}"
+    for port in node.all_ports:
+        if port.known == p:
+            return f"but it hasn't taken safe {p} from {port.neighbour}"
         if len(port.out) > 3:
-            return f"but has too many wires left for {w}"
+            return f"but has too many wires left for {port.neighbour}"
     raise AssertionError
 
 
 def why_link_empty(found, entry):
     if entry.neighbour in found.left:
         return f"which hasn't put it and waits itself, at line {found.left[entry.neighbour][-1].line}"
+    node = found.nodes[entry.neighbour]
+    if not node.own:
+        return f"which never puts it; {without_entries(found.nodes)} (is the text cut?)"
+    if node.pulse < node.last:
+        return f"which never puts it; the entries of node {node.vertex} end at pulse {node.pulse} of {node.last} (is the text cut?)"
     return "which never puts it"
 
 
+def why_not_whole(nodes, node):
+    if not node.own:
+        return f"; {without_entries(nodes)} (is the text cut?)"
+    return " (is the text cut?)" if node.pulse < node.last else ""
+
+
+def without_entries(nodes):
+    """Which nodes have no entry, in words."""
+    found = [v for v, node in nodes.items() if not node.own]
+    if len(found) == 1:
+        return f"node {found[0]} has no entry"
+    if len(found) > 2 and found[-1] - found[0] == len(found) - 1:
+        return f"nodes {found[0]} to {found[-1]} have no entry"
+    more = f"and {len(found) - 6} more" if len(found) > 7 else f"and {found[-1]}"
+    return f"nodes {', '.join(map(str, found[:6] if len(found) > 7 else found[:-1]))} {more} have no entry"
+
+
 def why_wrong_wire(found, entry):
-    carried = found.state.carried(*event_of(found.state, entry))
-    return f"but the next one there is {carried if entry.kind == 'Pulse' else wire_words(carried)}"
+    node = found.nodes[entry.vertex]
+    if entry.kind == "Pulse":
+        return f"but the next one there is {node.pulse + 1}"
+    port = node.ports[b"%d" % entry.neighbour]
+    return f"but the next one there is {(port.out if entry.kind == 'Put' else port.link)[0].decode()}"
 
 
 WHY = {"NoSuch": why_no_such, "NotReady": why_not_ready, "LinkEmpty": why_link_empty, "WrongWire": why_wrong_wire,
        "NothingToPut": lambda found, entry: "for which it has nothing"}
 
 
-def unfinished(state):
-    """What keeps a state from being that of a whole run: a node, and what it hasn't done."""
-    ends = [(v, w, port) for v, node in sorted(state.nodes.items()) for w, port in zip(state.neighbours[v], node.ports)]
-    for v, node in sorted(state.nodes.items()):
-        if node.pulse_number != node.last:
-            yield v, f"node {v} is at pulse {node.pulse_number} of {node.last}"
-    for v, w, port in ends:
+def unfinished(nodes):
+    """What keeps nodes from being those of a whole run: a node, and what it hasn't done."""
+    ends = [(v, port) for v, node in nodes.items() for port in node.all_ports]
+    for v, node in nodes.items():
+        if node.pulse != node.last:
+            yield v, f"node {v} is at pulse {node.pulse} of {node.last}"
+    for v, port in ends:
         if port.out:
-            yield v, f"node {v} hasn't put {wire_words(port.out[0])} for {w}"
-    for v, w, _ in ends:
-        if wires := state.link[v, state.port_to[v, w]]:
-            yield w, f"node {w} hasn't taken {wire_words(wires[0])} from {v}"
-    for v, node in sorted(state.nodes.items()):
-        if not node.drained():
+            yield v, f"node {v} hasn't put {port.out[0].decode()} for {port.neighbour}"
+    for v, port in ends:
+        if port.link:
+            yield v, f"node {v} hasn't taken {port.link[0].decode()} from {port.neighbour}"
+    for v, node in nodes.items():
+        if not node.is_drained():
             yield v, f"node {v} isn't drained"
 
 
+def check_nodes(net, line, nodes):
+    if nodes != len(net.neighbours):
+        raise Wrong(line, "Nodes", f"the transcript has {nodes} nodes, the network {len(net.neighbours)}")
+
+
 def whole_run(net, text):
-    """The order found, and the verdict on a transcript of a network; or `Wrong`."""
-    head, entries = read(text)
-    if head[1] != len(net.neighbours):
-        raise Wrong(head[0], "Nodes", f"the transcript has {head[1]} nodes, the network {len(net.neighbours)}")
+    """The lines of the entries in the order found, and the verdict on a transcript of a network; or `Wrong`."""
+    return run_as_it_stands(net, text) or run_read_with_care(net, text)
+
+
+def run_as_it_stands(net, text):
+    """The same for most transcripts of runs: lines are compared with what the nodes do, as they stand in the text. None if they
+    aren't a whole run so; then they have to be read with care."""
+    head, *lines = text.split(b"\n")
+    if head != b"transcript 1 %d" % len(net.neighbours) or lines[-1:] != [b""]:
+        return None
+    own = {b"%d" % v: ([], []) for v in net.neighbours}
+    vertex = None
+    for line, entry in enumerate(lines[:-1], 2):
+        if vertex is None or not entry.startswith(vertex):
+            vertex = entry[:entry.find(b" ") + 1]
+            if vertex[:-1] not in own:
+                return None
+            its_entries, its_lines = own[vertex[:-1]]
+        its_entries.append(entry)
+        its_lines.append(line)
+    try:
+        search = Search(net, {int(v): entries for v, (entries, _) in own.items()})
+    except (IndexError, ValueError):
+        return None
+    if not search.is_whole():
+        return None
+    return search.made({int(v): numbers for v, (_, numbers) in own.items()}), verdict(search.nodes)
+
+
+def run_read_with_care(net, text):
+    (line, nodes), entries = read(text)
+    check_nodes(net, line, nodes)
     found = find_order(net, entries)
     if found.left:
         raise refusal_of(found, first_refused(found))
-    for v, what in unfinished(found.state):
-        last_line = max((entry.line for entry in entries if entry.vertex == v), default=head[0])
-        raise Wrong(last_line, "NotWhole", f"after its last entry {what}")
-    return found.made, verdict(net, entries)
+    for v, what in unfinished(found.nodes):
+        last_line = max((entry.line for entry in entries if entry.vertex == v), default=line)
+        raise Wrong(last_line, "NotWhole", f"after its last entry {what}{why_not_whole(found.nodes, found.nodes[v])}")
+    return [entry.line for entry in found.made], verdict(found.nodes)
 
 
-def verdict(net, entries):
-    wires = [entry.what for entry in entries if entry.kind == "Put"]
-    payloads = sum(wire[0] == "Payload" for wire in wires)
-    return f"whole run of {len(net.neighbours)} nodes, {len(entries)} entries, {payloads} payloads, {len(wires)} wires"
+def verdict(nodes):
+    """Of a whole run: of the entries the pulses aren't wires, and each wire has two."""
+    entries = sum(len(node.own) for node in nodes.values())
+    wires = (entries - sum(node.last for node in nodes.values())) // 2
+    payloads = sum(node.payloads for node in nodes.values())
+    return f"whole run of {len(nodes)} nodes, {entries} entries, {payloads} payloads, {wires} wires"
 
 
 def in_order(made, text):
-    """The transcript with its entries in this order, as bytes."""
+    """The transcript with the entries of these lines in this order, as bytes."""
     lines = text.split(b"\n")
     head = next(line for line in lines if fields_of(line))
-    return b"".join(line + b"\n" for line in [head] + [lines[entry.line - 1] for entry in made])
+    return b"".join(line + b"\n" for line in [head] + [lines[line - 1] for line in made])
 
 
-def network_in(data):
-    """The network of a text; most texts that `forestplan` refuses raise `ValueError` or `LookupError`."""
-    net = network_of(data)
-    problem_lines = [fields for fields in map(fields_of, data.split(b"\n")) if fields[:1] == [b"p"]]
-    if len(problem_lines) != 1 or any(v in neighbours for v, neighbours in net.neighbours.items()):
-        raise ValueError
-    return net
+def network_in(data, name):
+    """The network of a text, or its fault in words."""
+    networks.read_network(data.decode("utf-8", "replace"), name)
+    return network_of(data)
+
+
+def bytes_of(name):
+    """The bytes of a file, or of standard input."""
+    try:
+        with open(name or 0, "rb") as file:
+            return file.read()
+    except OSError as failed:
+        raise OSError(f"{name or 'standard input'}: {failed.strerror}") from None
 
 
 def words_of_command():
-    words = argparse.ArgumentParser(prog="check_transcript.py", description=HELP, epilog=MORE_HELP,
+    words = argparse.ArgumentParser(prog="check-transcript", description=HELP, epilog=MORE_HELP,
                                     formatter_class=argparse.RawDescriptionHelpFormatter)
     words.add_argument("--order", action="store_true",
                        help="instead of that line print the transcript in the order found, in which it is a run line by line")
@@ -291,17 +348,15 @@ def words_of_command():
 
 
 def main():
-    words = words_of_command()
-    given = words.parse_args()
+    given = words_of_command().parse_args()
+    # Nothing that is made here goes round in a circle that would have to be collected before the end.
+    gc.disable()
     try:
-        with open(given.network, "rb") as file:
-            net = network_in(file.read())
-        with open(given.transcript or 0, "rb") as file:
-            text = file.read()
-    except OSError as failed:
-        words.error(str(failed))
-    except (LookupError, ValueError):
-        words.error(f"{given.network} is no network; `forestplan plain` says why")
+        net = network_in(bytes_of(given.network), given.network)
+        text = bytes_of(given.transcript)
+    except (OSError, WrongNetwork) as failed:
+        print(f"check-transcript: {failed}", file=sys.stderr)
+        return 2
     try:
         made, said = whole_run(net, text)
     except Wrong as wrong:

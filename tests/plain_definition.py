@@ -21,11 +21,16 @@ class Network:
         return self.higher[v][f] if f < len(self.higher[v]) else None
 
 
+def fields_of(line):
+    """The fields of a line: blanks and tabs part them, and a carriage return at the end is dropped."""
+    return [field for field in line.removesuffix(b"\r").replace(b"\t", b" ").split(b" ") if field]
+
+
 def network_of(text):
     """The network of a text without a fault; vertex V has the identifier V."""
     nodes, edges = 0, set()
     for line in text.split(b"\n"):
-        fields = line.removesuffix(b"\r").replace(b"\t", b" ").split()
+        fields = fields_of(line)
         if fields and fields[0] == b"p":
             nodes = int(fields[2])
         elif fields and fields[0] == b"e":

@@ -1,5 +1,5 @@
 #!/usr/bin/env python3
-"""Tests of check_transcript.py; and by it, of the transcripts of the built program. The last line is 'N passed, M failed'.
+"""Tests of `./check-transcript` and `./replay`; and by the first, of the transcripts of the built program. The last line is 'N passed, M failed'.
 
   transcripts.py [--program PROGRAM] [--play PLAY]
       PROGRAM   has the command `transcript`
@@ -16,7 +16,7 @@ import sys
 import tempfile
 
 from alpha_definition import NetState, Refused, last_pulse, wire_words
-from check_transcript import Wrong, find_order, first_refused, in_order, make, read, unfinished, whole_run
+from check_transcript import Wrong, find_order, first_refused, in_order, read, unfinished, whole_run
 from made_transcripts import MISTAKES, made_transcript, mixed_text, transcript_text, with_mistake
 from one_worker import Run
 from plain_definition import network_of
@@ -197,8 +197,21 @@ def found_in(net, data):
         first = first_refused(found)
         made = {entry.line for entry in found.made} | {first.line}
         order = found.made + [first] + [entry for entry in entries if entry.line not in made]
-        return found.refusals[first.vertex], in_order(order, data)
-    return ("NotWhole" if any(True for _ in unfinished(found.state)) else None), in_order(found.made, data)
+        return found.refusals[first.vertex], in_order([entry.line for entry in order], data)
+    made = in_order([entry.line for entry in found.made], data)
+    return ("NotWhole" if any(True for _ in unfinished(found.nodes)) else None), made
+
+
+def make(state, entry):
+    """The event of an entry by the definition, if it is possible with what the entry says; otherwise nothing is changed."""
+    event = entry.kind, entry.vertex
+    if entry.kind != "Pulse":
+        if (entry.vertex, entry.neighbour) not in state.port_to:
+            raise Refused("NoSuch")
+        event += state.port_to[entry.vertex, entry.neighbour],
+    if state.carried(*event) != entry.what:
+        raise Refused("WrongWire")
+    state.step(*event)
 
 
 def replayed(net, data):
@@ -302,7 +315,7 @@ def command_rows():
         status, ordered, fault = command(["--order", network], whole)
         note("an order that is a run", (status, fault, replayed(network_of(text(EDGE)), ordered)) == (0, b"", None), (status, fault))
         note("its lines are the transcript's", sorted(ordered.split(b"\n")) == sorted(whole.split(b"\n")), ordered)
-        line = b"line 2: LinkEmpty: node 1 takes close from 2, which never puts it\n"
+        line = b"line 2: LinkEmpty: node 1 takes close from 2, which never puts it; node 2 has no entry (is the text cut?)\n"
         done = command(["--order", network], b"transcript 1 2\n1 take 2 close\n")
         note("a refusal", done == (1, b"", line), done)
         status, told, fault = command(["--help"], b"")
@@ -311,10 +324,68 @@ def command_rows():
             with open(network + "x", "wb") as file:
                 file.write(data)
             status, told, fault = command([network + "x", transcript], b"")
-            note(f"the network {data[:30]}", (status, told) == (2, b"") and b"is no network" in fault, (status, told, fault))
+            line = rb"check-transcript: [^\n]*edge\.colx[^\n]* \(F\d\)\n"
+            note(f"the network {data[:30]}", (status, told) == (2, b"") and re.fullmatch(line, fault), (status, told, fault))
+        for words in ([transcript + "x"], [network, transcript + "x"]):
+            line = f"check-transcript: {transcript}x: No such file or directory\n".encode()
+            note(f"a file that isn't there, {len(words)} words", command(words, b"") == (2, b"", line), command(words, b""))
         for words in ([], [folder], [network, folder], [network, transcript, "x"], ["--orders", network], [transcript + "x"]):
             status, told, _ = command(words, whole)
             note(f"the words {words}", (status, told) == (2, b""), (status, told))
+
+
+ROW = "p edge 4 3|e 1 2|e 2 3|e 3 4|"
+# (the nodes of a row of four whose entries are left, which ones have none)
+LEFT = [((1, 2, 3), "node 4 has no entry"), ((1, 2), "nodes 3 and 4 have no entry"), ((1,), "nodes 2 to 4 have no entry")]
+
+
+def cut_rows():
+    """Texts that end too early are refused, and the reader is asked whether the text is cut."""
+    edge, whole = network_of(text(EDGE)), transcript_text(2, EDGE_LINES)
+    said = [said_of(edge, whole[:end])[0] for end in range(len(whole) - 1)]
+    note("no beginning of a run of an edge is whole", not any(code.startswith("whole") for code in said))
+    lines = whole.split(b"\n")[:-1]
+    pulse = lines.index(b"2 pulse %d" % EDGE_LAST)
+    said = [said_of(edge, b"\n".join(lines[:count]) + b"\n") for count in range(1, pulse + 1)]
+    unasked = [words for _, words in said if not words.endswith("(is the text cut?)")]
+    note("each beginning without the last pulse may be cut", len(said) == pulse and not unasked, unasked[:1])
+    net = network_of(text(ROW))
+    made = made_transcript(random.Random(SEED), net, 4)
+    for left, wanted in LEFT:
+        got = said_of(net, transcript_text(4, {v: made[v] for v in left}))
+        note(f"of a run of four the entries of {left}", got[1].endswith(f"; {wanted} (is the text cut?)"), got)
+    got = said_of(edge, b"transcript 1 2\n1 put 2 payl")
+    note("a text that ends inside a line", got[0] == "line 2: X1" and "cut" in got[1], got)
+
+
+def script_rows(play):
+    """The scripts at the top: through a symbolic link, from another folder."""
+    whole = transcript_text(2, EDGE_LINES)
+    with tempfile.TemporaryDirectory() as folder:
+        network = os.path.join(folder, "edge.col")
+        with open(network, "wb") as file:
+            file.write(text(EDGE[:-1]))
+        for name in ("check-transcript", "replay"):
+            os.symlink(os.path.join(os.path.dirname(TESTS), name), os.path.join(folder, name))
+        done = script(folder, ["./check-transcript", "edge.col"], whole)
+        note("./check-transcript through a link", done == (0, EDGE_WHOLE.encode() + b"\n", b""), done)
+        for words in ([], ["edge.col", "x", "y"], ["--order", "edge.col"], ["edge.col", "nowhere"]):
+            done = script(folder, ["./replay", *words], whole)
+            note(f"./replay {words}", done[:2] == (2, b"") and re.match(b"replay: |check-transcript: ", done[2]), done)
+        done = script(folder, ["./replay", "--help"], b"")
+        note("./replay --help", done[0] == 0 and done[2] == b"" and b"  ./forestplan transcript" in done[1], done)
+        done = script(folder, ["./replay", "edge.col"], whole[:100])
+        note("./replay of a cut text", done[:2] == (1, b"") and b"cut" in done[2], done)
+        if play:
+            taken = {v: sum(f" take {v} " in line for line in EDGE_LINES[3 - v]) for v in (1, 2)}
+            wanted = "".join(f"node {v} pulse {EDGE_LAST} channel {v}\nlink {v} {3 - v} taken {taken[v]}\n" for v in (1, 2)).encode()
+            done = script(folder, ["./replay", "edge.col"], whole)
+            note("./replay of a run", done == (0, wanted, b""), done)
+
+
+def script(folder, words, data):
+    done = subprocess.run(words, input=data, capture_output=True, timeout=LIMIT, cwd=folder)
+    return done.returncode, done.stdout, done.stderr
 
 
 def command(words, data):
@@ -381,9 +452,10 @@ def main():
     words.add_argument("--program", metavar="PROGRAM")
     words.add_argument("--play", metavar="PLAY")
     given = words.parse_args()
-    for rows in (worked_rows, made_rows, order_rows, command_rows, large_rows):
+    for rows in (worked_rows, made_rows, order_rows, command_rows, cut_rows, large_rows):
         rows()
     mistake_rows(given.play and os.path.abspath(given.play))
+    script_rows(given.play)
     if given.program:
         program_rows(os.path.abspath(given.program))
         one_worker_rows(os.path.abspath(given.program))

@@ -5,6 +5,8 @@ import random
 import re
 import subprocess
 
+from plain_definition import fields_of
+
 LIMIT = 60
 SEED = 2026
 
@@ -70,10 +72,6 @@ def one_row(program, name, data, said):
     done = run(program, data)
     got = (done.returncode, done.stdout, done.stderr)
     return name, got == answer_to(said), f"wanted {said}, got {got}"
-
-
-def fields_of(line):
-    return [field for field in re.split(rb"[ \t]", line.removesuffix(b"\r")) if field]
 
 
 def verdict_of(data):

@@ -2,8 +2,11 @@
 reads it from a file), and writes the picture, or one line on standard error and no part of it."""
 import argparse
 import gc
+import os
 import re
 import sys
+
+sys.path.insert(1, os.path.join(os.path.dirname(os.path.dirname(os.path.realpath(__file__))), "shared"))
 
 import adversary_page
 import automaton_picture
@@ -230,7 +233,7 @@ def name_of(given, network):
 
 def drawn(given):
     """The picture of a kind."""
-    if given.network == stored(given) == "-":
+    if given.kind not in OF_SPACE and given.network == stored(given) == "-":
         raise Wrong("standard input has one text: name a file for the network or for the other text")
     network_text = file_text(given.network)
     network = read_network(network_text, "standard input" if given.network == "-" else given.network)

@@ -15,7 +15,9 @@ NODES = {
 
 
 def check_size(kind, network):
-    """Refuses a network that is too large for a kind, before any text of it is asked for."""
+    """Refuses a network without a node, or one too large for a kind, before any text of it is asked for."""
+    if network.nodes == 0:
+        raise Wrong(f"{network.name}: no node, so nothing to draw")
     if kind in NODES:
         limit, instead = NODES[kind]
         at_most(kind, network.nodes, "nodes", limit, instead)

@@ -1,10 +1,10 @@
 """The slow definitions of the tests (tests/plain_definition.py, tests/alpha_definition.py), which the explorer plays, and the
-reading of a network of the pictures. Both folders are looked in last, so that a module of this folder is found first."""
+reading of a network of tools/shared. Both folders are looked in last, so that a module of this folder is found first."""
 import os
 import sys
 
 TOP = os.path.dirname(os.path.dirname(os.path.dirname(os.path.abspath(__file__))))
-for folder in ("tools/pictures", "tests"):
+for folder in ("tools/shared", "tests"):
     if os.path.join(TOP, folder) not in sys.path:
         sys.path.append(os.path.join(TOP, folder))
 

@@ -1,8 +1,8 @@
-"""What ends a drawing before anything is drawn; the door writes it as one line on standard error."""
+"""What ends a command before anything is drawn or written; its script writes it as one line on standard error."""
 
 
 class Wrong(Exception):
-    """A text is wrong, or a network is too large for a kind."""
+    """A text is wrong, or a network is too large for what is asked."""
 
 
 def wrong_line(name, line, what):

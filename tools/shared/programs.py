@@ -4,7 +4,7 @@ import subprocess
 
 from wrong import Wrong
 
-TOP = os.path.dirname(os.path.dirname(os.path.dirname(os.path.abspath(__file__))))
+TOP = os.path.dirname(os.path.dirname(os.path.dirname(os.path.realpath(__file__))))
 
 
 class Refused(Exception):

@@ -1,0 +1,44 @@
+"""Manual pages, made of what `--help` prints: of the whole program, and then of each of its commands."""
+import os
+import re
+import subprocess
+
+# The scripts that have commands of their own, each in a line of their help.
+WITH_COMMANDS = ("picture", "network")
+
+
+def help_of(program, *words):
+    """What `--help` prints, in lines of the width that the texts are written for."""
+    return subprocess.run([program, *words, "--help"], stdin=subprocess.DEVNULL, stdout=subprocess.PIPE, check=True, text=True,
+                          env=dict(os.environ, COLUMNS="80")).stdout
+
+
+def commands_of(name, text):
+    """The commands that a help text lists."""
+    listed = re.search(r"^Commands:\n((?:  .*\n)+)", text, re.M)
+    if listed:
+        return re.findall(r"^  ([a-z]+) ", listed.group(1), re.M)
+    return re.findall(r"^  ([a-z]+) (?:[A-Z]+ )* *[a-z]", text.partition("positional arguments:")[0], re.M) if name in WITH_COMMANDS else []
+
+
+def as_roff(text):
+    """A text that is printed as it stands, line by line."""
+    lines = [line.replace("\\", "\\e").replace("-", "\\-") for line in text.rstrip("\n").split("\n")]
+    return ".nf\n" + "".join(("\\&" if line[:1] in (".", "'") else "") + line + "\n" for line in lines) + ".fi\n"
+
+
+def purpose_of(text):
+    """The first sentence of a help text that isn't its usage, in one line, as the page's NAME has it."""
+    lines = re.sub(r"\Ausage: .*\n(?: +.*\n)*", "", text).lstrip("\n").split("\n\n")[0].split("\n")
+    sentence = re.split(r"(?<=[a-z])\.(?:\s|$)", " ".join(lines))[0]
+    return sentence[:1].lower() + sentence[1:]
+
+
+def page_of(name, program):
+    """The manual page of a program or script that can be run."""
+    text = help_of(program)
+    page = f'.TH "{name.upper()}" 1 "" "forestplan" "User Commands"\n.SH NAME\n{name} \\- {purpose_of(text)}\n'
+    page += ".SH DESCRIPTION\n" + as_roff(text)
+    for command in commands_of(name, text):
+        page += f'.SH "{name.upper()} {command.upper()}"\n' + as_roff(help_of(program, command))
+    return page

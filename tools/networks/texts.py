@@ -1,0 +1,26 @@
+"""A network as text: what `./network` writes, in the DIMACS format, with places and names in comment lines."""
+
+
+class Made:
+    """Vertices 1 to `nodes`; `edges` as pairs, the lower vertex first; `names[v]` and `places[v]` where there are any; `head`
+    has lines of comment."""
+
+    def __init__(self, nodes, edges, names=None, places=None, head=()):
+        self.nodes, self.edges = nodes, sorted({(min(edge), max(edge)) for edge in edges})
+        self.names, self.places, self.head = names or {}, places or {}, head
+
+
+def decimal(number):
+    """At most three digits behind the point, none that are zeros at the end."""
+    text = f"{number:.3f}".rstrip("0").rstrip(".")
+    return "0" if text == "-0" else text
+
+
+def text_of(made):
+    """The comment lines, the `p` line, and the edges, ascending."""
+    lines = [f"c {line}" for line in made.head]
+    lines += [f"c at {v} {decimal(x)} {decimal(y)}" for v, (x, y) in sorted(made.places.items())]
+    lines += [f"c name {v} {name}" for v, name in sorted(made.names.items())]
+    lines.append(f"p edge {made.nodes} {len(made.edges)}")
+    lines += [f"e {v} {w}" for v, w in made.edges]
+    return "".join(line + "\n" for line in lines)
