@@ -53,7 +53,7 @@ WORDS = {"plan": ["plan", "--workers", "1"]}
 def note(name, good, what=""):
     TALLY["passed" if good else "failed"] += 1
     if not good:
-        print(f"FAILED {name}: {str(what)[:4000]}")
+        print(f"FAILED {name}: {str(what)[:2000]}")
 
 
 class Programs:

@@ -39,7 +39,8 @@ fn one_thread_puts_and_takes(rt: HostRuntime) -> Result<(), Fail> {
     Ok(())
 }
 
-// tests/refused_memory.py runs this test with each allocation refused in turn. What memory was refused to is tried again.
+// tests/refused_memory.py runs this test with each allocation refused in turn. What memory was refused to is tried
+// again.
 #[test]
 fn a_link_meets_again_after_a_refused_growth(rt: HostRuntime) -> Result<(), Fail> {
     let alloc: Global = rt.alloc();

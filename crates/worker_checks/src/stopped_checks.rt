@@ -1,4 +1,5 @@
-//! Runs of one worker that stop: what the first looks leave, and that each look only adds to what the ones before it did.
+//! Runs of one worker that stop: what the first looks leave, and that each look only adds to what the ones before it
+//! did.
 
 use crate::runs::{holds, run_of_one, triangle};
 use alpha_core::Wire;
@@ -13,7 +14,8 @@ const HELLO_2: Wire<Payload> = Wire::Payload(0, Payload::Hello(2));
 
 const NO_WIRE: [&[Wire<Payload>]; 2] = [&[], &[]];
 
-// What is left of the triangle after so many looks: the entries of each node, and what the links out of it hold, by port.
+// What is left of the triangle after so many looks: the entries of each node, and what the links out of it hold, by
+// port.
 struct Left {
     turns: u64,
     capacity: u32,
@@ -21,8 +23,8 @@ struct Left {
     held: [[&'static [Wire<Payload>]; 2]; 3],
 }
 
-// The first look is of node 1, which greets both neighbours; the second is of node 2, which takes that greeting. On a link
-// that holds one wire its acknowledgement has no place behind its own greeting.
+// The first look is of node 1, which greets both neighbours; the second is of node 2, which takes that greeting. On a
+// link that holds one wire its acknowledgement has no place behind its own greeting.
 const LEFT: [Left; 4] = [
     Left {
         turns: 0,

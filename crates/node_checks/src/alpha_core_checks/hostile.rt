@@ -1,5 +1,5 @@
-//! A neighbour that puts wires as it likes: each is taken or refused, and the node is afterwards as its twin that got only
-//! those it took.
+//! A neighbour that puts wires as it likes: each is taken or refused, and the node is afterwards as its twin that got
+//! only those it took.
 
 use crate::alpha_core_checks::alone::{Act, Played, ask, leaf, play, put_next};
 use alpha_core::{AlphaNode, AlphaRefused, Network, Refused, Wire};

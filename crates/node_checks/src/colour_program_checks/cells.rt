@@ -73,8 +73,8 @@ const TABLE: [(u32, Payload, [Option<u16>; 3]); 32] = [
     (19, CHOSEN, [P6, P6, P6]),
 ];
 
-// What a node made anew returns on a payload, once others came at the pulses from 1 on. If it refuses the payload, it shows
-// the same from then on as its twin that wasn't fed it.
+// What a node made anew returns on a payload, once others came at the pulses from 1 on. If it refuses the payload, it
+// shows the same from then on as its twin that wasn't fed it.
 fn answer(
     rt: &impl Abort,
     alloc: Global,

@@ -1,5 +1,5 @@
-//! The nodes of an edge at the pulses of their rounds, and twins: of two nodes in one state one refuses what comes, and then
-//! both go on alike.
+//! The nodes of an edge at the pulses of their rounds, and twins: of two nodes in one state one refuses what comes,
+//! and then both go on alike.
 
 ghost use Rattle.std.specs.Prelude.{◌≡◌, IfOk};
 ghost use Rattle.alpha_core.specs.interference.Net.{IsVertex, degree_of};
@@ -13,8 +13,9 @@ use colour_program::{Colouring, Payload};
 use std::alloc::Global;
 use std::test::Fail;
 
-// What comes to vertices 1 and 2 of an edge at the pulses from 1 on, worked by hand: vertex 2 is the root of the one forest,
-// its colours there are 2, then 0 after each bit step, then 1, 1, 0, 0, 1, 1. Vertex 1 chooses at pulse 13, vertex 2 at 15.
+// What comes to vertices 1 and 2 of an edge at the pulses from 1 on, worked by hand: vertex 2 is the root of the one
+// forest, its colours there are 2, then 0 after each bit step, then 1, 1, 0, 0, 1, 1. Vertex 1 chooses at pulse 13,
+// vertex 2 at 15.
 const CAME: [[Option<Payload>; 18]; 2] = [
     [
         Some(Hello(2)),
