@@ -10,6 +10,7 @@
 - These definitions fit together: on small networks the rounds, and any order of events, end with the colours.
 - Each excerpt of code, a fence whose first line names its file, has its lines in that file, in this order; a comment `..`
   stands for lines that are left out.
+- No crate is reached along more paths through crates.txt than tools/paths.py allows.
 - README.md or docs/LAYERS.md names each crate, and README.md is at most 120 lines. No line of a page is wider than 150 columns.
 - Each file named in backquotes exists, each link leads to a page and a heading, and each function and clause that
   docs/PROMISES.md names is in the code.
@@ -26,6 +27,8 @@ from plain_definition import Network, bit, colours, drop, merge, network_of, shi
 from shell import run_line
 
 TOP = os.path.dirname(os.path.dirname(os.path.abspath(__file__)))
+sys.path.insert(0, os.path.join(TOP, "tools"))
+from paths import MOST, paths
 PAGES = ["README.md"] + sorted(f"docs/{name}" for name in os.listdir(os.path.join(TOP, "docs")) if name.endswith(".md"))
 LIMIT = 60
 WIDEST, LONGEST_README = 150, 120
@@ -313,9 +316,15 @@ def check_lengths():
     note("length of README.md", length <= LONGEST_README, f"{length} lines")
 
 
+def check_paths():
+    """No crate is reached along so many paths through crates.txt that each check of it is slow."""
+    found = paths()
+    note("paths in crates.txt", max(found.values()) <= MOST, max(found, key=found.get))
+
+
 def main():
-    if sys.argv[1:] in (["-h"], ["--help"]):
-        print(__doc__)
+    if sys.argv[1:] in (["--help"], ["-h"]):
+        print(__doc__.strip())
         return 0
     programs = [os.path.join(TOP, "crates", name, "out", name) for name in ("forestplan", "forestplay")]
     if len(sys.argv) > 2:
@@ -330,6 +339,7 @@ def main():
         check_excerpts(page)
     check_crates()
     check_lengths()
+    check_paths()
     check_tutorial()
     check_definitions()
     check_promises()

@@ -147,7 +147,7 @@ def built(name):
 
 
 def main():
-    words = argparse.ArgumentParser()
+    words = argparse.ArgumentParser(description=__doc__, formatter_class=argparse.RawDescriptionHelpFormatter)
     words.add_argument("--program", default=built("forestplay"))
     words.add_argument("--plan", default=built("forestplan"))
     given = words.parse_args()

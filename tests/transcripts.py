@@ -367,7 +367,7 @@ def written_anew(data):
 
 
 def main():
-    words = argparse.ArgumentParser()
+    words = argparse.ArgumentParser(description=__doc__, formatter_class=argparse.RawDescriptionHelpFormatter)
     words.add_argument("--program", metavar="PROGRAM")
     words.add_argument("--play", metavar="PLAY")
     given = words.parse_args()

@@ -7,33 +7,27 @@ Those below a crate are built with it. Standard error shows how far the build is
 What is proved is kept, so a build that was interrupted goes on where it was, and two builds at once wait for each other.
 What has to be built is decided by what the sources say, not by the times of files.
 
+Libraries are built by the toolchain's own module `rtlib`, since two runs of its command `rt lib` wait for each other if
+they share a crate below; the programs are linked by `rt run`.
+
 The status is 0 if all is built, 1 if a crate isn't proved, 2 if nothing could be tried, and 130 after Ctrl-C.
 """
 import argparse
+import contextlib
 import fcntl
-import hashlib
 import os
 import shutil
 import signal
 import subprocess
 import sys
+import threading
 import time
+
+from paths import listed
 
 TOP = os.path.dirname(os.path.dirname(os.path.abspath(__file__)))
 LOGS = os.path.join(TOP, "out", "build")
 ROOM = 4 << 30
-PARTS = ("src", "specs", "proofs")
-
-
-def listed():
-    """The crates of crates.txt in their order, each with the crates of this repository that its line names."""
-    lines = {}
-    with open(os.path.join(TOP, "crates.txt"), encoding="utf-8") as text:
-        for line in text:
-            crate, colon, named = line.partition("#")[0].partition(":")
-            if colon:
-                lines[crate.split()[0]] = named.split()
-    return {crate: [name for name in named if name in lines] for crate, named in lines.items()}, lines
 
 
 def with_below(crates, below):
@@ -51,56 +45,25 @@ def with_below(crates, below):
     return list(found)
 
 
-def files_of(crate):
-    for part in PARTS:
-        for at, folders, names in os.walk(os.path.join(TOP, "crates", crate, part)):
-            folders.sort()
-            yield from (os.path.join(at, name) for name in sorted(names))
+def toolchain():
+    """The module of the toolchain's command, with what it keeps its crates in."""
+    sys.dont_write_bytecode = True
+    sys.path.insert(0, os.path.dirname(os.path.realpath(shutil.which("rt"))))
+    import rtlib
+
+    # Its first call takes over a signal, which only this thread can.
+    rtlib.guarded()
+    return rtlib
 
 
-def lines_of(crate):
-    count = 0
-    for name in files_of(crate):
-        with open(name, "rb") as text:
-            count += text.read().count(b"\n")
-    return count
-
-
-def sums(crates, below, lines):
-    """For each crate a sum of what it is built from: the toolchain, its line, its files, and the sums of those below it."""
-    found, kit = {}, subprocess.run(["rt", "version"], capture_output=True, check=False).stdout
-    for crate in crates:
-        sum_of = hashlib.sha256(kit + repr(lines[crate]).encode())
-        for name in files_of(crate):
-            with open(name, "rb") as text:
-                sum_of.update(os.path.relpath(name, TOP).encode() + b"\0" + text.read() + b"\0")
-        for lower in below[crate]:
-            sum_of.update(found[lower].encode())
-        found[crate] = sum_of.hexdigest()
-    return found
-
-
-def is_program(crate):
-    return os.path.isfile(os.path.join(TOP, "crates", crate, "src", "main.rt"))
-
-
-def product(crate):
-    """What a build of the crate leaves."""
-    out = os.path.join(TOP, "crates", crate, "out")
-    return os.path.join(out, crate) if is_program(crate) else os.path.join(out, "rlib", f"{crate}.rlib")
-
-
-def kept_sum(crate):
-    return os.path.join(TOP, "crates", crate, "out", "built-from")
-
-
-def is_built(crate, sum_of):
-    """Whether the crate was last built from just these sources."""
-    try:
-        with open(kept_sum(crate), encoding="ascii") as text:
-            return text.read() == sum_of and os.path.exists(product(crate))
-    except OSError:
-        return False
+def crates_named(names, rtlib):
+    """The toolchain's view of crates, lower ones first."""
+    known = {}
+    for name in names:
+        folder = os.path.join(TOP, "crates", name)
+        if folder not in known:
+            known[folder] = rtlib.Crate(folder, TOP, known)
+    return {name: known[os.path.join(TOP, "crates", name)] for name in names}
 
 
 def processors():
@@ -148,71 +111,72 @@ class Shown:
 class Build:
     """A build under way: what is left, what runs, and what is done."""
 
-    def __init__(self, crates, below, sum_of, jobs, shown):
-        self.below, self.sum_of, self.jobs, self.shown = below, sum_of, jobs, shown
-        self.done = {crate for crate in crates if is_built(crate, sum_of[crate])}
-        self.left = [crate for crate in crates if crate not in self.done]
-        self.running = {}
+    def __init__(self, crates, jobs, shown):
+        self.crates, self.jobs, self.shown = crates, jobs, shown
+        self.done = set()
+        self.left = list(crates)
+        self.running, self.ended = {}, {}
         self.behind = self.lines_behind()
+
+    def below(self, name):
+        return [lower.name for lower in self.crates[name].deps]
 
     def lines_behind(self):
         """The lines of the longest chain of crates that waits for each crate: such a crate is begun first."""
-        behind = {crate: 0 for crate in self.left}
-        for crate in reversed(self.left):
-            behind[crate] += lines_of(crate)
-            for lower in self.below[crate]:
-                if lower in behind:
-                    behind[lower] = max(behind[lower], behind[crate])
+        behind = dict.fromkeys(self.crates, 0)
+        for name in reversed(self.crates):
+            behind[name] += self.crates[name].count(rb"\n")
+            for lower in self.below(name):
+                behind[lower] = max(behind[lower], behind[name])
         return behind
 
     def begin_what_can(self):
-        ready = [crate for crate in self.left if all(lower in self.done for lower in self.below[crate])]
-        ready.sort(key=lambda crate: -self.behind[crate])
-        for crate in ready[: self.jobs - len(self.running)]:
-            self.left.remove(crate)
-            self.running[crate] = self.begin(crate, len(ready))
+        ready = [name for name in self.left if all(lower in self.done for lower in self.below(name))]
+        ready.sort(key=lambda name: -self.behind[name])
+        for name in ready[: self.jobs - len(self.running)]:
+            # The programs are linked by `rt run`, which works in all crates below: nothing may run beside it.
+            if self.crates[name].is_program and self.running:
+                continue
+            self.left.remove(name)
+            # A crate that little else waits beside gets the processors that would idle.
+            threads = max(1, min(4, processors() // min(self.jobs, len(ready) + len(self.running))))
+            self.running[name] = threading.Thread(target=self.work, args=(name, threads), daemon=True)
+            self.running[name].start()
 
-    def begin(self, crate, ready):
-        # A crate that little else waits beside gets the processors that would idle.
-        threads = max(1, min(4, processors() // min(self.jobs, ready + len(self.running))))
-        words = ["rt", "run" if is_program(crate) else "lib", "--jobs", str(threads)]
-        words += ["--", "--help"] if is_program(crate) else []
-        with open(os.path.join(LOGS, f"{crate}.log"), "wb") as log:
-            return subprocess.Popen(words, cwd=os.path.join(TOP, "crates", crate), stdin=subprocess.DEVNULL, stdout=log,
-                                    stderr=subprocess.STDOUT, start_new_session=True)
+    def work(self, name, threads):
+        """Builds one crate, in a thread of its own."""
+        crate, flags = self.crates[name], ["--jobs", str(threads)]
+        status = 2
+        with open(os.path.join(LOGS, f"{name}.log"), "w", encoding="utf-8") as log:
+            with contextlib.suppress(SystemExit):
+                if crate.is_program:
+                    status = subprocess.run(["rt", "run", *flags, "--", "--help"], cwd=crate.folder, stdin=subprocess.DEVNULL,
+                                            stdout=log, stderr=subprocess.STDOUT, check=False).returncode
+                else:
+                    crate.out = log
+                    status = crate.build_rlib(flags, anew=False)
+        self.ended[name] = status
 
     def failed(self):
         """Takes what has ended off the list of what runs; returns a crate that isn't proved, if there is one."""
-        for crate, process in list(self.running.items()):
-            status = process.poll()
-            if status is None:
-                continue
-            del self.running[crate]
-            if status != 0 or not os.path.exists(product(crate)):
-                return crate
-            with open(kept_sum(crate), "w", encoding="ascii") as text:
-                text.write(self.sum_of[crate])
-            self.done.add(crate)
+        for name in [name for name in self.running if name in self.ended]:
+            del self.running[name]
+            if self.ended[name] != 0:
+                return name
+            self.done.add(name)
             self.begin_what_can()
             self.shown.step(len(self.done), self.running)
         return None
-
-    def stop(self):
-        """Ends what runs; the toolchain's command ends all that it has started when it ends itself."""
-        for process in self.running.values():
-            process.terminate()
-        for process in self.running.values():
-            process.wait()
 
     def run(self):
         """Builds all, or returns the first crate that isn't proved."""
         self.begin_what_can()
         self.shown.step(len(self.done), self.running)
         while self.running:
-            time.sleep(0.4)
-            crate = self.failed()
-            if crate:
-                return crate
+            time.sleep(0.2)
+            name = self.failed()
+            if name:
+                return name
             self.shown.tick(len(self.done), self.running)
         return None
 
@@ -238,23 +202,20 @@ def wait_for_turn(name):
 
 def built(crates, jobs, name):
     """Builds what isn't built yet, and returns the status."""
-    below, lines = listed()
-    unknown = [crate for crate in crates if crate not in lines]
+    below = listed()
+    unknown = [crate for crate in crates if crate not in below]
     if unknown:
         print(f"{name}: crates.txt names no crate {unknown[0]}", file=sys.stderr)
         return 2
-    wanted = with_below(crates or lines, below)
     _lock = wait_for_turn(name)
-    build = Build(wanted, below, sums(wanted, below, lines), jobs, Shown(name, len(wanted)))
-    if not build.left:
-        return 0
+    wanted = with_below(crates or below, below)
+    build = Build(crates_named(wanted, toolchain()), jobs, Shown(name, len(wanted)))
     try:
         crate = build.run()
     except KeyboardInterrupt:
         build.shown.end(f"interrupted after {build.shown.time()}; what is proved is kept, so the next call goes on from here")
+        # All that the toolchain's module has started ends with this process.
         return 130
-    finally:
-        build.stop()
     if crate:
         tell_failure(build.shown, crate)
         return 1
@@ -277,4 +238,7 @@ def main():
 
 
 if __name__ == "__main__":
-    sys.exit(main())
+    status = main()
+    sys.stderr.flush()
+    # Threads of a build that was stopped are not waited for.
+    os._exit(status)

@@ -90,4 +90,6 @@ def main(words):
 
 
 if __name__ == "__main__":
+    if sys.argv[1:] in (["--help"], ["-h"]):
+        sys.exit(print(__doc__.strip()))
     sys.exit(main(sys.argv[1:]))

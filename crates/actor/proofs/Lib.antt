@@ -3,3 +3,5 @@ pub mod Kept
 pub mod Steps
 pub mod Written
 pub mod Writes
+pub mod Rows
+pub mod alpha_core

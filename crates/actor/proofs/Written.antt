@@ -5,16 +5,16 @@ use Rattle.std.specs.Prelude.{Bool, IsTrue, Option, Result, MatchResult, nat_lt,
 use Rattle.std.specs.List.{range_with_len}
 use Rattle.std.proofs.lemmas.Bool.{cases_eq, cases_Bool, eq-eqb, ne_eqb}
 use Rattle.std.proofs.lemmas.List.{append-nil}
-use Rattle.interference.specs.Net.{Net, IsNetwork, IsVertex, degree_of, neighbour_of, port_to}
-use Rattle.interference.proofs.Neighbours.{port_to-is}
-use Rattle.node_api.specs.Program.{Program, last_pulse_on, own_of}
-use Rattle.alpha_core.specs.declared.wire.Wire.{Wire}
-use Rattle.alpha_core.specs.declared.wire.Wire.TheVariants as wire
-use Rattle.alpha_core.specs.declared.refused.AlphaRefused.{AlphaRefused}
-use Rattle.alpha_core.specs.View.{Port, View, Node, new_port, can_pulse, none_waits, port_at, set_port}
-use Rattle.alpha_core.specs.Table.{refusal_of}
-use Rattle.alpha_core.specs.Alpha.{settles, enter_all, entering, turns, pulse, pulsed, put_done, reaction, reacts, unless_refused}
-use Rattle.alpha_core.specs.Program.{start_node}
+use Rattle.alpha_laws.specs.interference.Net.{Net, IsNetwork, IsVertex, degree_of, neighbour_of, port_to}
+use Rattle.alpha_laws.proofs.interference.Neighbours.{port_to-is}
+use Rattle.alpha_laws.specs.node_api.Program.{Program, last_pulse_on, own_of}
+use Rattle.alpha_laws.specs.alpha_core.Wire.{Wire}
+use Rattle.alpha_laws.specs.alpha_core.Wire.TheVariants as wire
+use Rattle.alpha_laws.specs.alpha_core.AlphaRefused.{AlphaRefused}
+use Rattle.alpha_laws.specs.alpha_core.View.{Port, View, Node, new_port, can_pulse, none_waits, port_at, set_port}
+use Rattle.alpha_laws.specs.alpha_core.Table.{refusal_of}
+use Rattle.alpha_laws.specs.alpha_core.Alpha.{settles, enter_all, entering, turns, pulse, pulsed, put_done, reaction, reacts, unless_refused}
+use Rattle.alpha_laws.specs.alpha_core.Program.{start_node}
 use Rattle.alpha_laws.specs.Laws.{OneMore}
 use Rattle.entries.specs.declared.entry.Entry.{Entry}
 use Rattle.entries.specs.declared.entry.Entry.TheVariants.{Pulse, Put, Take}

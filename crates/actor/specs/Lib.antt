@@ -1,3 +1,9 @@
 pub mod Written
 pub mod Props
 pub mod Node
+pub mod Tables
+pub mod interference
+pub mod alpha_core
+pub mod link_rule
+pub mod entries
+pub mod link_queue

@@ -1,5 +1,10 @@
 //! A node with the ends of its links: what moves from thread to thread, and what it does in a turn.
 //!
+//! All threads share the links of a run (`Links`); their ends move with the nodes. An end knows which link it is of by
+//! its type alone: each end of a run, and the links of the run, have the same `Wiring` as a type parameter, and a fact
+//! of the type says at which vertex and port the end's link is. So ends may go through queues and threads, and come
+//! back. `Links::take` asks for nothing, and `Links::put` only that the wire goes on with a legal list of the link.
+//!
 //! A `Node` keeps as facts of its type that it fits the lists of its own ends: `NodeKept` of `alpha_laws`, over the
 //! lists that its ends put and took. So each turn of it, in whatever thread, keeps these facts, and asks
 //! nothing of its caller. `pool` lets workers make turns of all nodes of a run.
@@ -18,11 +23,21 @@
 
 mod aside;
 mod gate;
+mod links;
 mod node;
-mod order;
 mod turn;
+mod wired;
+mod wiring;
 mod writing;
 
 pub use aside::Aside;
 pub use gate::{Gate, OpenGate};
+pub use links::Links;
 pub use node::Node;
+pub use wired::{WiredPut, WiredTake};
+pub use wiring::Wiring;
+
+// What crates above name of lower ones.
+pub use alpha_laws::{AlphaNode, Memory, NodeProgram};
+pub use entries::{Entries, Entry};
+pub use link_queue::{Link, Met, PutEnd, TakeEnd};

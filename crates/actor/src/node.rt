@@ -2,9 +2,9 @@
 
 ghost use Rattle.std.specs.Prelude.{◌≡◌, ◌<◌, [], All, IfOk, Some, map};
 ghost use Rattle.std.proofs.Props.{props};
-ghost use Rattle.interference.specs.Net.{IsNetwork, IsVertex, degree_of};
-ghost use Rattle.node_api.specs.Program.{last_pulse_on};
-ghost use Rattle.alpha_core.specs.Program.{start_node};
+ghost use Rattle.alpha_laws.specs.interference.Net.{IsNetwork, IsVertex, degree_of};
+ghost use Rattle.alpha_laws.specs.node_api.Program.{last_pulse_on};
+ghost use Rattle.alpha_laws.specs.alpha_core.Program.{start_node};
 ghost use Rattle.alpha_laws.specs.Kept.{NodeKept};
 ghost use Rattle.link_queue.specs.Ends.{put_list, taken_list};
 ghost use Rattle.actor.specs.declared.aside.Aside.{Aside};
@@ -13,11 +13,10 @@ ghost use Rattle.actor.specs.Props.{Follows-prop, Leads-prop};
 ghost use Rattle.actor.specs.Written.{IsTranscript};
 
 use crate::aside::Aside;
-use alpha_core::AlphaNode;
-use ends::{WiredPut, WiredTake, Wiring};
+use crate::wired::{WiredPut, WiredTake};
+use crate::wiring::Wiring;
+use alpha_laws::{AlphaNode, Memory, Network, NodeProgram};
 use entries::Entries;
-use interference::{Memory, Network};
-use node_api::NodeProgram;
 use std::alloc::Global;
 
 /// A node of a run, with the ends of its links by port. A node that has set a wire aside does nothing in a turn.

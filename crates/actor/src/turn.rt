@@ -1,15 +1,15 @@
 //! What a node does in a turn.
 
 ghost use Rattle.std.specs.Prelude.{◌≡◌, ◌<◌, IfErr, IsTrue, None};
-ghost use Rattle.alpha_core.specs.View.{can_take};
+ghost use Rattle.alpha_laws.specs.alpha_core.View.{can_take};
 
 use crate::aside::Aside;
 use crate::gate::Gate;
+use crate::links::Links;
 use crate::node::Node;
+use crate::wiring::Wiring;
 use crate::writing::{keep_room, write_pulse, write_put, write_take};
-use ends::{Links, Wiring};
-use interference::Memory;
-use node_api::NodeProgram;
+use alpha_laws::{Memory, NodeProgram};
 use std::sync::Wait;
 
 // How many wires a node takes by one port in a turn, at most.

@@ -2,10 +2,10 @@
 
 ghost use Rattle.std.specs.Prelude.{◌≡◌, ◌<◌, ◌++◌, ◌∷◌, [], IsTrue, IfErr, OnOk, if◌then◌else◌};
 
-use alpha_core::Wire;
-use ends::{WiredTake, Wiring};
+use crate::wired::WiredTake;
+use crate::wiring::Wiring;
+use alpha_laws::{Memory, Wire};
 use entries::{Entries, Entry};
-use interference::Memory;
 
 // Room for one entry more, if entries are written down at all.
 pub(crate) fn keep_room<T>(transcript: bool, entries: &mut Entries<T>) -> Result<(), Memory>

@@ -5,7 +5,7 @@ use Rattle.std.specs.Prelude.{count_by, nat_eq, nat_lt, All, slice_get}
 use Rattle.std.specs.List.{zip}
 use Rattle.std.proofs.lemmas.List.{map-set, length-map, length-set, set-get_or, length-append, length-replicate, nil_from_length}
 use Rattle.std.proofs.lemmas.List.Folds.{sum_by-replicate}
-use Rattle.interference.proofs.Sums.{sum_by-map}
+use Rattle.node_api.proofs.interference.Sums.{sum_by-map}
 use Rattle.std.proofs.lemmas.Option.{none-some}
 use Rattle.std.proofs.lemmas.List.Elements.{All-set, All-get_or}
 use Rattle.std.proofs.lemmas.Slice.Zip.{firsts-zip, get_or-zip}

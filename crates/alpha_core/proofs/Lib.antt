@@ -9,3 +9,5 @@ mod OutLists
 mod OldestWires
 mod KeptOuts
 mod Moved
+pub mod interference
+pub mod node_api

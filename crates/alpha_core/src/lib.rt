@@ -43,3 +43,9 @@ mod wire;
 pub use node::AlphaNode;
 pub use refused::AlphaRefused;
 pub use wire::Wire;
+
+// What crates above name of lower ones.
+pub use node_api::{
+    Inbox, MAX_DEGREE, Memory, NetFault, Network, NodeProgram, Outbox, PayloadText, Refused, Sent,
+    edges_fit,
+};

@@ -5,7 +5,7 @@ ghost use Rattle.std.specs.Prelude.{cond, vec_capacity};
 ghost use Rattle.alpha_core.specs.Rows.{all_within, out_at, push_out};
 
 use crate::wire::Wire;
-use interference::Memory;
+use node_api::Memory;
 use std::alloc::Global;
 use std::marker::Model;
 

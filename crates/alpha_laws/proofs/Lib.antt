@@ -26,3 +26,5 @@ pub mod Next
 pub mod Claims
 pub mod Complete
 pub mod Counts
+pub mod interference
+pub mod alpha_core

@@ -1,8 +1,8 @@
 -- How many wires complete lists have, over all links of a network.
 use Rattle.std.specs.Prelude.{◌≡◌, ℕ, ◌+◌, ◌*◌, ◌<◌, List, length}
-use Rattle.interference.specs.Net.{Net, IsVertex, degree_of, neighbour_of}
-use Rattle.interference.specs.Counts.{sum_over_ports, edge_count_of}
-use Rattle.node_api.specs.Program.{Program, last_pulse_on}
+use Rattle.alpha_core.specs.interference.Net.{Net, IsVertex, degree_of, neighbour_of}
+use Rattle.alpha_core.specs.interference.Counts.{sum_over_ports, edge_count_of}
+use Rattle.alpha_core.specs.node_api.Program.{Program, last_pulse_on}
 use Rattle.alpha_core.specs.declared.wire.Wire.{Wire}
 use Rattle.alpha_core.specs.Wires.{payloads_of}
 use Rattle.alpha_core.specs.Streams.{sent_pulses}

@@ -4,3 +4,6 @@ pub mod Position
 pub mod Kept
 pub mod Laws
 pub mod Counts
+pub mod interference
+pub mod node_api
+pub mod alpha_core

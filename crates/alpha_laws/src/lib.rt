@@ -15,3 +15,6 @@
 #![tactic(auto)]
 
 pub mod laws;
+
+// What crates above name of lower ones.
+pub use alpha_core::{AlphaNode, MAX_DEGREE, Memory, Network, NodeProgram, PayloadText, Wire};

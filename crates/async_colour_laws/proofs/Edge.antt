@@ -1,7 +1,7 @@
 -- The network of the small run keeps what every network keeps.
 use Rattle.std.proofs.Common.{◌≡◌, ◌≢◌, ℕ, zero, suc, ◌<◌, ◌≤◌, refl, arith}
-use Rattle.interference.specs.Net.{IsNetwork, IsVertex, id_of, id_bound, degree_of, neighbour_of, back_port_of}
-use Rattle.interference.specs.declared.limits.TheConstants.{MAX_DEGREE}
+use Rattle.alpha_laws.specs.interference.Net.{IsNetwork, IsVertex, id_of, id_bound, degree_of, neighbour_of, back_port_of}
+use Rattle.alpha_laws.below.interference.specs.declared.limits.TheConstants.{MAX_DEGREE}
 use Rattle.async_colour_laws.specs.Small.{edge}
 
 -- what holds at the two vertices holds at every vertex, and what holds at port 0 at every port

@@ -1,9 +1,9 @@
 //! What holds of nodes of the two programs. Each law is a function that does nothing: its contract is the law.
 
 ghost use Rattle.std.specs.Prelude.{IsOk, ℕ};
-ghost use Rattle.interference.specs.Net.{IsNetwork, Net};
+ghost use Rattle.alpha_laws.specs.interference.Net.{IsNetwork, Net};
 ghost use Rattle.sync_rounds.specs.Spread.{spread};
-ghost use Rattle.colour_rules.specs.Program.{colouring};
+ghost use Rattle.colour_laws.specs.colour_rules.Program.{colouring};
 ghost use Rattle.net_core.specs.Laws.{RunsAreExact, RunsSimulate};
 ghost use Rattle.net_core.specs.Step.{run};
 ghost use Rattle.async_colour_laws.specs.Coloured.{HaltedAreColoured, HaltedOutcomesAreColoured, HaltedRunsAreColoured};

@@ -4,10 +4,10 @@ use Rattle.std.proofs.Common.{subst, sym}
 use Rattle.dimacs_col.specs.Lines.{Line, lines_of}
 use Rattle.dimacs_col.specs.Reading.{IsGraph}
 use Rattle.dimacs_col.proofs.Unique.{graph-or_fault, one-edges, one-nodes}
-use Rattle.interference.specs.Making.{IsFaultOf}
-use Rattle.interference.specs.Net.{IsNetwork, Net, vertices}
-use Rattle.interference.specs.declared.fault.NetFault.{NetFault}
-use Rattle.interference.specs.declared.fault.NetFault.TheVariants as net_fault
+use Rattle.alpha_core.specs.interference.Making.{IsFaultOf}
+use Rattle.alpha_core.specs.interference.Net.{IsNetwork, Net, vertices}
+use Rattle.alpha_core.specs.interference.NetFault.{NetFault}
+use Rattle.alpha_core.specs.interference.NetFault.TheVariants as net_fault
 use Rattle.channel_plan.specs.Checked.{IsFaultOfPlan, IsProper, fault_of, greatest_channel}
 use Rattle.channel_plan.specs.PlanText.{rows_from}
 use Rattle.channel_plan.specs.Reading.{IsFaultOfReading, Row, reading_of, rows_of}

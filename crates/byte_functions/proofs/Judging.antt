@@ -1,7 +1,7 @@
 -- From what is known of a network text and of the plan text behind it to what `check` may answer.
 use Rattle.std.proofs.Common.{◌≡◌, ◌∙◌, codes, inl, inr, ℕ, Ok, List, subst, sym}
 use Rattle.dimacs_col.specs.Lines.{Line, lines_of}
-use Rattle.interference.specs.Net.{IsNetwork, Net}
+use Rattle.alpha_core.specs.interference.Net.{IsNetwork, Net}
 use Rattle.channel_plan.specs.Checked.{IsFaultOfPlan, IsProper, greatest_channel}
 use Rattle.channel_plan.specs.Reading.{IsFaultOfReading, Row, reading_of}
 use Rattle.channel_plan.specs.Split.{AreNetworkLines, plan_lines}

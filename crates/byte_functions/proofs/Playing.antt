@@ -3,10 +3,10 @@ use Rattle.std.proofs.Common.{◌≡◌, inl, inr, ℕ, Ok, List, subst}
 use Rattle.dimacs_col.specs.Lines.{Line, lines_of}
 use Rattle.dimacs_col.specs.Reading.{IsFault, IsGraph}
 use Rattle.dimacs_col.specs.declared.fault.ColFault.{ColFault}
-use Rattle.interference.specs.Net.{IsNetwork, Net}
+use Rattle.alpha_core.specs.interference.Net.{IsNetwork, Net}
 use Rattle.net_core.specs.Step.{run}
 use Rattle.channel_plan.proofs.Blank.{fault-front, graph-front}
-use Rattle.colour_rules.specs.Program.{colouring}
+use Rattle.colour_program.specs.colour_rules.Program.{colouring}
 use Rattle.event_texts.specs.EventLines.{AreNetworkLines, network_lines}
 use Rattle.event_texts.specs.Played.{IsFaultOfRun, events_in}
 use Rattle.event_texts.specs.Reader.{IsFaultOfReading}

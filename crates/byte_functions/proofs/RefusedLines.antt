@@ -1,11 +1,11 @@
 -- The number of a refused entry's line: the line is the entry (entry-at), whatever the refusal (refusal).
 use Rattle.std.proofs.Common.{◌≡◌, ◌≢◌, ◌++◌, ◌∷◌, [], ◌∙◌, ℕ, Option, Some, Ok, List, ap, length, map, slice_index_or, subst, sym}
 use Rattle.dimacs_col.specs.Lines.{Line}
-use Rattle.interference.specs.Net.{Net}
+use Rattle.alpha_core.specs.interference.Net.{Net}
 use Rattle.net_core.specs.declared.refused.RunRefused.TheVariants as run
-use Rattle.colour_rules.specs.declared.payload.Payload.{Payload}
-use Rattle.colour_rules.specs.Program.{colouring}
-use Rattle.colour_rules.specs.Words.{payload_from}
+use Rattle.colour_program.specs.colour_rules.Payload.{Payload}
+use Rattle.colour_program.specs.colour_rules.Program.{colouring}
+use Rattle.colour_program.specs.colour_rules.Words.{payload_from}
 use Rattle.replay.proofs.Decided.{by-index}
 use Rattle.replay.specs.Replays.{Stops}
 use Rattle.replay.specs.declared.refused.ReplayRefused.{ReplayRefused}

@@ -1,7 +1,7 @@
 -- From what is known of a network text and of the transcript behind it to what `replay` may answer.
 use Rattle.std.proofs.Common.{◌≡◌, codes, ℕ, List, subst}
 use Rattle.dimacs_col.specs.Lines.{lines_of}
-use Rattle.interference.specs.Net.{IsNetwork, Net}
+use Rattle.alpha_core.specs.interference.Net.{IsNetwork, Net}
 use Rattle.channel_plan.proofs.Blank.{fault-of, graph-of}
 use Rattle.event_texts.specs.StateText.{ColourState, state_text}
 use Rattle.transcripts.specs.Behind.{AreNetworkLines}

@@ -2,10 +2,10 @@
 use Rattle.std.specs.Prelude.{◌≡◌, ◌⊎◌, ℕ, List, Ok}
 use Rattle.dimacs_col.specs.Lines.{Line, lines_of}
 use Rattle.dimacs_col.specs.Reading.{IsFault}
-use Rattle.interference.specs.Net.{Net, IsNetwork}
-use Rattle.interference.specs.Making.{IsFaultOf}
+use Rattle.alpha_core.specs.interference.Net.{Net, IsNetwork}
+use Rattle.alpha_core.specs.interference.Making.{IsFaultOf}
 use Rattle.net_core.specs.Step.{run}
-use Rattle.colour_rules.specs.Program.{colouring}
+use Rattle.colour_program.specs.colour_rules.Program.{colouring}
 use Rattle.event_texts.specs.EventLines.{network_lines}
 use Rattle.event_texts.specs.Played.{IsFaultOfRun, events_in}
 use Rattle.event_texts.specs.Reader.{IsFaultOfReading}

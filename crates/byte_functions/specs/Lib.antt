@@ -8,3 +8,5 @@ pub mod RoundAnswers
 pub mod ReplayAnswers
 pub mod Workers
 pub mod Transcripts
+pub mod pool
+pub mod gather_laws

@@ -1,6 +1,6 @@
 -- What a channel plan of a network is.
 use Rattle.std.specs.Prelude.{◌≡◌, ◌≢◌, ◌≤◌, ℕ, List, map}
-use Rattle.interference.specs.Net.{Net, IsEdge, IsVertex, greatest_degree_of, vertices}
+use Rattle.alpha_core.specs.interference.Net.{Net, IsEdge, IsVertex, greatest_degree_of, vertices}
 use Rattle.channel_plan.specs.PlanText.{plan_of}
 
 -- The text has a row for each vertex, with its colour plus one as its channel. The colours of any two

@@ -2,12 +2,12 @@
 use Rattle.std.specs.Prelude.{◌≡◌, ℕ, List, Some, Result, Ok, Err, slice_index_or}
 use Rattle.dimacs_col.specs.Lines.{Line, lines_of}
 use Rattle.dimacs_col.specs.Reading.{IsFault}
-use Rattle.interference.specs.Net.{Net, IsNetwork}
-use Rattle.interference.specs.Making.{IsFaultOf}
+use Rattle.alpha_core.specs.interference.Net.{Net, IsNetwork}
+use Rattle.alpha_core.specs.interference.Making.{IsFaultOf}
 use Rattle.net_core.specs.declared.refused.RunRefused.TheVariants as run
-use Rattle.colour_rules.specs.declared.payload.Payload.{Payload}
-use Rattle.colour_rules.specs.Program.{colouring}
-use Rattle.colour_rules.specs.Words.{payload_from}
+use Rattle.colour_program.specs.colour_rules.Payload.{Payload}
+use Rattle.colour_program.specs.colour_rules.Program.{colouring}
+use Rattle.colour_program.specs.colour_rules.Words.{payload_from}
 use Rattle.event_texts.specs.StateText.{ColourState, state_text}
 use Rattle.replay.specs.Replays.{IsReplay, Stops}
 use Rattle.replay.specs.declared.refused.ReplayRefused.{ReplayRefused}

@@ -1,6 +1,6 @@
 -- The answer that shows the rounds of a network.
 use Rattle.std.specs.Prelude.{◌≡◌, ℕ, List}
-use Rattle.interference.specs.Net.{IsNetwork}
+use Rattle.alpha_core.specs.interference.Net.{IsNetwork}
 use Rattle.round_texts.specs.RoundsText.{rounds_text}
 use Rattle.byte_functions.specs.Answers.{ReadsAs}
 

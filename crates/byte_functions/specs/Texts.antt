@@ -1,7 +1,7 @@
 -- The texts that commands write.
 use Rattle.std.specs.Prelude.{ℕ, List, [], ◌∷◌, ◌++◌, codes, flat_map, map}
 use Rattle.number_rows.specs.Row.{row}
-use Rattle.interference.specs.Net.{Net, count_of, forest_count_of, vertices}
+use Rattle.alpha_core.specs.interference.Net.{Net, count_of, forest_count_of, vertices}
 use Rattle.forests.specs.Forests.{triples}
 use Rattle.channel_plan.specs.PlanText.{plan_of}
 use Rattle.colour_laws.specs.Colours.{colours}

@@ -1,11 +1,11 @@
 -- The text of what the nodes of a run of workers did.
 use Rattle.std.specs.Prelude.{◌≡◌, ℕ, true, List, flat_map, map}
-use Rattle.interference.specs.Net.{Net, IsNetwork, count_of}
-use Rattle.colour_rules.specs.declared.payload.Payload.{Payload}
-use Rattle.colour_rules.specs.Node as colour
-use Rattle.colour_rules.specs.Program.{colouring}
-use Rattle.colour_rules.specs.Words.{number_in, word_in}
-use Rattle.gather_laws.specs.Outcome.{Gathered, Outcome, IsOutcome, is_whole}
+use Rattle.alpha_core.specs.interference.Net.{Net, IsNetwork, count_of}
+use Rattle.colour_program.specs.colour_rules.Payload.{Payload}
+use Rattle.colour_program.specs.colour_rules.Node as colour
+use Rattle.colour_program.specs.colour_rules.Program.{colouring}
+use Rattle.colour_program.specs.colour_rules.Words.{number_in, word_in}
+use Rattle.node_pool.specs.gather_laws.Outcome.{Gathered, Outcome, IsOutcome, is_whole}
 use Rattle.transcripts.specs.TranscriptText.{Row, transcript_of}
 use Rattle.byte_functions.specs.Answers.{ReadsAs}
 

@@ -2,12 +2,12 @@
 use Rattle.std.specs.Prelude.{ℕ, List}
 use Rattle.dimacs_col.specs.Lines.{lines_of}
 use Rattle.dimacs_col.specs.Reading.{IsFault}
-use Rattle.interference.specs.Net.{IsNetwork}
-use Rattle.interference.specs.Making.{IsFaultOf}
-use Rattle.run_options.specs.Ranges.{AreInRange}
-use Rattle.run_options.specs.declared.Options.{Options}
-use Rattle.pool.specs.declared.fault.PoolFault.{PoolFault}
-use Rattle.pool.specs.declared.fault.PoolFault.TheVariants as pool
+use Rattle.alpha_core.specs.interference.Net.{IsNetwork}
+use Rattle.alpha_core.specs.interference.Making.{IsFaultOf}
+use Rattle.node_pool.specs.run_options.Ranges.{AreInRange}
+use Rattle.node_pool.specs.run_options.Options.{Options}
+use Rattle.node_pool.specs.pool.PoolFault.{PoolFault}
+use Rattle.node_pool.specs.pool.PoolFault.TheVariants as pool
 use Rattle.byte_functions.specs.Answers.{ReadsAs}
 use Rattle.byte_functions.specs.declared.fault.PlanFault.{PlanFault}
 use Rattle.byte_functions.specs.declared.fault.PlanFault.TheVariants as plan

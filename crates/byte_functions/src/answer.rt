@@ -2,16 +2,16 @@
 
 ghost use Rattle.std.specs.Prelude.{◌≡◌, IfOk, IfErr};
 ghost use Rattle.std.specs.List.{range_with_len};
-ghost use Rattle.interference.specs.Making.{EdgesFit, IsFaultOf};
-ghost use Rattle.interference.specs.Net.{IsNetwork};
+ghost use Rattle.alpha_core.specs.interference.Making.{EdgesFit, IsFaultOf};
+ghost use Rattle.alpha_core.specs.interference.Net.{IsNetwork};
 ghost use Rattle.byte_functions.specs.Answers.{IsFaultOfText, IsForestsAnswer, IsPlainAnswer, ReadsAs, network_with};
 
 use crate::fault::PlanFault;
 use crate::forests_text::text_of_forests;
 use crate::plan_text::text_of_plan;
+use alpha_core::{NetFault, Network};
 use colour_laws::laws::colours_are_proper;
 use dimacs_col::{ColFile, read};
-use interference::{NetFault, Network};
 use std::alloc::{AllocError, Global};
 
 // The identifiers 1 to n.

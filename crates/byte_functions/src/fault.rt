@@ -5,10 +5,10 @@ ghost use Rattle.byte_functions.specs.declared.fault.PlanFault.TheVariants.{Chec
 ghost use Rattle.byte_functions.specs.declared.fault.PlanFault.TheVariants.{Replay};
 
 use crate::replaying::ReplayFault;
+use alpha_core::{Memory, NetFault};
 use channel_plan::CheckFault;
 use dimacs_col::ColFault;
 use event_texts::EventFault;
-use interference::{Memory, NetFault};
 use node_pool::PoolFault;
 
 /// Why a text has no answer.

@@ -30,10 +30,19 @@ mod workers;
 pub use answer::{forest_bytes, plain_bytes};
 pub use events::events_bytes;
 pub use fault::PlanFault;
-pub use node_pool::{Gate, OpenGate, Options, PoolFault};
 pub use replaying::{ReplayFault, replay_bytes};
 pub use report::{FaultReport, fault_report};
 pub use rounds::rounds_bytes;
 pub use transcript::transcript_bytes;
 pub use verdict::check_bytes;
 pub use workers::plan_bytes;
+
+// What crates above name of lower ones.
+pub use colour_program::{Colouring, Payload};
+pub use dimacs_col::ColFault;
+pub use event_texts::EventFault;
+pub use node_pool::{
+    Gate, OpenGate, Options, Outcome, PoolFault, run_workers, whole_outcomes_are_complete,
+};
+pub use replay::{ReplayRefused, replay};
+pub use transcripts::{TextFault, read_transcript, transcript_text};

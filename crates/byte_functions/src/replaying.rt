@@ -7,10 +7,9 @@ ghost use Rattle.byte_functions.specs.ReplayAnswers.{fault_at, fault_of_text, li
 
 use crate::answer::network_of_text;
 use crate::fault::PlanFault;
-use colour_program::Colouring;
-use colour_rules::Payload;
+use alpha_core::Network;
+use colour_program::{Colouring, Payload};
 use event_texts::text_of_state;
-use interference::Network;
 use net_core::{NetState, RunRefused};
 use replay::{ReplayRefused, replay};
 use std::alloc::{AllocError, Global};

@@ -6,10 +6,10 @@ ghost use Rattle.byte_functions.specs.declared.fault.PlanFault.TheVariants.{Chec
 
 use crate::fault::PlanFault;
 use crate::replaying::ReplayFault;
+use alpha_core::NetFault;
 use channel_plan::CheckFault;
 use dimacs_col::ColFault;
 use event_texts::EventFault;
-use interference::NetFault;
 use node_pool::PoolFault;
 use std::alloc::{AllocError, Global};
 

@@ -1,7 +1,7 @@
 //! The transcript of a run of worker threads.
 
 ghost use Rattle.std.specs.Prelude.{◌≡◌, IfOk, IfErr, map};
-ghost use Rattle.run_options.specs.Ranges.{AreInRange};
+ghost use Rattle.node_pool.specs.run_options.Ranges.{AreInRange};
 ghost use Rattle.node_pool.specs.Gathers.{gathered_of};
 ghost use Rattle.byte_functions.specs.Transcripts.{IsTranscriptAnswer, entries_text};
 ghost use Rattle.byte_functions.specs.Workers.{IsFaultOfWorkers};
@@ -9,8 +9,8 @@ ghost use Rattle.byte_functions.specs.Workers.{IsFaultOfWorkers};
 use crate::answer::network_of_text;
 use crate::fault::PlanFault;
 use crate::workers::whole_run;
+use alpha_core::Memory;
 use colour_program::Colouring;
-use interference::Memory;
 use node_pool::{Actor, Gate, Options};
 use std::alloc::Global;
 use std::sync::Wait;

@@ -5,8 +5,8 @@ ghost use Rattle.byte_functions.specs.Verdicts.{IsCheckAnswer, IsFaultOfCheck, v
 
 use crate::answer::network_of_text;
 use crate::fault::PlanFault;
+use alpha_core::Memory;
 use channel_plan::{check, read_plan, split_plan};
-use interference::Memory;
 use number_rows::push_row;
 use std::alloc::Global;
 

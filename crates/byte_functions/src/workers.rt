@@ -1,23 +1,20 @@
 //! Runs of worker threads, and the channel plan that they find.
 
 ghost use Rattle.std.specs.Prelude.{◌≡◌, true, IfOk, IfErr};
-ghost use Rattle.run_options.specs.Ranges.{AreInRange};
-ghost use Rattle.colour_rules.specs.Program.{colouring};
-ghost use Rattle.gather_laws.specs.Outcome.{IsOutcome, is_whole};
+ghost use Rattle.node_pool.specs.run_options.Ranges.{AreInRange};
+ghost use Rattle.colour_program.specs.colour_rules.Program.{colouring};
+ghost use Rattle.node_pool.specs.gather_laws.Outcome.{IsOutcome, is_whole};
 ghost use Rattle.byte_functions.specs.Answers.{IsPlainAnswer};
 ghost use Rattle.byte_functions.specs.Workers.{IsFaultOfRun, IsFaultOfWorkers};
 
 use crate::answer::network_of_text;
 use crate::fault::PlanFault;
 use crate::plan_text::text_of_nodes;
+use alpha_core::{Network, Refused};
 use async_colour_laws::laws::halted_nodes_are_coloured;
 use colour_laws::laws::colours_are_proper;
-use colour_program::Colouring;
-use colour_rules::Payload;
-use gather_laws::laws::whole_outcomes_are_complete;
-use interference::Network;
-use node_api::Refused;
-use node_pool::{Gate, Options, Outcome, run_workers};
+use colour_program::{Colouring, Payload};
+use node_pool::{Gate, Options, Outcome, run_workers, whole_outcomes_are_complete};
 use std::alloc::Global;
 use std::sync::Wait;
 use std::thread::Threads;

@@ -1,12 +1,12 @@
 //! The answers to a text by the byte functions alone, and the report of each fault.
 
-use byte_functions::{
-    PlanFault, PoolFault, check_bytes, events_bytes, fault_report, forest_bytes, plain_bytes,
-};
 use channel_plan::CheckFault;
 use dimacs_col::ColFault;
-use event_texts::EventFault;
 use interference::NetFault;
+use serving::{
+    EventFault, PlanFault, PoolFault, check_bytes, events_bytes, fault_report, forest_bytes,
+    plain_bytes,
+};
 use std::alloc::Global;
 use std::process::Abort;
 use std::test::Fail;

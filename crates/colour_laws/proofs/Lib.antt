@@ -16,3 +16,4 @@ pub mod Proper
 pub mod Rounds
 pub mod FirstRefusal
 pub mod StepsInOrder
+pub mod colour_rules

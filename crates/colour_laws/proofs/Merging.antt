@@ -7,7 +7,7 @@ use Rattle.std.proofs.lemmas.Bool.Decides.{nat_tests}
 use mathlib.Core.Path.{fun_ext}
 use Rattle.std.specs.Ordering.{nat_cmp}
 use Rattle.std.specs.FinSet.{contains, from_list, contains-from_list_nat}
-use Rattle.interference.specs.Net.{Net, IsNetwork, IsVertex, id_of, neighbours, degree_of, neighbour_of, greatest_degree_of, forest_count_of}
+use Rattle.node_api.specs.interference.Net.{Net, IsNetwork, IsVertex, id_of, neighbours, degree_of, neighbour_of, greatest_degree_of, forest_count_of}
 use Rattle.node_api.specs.Program.{sizes_of, Sizes}
 use Rattle.colour_laws.specs.Colours.{three}
 use Rattle.forest_merge.specs.Free.{least_free_colour}

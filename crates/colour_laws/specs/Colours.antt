@@ -1,6 +1,6 @@
 -- The colours of a network: three colours of each forest, merged forest by forest.
 use Rattle.std.specs.Prelude.{ℕ, zero, suc, Option}
-use Rattle.interference.specs.Net.{Net, id_of, neighbours, forest_count_of, greatest_degree_of}
+use Rattle.node_api.specs.interference.Net.{Net, id_of, neighbours, forest_count_of, greatest_degree_of}
 use Rattle.forests.specs.Forests.{parent, number}
 use Rattle.cole_vishkin.specs.BitStep.{six}
 use Rattle.shift_down.specs.Steps.{three_from}

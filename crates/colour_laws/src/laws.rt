@@ -2,7 +2,7 @@
 ghost use Rattle.std.specs.Prelude.{◌≡◌, ◌≢◌, ◌<◌, ◌≤◌, ◌↔◌, ◌*◌, ◌+◌, ◌%◌, ℕ, List, Option, None, Some};
 ghost use Rattle.std.specs.Prelude.{IsTrue, false, length, map, nat_lt, slice_index};
 ghost use Rattle.std.specs.List.{range_with_len};
-ghost use Rattle.interference.specs.Net.{IsEdge, IsNetwork, IsVertex, Net, greatest_degree_of, id_of};
+ghost use Rattle.node_api.specs.interference.Net.{IsEdge, IsNetwork, IsVertex, Net, greatest_degree_of, id_of};
 ghost use Rattle.node_api.specs.Laws.{IsProgram};
 ghost use Rattle.node_api.specs.Program.{Sizes, last_pulse_on};
 ghost use Rattle.node_api.specs.Run.{state_at};

@@ -17,3 +17,8 @@
 #![tactic(auto)]
 
 pub mod laws;
+
+// What crates above name of lower ones.
+pub use colour_rules::{
+    ColourNode, FIRST_MERGE, IdlePulses, Payload, Phase, Reduction, Schedule, rules,
+};

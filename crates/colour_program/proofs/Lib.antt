@@ -1,2 +1,3 @@
 mod Pulses
 mod Quiet
+pub mod colour_rules

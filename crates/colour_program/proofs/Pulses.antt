@@ -1,6 +1,6 @@
 -- How many pulses there are.
 use Rattle.std.proofs.Common.{ℕ, ◌+◌, ◌*◌, ◌^◌, ◌<◌, ◌≤◌, arith, mul-le-mul}
-use Rattle.interference.specs.declared.limits.TheConstants.{MAX_DEGREE}
+use Rattle.node_api.below.interference.specs.declared.limits.TheConstants.{MAX_DEGREE}
 
 -- the pulses of the merging are few enough to be counted in 31 bits
 pub pulses-few : (forests degree : ℕ) → forests ≤ MAX_DEGREE → degree ≤ MAX_DEGREE → forests * (3 * (degree + 1)) < 2 ^ 31

@@ -16,6 +16,7 @@
 
 mod colouring;
 
-pub use colour_laws::laws;
-pub use colour_rules::{Payload, rules};
 pub use colouring::Colouring;
+
+// What crates above name of lower ones.
+pub use colour_laws::{ColourNode, IdlePulses, Payload, Phase, Reduction, Schedule, laws, rules};

@@ -2,7 +2,7 @@
 use Rattle.std.proofs.Common.{◌≡◌, ℕ, zero, suc, ◌≤◌, List, length, replicate, subst, sym, arith}
 use Rattle.forests.specs.declared.numbering.Role.{Role}
 use Rattle.forests.specs.declared.numbering.Role.TheVariants.{Unknown}
-use Rattle.interference.specs.declared.limits.TheConstants.{MAX_DEGREE}
+use Rattle.node_api.below.interference.specs.declared.limits.TheConstants.{MAX_DEGREE}
 use Rattle.colour_rules.specs.Node.{Node, HasForests, AreBelow, ports}
 use Rattle.colour_rules.specs.contracts.node.ColourNode.{the_view, the_invariant}
 use Rattle.colour_rules.specs.declared.node.ColourNode.TheInside.{Inside}

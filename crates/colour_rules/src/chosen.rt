@@ -2,7 +2,7 @@
 ghost use Rattle.std.specs.Prelude.{◌≡◌, ◌<◌, ◌≤◌, ◌*◌, ◌↔◌, ℕ, IfOk, IsTrue, Some};
 ghost use Rattle.std.specs.FinSet.{contains, empty, insert};
 ghost use Rattle.forest_merge.specs.Free.{HasFree, least_free_colour};
-ghost use Rattle.interference.specs.declared.limits.TheConstants.{MAX_DEGREE};
+ghost use Rattle.node_api.below.interference.specs.declared.limits.TheConstants.{MAX_DEGREE};
 ghost use Rattle.node_api.specs.Boxes.{at_port, unread};
 ghost use Rattle.colour_rules.specs.declared.payload.Payload.TheVariants.{Chosen};
 ghost use Rattle.colour_rules.specs.Choice.{with_chosen};
@@ -11,8 +11,7 @@ ghost use Rattle.colour_rules.specs.Chosen.{chosen_in, room_of};
 use crate::merge::add_chosen;
 use crate::payload::Payload;
 use forest_merge::{ChosenSet, ColourSet, has_free, least_free};
-use interference::Memory;
-use node_api::Inbox;
+use node_api::{Inbox, Memory};
 use std::alloc::Global;
 
 // How many words the smaller set has.

@@ -9,7 +9,7 @@ ghost use Rattle.colour_rules.specs.Table.{is_above};
 use crate::phase::Reduction;
 use crate::ports::is_above;
 use cole_vishkin::bit_step;
-use interference::Memory;
+use node_api::Memory;
 use shift_down::{drop_class, shift};
 use std::alloc::Global;
 

@@ -1,6 +1,6 @@
 //! A node of the colouring: making it and its greeting.
 ghost use Rattle.std.specs.Prelude.{◌≡◌, IfOk};
-ghost use Rattle.interference.specs.Net.{IsVertex};
+ghost use Rattle.node_api.specs.interference.Net.{IsVertex};
 ghost use Rattle.node_api.specs.Boxes.{nothing};
 ghost use Rattle.node_api.specs.Program.{own_of};
 ghost use Rattle.colour_rules.specs.Node.{greet, made, ports};
@@ -9,8 +9,7 @@ use crate::chosen::ChosenColours;
 use crate::colours::InForests;
 use crate::payload::Payload;
 use forests::Role;
-use interference::{Memory, Network};
-use node_api::Outbox;
+use node_api::{Memory, Network, Outbox};
 use std::alloc::Global;
 use std::marker::Model;
 
@@ -34,7 +33,7 @@ pub struct ColourNode {
 
 impl Model for ColourNode {
     ghost use Rattle.std.specs.Prelude.{◌≡◌, ◌<◌, ◌≤◌, length};
-    ghost use Rattle.interference.specs.declared.limits.TheConstants.{MAX_DEGREE};
+    ghost use Rattle.node_api.below.interference.specs.declared.limits.TheConstants.{MAX_DEGREE};
     ghost use Rattle.colour_rules.specs.Chosen.{chosen_in, room_of};
     ghost use Rattle.colour_rules.specs.InForests.{before_in, colours_in};
     ghost use Rattle.colour_rules.specs.Node.{AreBelow, HasForests, Node};

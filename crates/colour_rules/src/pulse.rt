@@ -15,8 +15,7 @@ use crate::node::ColourNode;
 use crate::payload::Payload;
 use crate::phase::{Phase, Reduction};
 use crate::rules::{COLOUR_RANGE, FOREST_RANGE};
-use interference::MAX_DEGREE;
-use node_api::{Inbox, Outbox, Refused};
+use node_api::{Inbox, MAX_DEGREE, Outbox, Refused};
 
 // How many ports a node has at most.
 const MAX_PORTS: usize = MAX_DEGREE as usize;

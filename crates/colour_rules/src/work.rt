@@ -15,8 +15,7 @@ use crate::node::ColourNode;
 use crate::payload::Payload;
 use crate::phase::Reduction;
 use forests::{Role, number_up};
-use interference::MAX_DEGREE;
-use node_api::{Inbox, Outbox};
+use node_api::{Inbox, MAX_DEGREE, Outbox};
 
 // How many forests there are at most.
 const MAX_FORESTS: usize = MAX_DEGREE as usize;

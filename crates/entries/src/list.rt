@@ -6,7 +6,7 @@ use crate::bare::{BareEntry, split};
 use crate::blocks::Blocks;
 use crate::entry::Entry;
 use crate::iter::Iter;
-use interference::Memory;
+use alpha_core::Memory;
 use std::alloc::{AllocError, Global};
 use std::marker::Model;
 

@@ -1,8 +1,8 @@
 -- A run is refused at one of its events.
 use Rattle.std.proofs.Common.{◌≡◌, ◌+◌, ◌<◌, ℕ, suc, List, [], ◌∷◌, length, Ok, Err, Result, arith, subst}
 use Rattle.std.proofs.lemmas.List.{length-map}
-use Rattle.interference.specs.Net.{Net}
-use Rattle.node_api.specs.Program.{Program}
+use Rattle.alpha_core.specs.interference.Net.{Net}
+use Rattle.alpha_core.specs.node_api.Program.{Program}
 use Rattle.net_core.specs.declared.event.Event.{Event}
 use Rattle.net_core.specs.declared.refused.RunRefused.{RunRefused}
 use Rattle.net_core.specs.declared.refused.StepRefused.{StepRefused}

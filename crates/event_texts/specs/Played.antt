@@ -1,7 +1,7 @@
 -- What playing the events of a text comes to.
 use Rattle.std.specs.Prelude.{◌≡◌, ◌<◌, ℕ, List, length, map, Err, slice_index_or}
-use Rattle.interference.specs.Net.{Net}
-use Rattle.node_api.specs.Program.{Program}
+use Rattle.alpha_core.specs.interference.Net.{Net}
+use Rattle.alpha_core.specs.node_api.Program.{Program}
 use Rattle.net_core.specs.declared.event.Event.{Event}
 use Rattle.net_core.specs.declared.refused.RunRefused.{RunRefused}
 use Rattle.net_core.specs.declared.refused.RunRefused.TheVariants as run_refused

@@ -1,16 +1,16 @@
 -- The text of the state of a network whose nodes run the colouring.
 use Rattle.std.specs.Prelude.{ℕ, ◌+◌, if◌then◌else◌, List, [], ◌++◌, codes, flat_map, length}
 use Rattle.std.specs.List.{range_with_len}
-use Rattle.interference.specs.Net.{Net, degree_of, neighbour_of, vertices}
-use Rattle.node_api.specs.Program.{last_pulse_on}
+use Rattle.alpha_core.specs.interference.Net.{Net, degree_of, neighbour_of, vertices}
+use Rattle.alpha_core.specs.node_api.Program.{last_pulse_on}
 use Rattle.alpha_core.specs.declared.wire.Wire.{Wire}
 use Rattle.alpha_core.specs.View.{is_halted}
 use Rattle.alpha_core.specs.View
 use Rattle.net_core.specs.State.{Link, State, link_at, node_of}
-use Rattle.colour_rules.specs.declared.payload.Payload as payload
-use Rattle.colour_rules.specs.Node
-use Rattle.colour_rules.specs.Program.{colouring}
-use Rattle.colour_rules.specs.Words.{number_in, word_in}
+use Rattle.colour_program.specs.colour_rules.Payload as payload
+use Rattle.colour_program.specs.colour_rules.Node
+use Rattle.colour_program.specs.colour_rules.Program.{colouring}
+use Rattle.colour_program.specs.colour_rules.Words.{number_in, word_in}
 use Rattle.wire_texts.specs.WireText.{numbered, wire_text}
 
 -- a wire of the colouring

@@ -2,8 +2,8 @@
 
 ghost use Rattle.std.specs.Prelude.{◌≡◌, ◌↔◌, List, Ok};
 ghost use Rattle.dimacs_col.specs.Lines.{Line};
-ghost use Rattle.interference.specs.Net.{Net};
-ghost use Rattle.node_api.specs.Program.{Program};
+ghost use Rattle.alpha_core.specs.interference.Net.{Net};
+ghost use Rattle.alpha_core.specs.node_api.Program.{Program};
 ghost use Rattle.event_texts.specs.Played.{RefusalsHaveAnEvent};
 ghost use Rattle.event_texts.specs.Reading.{IsScript, Script, script_of};
 

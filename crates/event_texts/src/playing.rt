@@ -5,9 +5,8 @@ ghost use Rattle.event_texts.specs.Played.{IsFaultOfRun, events_in, fault_at, li
 ghost use Rattle.net_core.specs.Step.{run};
 
 use crate::fault::EventFault;
-use interference::Network;
+use alpha_core::{Network, NodeProgram};
 use net_core::{Event, NetState, RunRefused, run};
-use node_api::NodeProgram;
 use std::alloc::{AllocError, Global};
 
 // The events without their lines.

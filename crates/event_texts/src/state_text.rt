@@ -1,14 +1,14 @@
 //! The text of a state of a network.
 
 ghost use Rattle.std.specs.Prelude.{◌≡◌, ◌++◌, ◌<◌, IfOk};
-ghost use Rattle.interference.specs.Net.{IsVertex, degree_of, neighbour_of};
+ghost use Rattle.alpha_core.specs.interference.Net.{IsVertex, degree_of, neighbour_of};
 ghost use Rattle.net_core.specs.State.{link_at, node_of};
-ghost use Rattle.colour_rules.specs.Program.{colouring};
+ghost use Rattle.colour_program.specs.colour_rules.Program.{colouring};
 ghost use Rattle.event_texts.specs.StateText.{link_text, links_text, node_text, state_text};
 
 use crate::wire_text::push_wires;
+use alpha_core::Memory;
 use colour_program::Colouring;
-use interference::Memory;
 use net_core::NetState;
 use std::alloc::{AllocError, Global};
 use wire_texts::push_numbered;

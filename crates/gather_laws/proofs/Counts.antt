@@ -3,12 +3,12 @@
 use Rattle.std.proofs.Common.{◌≡◌, ℕ, ◌+◌, ◌-◌, true, Bool, [], length, get_or, sym, ap, ◌∙◌, arith}
 use Rattle.std.specs.List.{sum_by, range_with_len}
 use Rattle.std.proofs.lemmas.List.FromFn.{length-range_with_len}
-use Rattle.interference.specs.Net.{Net, IsNetwork, count_of, vertices}
-use Rattle.interference.specs.Counts.{sum_over_ports}
-use Rattle.interference.proofs.PortSums.{at_vertices}
-use Rattle.interference.proofs.Sums.{sum_by-same, sum_by-places, sum_by-shifted}
-use Rattle.node_api.specs.Program.{Program}
-use Rattle.alpha_core.specs.Wires.{payloads_of}
+use Rattle.alpha_laws.specs.interference.Net.{Net, IsNetwork, count_of, vertices}
+use Rattle.alpha_laws.specs.interference.Counts.{sum_over_ports}
+use Rattle.alpha_laws.proofs.interference.PortSums.{at_vertices}
+use Rattle.alpha_laws.proofs.interference.Sums.{sum_by-same, sum_by-places, sum_by-shifted}
+use Rattle.alpha_laws.specs.node_api.Program.{Program}
+use Rattle.actor.specs.alpha_core.Wires.{payloads_of}
 use Rattle.alpha_laws.proofs.Counts.{lists_counted}
 use Rattle.gather_laws.specs.Outcome.{History, Outcome, IsOutcome, is_whole, link_in, no_history, row_in}
 use Rattle.gather_laws.specs.Counts.{WiresAreCounted}

@@ -4,11 +4,11 @@ use Rattle.std.proofs.Common.{◌≡◌, ℕ, zero, suc, ◌-◌, ◌<◌, Bool,
 use Rattle.std.proofs.lemmas.Bool.{and_parts, eqb-true}
 use Rattle.std.proofs.lemmas.List.{append-nil, length-map}
 use Rattle.std.proofs.lemmas.List.FromFn.{length-range_with_len}
-use Rattle.interference.specs.Net.{Net, IsNetwork, IsVertex, count_of, degree_of, neighbour_of, back_port_of}
-use Rattle.interference.proofs.Neighbours.{at-back_port}
-use Rattle.node_api.specs.Program.{Program, last_pulse_on}
-use Rattle.alpha_core.specs.declared.wire.Wire.{Wire}
-use Rattle.alpha_core.specs.View.{Alpha, Port, all_closed, is_drained, is_halted, new_port, port_at}
+use Rattle.alpha_laws.specs.interference.Net.{Net, IsNetwork, IsVertex, count_of, degree_of, neighbour_of, back_port_of}
+use Rattle.alpha_laws.proofs.interference.Neighbours.{at-back_port}
+use Rattle.alpha_laws.specs.node_api.Program.{Program, last_pulse_on}
+use Rattle.actor.specs.alpha_core.Wire.{Wire}
+use Rattle.actor.specs.alpha_core.View.{Alpha, Port, all_closed, is_drained, is_halted, new_port, port_at}
 use Rattle.alpha_laws.specs.Simulates.{IsCompleteOn}
 use Rattle.alpha_laws.proofs.Across.{over}
 use Rattle.gather_laws.specs.Outcome.{

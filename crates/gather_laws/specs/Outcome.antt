@@ -1,13 +1,13 @@
 -- What a run of workers leaves, and what it promises of it.
 use Rattle.std.specs.Prelude.{◌≡◌, ℕ, ◌-◌, ◌<◌, ◌≤◌, Bool, true, ◌&&◌, nat_eq}
 use Rattle.std.specs.Prelude.{List, [], ◌∷◌, ◌++◌, map, length, slice_index_or}
-use Rattle.interference.specs.Net.{Net, IsVertex, vertices, degree_of, neighbour_of, back_port_of}
-use Rattle.node_api.specs.Program.{Program, last_pulse_on}
-use Rattle.alpha_core.specs.declared.wire.Wire.{Wire}
-use Rattle.alpha_core.specs.View.{Alpha, Node, is_drained}
-use Rattle.alpha_core.specs.Program.{start_node}
+use Rattle.alpha_laws.specs.interference.Net.{Net, IsVertex, vertices, degree_of, neighbour_of, back_port_of}
+use Rattle.alpha_laws.specs.node_api.Program.{Program, last_pulse_on}
+use Rattle.actor.specs.alpha_core.Wire.{Wire}
+use Rattle.actor.specs.alpha_core.View.{Alpha, Node, is_drained}
+use Rattle.actor.specs.alpha_core.Program.{start_node}
 use Rattle.alpha_laws.specs.Simulates.{Simulates}
-use Rattle.entries.specs.declared.entry.Entry.{Entry}
+use Rattle.actor.specs.entries.Entry.{Entry}
 use Rattle.actor.specs.Written.{IsTranscript}
 
 -- One direction of a link after the run: all that was put on it, what was taken from it, and what it still holds.

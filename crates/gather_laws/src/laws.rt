@@ -1,12 +1,12 @@
 //! What holds of nodes whose ends have met, and of what a run of workers leaves. Each law is a function that does
 //! nothing: its contract is the law.
 
-ghost use Rattle.node_api.specs.Program.{Program};
+ghost use Rattle.alpha_laws.specs.node_api.Program.{Program};
 ghost use Rattle.alpha_laws.specs.Laws.{OnEveryNetwork};
 ghost use Rattle.gather_laws.specs.Counts.{WholeOutcomesAreCounted};
 ghost use Rattle.gather_laws.specs.Laws.{MetNodesSimulate};
 ghost use Rattle.gather_laws.specs.Whole.{WholeOutcomesAreComplete};
-ghost use Rattle.interference.specs.Net.{IsNetwork, Net};
+ghost use Rattle.alpha_laws.specs.interference.Net.{IsNetwork, Net};
 
 /// Once all ends have met, the lists of both ends of each link show that no node has refused a wire, and the nodes
 /// simulate the synchronous run.

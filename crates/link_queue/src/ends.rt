@@ -5,9 +5,8 @@ ghost use Rattle.crossbeam_queue.specs.Passes.{view};
 ghost use Rattle.link_queue.specs.Rule.{has_close};
 
 use crate::view::EndView;
-use alpha_core::Wire;
+use alpha_core::{NodeProgram, Wire};
 use crossbeam_queue::Pass;
-use node_api::NodeProgram;
 
 /// The end that puts, of a link of the program `P`.
 pub type PutEnd<P: NodeProgram> = PutSide<P::Payload>;

@@ -4,9 +4,8 @@
 //! the making of the queue, the naming of its view, the splitting into two ends and their joining.
 
 use crate::view::EndView;
-use alpha_core::Wire;
+use alpha_core::{NodeProgram, Wire};
 use crossbeam_queue::protocol::{Join, Lesson, Outcome, Protocol, Split};
-use node_api::NodeProgram;
 use std::marker::{Brand, PhantomData};
 
 // What was put is what was taken and then what is on the queue, and is legal on the link of that name.

@@ -1,11 +1,11 @@
 //! Whether wires come in order.
 
 ghost use Rattle.std.specs.Prelude.{◌≡◌, ◌↔◌, ◌++◌, [], ◌∷◌, List, IsTrue, MatchBool};
-ghost use Rattle.alpha_core.specs.declared.wire.Wire.{Wire};
+ghost use Rattle.alpha_laws.specs.alpha_core.Wire.{Wire};
 ghost use Rattle.link_rule.specs.Order.{IsInOrder};
 ghost use Rattle.link_rule.specs.Progress.{WasFed, after_wire, at_start, goes_on};
 
-use alpha_core::Wire;
+use alpha_laws::Wire;
 use std::marker::Model;
 
 /// How far one direction of a link has come, by the order of its wires alone.

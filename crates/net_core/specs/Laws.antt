@@ -1,7 +1,7 @@
 -- The laws of every list of events, on a network.
 use Rattle.std.specs.Prelude.{◌≡◌, List, Ok}
-use Rattle.interference.specs.Net.{Net}
-use Rattle.node_api.specs.Program.{Program}
+use Rattle.alpha_laws.specs.interference.Net.{Net}
+use Rattle.alpha_laws.specs.node_api.Program.{Program}
 use Rattle.net_core.specs.declared.event.Event.{Event}
 use Rattle.net_core.specs.State.{State}
 use Rattle.net_core.specs.Step.{run}

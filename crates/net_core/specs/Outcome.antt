@@ -1,7 +1,7 @@
 -- What a call of `run` returns.
 use Rattle.std.specs.Prelude.{◌≡◌, ◌≢◌, List, Result, Ok, Err, MatchResult}
-use Rattle.interference.specs.Net.{Net}
-use Rattle.node_api.specs.Program.{Program}
+use Rattle.alpha_laws.specs.interference.Net.{Net}
+use Rattle.alpha_laws.specs.node_api.Program.{Program}
 use Rattle.net_core.specs.declared.event.Event.{Event}
 use Rattle.net_core.specs.declared.refused.RunRefused.{RunRefused}
 use Rattle.net_core.specs.declared.refused.RunRefused.TheVariants.{Memory}

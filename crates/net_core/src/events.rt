@@ -10,7 +10,7 @@ ghost use Rattle.net_core.specs.Step.{StepMatches, has_port, is_vertex};
 use crate::event::Event;
 use crate::refused::StepRefused;
 use crate::state::NetState;
-use node_api::NodeProgram;
+use alpha_laws::NodeProgram;
 
 impl<P: NodeProgram> NetState<P> {
     /// Makes an event, in time that grows with the degree of its vertex alone, but when a link's list is moved as it

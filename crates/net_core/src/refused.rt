@@ -3,7 +3,7 @@
 ghost use Rattle.std.specs.Prelude.{◌≡◌};
 ghost use Rattle.net_core.specs.Refusals.{at_index};
 
-use interference::Memory;
+use alpha_laws::Memory;
 use thiserror::Error;
 
 /// Why `step` refuses an event. Nothing is changed.

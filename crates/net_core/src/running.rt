@@ -7,8 +7,7 @@ ghost use Rattle.net_core.specs.Simulation.{IsSimulation};
 use crate::event::Event;
 use crate::refused::RunRefused;
 use crate::state::NetState;
-use interference::Network;
-use node_api::NodeProgram;
+use alpha_laws::{Network, NodeProgram};
 use std::alloc::Global;
 
 /// Makes the events of a list one after the other, from the start.

@@ -3,8 +3,7 @@
 ghost use Rattle.std.specs.Prelude.{◌≡◌, ◌<◌, ◌++◌, ◌∷◌, [], IfOk, OnErr, length, slice_get};
 ghost use Rattle.net_core.specs.State.{no_link, take_one};
 
-use alpha_core::Wire;
-use interference::Memory;
+use alpha_laws::{Memory, Wire};
 use std::alloc::Global;
 use std::marker::Model;
 

@@ -6,3 +6,4 @@ pub mod Keeping
 pub mod Putting
 pub mod Runs
 pub mod Reading
+pub mod interference

@@ -5,3 +5,4 @@ pub mod Sent
 pub mod Program
 pub mod Run
 pub mod Laws
+pub mod interference

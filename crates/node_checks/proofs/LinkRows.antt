@@ -8,11 +8,11 @@ use Rattle.std.proofs.Common.{◌≡◌, ◌≢◌, ℕ, suc, zero, ◌+◌, ◌
 use Rattle.std.proofs.Common.{append-nil, lt-ltb, length, take, ⊎_elim}
 use Rattle.std.specs.Prelude.{Result, Ok, Err, IfOk, Contains, max, nat_lt}
 use Rattle.std.proofs.lemmas.List.Elements.{Contains-append_cases, Contains-append_left, Contains-push}
-use Rattle.interference.specs.Net.{Net}
-use Rattle.node_api.specs.Boxes.{at_port}
-use Rattle.interference.specs.Making.{network_of}
-use Rattle.node_api.specs.Program.{Program, last_pulse_on}
-use Rattle.node_api.specs.Run.{node_at, state_at, outbox_at}
+use Rattle.alpha_core.specs.interference.Net.{Net}
+use Rattle.alpha_core.specs.node_api.Boxes.{at_port}
+use Rattle.alpha_core.specs.interference.Making.{network_of}
+use Rattle.alpha_core.specs.node_api.Program.{Program, last_pulse_on}
+use Rattle.alpha_core.specs.node_api.Run.{node_at, state_at, outbox_at}
 use Rattle.alpha_core.specs.declared.wire.Wire.{Wire}
 use Rattle.alpha_core.specs.declared.wire.Wire.TheVariants.{Payload, Ack, Safe, Close}
 use Rattle.alpha_core.specs.Wires.{data_of, acks_of}
@@ -28,9 +28,9 @@ use Rattle.sync_rounds.specs.Greatest.{Known}
 use Rattle.sync_rounds.specs.Spread as spreading
 use Rattle.sync_rounds.specs.Spread.{spread}
 use Rattle.sync_rounds.specs.declared.greatest.Best.{Best}
-use Rattle.colour_rules.specs.Program.{colouring}
-use Rattle.colour_rules.specs.declared.payload.Payload as colour
-use Rattle.colour_rules.specs.declared.payload.Payload.TheVariants.{Hello}
+use Rattle.colour_program.specs.colour_rules.Program.{colouring}
+use Rattle.colour_program.specs.colour_rules.Payload as colour
+use Rattle.colour_program.specs.colour_rules.Payload.TheVariants.{Hello}
 
 -- the network that `Network::new` makes
 pub pair_made : network_of (1 ∷ 2 ∷ []) ((1, 2) ∷ []) ≡ pair_net

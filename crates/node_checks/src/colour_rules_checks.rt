@@ -1,7 +1,6 @@
 //! The text of each kind of payload, at its greatest number and one beyond; and each call once.
-use colour_rules::{ColourNode, IdlePulses, Payload, Phase, Reduction};
-use interference::Network;
-use node_api::{Inbox, Outbox, PayloadText};
+use alpha_core::{Inbox, Network, Outbox, PayloadText};
+use colour_program::{ColourNode, IdlePulses, Payload, Phase, Reduction};
 
 #[test]
 fn payloads_have_their_text(rt: HostRuntime) {

@@ -3,9 +3,8 @@
 ghost use Rattle.std.specs.Prelude.{◌≡◌};
 ghost use Rattle.node_checks.specs.LinkRows.{pair_net};
 
-use alpha_core::Wire;
+use alpha_core::{Memory, Network, Wire};
 use colour_program::{Colouring, Payload};
-use interference::{Memory, Network};
 use link_queue::{Full, Link};
 use std::alloc::Global;
 use std::sync::Wait;

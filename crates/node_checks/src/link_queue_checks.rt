@@ -5,9 +5,8 @@ ghost use Rattle.node_checks.specs.LinkRows.{pair_net};
 
 use crate::link_alone::one_after_another;
 use crate::link_threads::hand_over;
-use alpha_core::Wire;
+use alpha_core::{NetFault, Network, Wire, edges_fit};
 use colour_program::Payload;
-use interference::{NetFault, Network, edges_fit};
 use run_options::MAX_CAPACITY;
 use std::alloc::Global;
 use std::process::Abort;

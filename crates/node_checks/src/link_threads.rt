@@ -10,8 +10,7 @@ ghost use Rattle.link_queue.specs.Ends.{IsPutEndOf, IsTakeEndOf, StaysPutEnd, St
 ghost use Rattle.link_queue.specs.Ends.{take_name};
 ghost use Rattle.node_checks.specs.LinkRows.{echoes};
 
-use alpha_core::Wire;
-use interference::{Memory, Network};
+use alpha_core::{Memory, Network, Wire};
 use link_queue::{Link, PutEnd, TakeEnd};
 use run_options::MAX_CAPACITY;
 use std::alloc::Global;

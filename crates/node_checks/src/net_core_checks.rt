@@ -3,10 +3,10 @@
 mod refused_growths;
 
 ghost use Rattle.std.specs.Prelude.{◌≡◌};
-ghost use Rattle.interference.specs.Net.{count_of};
+ghost use Rattle.alpha_core.specs.interference.Net.{count_of};
 
+use alpha_core::Network;
 use colour_program::Colouring;
-use interference::Network;
 use net_core::{Event, NetState, RunRefused, run};
 use std::alloc::Global;
 use std::test::Fail;

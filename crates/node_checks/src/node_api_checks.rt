@@ -1,7 +1,7 @@
 //! Each call of an inbox and an outbox once, with ample memory, at payloads of one byte.
 ghost use Rattle.std.specs.Prelude.{◌≡◌};
 
-use node_api::{Inbox, Outbox, Sent};
+use alpha_core::{Inbox, Outbox, Sent};
 
 // Whether this payload of this port is the next to be read.
 fn next_is(inbox: &mut Inbox<u8>, port: u32, payload: u8) -> bool

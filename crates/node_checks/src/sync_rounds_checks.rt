@@ -1,8 +1,7 @@
 //! Worked runs of `Greatest`, and the order in which the engine calls a program.
 
 use crate::counted::Counted;
-use interference::Network;
-use node_api::PayloadText;
+use alpha_core::{Network, PayloadText};
 use std::alloc::Global;
 use std::test::Fail;
 use sync_rounds::{Best, Greatest, run_rounds};

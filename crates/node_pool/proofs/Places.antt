@@ -5,12 +5,12 @@ use Rattle.std.specs.Prelude.{option_map}
 use Rattle.std.specs.List.{range_with_len}
 use Rattle.std.proofs.lemmas.Option.{slice_get-map}
 use Rattle.atomic_table.specs.Seated.{TableId}
-use Rattle.interference.specs.Net.{Net, IsNetwork, degree_of, neighbour_of, back_port_of, vertices}
+use Rattle.alpha_laws.specs.interference.Net.{Net, IsNetwork, degree_of, neighbour_of, back_port_of, vertices}
 use Rattle.alpha_laws.proofs.Across.{over}
 use Rattle.actor.specs.Node.{links_in, links_out}
-use Rattle.crossing.proofs.ReadLists.{map-twice}
-use Rattle.crossing.specs.Rows.{AreCrossed, HasShape, row_at}
-use Rattle.ends.specs.Tables.{table_at}
+use Rattle.node_pool.proofs.ReadLists.{map-twice}
+use Rattle.node_pool.specs.Rows.{AreCrossed, HasShape, row_at}
+use Rattle.actor.specs.Tables.{table_at}
 use Rattle.node_pool.proofs.Rows.{by_entries, by_nodes, entry_of, row_by, row_map}
 
 module _ {A E : Type 0} (net : Net) (ok : IsNetwork net) (vertex_of : A → ℕ) (nodes : List A) (order : map vertex_of nodes ≡ vertices net)

@@ -7,9 +7,9 @@ use Rattle.std.proofs.lemmas.List.{length-map}
 use Rattle.std.proofs.lemmas.List.FromFn.{length-range_with_len, get_or-range_with_len}
 use Rattle.std.proofs.lemmas.List.Elements.{All-map}
 use Rattle.std.proofs.lemmas.Option.{slice_get-map, slice_get-get_or, get_or_from_slice_get}
-use Rattle.crossing.proofs.ReadLists.{map-twice}
-use Rattle.crossing.specs.Rows.{row_at, thing_at, HasShape}
-use Rattle.interference.specs.Net.{Net, IsVertex, count_of, degree_of, vertices}
+use Rattle.node_pool.proofs.ReadLists.{map-twice}
+use Rattle.node_pool.specs.Rows.{row_at, thing_at, HasShape}
+use Rattle.alpha_laws.specs.interference.Net.{Net, IsVertex, count_of, degree_of, vertices}
 
 module _ {A : Type 0} where
   -- lists that have the same at each place

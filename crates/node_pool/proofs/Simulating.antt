@@ -7,11 +7,11 @@ use Rattle.std.proofs.Common.{Some, None, slice_get}
 use Rattle.std.specs.Prelude.{Bool, Option, All}
 use Rattle.std.proofs.lemmas.List.{length-map}
 use Rattle.std.proofs.lemmas.List.FromFn.{length-range_with_len}
-use Rattle.interference.specs.Net.{Net, IsNetwork, IsVertex, count_of, degree_of, neighbour_of, back_port_of, vertices}
-use Rattle.node_api.specs.Program.{Program, last_pulse_on}
-use Rattle.node_api.specs.Laws.{IsProgram}
-use Rattle.alpha_core.specs.declared.wire.Wire.{Wire}
-use Rattle.alpha_core.specs.View.{Alpha, Node}
+use Rattle.alpha_laws.specs.interference.Net.{Net, IsNetwork, IsVertex, count_of, degree_of, neighbour_of, back_port_of, vertices}
+use Rattle.alpha_laws.specs.node_api.Program.{Program, last_pulse_on}
+use Rattle.alpha_laws.specs.node_api.Laws.{IsProgram}
+use Rattle.actor.specs.alpha_core.Wire.{Wire}
+use Rattle.actor.specs.alpha_core.View.{Alpha, Node}
 use Rattle.alpha_laws.specs.Kept.{AllKept, NodeKept}
 use Rattle.alpha_laws.specs.Simulates.{taken_over}
 use Rattle.alpha_laws.proofs.Across.{over}
@@ -21,8 +21,8 @@ use Rattle.actor.proofs.Kept.{node_same}
 use Rattle.actor.specs.declared.aside.Aside.{Aside}
 use Rattle.actor.specs.Node.{IsAside, by_port, reacted_to}
 use Rattle.actor.specs.Written.{IsTranscript}
-use Rattle.entries.specs.declared.entry.Entry.{Entry}
-use Rattle.crossing.specs.Rows.{AreCrossed, row_at}
+use Rattle.actor.specs.entries.Entry.{Entry}
+use Rattle.node_pool.specs.Rows.{AreCrossed, row_at}
 use Rattle.gather_laws.specs.Laws.{EndsHaveMet}
 use Rattle.gather_laws.specs.Outcome.{IsOutcome, Outcome, alpha_in, entries_in, link_in, link_into, no_history, node_in, row_in, start_of}
 use Rattle.gather_laws.proofs.Asides.{met_simulate}

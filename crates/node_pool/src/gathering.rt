@@ -1,20 +1,18 @@
 //! The nodes and links of a run become its outcome.
 
 ghost use Rattle.std.specs.Prelude.{◌≡◌, ◌≤◌, ℕ, All, IfOk, map};
-ghost use Rattle.interference.specs.Net.{vertices};
-ghost use Rattle.crossing.specs.Rows.{HasShape};
-ghost use Rattle.link_queue.specs.Ends.{link_capacity};
-ghost use Rattle.ends.specs.Tables.{tables_of};
+ghost use Rattle.alpha_laws.specs.interference.Net.{vertices};
+ghost use Rattle.node_pool.specs.Rows.{HasShape};
+ghost use Rattle.actor.specs.link_queue.Ends.{link_capacity};
+ghost use Rattle.actor.specs.Tables.{tables_of};
 ghost use Rattle.gather_laws.specs.Outcome.{IsOutcome};
 
+use crate::cross::crossed;
+use crate::meeting::meet_rows;
 use crate::outcome::Outcome;
-use actor::Node;
-use crossing::crossed;
-use ends::Wiring;
-use gather::{Parts, apart, meet_rows};
-use interference::{Memory, Network};
-use link_queue::Link;
-use node_api::NodeProgram;
+use crate::parts::{Parts, apart};
+use actor::{Link, Node, Wiring};
+use alpha_laws::{Memory, Network, NodeProgram};
 use std::alloc::Global;
 use std::sync::Wait;
 

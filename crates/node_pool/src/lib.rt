@@ -9,17 +9,31 @@
 //! if outcome.is_whole() { .. outcome.actors() .. }
 //! ```
 //!
+//! `making` makes the links, each with its two ends, and `starting` the nodes with the ends of theirs; `run` runs them;
+//! `parts` takes the nodes apart again, `cross` brings the ends that take back to where their links leave, and `meeting`
+//! lets each link meet both its ends. `gathering` makes the outcome of what is gathered.
+//!
 //! Limits: `MAX_WORKERS` and `MAX_CAPACITY`. Without a transcript no turn can return out-of-memory. Nothing is promised
 //! of time, of fairness, that an outcome is whole, or that the call returns.
 #![tactic(auto)]
 
+mod cross;
 mod gathering;
+mod making;
+mod meeting;
 mod outcome;
+mod pairs;
+mod parts;
 mod run;
+mod starting;
+mod wires;
 
+pub use crate::parts::Actor;
 pub use actor::{Gate, OpenGate};
-pub use gather::Actor;
 pub use outcome::Outcome;
 pub use pool::PoolFault;
 pub use run::run_workers;
-pub use run_options::Options;
+
+// What crates above name of lower ones.
+pub use gather_laws::laws::whole_outcomes_are_complete;
+pub use run_options::{MAX_CAPACITY, MAX_WORKERS, Options};

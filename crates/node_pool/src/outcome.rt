@@ -1,13 +1,13 @@
 //! What a run of workers leaves.
 
 ghost use Rattle.std.specs.Prelude.{◌≡◌, ◌≤◌, ◌<◌, ◌-◌, IfSome, length, map, slice_get};
-ghost use Rattle.gather.specs.Meets.{history_of};
+ghost use Rattle.node_pool.specs.Meets.{history_of};
 ghost use Rattle.gather_laws.specs.Outcome.{all_drained, all_empty, is_whole, link_in, none_held, row_in};
 ghost use Rattle.node_pool.specs.Gathers.{gathered_of};
 
-use gather::Actor;
-use link_queue::Met;
-use node_api::NodeProgram;
+use crate::parts::Actor;
+use actor::Met;
+use alpha_laws::NodeProgram;
 use std::marker::Model;
 
 /// What a run of workers leaves: every node, ascending by vertex, and every link with what it still holds.
@@ -20,7 +20,7 @@ pub struct Outcome<P: NodeProgram> {
 
 impl<P: NodeProgram> Model for Outcome<P> {
     ghost use Rattle.std.specs.Prelude.{map};
-    ghost use Rattle.gather.specs.Meets.{history_of};
+    ghost use Rattle.node_pool.specs.Meets.{history_of};
     ghost use Rattle.gather_laws.specs.Outcome.{Outcome};
     ghost use Rattle.node_pool.specs.Gathers.{gathered_of};
 

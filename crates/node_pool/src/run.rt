@@ -1,21 +1,20 @@
 //! A run of workers, from a network to its outcome.
 
 ghost use Rattle.std.specs.Prelude.{◌≡◌, ◌≢◌, ◌↔◌, IfErr, IfOk, IsTrue, Result, Err, map};
-ghost use Rattle.ends.specs.Tables.{tables_of};
+ghost use Rattle.actor.specs.Tables.{tables_of};
 ghost use Rattle.gather_laws.specs.Outcome.{IsOutcome};
 ghost use Rattle.pool.specs.declared.fault.PoolFault.TheVariants.{BadOptions};
 ghost use Rattle.run_options.specs.Ranges.{AreInRange};
-ghost use Rattle.setup.specs.Makes.{AreMade};
+ghost use Rattle.node_pool.specs.Makes.{AreMade};
 
 use crate::gathering::gathered;
+use crate::making::{Made, make_links};
 use crate::outcome::Outcome;
-use actor::Gate;
-use ends::{Links, Wiring};
-use interference::Network;
-use node_api::NodeProgram;
+use crate::starting::start_nodes;
+use actor::{Gate, Links, Wiring};
+use alpha_laws::{Network, NodeProgram};
 use pool::{PoolFault, by_vertex, run_nodes};
 use run_options::{MAX_CAPACITY, MAX_WORKERS, Options};
-use setup::{Made, make_links, start_nodes};
 use std::alloc::Global;
 use std::marker::Brand;
 use std::sync::Wait;

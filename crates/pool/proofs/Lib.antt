@@ -1,1 +1,3 @@
 pub mod Each
+pub mod Rule
+pub mod Steps

@@ -1,23 +1,23 @@
 //! A run of workers over the pool.
 
 ghost use Rattle.std.specs.Prelude.{◌≡◌, ◌≢◌, ◌<◌, ◌≤◌, ◌+◌, [], All, map, reverse, vec_len, length, IfOk, IfErr};
-ghost use Rattle.interference.specs.Net.{vertices};
+ghost use Rattle.actor.specs.interference.Net.{vertices};
 ghost use Rattle.crossbeam_queue.specs.Passes.{IsPassOf, ruled_capacity, view};
-ghost use Rattle.worker.specs.Hands.{AreSame, all_parts, hand};
+ghost use Rattle.pool.specs.Hands.{AreSame, all_parts, hand};
 ghost use Rattle.pool.specs.declared.fault.PoolFault.TheVariants.{BadOptions};
 
+use crate::chief::{Chief, OfPool};
 use crate::fault::PoolFault;
-use crate::pass::{Chief, OfPool};
-use actor::{Gate, Node};
-use ends::{Links, Wiring};
-use interference::Memory;
-use node_api::NodeProgram;
+use crate::hand::{Gets, Gives, Parts};
+use crate::looks::{Crew, work};
+use crate::pass::{Places, Pool, PoolPass, Worked};
+use crate::signals::Signals;
+use actor::{Gate, Links, Memory, Node, NodeProgram, Wiring};
 use run_options::MAX_WORKERS;
 use std::alloc::{AllocError, Global};
 use std::sync::Wait;
 use std::thread;
 use std::thread::{PromisedHandle, Scope, Threads};
-use worker::{Crew, Gets, Gives, Parts, Places, Pool, PoolPass, Signals, Worked, work};
 
 // The pass of who starts the workers.
 fn chief_of<J: Wiring, P: NodeProgram>(

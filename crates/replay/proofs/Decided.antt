@@ -2,11 +2,11 @@
 use Rattle.std.proofs.Common.{◌≡◌, ◌+◌, ◌∙◌, ℕ, suc, Bool, true, false, Option, Some, None, List, [], ◌∷◌, ◌++◌, map, slice_get, Result, Ok, Err}
 use Rattle.std.proofs.Common.{ap, refl, sym}
 use Rattle.std.specs.Option.{option_map}
-use Rattle.interference.specs.Net.{IsNetwork, Net, neighbour_of, port_to}
-use Rattle.interference.proofs.Neighbours.{port_to-is}
-use Rattle.node_api.specs.Program.{Program}
-use Rattle.alpha_core.specs.declared.wire.Wire.{Wire}
-use Rattle.alpha_core.specs.View.{port_at}
+use Rattle.alpha_laws.specs.interference.Net.{IsNetwork, Net, neighbour_of, port_to}
+use Rattle.alpha_laws.proofs.interference.Neighbours.{port_to-is}
+use Rattle.alpha_laws.specs.node_api.Program.{Program}
+use Rattle.alpha_laws.specs.alpha_core.Wire.{Wire}
+use Rattle.alpha_laws.specs.alpha_core.View.{port_at}
 use Rattle.entries.specs.declared.entry.Entry.TheVariants as entry
 use Rattle.net_core.specs.declared.event.Event.{Event}
 use Rattle.net_core.specs.declared.event.Event.TheVariants.{Pulse, Put, Take}

@@ -2,8 +2,8 @@
 use Rattle.std.proofs.Common.{◌≡◌, ◌+◌, ◌<◌, ◌∙◌, ℕ, suc, Some, List, [], ◌∷◌, ◌++◌, take, length, get_or, Result, Ok, Err}
 use Rattle.std.proofs.Common.{ap, arith, refl, sym, subst}
 use Rattle.std.proofs.lemmas.List.{map-append}
-use Rattle.interference.specs.Net.{Net}
-use Rattle.node_api.specs.Program.{Program}
+use Rattle.alpha_laws.specs.interference.Net.{Net}
+use Rattle.alpha_laws.specs.node_api.Program.{Program}
 use Rattle.net_core.specs.declared.event.Event.{Event}
 use Rattle.net_core.specs.declared.refused.StepRefused.{StepRefused}
 use Rattle.net_core.specs.State.{State, start}

@@ -1,9 +1,9 @@
 -- What the event of an entry writes down, by the wire that it carries.
 use Rattle.std.proofs.Common.{◌≡◌, ◌≢◌, ◌<◌, ◌∙◌, ℕ, Option, Some, None, ap, sym}
 use Rattle.std.specs.Option.{option_map}
-use Rattle.interference.specs.Net.{Net, neighbours, degree_of, neighbour_of, port_to}
-use Rattle.interference.proofs.Members.{place_of-is}
-use Rattle.alpha_core.specs.declared.wire.Wire.{Wire}
+use Rattle.alpha_laws.specs.interference.Net.{Net, neighbours, degree_of, neighbour_of, port_to}
+use Rattle.alpha_laws.proofs.interference.Members.{place_of-is}
+use Rattle.alpha_laws.specs.alpha_core.Wire.{Wire}
 use Rattle.entries.specs.declared.entry.Entry.{Entry}
 use Rattle.entries.specs.declared.entry.Entry.TheVariants as entry
 use Rattle.replay.specs.Rows.{Row}

@@ -1,7 +1,7 @@
 -- What a replay of entries is, and where entries aren't one.
 use Rattle.std.specs.Prelude.{◌≡◌, ◌≢◌, ℕ, Some, Ok, Err, List, ◌∷◌, ◌++◌, length, map}
-use Rattle.interference.specs.Net.{Net}
-use Rattle.node_api.specs.Program.{Program}
+use Rattle.alpha_laws.specs.interference.Net.{Net}
+use Rattle.alpha_laws.specs.node_api.Program.{Program}
 use Rattle.net_core.specs.declared.event.Event.{Event}
 use Rattle.net_core.specs.declared.refused.StepRefused.TheVariants as step_refused
 use Rattle.net_core.specs.State.{NetView, State}

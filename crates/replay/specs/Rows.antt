@@ -1,8 +1,8 @@
 -- Which event an entry is of, and what an event writes down.
 use Rattle.std.specs.Prelude.{ℕ, ◌+◌, Option, Some, option_map, Result, Ok, Err, List, [], ◌∷◌, slice_get}
-use Rattle.interference.specs.Net.{Net, neighbour_of, port_to}
-use Rattle.node_api.specs.Program.{Program}
-use Rattle.alpha_core.specs.View.{port_at}
+use Rattle.alpha_laws.specs.interference.Net.{Net, neighbour_of, port_to}
+use Rattle.alpha_laws.specs.node_api.Program.{Program}
+use Rattle.alpha_laws.specs.alpha_core.View.{port_at}
 use Rattle.entries.specs.declared.entry.Entry.{Entry}
 use Rattle.entries.specs.declared.entry.Entry.TheVariants as entry
 use Rattle.net_core.specs.declared.event.Event.{Event}

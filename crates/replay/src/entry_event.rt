@@ -1,17 +1,15 @@
 //! One entry, made by the event that it is of.
 
 ghost use Rattle.std.specs.Prelude.{◌≡◌, ◌<◌, ◌≤◌, IfErr, IfNone, IfOk, IfSome};
-ghost use Rattle.interference.specs.Net.{IsVertex, degree_of, port_to};
+ghost use Rattle.alpha_laws.specs.interference.Net.{IsVertex, degree_of, port_to};
 ghost use Rattle.entries.specs.declared.entry.Entry.TheVariants.{Pulse, Put, Take};
 ghost use Rattle.replay.specs.Replays.{IsMade, IsRefusedEntry};
 
 use crate::refused::EntryRefused;
 use crate::same_wire::carries;
-use alpha_core::Wire;
+use alpha_laws::{Network, NodeProgram, Wire};
 use entries::Entry;
-use interference::Network;
 use net_core::{Event, NetState, StepRefused};
-use node_api::NodeProgram;
 
 // The port of a vertex that leads to a neighbour; `None` if it is none.
 fn port_to(net: &Network, v: u32, w: u32) -> Option<u32>

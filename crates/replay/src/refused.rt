@@ -3,7 +3,7 @@
 ghost use Rattle.std.specs.Prelude.{◌≡◌};
 ghost use Rattle.replay.specs.Replays.{at_entry};
 
-use interference::Memory;
+use alpha_laws::Memory;
 use net_core::{RunRefused, StepRefused};
 use thiserror::Error;
 

@@ -1,13 +1,13 @@
 -- What the text of the rounds says of the colouring's own: its phases, colours and choices.
 use Rattle.std.specs.Prelude.{ℕ, ◌+◌, ◌/◌, ◌%◌, if◌then◌else◌, List, [], ◌++◌, codes, flat_map, slice_index}
 use Rattle.std.specs.List.{range_with_len}
-use Rattle.node_api.specs.Program.{Sizes}
-use Rattle.colour_rules.specs.declared.phase.Reduction.{Reduction}
-use Rattle.colour_rules.specs.declared.phase.Reduction.TheVariants.{Step, Shift, Drop}
-use Rattle.colour_rules.specs.declared.phase.Phase.{Phase}
-use Rattle.colour_rules.specs.declared.phase.Phase.TheVariants.{Greet, Orient, Seed, Work, Merge, Halted}
-use Rattle.colour_rules.specs.Node.{Node}
-use Rattle.colour_rules.specs.Choice.{chooses}
+use Rattle.alpha_core.specs.node_api.Program.{Sizes}
+use Rattle.colour_program.specs.colour_rules.Reduction.{Reduction}
+use Rattle.colour_program.specs.colour_rules.Reduction.TheVariants.{Step, Shift, Drop}
+use Rattle.colour_program.specs.colour_rules.Phase.{Phase}
+use Rattle.colour_program.specs.colour_rules.Phase.TheVariants.{Greet, Orient, Seed, Work, Merge, Halted}
+use Rattle.colour_program.specs.colour_rules.Node.{Node}
+use Rattle.colour_program.specs.colour_rules.Choice.{chooses}
 use Rattle.wire_texts.specs.WireText.{numbered}
 
 abbrev pub reduction_text : Reduction → List ℕ

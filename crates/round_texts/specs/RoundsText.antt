@@ -2,12 +2,12 @@
 use Rattle.std.specs.Prelude.{ℕ, ◌+◌, List, [], ◌∷◌, ◌++◌, codes, flat_map}
 use Rattle.std.specs.List.{range_with_len}
 use Rattle.number_rows.specs.Row.{row}
-use Rattle.interference.specs.Net.{Net, count_of, forest_count_of, greatest_degree_of, vertices}
-use Rattle.node_api.specs.Program.{last_pulse_on, sizes_of}
-use Rattle.node_api.specs.Run.{outbox_at, state_at}
-use Rattle.colour_rules.specs.Node.{phase_of}
-use Rattle.colour_rules.specs.Program.{colouring}
-use Rattle.colour_rules.specs.Words.{number_in, word_in}
+use Rattle.alpha_core.specs.interference.Net.{Net, count_of, forest_count_of, greatest_degree_of, vertices}
+use Rattle.alpha_core.specs.node_api.Program.{last_pulse_on, sizes_of}
+use Rattle.alpha_core.specs.node_api.Run.{outbox_at, state_at}
+use Rattle.colour_program.specs.colour_rules.Node.{phase_of}
+use Rattle.colour_program.specs.colour_rules.Program.{colouring}
+use Rattle.colour_program.specs.colour_rules.Words.{number_in, word_in}
 use Rattle.wire_texts.specs.WireText.{numbered}
 use Rattle.round_texts.specs.ColoursText.{node_text, phase_text}
 use Rattle.round_texts.specs.PutsText.{puts_text}

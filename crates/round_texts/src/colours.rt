@@ -1,11 +1,11 @@
 //! The colouring's own lines.
 
 ghost use Rattle.std.specs.Prelude.{◌≡◌, ◌<◌, ◌++◌, IfOk};
-ghost use Rattle.colour_rules.specs.Node.{IsPhase};
+ghost use Rattle.colour_program.specs.colour_rules.Node.{IsPhase};
 ghost use Rattle.round_texts.specs.ColoursText.{choice_text, colour_text, colours_text, node_text, phase_text};
 ghost use Rattle.round_texts.specs.ColoursText.{reduction_text};
 
-use colour_rules::{ColourNode, Phase, Reduction, Schedule};
+use colour_program::{ColourNode, Phase, Reduction, Schedule};
 use std::alloc::AllocError;
 use wire_texts::push_numbered;
 

@@ -1,13 +1,11 @@
 //! What a vertex sends at a pulse.
 
 ghost use Rattle.std.specs.Prelude.{◌≡◌, ◌++◌, IfOk, length};
-ghost use Rattle.interference.specs.Net.{IsVertex, degree_of};
+ghost use Rattle.alpha_core.specs.interference.Net.{IsVertex, degree_of};
 ghost use Rattle.round_texts.specs.PutsText.{puts_text};
 
-use alpha_core::Wire;
+use alpha_core::{Network, Outbox, PayloadText, Wire};
 use entries::Entry;
-use interference::Network;
-use node_api::{Outbox, PayloadText};
 use std::alloc::AllocError;
 use transcripts::push_row;
 

@@ -1,18 +1,16 @@
 //! The text of the rounds, pulse by pulse.
 
 ghost use Rattle.std.specs.Prelude.{◌≡◌, ◌≤◌, ◌++◌, IfOk};
-ghost use Rattle.interference.specs.Net.{IsVertex};
-ghost use Rattle.node_api.specs.Program.{last_pulse_on, sizes_of};
-ghost use Rattle.colour_rules.specs.Node.{IsPhase, phase_of};
-ghost use Rattle.colour_rules.specs.Program.{colouring};
+ghost use Rattle.alpha_core.specs.interference.Net.{IsVertex};
+ghost use Rattle.alpha_core.specs.node_api.Program.{last_pulse_on, sizes_of};
+ghost use Rattle.colour_program.specs.colour_rules.Node.{IsPhase, phase_of};
+ghost use Rattle.colour_program.specs.colour_rules.Program.{colouring};
 ghost use Rattle.round_texts.specs.RoundsText.{head_line, pulse_line, pulse_text, rounds_text, vertex_text};
 
 use crate::colours::{push_node, push_phase};
 use crate::puts::push_puts;
-use colour_program::Colouring;
-use colour_rules::{Phase, Schedule};
-use interference::{Memory, Network};
-use node_api::NodeProgram;
+use alpha_core::{Memory, Network, NodeProgram};
+use colour_program::{Colouring, Phase, Schedule};
 use number_rows::push_row;
 use std::alloc::{AllocError, Global};
 use sync_rounds::Rounds;

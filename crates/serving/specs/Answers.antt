@@ -1,6 +1,6 @@
 -- What a command may answer to the bytes of its input.
 use Rattle.std.specs.Prelude.{◌≢◌, ℕ, List, Result, Ok, Err}
-use Rattle.pool.specs.declared.fault.PoolFault.TheVariants.{BadOptions}
+use Rattle.byte_functions.specs.pool.PoolFault.TheVariants.{BadOptions}
 use Rattle.byte_functions.specs.Answers.{IsFaultOfText, IsForestsAnswer, IsPlainAnswer}
 use Rattle.byte_functions.specs.EventAnswers.{IsEventsAnswer, IsFaultOfEvents}
 use Rattle.byte_functions.specs.ReplayAnswers.{IsFaultOfReplay, IsReplayAnswer}

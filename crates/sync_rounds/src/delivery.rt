@@ -1,14 +1,13 @@
 //! From the outboxes of a pulse to the inboxes of the next one.
 
 ghost use Rattle.std.specs.Prelude.{◌≡◌, ◌<◌, ◌-◌, ◌+◌, ℕ, List, Option, [], length, slice_index_or, slice_set};
-ghost use Rattle.interference.specs.Net.{Net, IsNetwork, IsVertex, count_of, degree_of};
+ghost use Rattle.node_api.specs.interference.Net.{Net, IsNetwork, IsVertex, count_of, degree_of};
 ghost use Rattle.node_api.specs.Boxes.{Mail, nothing, unread, FilledPorts};
 ghost use Rattle.sync_rounds.specs.Lists.{Lists, empty_inbox, empty_outbox, received};
 ghost use Rattle.sync_rounds.specs.Delivery.{Broadcasts, Delivered, Sends};
 ghost use Rattle.sync_rounds.specs.Senders.{Senders};
 
-use interference::Network;
-use node_api::{Inbox, Outbox, Sent};
+use node_api::{Inbox, Network, Outbox, Sent};
 
 // Puts what was sent into the empty inboxes, and empties the outboxes; only those of the senders are looked at. They
 // ascend by vertex, so an inbox gets its payloads by ascending port.

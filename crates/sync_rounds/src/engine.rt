@@ -1,7 +1,7 @@
 //! The rounds of a program, pulse by pulse.
 
 ghost use Rattle.std.specs.Prelude.{◌≡◌, ◌<◌, ◌≤◌, ◌+◌, ◌^◌, IfOk, length, suc, vec_capacity};
-ghost use Rattle.interference.specs.Net.{count_of};
+ghost use Rattle.node_api.specs.interference.Net.{count_of};
 ghost use Rattle.node_api.specs.Boxes.{nothing, unread};
 ghost use Rattle.node_api.specs.Run.{state_at, outbox_at, inbox_at, last_states, after};
 ghost use Rattle.sync_rounds.specs.Lists.{Lists, empty_inbox, empty_outbox};
@@ -10,8 +10,7 @@ ghost use Rattle.sync_rounds.specs.Senders.{HasSenders};
 use crate::delivery::deliver;
 use crate::rounds::Rounds;
 use crate::senders::note;
-use interference::{Memory, Network};
-use node_api::{Inbox, NodeProgram, Outbox};
+use node_api::{Inbox, Memory, Network, NodeProgram, Outbox};
 use std::alloc::Global;
 
 /// Runs a program on a network and returns all nodes after its last pulse: entry `v - 1` is vertex `v`.

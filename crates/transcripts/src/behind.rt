@@ -9,10 +9,10 @@ ghost use Rattle.transcripts.specs.Reading.{IsFaultOf};
 
 use crate::fault::TextFault;
 use crate::reading::{read_lines, split_lines};
+use alpha_core::PayloadText;
 use channel_plan::{begins, text_start};
 use dimacs_col::{Fields, without_carriage_return};
 use entries::Entry;
-use node_api::PayloadText;
 use std::alloc::{AllocError, Global};
 
 /// The network text that an input begins with: all before the first line whose first field is `transcript`.

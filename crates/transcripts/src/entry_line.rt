@@ -5,10 +5,9 @@ ghost use Rattle.transcripts.specs.EntryLines.{entry_of, header_of, only, payloa
 ghost use Rattle.transcripts.specs.EntryLines.{pulsed_wire, row_of, wire_of, wire_with};
 
 use crate::numbers::{small_number, wide_number};
-use alpha_core::Wire;
+use alpha_core::{PayloadText, Wire};
 use dimacs_col::Fields;
 use entries::Entry;
-use node_api::PayloadText;
 use std::str::from_utf8;
 
 // A value, if no field is left.

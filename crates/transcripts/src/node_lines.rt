@@ -7,9 +7,8 @@ ghost use Rattle.wire_texts.specs.WireText.{wire_text};
 
 use crate::line_end::LineEnd;
 use crate::writing::push_row;
-use alpha_core::Wire;
+use alpha_core::{PayloadText, Wire};
 use entries::{Entries, Entry};
-use node_api::PayloadText;
 use std::alloc::AllocError;
 
 // Puts a wire before the end of a line, and returns whether it could: it can't if there is a payload.

@@ -8,9 +8,9 @@ ghost use Rattle.transcripts.specs.Reader.{IsSyntaxFault};
 
 use crate::entry_line::{header_of, row_of};
 use crate::fault::TextFault;
+use alpha_core::PayloadText;
 use dimacs_col::{Fields, without_carriage_return};
 use entries::Entry;
-use node_api::PayloadText;
 use std::alloc::{AllocError, Global};
 use std::marker::Model;
 

@@ -5,9 +5,8 @@ ghost use Rattle.dimacs_col.specs.Lines.{lines_of};
 ghost use Rattle.transcripts.specs.Reading.{reading_of};
 ghost use Rattle.transcripts.specs.TranscriptText.{IsReadable, first_line, row_text, transcript_of};
 
+use alpha_core::{Memory, PayloadText};
 use entries::Entry;
-use interference::Memory;
-use node_api::PayloadText;
 use std::alloc::{AllocError, Global};
 use wire_texts::{push_numbered, push_wire};
 

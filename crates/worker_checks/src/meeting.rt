@@ -1,6 +1,6 @@
 //! A gate at which two workers meet.
 
-use node_pool::Gate;
+use byte_functions::Gate;
 use std::sync::Wait;
 use std::sync::atomic::{AtomicBool, AtomicU64, Ordering};
 use std::thread;

@@ -2,11 +2,9 @@
 
 use crate::meeting::Meeting;
 use crate::runs::{each_holds, greatest, path, small, triangle};
-use alpha_core::Wire;
-use colour_program::{Colouring, Payload};
+use alpha_core::{Network, Wire};
+use byte_functions::{Colouring, OpenGate, Options, Payload, PoolFault, run_workers};
 use entries::Entry;
-use interference::Network;
-use node_pool::{OpenGate, Options, PoolFault, run_workers};
 use std::alloc::Global;
 use std::sync::Wait;
 use std::test::*;

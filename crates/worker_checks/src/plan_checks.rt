@@ -2,8 +2,9 @@
 
 use crate::meeting::Meeting;
 use crate::node_pool_checks::PULSES;
-use byte_functions::{OpenGate, Options, PlanFault, PoolFault, plan_bytes, transcript_bytes};
-use dimacs_col::ColFault;
+use byte_functions::{
+    ColFault, OpenGate, Options, PlanFault, PoolFault, plan_bytes, transcript_bytes,
+};
 use std::test::Fail;
 
 const TRIANGLE: &[u8] = b"p edge 3 3\ne 1 2\ne 1 3\ne 2 3\n";

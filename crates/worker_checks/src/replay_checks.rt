@@ -2,17 +2,15 @@
 //! event writes down at the start.
 
 ghost use Rattle.std.specs.Prelude.{◌≡◌};
-ghost use Rattle.interference.specs.Net.{count_of};
+ghost use Rattle.alpha_core.specs.interference.Net.{count_of};
 
-use alpha_core::Wire;
+use alpha_core::{Network, Wire};
+use byte_functions::{ReplayRefused, read_transcript, replay};
 use entries::Entry;
-use interference::Network;
 use net_core::{NetState, RunRefused};
-use replay::{ReplayRefused, replay};
 use std::alloc::Global;
 use std::test::Fail;
 use sync_rounds::{Best, Greatest};
-use transcripts::read_transcript;
 
 const WHOLE: &[u8] =
     b"transcript 1 2\n1 put 2 close\n2 put 1 close\n1 take 2 close\n2 take 1 close\n";

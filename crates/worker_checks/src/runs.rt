@@ -1,13 +1,11 @@
 //! Networks to run, and what is read off a run.
 
 ghost use Rattle.std.specs.Prelude.{◌≡◌, length};
-ghost use Rattle.interference.specs.Net.{IsVertex, degree_of, vertices};
-ghost use Rattle.gather_laws.specs.Outcome.{row_in};
+ghost use Rattle.alpha_core.specs.interference.Net.{IsVertex, degree_of, vertices};
+ghost use Rattle.byte_functions.specs.gather_laws.Outcome.{row_in};
 
-use alpha_core::Wire;
-use colour_program::{Colouring, Payload};
-use interference::Network;
-use node_pool::{OpenGate, Options, Outcome, run_workers};
+use alpha_core::{Network, Wire};
+use byte_functions::{Colouring, OpenGate, Options, Outcome, Payload, run_workers};
 use std::alloc::Global;
 use std::sync::Wait;
 use std::test::Fail;

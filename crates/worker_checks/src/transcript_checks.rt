@@ -1,9 +1,8 @@
 //! Transcripts that are read, and the line of each that isn't.
 
-use colour_rules::Payload;
+use byte_functions::{Payload, TextFault, read_transcript, transcript_text};
 use std::alloc::Global;
 use std::test::Fail;
-use transcripts::{TextFault, read_transcript, transcript_text};
 
 const GREETINGS: &[u8] = b"transcript 1 2\n1 put 2 payload 0 hello 1\n2 take 1 payload 0 hello 1\n\
 2 put 1 payload 0 hello 18446744073709551615\n2 put 1 ack 0\n4294967295 pulse 4294967295\n1 take 2 safe 7\n";

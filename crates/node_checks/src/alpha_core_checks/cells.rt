@@ -2,11 +2,10 @@
 //! asks for besides.
 
 ghost use Rattle.std.specs.Prelude.{◌≡◌, length};
-ghost use Rattle.interference.specs.Net.{IsVertex, degree_of};
+ghost use Rattle.alpha_core.specs.interference.Net.{IsVertex, degree_of};
 
 use crate::alpha_core_checks::alone::{Act, Played, ask, leaf, play, put_next};
-use alpha_core::{AlphaNode, AlphaRefused, Wire};
-use interference::{Memory, Network};
+use alpha_core::{AlphaNode, AlphaRefused, Memory, Network, Wire};
 use std::alloc::Global;
 use std::cmp::Ordering;
 use std::test::Fail;

@@ -4,10 +4,8 @@ ghost use Rattle.std.specs.Prelude.{◌≡◌, ◌≤◌, length};
 
 use crate::alpha_core_checks::alone::{Act, Played, ask, leaf, play, put_next};
 use crate::counted::Counted;
-use alpha_core::{AlphaNode, AlphaRefused, Wire};
+use alpha_core::{AlphaNode, AlphaRefused, Network, NodeProgram, Refused, Wire};
 use colour_program::{Colouring, Payload};
-use interference::Network;
-use node_api::{NodeProgram, Refused};
 use std::alloc::Global;
 use std::test::Fail;
 use sync_rounds::{Best, Greatest};

@@ -1,10 +1,9 @@
 //! The table of what may come to a node: 96 cells, by phase, kind of payload and role of the port.
 
 use crate::colour_program_checks::fed::{feed, made};
+use alpha_core::{Network, Refused};
 use colour_program::Payload;
 use colour_program::rules::{AFTER_HALT, WRONG_KIND, WRONG_ROLE};
-use interference::Network;
-use node_api::Refused;
 use std::alloc::Global;
 use std::process::Abort;
 use std::test::Fail;

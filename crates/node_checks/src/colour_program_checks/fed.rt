@@ -1,12 +1,11 @@
 //! A node made for a test, and fed by hand. A caller may skip pulses.
 
 ghost use Rattle.std.specs.Prelude.{◌≡◌, ◌≤◌, IfOk, length};
-ghost use Rattle.interference.specs.Net.{IsVertex, degree_of};
-ghost use Rattle.colour_rules.specs.Node.{ports};
+ghost use Rattle.alpha_core.specs.interference.Net.{IsVertex, degree_of};
+ghost use Rattle.colour_program.specs.colour_rules.Node.{ports};
 
+use alpha_core::{Inbox, MAX_DEGREE, Memory, Network, NodeProgram, Outbox, Refused};
 use colour_program::{Colouring, Payload};
-use interference::{MAX_DEGREE, Memory, Network};
-use node_api::{Inbox, NodeProgram, Outbox, Refused};
 use std::alloc::Global;
 
 /// The node of a vertex, which knows no port.

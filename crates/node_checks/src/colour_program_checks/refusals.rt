@@ -1,17 +1,16 @@
 //! Refusals by value, by what is missing and by the node itself, and that they leave the node as it was.
 
 ghost use Rattle.std.specs.Prelude.{◌≡◌, IfOk};
-ghost use Rattle.interference.specs.Net.{IsVertex};
-ghost use Rattle.colour_rules.specs.Node.{ports};
+ghost use Rattle.alpha_core.specs.interference.Net.{IsVertex};
+ghost use Rattle.colour_program.specs.colour_rules.Node.{ports};
 
 use crate::colour_program_checks::fed::{feed, made};
+use alpha_core::{Memory, Network, Outbox, Refused};
 use colour_program::Payload::{Chosen, Colour, Hello, Label};
 use colour_program::rules::{
     AFTER_HALT, COLOUR_RANGE, FOREST_RANGE, MISSING, WRONG_KIND, WRONG_ROLE,
 };
 use colour_program::{Colouring, Payload};
-use interference::{Memory, Network};
-use node_api::{Outbox, Refused};
 use std::alloc::Global;
 use std::process::Abort;
 use std::test::Fail;

@@ -2,9 +2,9 @@
 //! allocation refused in turn. What memory was refused to is tried again, as is every call here that isn't refused.
 
 ghost use Rattle.std.specs.Prelude.{◌≡◌, IfOk};
-ghost use Rattle.interference.specs.Net.{count_of, degree_of};
+ghost use Rattle.alpha_core.specs.interference.Net.{count_of, degree_of};
 
-use interference::Network;
+use alpha_core::Network;
 use net_core::{Event, NetState, RunRefused, StepRefused, run};
 use std::alloc::Global;
 use std::test::Fail;

@@ -1,6 +1,6 @@
 use Rattle.std.proofs.Common.{◌∙◌, ap, subst}
 use Rattle.dimacs_col.specs.Lines.{lines_of}
-use Rattle.colour_rules.specs.Program.{colouring}
+use Rattle.colour_program.specs.colour_rules.Program.{colouring}
 use Rattle.replay.specs.Replays.{Stops}
 use Rattle.byte_functions.specs.ReplayAnswers.{fault_at}
 use Rattle.byte_functions.proofs.RefusedLines.{fault-refused}

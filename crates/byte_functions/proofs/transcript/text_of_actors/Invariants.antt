@@ -1,5 +1,5 @@
 use Rattle.std.proofs.Common.{◌≡◌, ◌++◌, flat_map}
-use Rattle.colour_rules.specs.Words.{number_in, word_in}
+use Rattle.colour_program.specs.colour_rules.Words.{number_in, word_in}
 use Rattle.node_pool.specs.Gathers.{gathered_of}
 use Rattle.transcripts.specs.TranscriptText.{first_line, row_text}
 use Rattle.byte_functions.specs.Transcripts.{rows_in}

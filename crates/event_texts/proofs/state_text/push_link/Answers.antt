@@ -1,6 +1,6 @@
 use Rattle.std.proofs.Common.{◌≡◌, ◌∙◌, ◌++◌, ap, codes, length, rules}
 use Rattle.std.specs.List.{flat_map}
-use Rattle.interference.specs.Net.{neighbour_of}
+use Rattle.alpha_core.specs.interference.Net.{neighbour_of}
 use Rattle.net_core.specs.State.{link_at}
 use Rattle.wire_texts.specs.WireText.{numbered}
 use Rattle.event_texts.specs.StateText.{colour_wire_text}

@@ -1,5 +1,5 @@
 use Rattle.std.proofs.Common.{◌≡◌, ◌+◌, arith}
-use Rattle.interference.specs.Net.{neighbour_of}
+use Rattle.alpha_core.specs.interference.Net.{neighbour_of}
 use Rattle.net_core.specs.State.{link_at}
 use Rattle.event_texts.specs.StateText.{link_text}
 use Rattle.wire_texts.proofs.Ranges.{texts-more}

@@ -1,9 +1,9 @@
 use Rattle.std.proofs.Common.{◌≡◌, [], ◌∷◌, ◌++◌, sym, ap, ◌∙◌, arith}
 use Rattle.std.specs.List.{range_with_len}
-use Rattle.interference.specs.Net.{count_of}
-use Rattle.node_api.specs.Program.{last_pulse_on}
-use Rattle.alpha_core.specs.View.{Alpha}
-use Rattle.alpha_core.specs.Program.{start_node}
+use Rattle.alpha_laws.specs.interference.Net.{count_of}
+use Rattle.alpha_laws.specs.node_api.Program.{last_pulse_on}
+use Rattle.alpha_laws.specs.alpha_core.View.{Alpha}
+use Rattle.alpha_laws.specs.alpha_core.Program.{start_node}
 use Rattle.net_core.specs.State.{started_nodes}
 use Rattle.net_core.proofs.Parts.{map-next}
 use Rattle.net_core.proofs.state.start_nodes.Goals as goal

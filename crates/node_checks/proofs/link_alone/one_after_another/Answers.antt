@@ -1,6 +1,6 @@
 use Rattle.std.proofs.Common.{Some, [], ◌∷◌, ◌++◌, ap, refl, ◌∙◌}
 use Rattle.alpha_core.specs.declared.wire.Wire.TheVariants.{Payload, Safe}
-use Rattle.colour_rules.specs.declared.payload.Payload.TheVariants.{Hello}
+use Rattle.colour_program.specs.colour_rules.Payload.TheVariants.{Hello}
 use Rattle.link_rule.specs.Legal.{name_of}
 use Rattle.node_checks.proofs.LinkRows.{colour_front}
 use Rattle.node_checks.proofs.link_alone.one_after_another.Goals as goal

@@ -1,16 +1,16 @@
 use Rattle.std.proofs.Common.{◌≡◌, ◌≤◌, ◌++◌, Some, length, map, refl, sym, ◌∙◌, subst}
 use Rattle.std.specs.Prelude.{All}
 use Rattle.std.proofs.lemmas.List.{length-map}
-use Rattle.interference.specs.Net.{IsNetwork}
+use Rattle.alpha_laws.specs.interference.Net.{IsNetwork}
 use Rattle.actor.proofs.Lists.{as_long}
 use Rattle.actor.specs.Node.{by_port, reacted_to}
 use Rattle.actor.specs.Written.{IsTranscript}
-use Rattle.crossing.proofs.ReadLists.{map-twice}
-use Rattle.crossing.specs.Rows.{AreCrossed, HasShape}
-use Rattle.ends.specs.Tables.{table_at, table_of}
-use Rattle.link_queue.specs.Ends.{held_of, put_list, taken_list}
-use Rattle.gather.proofs.Sides.{all_by}
-use Rattle.gather.specs.Meets.{history_of, put_of, taken_of}
+use Rattle.node_pool.proofs.ReadLists.{map-twice}
+use Rattle.node_pool.specs.Rows.{AreCrossed, HasShape}
+use Rattle.actor.specs.Tables.{table_at, table_of}
+use Rattle.actor.specs.link_queue.Ends.{held_of, put_list, taken_list}
+use Rattle.node_pool.proofs.Sides.{all_by}
+use Rattle.node_pool.specs.Meets.{history_of, put_of, taken_of}
 use Rattle.gather_laws.specs.Outcome.{IsOutcome, Outcome}
 use Rattle.node_pool.specs.Gathers.{gathered_of}
 use Rattle.node_pool.proofs.Rows.{all_rows, of_fields, of_items, shape_of}

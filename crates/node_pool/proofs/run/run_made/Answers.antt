@@ -1,9 +1,9 @@
 use Rattle.std.proofs.Common.{◌≤◌, map, sym, ◌∙◌, subst}
 use Rattle.std.specs.Prelude.{All}
-use Rattle.link_queue.specs.Ends.{link_capacity}
+use Rattle.actor.specs.link_queue.Ends.{link_capacity}
 use Rattle.gather_laws.specs.Outcome.{IsOutcome}
-use Rattle.setup.specs.Makes.{AreMade}
-use Rattle.setup.proofs.MadeRows.{made_are_new, made_within}
+use Rattle.node_pool.specs.Makes.{AreMade}
+use Rattle.node_pool.proofs.MadeRows.{made_are_new, made_within}
 use Rattle.node_pool.proofs.run.run_made.Goals as goal
 
 -- the ends of the links that were made are those of the run

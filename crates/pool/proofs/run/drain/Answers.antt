@@ -1,7 +1,7 @@
 use Rattle.std.proofs.Common.{map, arith, ap, sym, ◌∙◌}
-use Rattle.interference.specs.Net.{vertices}
-use Rattle.worker.specs.Hands.{weigh}
-use Rattle.worker.proofs.Rule.{gets, learns, settled}
+use Rattle.actor.specs.interference.Net.{vertices}
+use Rattle.pool.specs.Hands.{weigh}
+use Rattle.pool.proofs.Rule.{gets, learns, settled}
 use Rattle.pool.proofs.run.drain.Goals as goal
 
 pub pop_as-requires-clause-rule : goal.pop_as-requires-clause-rule

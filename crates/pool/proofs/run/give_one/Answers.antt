@@ -1,7 +1,7 @@
 use Rattle.std.proofs.Common.{◌<◌, ap, map, arith, ◌∙◌}
 use Rattle.crossbeam_queue.specs.Passes.{view}
-use Rattle.interference.specs.Net.{vertices}
-use Rattle.worker.proofs.Rule.{gives, map_snoc, room}
+use Rattle.actor.specs.interference.Net.{vertices}
+use Rattle.pool.proofs.Rule.{gives, map_snoc, room}
 use Rattle.pool.proofs.run.give_one.Goals as goal
 
 pub push_as-requires-clause-rule : goal.push_as-requires-clause-rule

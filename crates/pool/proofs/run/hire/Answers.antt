@@ -1,5 +1,5 @@
-use Rattle.interference.specs.Net.{vertices}
-use Rattle.worker.proofs.Rule.{forks}
+use Rattle.actor.specs.interference.Net.{vertices}
+use Rattle.pool.proofs.Rule.{forks}
 use Rattle.pool.proofs.run.hire.Goals as goal
 
 pub another-requires-clause-rule : goal.another-requires-clause-rule

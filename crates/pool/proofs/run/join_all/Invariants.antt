@@ -2,7 +2,7 @@ use Rattle.std.proofs.Common.{◌≡◌, ◌<◌, ◌+◌, vec_len}
 use Rattle.std.specs.Prelude.{All}
 use Rattle.crossbeam_queue.specs.Passes.{view}
 use Rattle.pool.proofs.run.join_all.Given as goal
-use Rattle.worker.specs.Hands.{all_parts}
+use Rattle.pool.specs.Hands.{all_parts}
 
 abbrev pub invariant-loop : goal.invariant-loop
 invariant-loop g l = record {

@@ -1,6 +1,6 @@
 use Rattle.std.proofs.Common.{ℕ}
-use Rattle.interference.specs.Net.{vertices}
-use Rattle.worker.proofs.Rule.{begins}
+use Rattle.actor.specs.interference.Net.{vertices}
+use Rattle.pool.proofs.Rule.{begins}
 use Rattle.pool.proofs.run.run_nodes.Goals as goal
 
 pub ruled-requires-clause-rule : goal.ruled-requires-clause-rule

@@ -1,5 +1,5 @@
-use Rattle.interference.specs.Net.{vertices}
-use Rattle.worker.proofs.Rule.{merges}
+use Rattle.actor.specs.interference.Net.{vertices}
+use Rattle.pool.proofs.Rule.{merges}
 use Rattle.pool.proofs.run.settle.Goals as goal
 
 pub absorb-requires-clause-rule : goal.absorb-requires-clause-rule

@@ -1,7 +1,7 @@
 -- The plan: the port is that of the neighbour (place), and the wire at its front is what the put writes down (front).
 use Rattle.std.proofs.Common.{Ok, ◌≡◌, ◌<◌, ap, sym, ◌∙◌, subst, slice_get}
-use Rattle.interference.specs.Net.{degree_of, port_to}
-use Rattle.alpha_core.specs.View.{port_at}
+use Rattle.alpha_laws.specs.interference.Net.{degree_of, port_to}
+use Rattle.alpha_laws.specs.alpha_core.View.{port_at}
 use Rattle.entries.specs.declared.entry.Entry.TheVariants as entry
 use Rattle.net_core.specs.declared.event.Event.TheVariants.{Put}
 use Rattle.net_core.specs.State.{node_of}

@@ -1,7 +1,7 @@
 -- The plan: the port is that of the neighbour (place), and the oldest wire of the link that comes by it is what the take
 -- writes down (oldest).
 use Rattle.std.proofs.Common.{Ok, ◌≡◌, ◌<◌, ap, sym, ◌∙◌, subst, slice_get}
-use Rattle.interference.specs.Net.{degree_of, port_to, neighbour_of, back_port_of}
+use Rattle.alpha_laws.specs.interference.Net.{degree_of, port_to, neighbour_of, back_port_of}
 use Rattle.entries.specs.declared.entry.Entry.TheVariants as entry
 use Rattle.net_core.specs.declared.event.Event.TheVariants.{Take}
 use Rattle.net_core.specs.State.{link_at, link_to}

@@ -1,10 +1,10 @@
 use Rattle.std.proofs.Common.{◌∙◌, ap, length, subst, sym}
-use Rattle.interference.specs.Net.{Net, degree_of}
-use Rattle.node_api.specs.Program.{Sizes}
-use Rattle.node_api.proofs.Runs.{node_at-ports}
-use Rattle.colour_rules.specs.Node.{IsPhase, Node}
-use Rattle.colour_rules.specs.Program.{colouring}
-use Rattle.colour_rules.proofs.KeptPorts.{keeps}
+use Rattle.alpha_core.specs.interference.Net.{Net, degree_of}
+use Rattle.alpha_core.specs.node_api.Program.{Sizes}
+use Rattle.alpha_core.proofs.node_api.Runs.{node_at-ports}
+use Rattle.colour_program.specs.colour_rules.Node.{IsPhase, Node}
+use Rattle.colour_program.specs.colour_rules.Program.{colouring}
+use Rattle.colour_program.proofs.colour_rules.KeptPorts.{keeps}
 use Rattle.round_texts.proofs.Sizes.{sizes_at}
 use Rattle.round_texts.proofs.rounds.push_vertex.Goals as goal
 

@@ -4,8 +4,8 @@ use Rattle.actor.proofs.Lists.{same_all, get_map, as_long, at_place}
 use Rattle.actor.proofs.Kept.{may_put, legal_by_name}
 use Rattle.actor.proofs.Steps.{put_none, put_one}
 use Rattle.actor.proofs.Writes.{wrote_none_put, wrote_one_put}
-use Rattle.interference.specs.Net.{degree_of, neighbour_of, back_port_of}
-use Rattle.alpha_core.specs.Program.{IsLegal}
+use Rattle.alpha_laws.specs.interference.Net.{degree_of, neighbour_of, back_port_of}
+use Rattle.alpha_laws.specs.alpha_core.Program.{IsLegal}
 use Rattle.actor.proofs.node.Node.put_one.Goals as goal
 
 -- there is an end for each port

@@ -1,7 +1,7 @@
 use Rattle.std.proofs.Common.{[], sym, subst, ap, ◌∙◌, map}
-use Rattle.interference.specs.Net.{IsNetwork, IsVertex, degree_of}
-use Rattle.node_api.specs.Program.{last_pulse_on}
-use Rattle.alpha_core.specs.Program.{start_node}
+use Rattle.alpha_laws.specs.interference.Net.{IsNetwork, IsVertex, degree_of}
+use Rattle.alpha_laws.specs.node_api.Program.{last_pulse_on}
+use Rattle.alpha_laws.specs.alpha_core.Program.{start_node}
 use Rattle.alpha_laws.proofs.NodeLaws.{starts_keep}
 use Rattle.alpha_laws.specs.Kept.{NodeKept}
 use Rattle.alpha_laws.proofs.Runs.{runs}

@@ -1,12 +1,12 @@
 use Rattle.std.proofs.Common.{ℕ, ◌<◌, length, refl, sym, ap, ◌∙◌, arith}
-use Rattle.interference.specs.Net.{degree_of}
+use Rattle.alpha_laws.specs.interference.Net.{degree_of}
 use Rattle.actor.specs.declared.aside.Aside.{Aside}
 use Rattle.link_queue.specs.Ends.{put_list, taken_list}
 use Rattle.actor.proofs.Lists.{same_all, as_long, at_place}
 use Rattle.actor.proofs.Kept.{legal_of_name}
 use Rattle.actor.proofs.Writes.{wrote_none_taken, wrote_taken, wrote_refused}
 use Rattle.actor.proofs.Steps.{took_none, took_one, took_refused, refused_is}
-use Rattle.interference.specs.Net.{neighbour_of, back_port_of}
+use Rattle.alpha_laws.specs.interference.Net.{neighbour_of, back_port_of}
 use Rattle.actor.proofs.node.Node.take_one.Goals as goal
 
 -- there is an end for each port

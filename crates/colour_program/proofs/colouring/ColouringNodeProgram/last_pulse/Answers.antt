@@ -1,7 +1,7 @@
 use Rattle.std.proofs.Common.{rules, ◌+◌, ◌*◌, ◌^◌, ◌<◌, ◌≤◌, arith}
-use Rattle.interference.specs.declared.limits.TheConstants.{MAX_DEGREE}
-use Rattle.interference.specs.Net.{greatest_degree_of, forest_count_of}
-use Rattle.interference.proofs.Neighbours.{greatest_degree-within, forest_count-within}
+use Rattle.node_api.below.interference.specs.declared.limits.TheConstants.{MAX_DEGREE}
+use Rattle.node_api.specs.interference.Net.{greatest_degree_of, forest_count_of}
+use Rattle.node_api.proofs.interference.Neighbours.{greatest_degree-within, forest_count-within}
 use Rattle.colour_program.proofs.Pulses.{pulses-few}
 use Rattle.colour_program.proofs.colouring.ColouringNodeProgram.last_pulse.Goals as goal
 use Rattle.colour_program.proofs.colouring.ColouringNodeProgram.last_pulse.Goals.{After-greatest_degree}

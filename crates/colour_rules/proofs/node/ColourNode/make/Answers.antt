@@ -1,8 +1,8 @@
 use Rattle.std.proofs.Common.{rules, ◌≡◌, ◌≤◌, length, replicate, subst, ap, sym, ◌∙◌, arith}
 use Rattle.std.proofs.lemmas.List.{length-replicate}
-use Rattle.interference.specs.declared.limits.TheConstants.{MAX_DEGREE}
-use Rattle.interference.specs.Net.{greatest_degree_of, forest_count_of}
-use Rattle.interference.proofs.Neighbours.{greatest_degree-within, forest_count-within}
+use Rattle.node_api.below.interference.specs.declared.limits.TheConstants.{MAX_DEGREE}
+use Rattle.node_api.specs.interference.Net.{greatest_degree_of, forest_count_of}
+use Rattle.node_api.proofs.interference.Neighbours.{greatest_degree-within, forest_count-within}
 use Rattle.forests.specs.declared.numbering.Role.TheVariants.{Unknown}
 use Rattle.colour_rules.specs.InForests.{before_in, colours_in}
 use Rattle.colour_rules.specs.Node.{HasForests, AreBelow}

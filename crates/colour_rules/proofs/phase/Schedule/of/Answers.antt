@@ -1,7 +1,7 @@
 use Rattle.std.proofs.Common.{rules, ◌≤◌, arith}
-use Rattle.interference.specs.declared.limits.TheConstants.{MAX_DEGREE}
-use Rattle.interference.specs.Net.{Net, IsNetwork, forest_count_of, greatest_degree_of}
-use Rattle.interference.proofs.Neighbours.{greatest_degree-within, forest_count-within}
+use Rattle.node_api.below.interference.specs.declared.limits.TheConstants.{MAX_DEGREE}
+use Rattle.node_api.specs.interference.Net.{Net, IsNetwork, forest_count_of, greatest_degree_of}
+use Rattle.node_api.proofs.interference.Neighbours.{greatest_degree-within, forest_count-within}
 use Rattle.colour_rules.proofs.phase.Schedule.of.Goals as goal
 
 fewer : (net : Net) → IsNetwork net → forest_count_of net ≤ MAX_DEGREE

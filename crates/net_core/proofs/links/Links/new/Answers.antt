@@ -1,7 +1,7 @@
 use Rattle.std.proofs.Common.{[], ◌∷◌, ◌++◌, map, replicate, sym, ap, ◌∙◌}
 use Rattle.std.proofs.lemmas.List.{map-append}
 use Rattle.std.specs.List.{range_with_len}
-use Rattle.interference.specs.Net.{degree_of}
+use Rattle.alpha_laws.specs.interference.Net.{degree_of}
 use Rattle.net_core.specs.State.{no_link}
 use Rattle.net_core.proofs.Parts.{map-next}
 use Rattle.net_core.proofs.links.Links.new.Goals as goal

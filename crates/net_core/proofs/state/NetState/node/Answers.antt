@@ -1,6 +1,6 @@
 use Rattle.std.proofs.Common.{sym, ap, ◌∙◌, arith, subst}
-use Rattle.interference.specs.Net.{IsVertex}
-use Rattle.node_api.specs.Program.{last_pulse_on}
+use Rattle.alpha_laws.specs.interference.Net.{IsVertex}
+use Rattle.alpha_laws.specs.node_api.Program.{last_pulse_on}
 use Rattle.net_core.specs.State.{node_of}
 use Rattle.net_core.proofs.Held.{in_nodes, last_is, node_is}
 use Rattle.net_core.proofs.state.NetState.node.Goals as goal

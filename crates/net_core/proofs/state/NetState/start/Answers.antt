@@ -1,5 +1,5 @@
 use Rattle.std.proofs.Common.{sym, subst}
-use Rattle.interference.specs.Net.{IsNetwork}
+use Rattle.alpha_laws.specs.interference.Net.{IsNetwork}
 use Rattle.net_core.proofs.Held.{simulation}
 use Rattle.net_core.proofs.Started.{keeps_started, view_started}
 use Rattle.net_core.proofs.state.NetState.start.Goals as goal

@@ -3,7 +3,7 @@
 -- refuses it (take_refused).
 use Rattle.std.proofs.Common.{◌≡◌, ◌<◌, ◌-◌, ◌∷◌, List, Ok, set, sym, ap, ◌∙◌, arith, subst}
 use Rattle.std.specs.Prelude.{slice_get}
-use Rattle.interference.specs.Net.{IsVertex, degree_of, neighbour_of}
+use Rattle.alpha_laws.specs.interference.Net.{IsVertex, degree_of, neighbour_of}
 use Rattle.net_core.specs.declared.event.Event.TheVariants.{Take}
 use Rattle.net_core.specs.State.{HasLink, link_at, link_to, set_link, state_in, take_one}
 use Rattle.net_core.specs.Step.{has_port, step}

@@ -1,5 +1,5 @@
 use Rattle.std.proofs.Common.{◌≡◌}
-use Rattle.interference.specs.Net.{count_of, degree_of}
+use Rattle.alpha_core.specs.interference.Net.{count_of, degree_of}
 use Rattle.node_checks.proofs.net_core_checks.refused_growths.make_all.Given as goal
 
 abbrev pub invariant-loop-event : goal.invariant-loop-event

@@ -1,7 +1,7 @@
 use Rattle.std.proofs.Common.{◌≡◌, ℕ, List, ap, ◌∙◌}
 use Rattle.std.specs.Prelude.{Result, Ok, Err, IfOk}
-use Rattle.interference.specs.Net.{Net, count_of}
-use Rattle.node_api.specs.Program.{Program}
+use Rattle.alpha_core.specs.interference.Net.{Net, count_of}
+use Rattle.alpha_core.specs.node_api.Program.{Program}
 use Rattle.sync_rounds.specs.Spread.{spread}
 use Rattle.net_core.specs.declared.event.Event.{Event}
 use Rattle.net_core.specs.declared.refused.RunRefused.{RunRefused}

@@ -1,5 +1,5 @@
 use Rattle.std.proofs.Common.{◌≡◌, drop, map}
-use Rattle.gather.specs.Meets.{history_of}
+use Rattle.node_pool.specs.Meets.{history_of}
 use Rattle.gather_laws.specs.Outcome.{all_empty}
 use Rattle.node_pool.proofs.outcome.Outcome.all_empty.Given as goal
 

@@ -1,9 +1,9 @@
 use Rattle.std.proofs.Common.{◌≡◌, ◌≤◌, ◌+◌, vec_len, length}
 use Rattle.std.specs.Prelude.{All}
 use Rattle.crossbeam_queue.specs.Passes.{view, ruled_capacity}
-use Rattle.interference.specs.Net.{vertices}
+use Rattle.actor.specs.interference.Net.{vertices}
 use Rattle.run_options.specs.declared.TheConstants.{MAX_WORKERS}
-use Rattle.worker.specs.Hands.{all_parts}
+use Rattle.pool.specs.Hands.{all_parts}
 use Rattle.pool.proofs.run.fn.run_nodes.scope.Given as goal
 
 abbrev pub invariant-loop-worker : goal.invariant-loop-worker

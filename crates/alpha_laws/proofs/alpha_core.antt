@@ -1,0 +1,4 @@
+-- What crates above cite of the lemmas of `alpha_core`.
+pub use Rattle.alpha_core.proofs.Cells
+pub use Rattle.alpha_core.proofs.Due
+pub use Rattle.alpha_core.proofs.Wires

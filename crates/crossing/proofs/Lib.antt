@@ -1,3 +1,0 @@
-pub mod Slots
-pub mod ReadLists
-pub mod Crosses

@@ -1,5 +1,0 @@
-use Rattle.ends.proofs.Rows.{refused_says}
-use Rattle.ends.proofs.links.Links.put.Goals as goal
-
-pub returns-clause-full : goal.returns-clause-full
-returns-clause-full g c = refused_says c.put.result (λ full. (c.link.result.now, c.link.ensures.link, full)) c.put.ensures.full

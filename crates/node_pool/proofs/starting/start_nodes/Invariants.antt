@@ -1,0 +1,20 @@
+use Rattle.std.proofs.Common.{◌≡◌, ◌-◌, ◌≤◌, ◌++◌, ℕ, map, vec_len}
+use Rattle.std.specs.Prelude.{All, reverse}
+use Rattle.std.specs.List.{range_with_len}
+use Rattle.alpha_laws.specs.interference.Net.{vertices}
+use Rattle.actor.specs.alpha_core.Program.{start_node}
+use Rattle.node_pool.specs.Rows.{row_at}
+use Rattle.node_pool.specs.News.{AreNewPutsFrom, AreNewTakesTo}
+use Rattle.node_pool.proofs.starting.start_nodes.Given as goal
+
+abbrev pub invariant-loop-k : goal.invariant-loop-k
+invariant-loop-k g l = record {
+  puts_left : vec_len l.puts ≡ l.count - l.k;
+  takes_left : vec_len l.takes ≡ l.count - l.k;
+  puts : (u : ℕ) → 1 ≤ u → u ≤ l.count - l.k
+      → AreNewPutsFrom g.J.Wiring.net g.J.Wiring.tables u (row_at (map (λ row. row.items) l.puts.items) u);
+  takes : (u : ℕ) → 1 ≤ u → u ≤ l.count - l.k
+      → AreNewTakesTo g.J.Wiring.net g.J.Wiring.tables u (row_at (map (λ row. row.items) l.takes.items) u);
+  started : map (λ b. b.value.vertex) l.nodes.items ++ reverse (range_with_len 1 (l.count - l.k)) ≡ reverse (vertices g.J.Wiring.net);
+  first : All (λ b. b.value.alpha.node ≡ start_node g.P.NodeProgram.program l.net b.value.vertex) l.nodes.items;
+}

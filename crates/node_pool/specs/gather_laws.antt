@@ -1,0 +1,2 @@
+-- What crates above name of `gather_laws`.
+pub use Rattle.gather_laws.specs.Outcome

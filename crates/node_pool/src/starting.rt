@@ -1,0 +1,86 @@
+//! The nodes of a network, each with the ends of its links.
+
+ghost use Rattle.std.specs.Prelude.{◌≡◌, ◌∷◌, ◌++◌, ◌<◌, [], All, IfOk, map, reverse, vec_len};
+ghost use Rattle.alpha_laws.specs.interference.Net.{IsVertex, vertices};
+ghost use Rattle.actor.specs.alpha_core.Program.{start_node};
+ghost use Rattle.node_pool.specs.News.{AreNewEnds, AreNewPutsFrom, AreNewTakesTo};
+
+use crate::cross::crossed;
+use crate::wires::{wired_puts, wired_takes};
+use actor::{Node, PutEnd, TakeEnd, Wiring};
+use alpha_laws::{Memory, Network, NodeProgram};
+use std::alloc::Global;
+
+// Takes the last row off.
+fn last_row<T>(rows: &mut Vec<Vec<T>>) -> Vec<T>
+    requires some { 0 < vec_len rows.old }
+    ensures rows { rows.old.items ≡ rows.new.items ++ result ∷ [] }
+{
+    match rows.pop() {
+        Some(row) => row,
+        None => unreachable!(),
+    }
+}
+
+// The node of a vertex, in a box.
+fn start_node<J: Wiring, P: NodeProgram>(
+    alloc: Global,
+    net: &Network,
+    v: u32,
+    puts: Vec<PutEnd<P>>,
+    takes: Vec<TakeEnd<P>>,
+    transcript: bool,
+) -> Result<Box<Node<J, P>>, Memory>
+    requires network { J.net ≡ net.now }
+    requires vertex { IsVertex net.now v }
+    requires transcript { J.transcript ≡ transcript }
+    requires puts { AreNewPutsFrom J.net J.tables v puts.items }
+    requires takes { AreNewTakesTo J.net J.tables v takes.items }
+    ensures vertex { IfOk result (λ node. node.value.vertex ≡ v) }
+    ensures first { IfOk result (λ node. node.value.alpha.node ≡ start_node P.program net.now v) }
+{
+    net.is_network();
+    let puts = wired_puts::<J, P>(alloc, v, puts)?;
+    let takes = wired_takes::<J, P>(alloc, net, v, takes)?;
+    let node = Node::<J, P>::start(alloc, net, v, puts, takes, transcript)?;
+    Ok(Box::new(alloc, node)?)
+}
+
+/// All nodes of a run at pulse 0, from the last vertex down, each in a box with the ends of its links. The ends are
+/// given as `make_links` makes them: row `v - 1` has those of the links out of vertex `v`, by port. With `transcript`
+/// the nodes write down what they do.
+///
+/// # Errors
+///
+/// `Memory` if memory is refused.
+pub fn start_nodes<J: Wiring, P: NodeProgram>(
+    alloc: Global,
+    net: &Network,
+    puts: Vec<Vec<PutEnd<P>>>,
+    takes: Vec<Vec<TakeEnd<P>>>,
+    transcript: bool,
+) -> Result<Vec<Box<Node<J, P>>>, Memory>
+    requires net { J.net ≡ net.now }
+    requires transcript { J.transcript ≡ transcript }
+    requires ends { AreNewEnds J.net J.tables (map (λ row. row.items) puts.items) (map (λ row. row.items) takes.items) }
+    ensures nodes { IfOk result (λ nodes. map (λ b. b.value.vertex) nodes.items ≡ reverse (vertices J.net)) }
+    ensures first { IfOk result
+        (λ nodes. All (λ b. b.value.alpha.node ≡ start_node P.program net.now b.value.vertex) nodes.items) }
+{
+    let mut puts = puts;
+    let mut takes = crossed(alloc, net, takes)?;
+    let mut nodes = Vec::new(alloc);
+    let count = net.nodes();
+    for k in 0..count {
+        let node = start_node::<J, P>(
+            alloc,
+            net,
+            count - k,
+            last_row(&mut puts),
+            last_row(&mut takes),
+            transcript,
+        )?;
+        nodes.push(node)?;
+    }
+    Ok(nodes)
+}

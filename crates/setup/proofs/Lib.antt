@@ -1,3 +1,0 @@
-pub mod Growth
-pub mod MadeRows
-pub mod Descent
