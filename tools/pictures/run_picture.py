@@ -231,8 +231,8 @@ def draw_rounds(svg, run, first, last, top, row_height):
         for v in nodes:
             for pulse in range(first, last + 2):
                 svg.line(x_of(pulse), y_of(v) - 8, x_of(pulse), y_of(v) + 8, INK, 3, mark="slot")
-        svg.text(20, height + 56, f"{counted(len(puts), 'payload')}, all that {'is' if len(puts) == 1 else 'are'} put in these pulses. Draw another run, "
-                 "with other workers: the upper half changes, this half does not.", 11.5, SOFT)
+        svg.text(20, height + 56, f"{counted(len(puts), 'payload')}, all that {'is' if len(puts) == 1 else 'are'} put in these pulses. Draw "
+                 "another run, with other workers: the upper half changes, this half does not.", 11.5, SOFT)
 
 
 def round_arrow(svg, x1, y1, x2, y2):
