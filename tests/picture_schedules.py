@@ -23,7 +23,7 @@ WALKS = 100
 
 
 def door(kind, network, *options):
-    return subprocess.run([DOOR, kind, "-", *options], input=network, capture_output=True, timeout=LIMIT)
+    return subprocess.run([DOOR, kind, "-", *options], input=network, capture_output=True, timeout=4 * LIMIT)
 
 
 def drawn(kind, network, *options):
@@ -101,7 +101,8 @@ def table_rows(name, network, without=()):
     ports = [(v, w, net_port_to(net, v, w), net_port_to(net, w, v)) for v in net.neighbours for w in sorted(net.neighbours[v])]
     shown = [(link["from"], link["to"], link["put"], link["take"]) for link in table.data["links"]]
     note(f"table of {name}: its links and ports", shown == ports, shown)
-    wrong = [s for s in range(space.count) if table.steps[s] != [((event.kind, event.v, event.port, event.place), t) for event, t in space.steps(s)]]
+    wrong = [s for s in range(space.count)
+             if table.steps[s] != [((event.kind, event.v, event.port, event.place), t) for event, t in space.steps(s)]]
     note(f"table of {name}: each step", len(table.steps) == space.count and not wrong, wrong[:3])
     faults = {(s, e): plain(words) for (s, e), words in space.faults.items()}
     shown = {(int(s), None if e == "-1" else int(e)): plain(table.data["sentences"][k])
@@ -263,7 +264,8 @@ def broken_rows(name, network, without):
          and max(x for group in marks(root, "bold") for x, _ in ends(list(group)[1])) == max(
              centre(list(group)[1])[0] for group in marks(root, "state wrong")), len(marks(root, "bold")))
     words = " ".join(texts(root))
-    note(f"{name} without {without}: its words", f"{last} events are enough to go wrong" in words and plain(said) in plain(words), words[:400])
+    good = f"{last} events are enough to go wrong" in words and plain(said) in plain(words)
+    note(f"{name} without {without}: its words", good, words[:400])
 
 
 def beyond_rows(network, without, low, high):
@@ -275,7 +277,8 @@ def beyond_rows(network, without, low, high):
     red = len(marks(root, "state wrong"))
     note(f"two without {without}, {low} to {high} events: red marks", red == wrong + refused and wrong + refused > 0, (red, wrong, refused))
     right = sum(low <= space.depth[s] <= high for s in range(space.count)) - wrong
-    note(f"two without {without}, {low} to {high} events: other marks", len(marks(root, "state")) == right, (len(marks(root, "state")), right))
+    shown = len(marks(root, "state"))
+    note(f"two without {without}, {low} to {high} events: other marks", shown == right, (shown, right))
 
 
 def given_run_rows(folder, table):
@@ -308,8 +311,8 @@ def refused(name, kind, network, *options, words=b"", status=1):
 def refused_rows():
     for kind in ("schedules", "adversary"):
         refused(f"{kind} of five nodes", kind, FIVE, words=b"at most 4 nodes")
-        refused(f"{kind} of all of four", kind, ALL_OF_FOUR, words=b"at most 200,000 states")
         refused(f"{kind} without nonsense", kind, TWO, "--without", "safe", words=b"safes", status=2)
+    refused("schedules of all of four", "schedules", ALL_OF_FOUR, words=b"at most 200,000 states")
     for window, words in (("0..105", b"0 to 104"), ("3..2", b"0 to 104"), ("0..9,", b"two numbers")):
         refused(f"schedules of events {window}", "schedules", TWO, "--events", window, words=words, status=2 if "," in window else 1)
     refused("schedules of 109 events", "schedules", STAR, "--events", "0..109", words=b"at most 108 events")
@@ -317,20 +320,21 @@ def refused_rows():
 
 
 def schedule_rows(folder, examples, play):
-    tables = {name: table_rows(name, network) for name, network in (("two", TWO), ("path", examples["path"]), ("triangle", examples["triangle"]))}
+    path, triangle = examples["path"], examples["triangle"]
+    tables = {name: table_rows(name, network) for name, network in (("two", TWO), ("path", path), ("triangle", triangle))}
     for without in (("safes",), ("acks",), ("early",), ("fifo",)):
         table_rows(f"two without {without[0]}", TWO, without)
     for name, walks in (("two", WALKS // 4), ("path", WALKS // 4), ("triangle", WALKS // 2)):
         walk_rows(name, examples.get(name, TWO), tables[name], play, walks)
     dare_rows("two", TWO, tables["two"], page_rows("two", TWO), [["281"], ["281"], ["281"], ["6"]])
-    dare_rows("path", examples["path"], tables["path"], page_rows("path", examples["path"]), [["3,551"], ["3,551"], ["3,551"], ["2", "17"], ["11"]])
+    dare_rows("path", path, tables["path"], page_rows("path", path), [["3,551"], ["3,551"], ["3,551"], ["2", "17"], ["11"]])
     lattice_rows("two", TWO, tables["two"], 0, 104)
     lattice_rows("two, its first columns", TWO, tables["two"], 0, None)
-    lattice_rows("path", examples["path"], tables["path"], 0, 20)
-    lattice_rows("triangle, its end", examples["triangle"], tables["triangle"], 364, 374)
+    lattice_rows("path", path, tables["path"], 0, 20)
+    lattice_rows("triangle, its end", triangle, tables["triangle"], 364, 374)
     for without in (("safes",), ("early",), ("fifo",), ("acks", "fifo")):
         broken_rows("two", TWO, without)
-    broken_rows("triangle", examples["triangle"], ("safes",))
+    broken_rows("triangle", triangle, ("safes",))
     for without, low, high in ((("safes",), 0, 24), (("safes",), 72, 84), (("early",), 0, 30)):
         beyond_rows(TWO, without, low, high)
     given_run_rows(folder, tables["two"])

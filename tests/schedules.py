@@ -17,6 +17,7 @@ import shutil
 import subprocess
 import sys
 import tempfile
+from collections import Counter
 from concurrent.futures import ThreadPoolExecutor
 
 from alpha_definition import Colouring, NetState, bit_step, last_pulse, ports_of, wire_words
@@ -267,9 +268,10 @@ def state_text(space, s, taken):
 
 def walk_rows(play):
     """A hundred random walks: each state beside the definitions, and some of them, and the last, beside the program."""
-    source, wrong, differ = random.Random(SEED), [], []
+    source, wrong, differ, needless = random.Random(SEED), [], [], []
+    spaces = {name: Space(net_of(name), limit=MOST) for name in ("two", "path", "triangle")}
     for name in ["two"] * 30 + ["path"] * 30 + ["triangle"] * 40:
-        space = walk_rows.spaces.setdefault(name, Space(net_of(name), limit=MOST))
+        space = spaces[name]
         state, s, events, taken = put_all(NetState(space.net)), 0, [], dict.fromkeys(space.links, 0)
         length = source.randrange(0, 400)
         while space.steps(s) and len(events) < length:
@@ -282,13 +284,14 @@ def walk_rows(play):
                 taken[event.w, event.v] += 1
             if net_key(state) != key_in_table(space, s):
                 wrong.append((name, [str(event) for event in events]))
+        kinds = Counter(line.split()[0] for line in space.lines(events))
+        if kinds["put"] != kinds["take"]:
+            needless.append((name, space.lines(events)))
         if played(play, text_of(name), space.lines(events, eager=True)) != (0, state_text(space, s, taken), b""):
             differ.append((name, space.lines(events, eager=True)))
     note("a hundred random walks, state by state", not wrong, wrong[:1])
     note("a hundred random walks by forestplay events", not differ, differ[:1])
-
-
-walk_rows.spaces = {}
+    note("a put only as a take needs it", not needless, needless[:1])
 
 
 def explored(*words):
@@ -323,10 +326,10 @@ def broken_rows(play):
         note(f"{name} without {without}", status == 0 and (what is None or first == f"broken after {count} events: {what}"), said)
         note(f"the list of {name} without {without}", [line.split(":")[0] for line in said.splitlines()[1:1 + len(lines)]] == lines,
              (said, lines))
-        note(f"{name} without {without}, puts apart: as many events", apart.split(": ")[0] == first.split(": ")[0]
-             or count is None, apart)
+        note(f"{name} without {without}, puts apart: as many events", apart.split(": ")[0] == first.split(": ")[0], apart)
         got = played(play, text_of(name), lines)
-        note(f"forestplay on the list of {name} without {without}", got == answer_of(net_of(name), numbered(text_of(name), lines)), got)
+        wanted = answer_of(net_of(name), numbered(text_of(name), lines))
+        note(f"forestplay on the list of {name} without {without}", got == wanted, (got, wanted))
         wanted = f"forestplay: {fault} line ".encode() if fault else b""
         note(f"forestplay refuses it as it should, {name} without {without}",
              got[2].startswith(wanted) and got[0] == (1 if fault else 0), got)
@@ -498,8 +501,10 @@ def word_rows():
     status, said, fault = explored("--help")
     note("explore --help", (status, fault) == (0, "") and all(f"  {word} " in said for word in rules.ALL), said)
     with open("/dev/full", "wb") as full:
-        done = subprocess.run([os.path.join(TOP, "explore"), "examples/two.col"], cwd=TOP, stdout=full, stderr=subprocess.PIPE, timeout=LIMIT)
-    note("a full device", (done.returncode, done.stderr) == (1, b"explore: the output can't be written: No space left on device\n"), done)
+        done = subprocess.run([os.path.join(TOP, "explore"), "examples/two.col"], cwd=TOP, stdout=full, stderr=subprocess.PIPE,
+                              timeout=LIMIT)
+    note("a full device", (done.returncode, done.stderr) == (
+        1, b"explore: the output can't be written: No space left on device\n"), done)
     with tempfile.TemporaryDirectory() as folder:
         link = os.path.join(folder, "explore")
         os.symlink(os.path.join(TOP, "explore"), link)
@@ -531,11 +536,11 @@ MISTAKES = [
     ("space.py", "if t >= self.limit:", "if t > self.limit:"),
     ("ruled_node.py", "tuple(port.out))", "len(port.out))"),
     ("ruled_node.py", "port.early, tuple", "None, tuple"),
-    ("ruled_node.py", "(self.pulse_number, self.said,", "(self.pulse_number, True,"),
+    ("ruled_node.py", "(port.waits, port.safe, port.early_safe,", "(port.waits, port.early_safe,"),
     ("ruled_node.py", "if got is None and due is not None:", "if got is None:"),
     ("ruled_node.py", "if ahead == 0 or ahead == 1 and \"early\" in self.without:", "if ahead == 0:"),
     ("ruled_node.py", "return self.pulse_number != self.last and self.said and self.can_take()", "return self.pulse_number != self.last"),
-    ("ruled_node.py", "        if \"acks\" in self.without:\n            for", "        if \"acks\" in self.without and not self.pulse_number:\n            for"),
+    ("ruled_node.py", "if \"acks\" in self.without:\n", "if \"acks\" in self.without and not self.pulse_number:\n"),
     ("ruled_rounds.py", "colour - colour % 2 if", "colour // 2 if"),
     ("ruled_rounds.py", "and net.parent(f, v) is None else", "and net.parent(f, v) else"),
     ("ruled_rounds.py", "if \"children\" in without else [before[v]]", "if \"parent\" in without else [before[v]]"),

@@ -16,7 +16,7 @@ import subprocess
 import sys
 import tempfile
 
-from picture_base import TALLY, TOP, call, note
+from picture_base import LIMIT, TALLY, TOP, call, note
 
 SIZES = {"wide": (1024, 768), "phone": (390, 844)}
 NETWORKS = {
@@ -95,7 +95,7 @@ class Browser:
             self.ask("Input.dispatchMouseEvent", type=kind, x=x, y=y, button="left", clickCount=1)
 
     def key(self, key):
-        more = {"text": "\r", "windowsVirtualKeyCode": 13} if key == "Enter" else {"windowsVirtualKeyCode": 9} if key == "Tab" else {"text": key}
+        more = {"Enter": {"text": "\r", "windowsVirtualKeyCode": 13}, "Tab": {"windowsVirtualKeyCode": 9}}.get(key, {"text": key})
         self.ask("Input.dispatchKeyEvent", type="keyDown", key=key, **more)
         self.ask("Input.dispatchKeyEvent", type="keyUp", key=key)
 
@@ -128,7 +128,8 @@ def look_rows(browser, name, width, height):
     if width > 600:
         bottom = browser.value("document.getElementById('list').getBoundingClientRect().bottom + scrollY")
         note(f"{name}: all is on the first screen", bottom <= height, bottom)
-    smallest = browser.value("Math.min.apply(null, Array.from(document.querySelectorAll('button')).map(function (b) { return b.getBoundingClientRect().height; }))")
+    smallest = browser.value("""Math.min.apply(null, Array.from(document.querySelectorAll('button')).map(function (button) {
+        return button.getBoundingClientRect().height; }))""")
     note(f"{name}: buttons are large enough for a finger", smallest >= 30, smallest)
     browser.click("document.getElementById('anew')")
     note(f"{name}: start again", browser.value(EVENTS) == 0)
@@ -147,7 +148,8 @@ def mouse_rows(browser, name):
         browser.click(FREE_TOKEN)
     before = browser.value("pulses().join()")
     browser.click(READY_DISC + ".querySelector('circle')")
-    note(f"{name}: a node that is clicked makes its pulse", browser.value("pulses().join()") != before and not browser.value("now().step.take"))
+    after = browser.value("pulses().join()")
+    note(f"{name}: a node that is clicked makes its pulse", after != before and not browser.value("now().step.take"), after)
 
 
 def key_rows(browser, name):
@@ -178,10 +180,18 @@ def freeze_rows(browser, name):
     browser.click("document.querySelector('.edge')")
     note(f"{name}: a line that is clicked is frozen", browser.value(f"frozen['{edge}']") is True)
     browser.click("by('rest')")
-    held = browser.value("T.links.filter(function (link) { return edgeOf(link) === '%s'; }).every(function (link) { return held(link, now().state).length > 0; })" % edge)
-    note(f"{name}: nothing comes over it", held and "frozen" in browser.value("by('said').textContent"), browser.value("by('said').textContent"))
+    held = browser.value("""T.links.filter(function (link) { return edgeOf(link) === '%s'; }).every(function (link) {
+        return held(link, now().state).length > 0; })""" % edge)
+    said = browser.value("by('said').textContent")
+    note(f"{name}: nothing comes over it", held and "frozen" in said, said)
     browser.click("document.querySelector('#freeze button')")
     note(f"{name}: its button thaws it", not browser.value(f"frozen['{edge}']") and browser.value("possible().length") > 0)
+
+
+def played(browser, network, play):
+    """What forestplay does with the page's list."""
+    text = network + browser.value("by('list').value").encode()
+    return subprocess.run([play, "events"], input=text, capture_output=True, timeout=LIMIT)
 
 
 def list_rows(browser, name, network, play):
@@ -193,13 +203,14 @@ def list_rows(browser, name, network, play):
         if not events:
             browser.click("by('rest')")
         if play:
-            done = subprocess.run([play, "events"], input=network + browser.value("by('list').value").encode(), capture_output=True, timeout=60)
-            shown = browser.value("by('state').textContent") + "\n"
-            note(f"{name}: forestplay shows the same after {events or 'all'} events", (done.returncode, done.stdout.decode()) == (0, shown), (done, shown))
+            done, shown = played(browser, network, play), browser.value("by('state').textContent") + "\n"
+            good = (done.returncode, done.stdout.decode()) == (0, shown)
+            note(f"{name}: forestplay shows the same after {events or 'all'} events", good, (done, shown))
     said, won = browser.value("by('said').textContent"), browser.value("P.dares.map(function (dare) { return judged(dare)[0]; })")
     note(f"{name}: the end", "All have halted" in said, said)
-    kinds = browser.value("P.dares.map(function (dare) { return dare.kind + ('least' in dare ? dare.pairs.length : ''); })")
-    note(f"{name}: what can't be won isn't", not any(got for got, kind in zip(won, kinds) if kind in ("wrong", "plan")), list(zip(kinds, won)))
+    kinds = browser.value("P.dares.map(function (dare) { return dare.kind; })")
+    never = [got for got, kind in zip(won, kinds) if kind in ("wrong", "plan")]
+    note(f"{name}: what can't be won isn't", not any(never), list(zip(kinds, won)))
 
 
 def broken_rows(browser, name, network, play):
@@ -220,7 +231,7 @@ def broken_rows(browser, name, network, play):
     note(f"{name}: what goes wrong is said", said.startswith("wrong: ") and browser.value(EVENTS) == len(path), said)
     note(f"{name}: the dare is won", browser.value("judged(P.dares[0])[0]") is True)
     if play:
-        done = subprocess.run([play, "events"], input=network + browser.value("by('list').value").encode(), capture_output=True, timeout=60)
+        done = played(browser, network, play)
         note(f"{name}: forestplay refuses the list", done.returncode == 1 and b" line " in done.stderr, done)
 
 

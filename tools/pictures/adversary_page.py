@@ -98,17 +98,14 @@ def slots_of(start, end):
     back, slots = RADIUS + 14 + reach, []
     while len(slots) < MOST_SLOTS and (not slots or back + reach < length - RADIUS):
         x, y = x2 - dx * back - dy * aside, y2 - dy * back + dx * aside
-        slots.append({"x": tidy(x), "y": tidy(y), "tip": "" if slots else tip(x + dx * edge_of_box(dx, dy), y + dy * edge_of_box(dx, dy), dx, dy)})
+        slots.append({"x": tidy(x), "y": tidy(y), "tip": "" if slots else tip(x, y, dx, dy)})
         back += apart
     return slots
 
 
-def edge_of_box(dx, dy):
-    """How far it is from a message's middle to its border, along its way."""
-    return min(HALF_WIDTH / abs(dx) if dx else 1000, HALF_HEIGHT / abs(dy) if dy else 1000)
-
-
 def tip(x, y, dx, dy):
-    """An arrow's head on the border, along dx, dy."""
+    """An arrow's head on a message's border, along dx, dy."""
+    border = min(HALF_WIDTH / abs(dx) if dx else 1000, HALF_HEIGHT / abs(dy) if dy else 1000)
+    x, y = x + dx * border, y + dy * border
     points = [(x + dx * 9, y + dy * 9), (x - dy * 5, y + dx * 5), (x + dy * 5, y - dx * 5)]
     return "M" + "L".join(f"{shown(px)} {shown(py)}" for px, py in points) + "Z"

@@ -85,4 +85,5 @@ def table_of(space, words):
             "followed": space.expanded, "nodes": nodes, "links": links, "wires": [words(wire) for wire in wires],
             "events": [list(event) for event in events], "counts": column(len(row) for row in steps),
             "chosen": column(e for e, _ in flat),
-            "targets": column(by - least for _, by in flat), "least": least, "sentences": [quoted(sentence) for sentence in sentences], "faults": faults}
+            "targets": column(by - least for _, by in flat), "least": least, "faults": faults,
+            "sentences": [quoted(sentence) for sentence in sentences]}

@@ -195,7 +195,9 @@ class Lattice:
                                                                              else f", {rounded(space.schedules)} schedules."))
         if (self.low, self.high) != (0, self.last):
             said.append(f"Here are those after {self.low} to {self.high} of {self.last} events.")
-        if self.what:
+        if not any(self.low <= space.depth[s] < self.high for s, _ in self.bold):
+            pass
+        elif self.what:
             said.append(f"Bold: {self.what}.")
         elif space.faults:
             said.append(f"Bold: a shortest schedule that goes wrong: {fault_words(space)}.")
@@ -258,7 +260,7 @@ class Lattice:
         for fill, words in list(zip(APART, meant))[:max(2, self.most_apart + 1)]:
             svg.circle(x + 6, y - 4, 6, fill, BORDER, 0.8)
             svg.text(x + 18, y, words, 11.5, SOFT)
-            x += 18 + text_width(words, 11.5)
+            x += 24 + text_width(words, 11.5) * 0.95
 
 
 def wrapped(text, size, width):

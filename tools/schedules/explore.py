@@ -178,7 +178,8 @@ def whole_text(given, name, space):
         "each pulse had the round's inbox, and something was possible until all was done",
         f"neighbours at most {space.farthest} pulse{'s' * (space.farthest != 1)} apart, "
         f"at most {space.most_wires} wires of a link under way",
-        f"{'one end' if len(channels) == 1 else f'{len(channels)} ends'}: channels {' or '.join(dict.fromkeys(channels))}"]) + refused_words(given.without)
+        f"{'one end' if len(channels) == 1 else f'{len(channels)} ends'}: channels {' or '.join(dict.fromkeys(channels))}",
+    ]) + refused_words(given.without)
 
 
 def rounded(number):

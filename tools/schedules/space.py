@@ -250,7 +250,7 @@ class Space:
     def stuck_words(self, s):
         waiting = [f"node {v} waits for {' and '.join(f'{wire} from {w}' for wire, w in node.waits)}"
                    for v, node in self.nodes(s).items() if node.waits]
-        return "nothing is possible, and " + ", ".join(waiting)
+        return ", and ".join(["nothing is possible before the end", *[", ".join(waiting)] * bool(waiting)])
 
     def nodes(self, s):
         return {v: self.node_words(v, self.locals[a][self.states[s][a]]) for a, v in enumerate(self.vertices)}
