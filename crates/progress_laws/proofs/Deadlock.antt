@@ -40,18 +40,18 @@ module _ {S M E : Type 0} {program : Program S M E} {net : Net} (ok : IsNetwork 
       (λ whole. inr whole)
       (moves ok (simulates ok runs all) all.splits capacity some)
 
-  pub whole_rests : IsWholeState program net state → (event : Event) → Possible program net state event → ⊥
-  whole_rests whole (Pulse v) (vertex, can) =
+  pub whole_terminal : IsWholeState program net state → (event : Event) → Possible program net state event → ⊥
+  whole_terminal whole (Pulse v) (vertex, can) =
       let view = (node_of program net state v).view in
       let halted : is_halted (last_pulse_on program net) view ≡ true = (and_parts _ _ (and_parts _ _ (whole.drained v vertex)).0).0 in
       let not_halted : not (is_halted (last_pulse_on program net) view) ≡ true = (and_parts _ _ (and_parts _ _ (and_parts _ _ can).0).0).0 in
       let wrong : not true ≡ true = ap not (sym halted) ∙ not_halted in
       absurd cc
-  whole_rests whole (Put v i) ((vertex, lt), some) =
+  whole_terminal whole (Put v i) ((vertex, lt), some) =
       let view = (node_of program net state v).view in
       let few = out_at 0 view.ports i (and_parts _ _ (and_parts _ _ (whole.drained v vertex)).0).1 (omega (arith, (kept.each v vertex).ports.count, lt)) in
       absurd (omega arith)
-  whole_rests whole (Take v i) ((vertex, lt), some) =
+  whole_terminal whole (Take v i) ((vertex, lt), some) =
       let link = link_to net state.links v i in
       let empty : link.held ≡ [] = whole.empty _ _ (ok.vertices v i vertex lt) (ok.symmetric v i vertex lt) in
       absurd (omega (arith, some, length-append link.taken link.held, ap length empty))

@@ -10,7 +10,7 @@ ghost use Rattle.progress_laws.specs.Laws.{RunsAreCounted, RunsCanBeCompleted, W
 /// wire; over links of any capacity but none. In a state of the second kind no event is possible.
 pub fn no_deadlock<S, M, E>()
     ensures moves { (program : Program S M E) → OnEveryNetwork program (NoDeadlock program) }
-    ensures rests { (program : Program S M E) → OnEveryNetwork program (WholeStatesAreTerminal program) }
+    ensures terminal { (program : Program S M E) → OnEveryNetwork program (WholeStatesAreTerminal program) }
 {}
 
 /// A list of events has as many events as its state shows, so all lists that lead to one state are equally long. It has
