@@ -41,7 +41,7 @@ impl<T> Model for OutLists<T> {
 }
 
 impl<T: Copy> OutLists<T> {
-    /// Empty lists for `degree` ports. No later call takes memory.
+    /// Empty lists for `degree` ports. No later call can return out-of-memory.
     pub(crate) fn new(alloc: Global, degree: u32) -> Result<OutLists<T>, Memory>
         ensures empty { IfOk result (λ outs. outs ≡ replicate degree []) }
     {

@@ -8,8 +8,8 @@ use std::alloc::{AllocError, Global};
 use std::marker::Model;
 use std::mem::replace;
 
-// How many items the first block has. A further one has as many as all before it, up to SMALL_BLOCK: so up to
-// MANY_ITEMS few of all places are unused.
+// How many items the first block has. Each further block has as many as all blocks before it together, but at most
+// SMALL_BLOCK. So few places are unused in a list of up to MANY_ITEMS.
 const FIRST_BLOCK: usize = 16;
 
 const SMALL_BLOCK: usize = 128;

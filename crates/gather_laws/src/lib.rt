@@ -12,7 +12,8 @@
 //! gather_laws::laws::whole_outcomes_are_complete::<S, M, E>();
 //! ```
 //!
-//! Limits: these are laws alone. No code that gathers nodes stands here.
+//! Limits: these are laws alone. No code that gathers nodes stands here, so that `async_colour_laws` speaks of outcomes
+//! without standing on that code.
 #![tactic(auto)]
 
 pub mod laws;

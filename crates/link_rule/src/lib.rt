@@ -7,8 +7,8 @@
 //!
 //! A node's link sends a fixed list of wires in the synchronous run of its program: the stream. A list is legal
 //! if its payloads, safes and close begin that stream and its acknowledgements begin those that are due.
-//! `StreamCheck` looks at the order of wires alone, as they come one by one, and not at what they carry; it takes
-//! no memory. `laws` says that every legal list passes it, and what a legal list with a close is.
+//! `StreamCheck` looks at the order of wires alone, as they come one by one, and not at what they carry; no program
+//! uses it. `laws` says that every legal list passes it, and what a legal list with a close is.
 //! `link_queue` stands on the names and the legality of this crate (`specs/Legal.antt`).
 #![tactic(auto)]
 

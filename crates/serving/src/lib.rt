@@ -13,7 +13,8 @@
 //!
 //! The contract of `serve` says what goes to the output, to the errors and into the status, for all words,
 //! every input and every stream, if the call returns. Of the texts of `clap`, help among them, it says only where they
-//! go.
+//! go. A `Vec` as an output doesn't know whether a write failed; so of the example the contract also allows the line
+//! `forestplan: stream` with status 4.
 #![tactic(auto)]
 
 mod answer;
