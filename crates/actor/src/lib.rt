@@ -16,7 +16,8 @@
 //!
 //! With a transcript a node writes down each of its events (`entries`), and keeps as a fact of its type that these are
 //! all that it did (`specs/Written.antt`). Each entry's place is reserved before its event; so a turn whose place is
-//! refused leaves the node as after its last event. Without a transcript no turn takes memory.
+//! refused leaves the node as after its last event. Without a transcript no turn can return
+//! out-of-memory.
 //!
 //! Limits: those of `alpha_core` and `link_queue`.
 #![tactic(auto)]

@@ -55,7 +55,7 @@ pub struct Node<J: Wiring, P: NodeProgram> {
 
 impl<J: Wiring, P: NodeProgram> Node<J, P> {
     /// The node of a vertex at pulse 0, with ends at which nothing was put or taken. Without a transcript nothing else
-    /// of a node takes memory.
+    /// of a node can return out-of-memory.
     ///
     /// # Errors
     ///

@@ -5,3 +5,5 @@ pub const MAX_NODES: u32 = 20_000;
 
 /// How many distinct edges a graph may have.
 pub const MAX_EDGES: usize = 400_000;
+
+const _: () = prove!(MAX_NODES == 20_000 && MAX_EDGES == 400_000);

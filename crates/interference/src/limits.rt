@@ -2,3 +2,5 @@
 
 /// How many neighbours a node may have.
 pub const MAX_DEGREE: u32 = 1023;
+
+const _: () = prove!(MAX_DEGREE == 1_023);

@@ -104,7 +104,7 @@ impl<P: NodeProgram> Link<P> {
         named::<Brand, P>(alloc, network, vertex, port, capacity)
     }
 
-    /// Puts a wire at the end of the link. It takes no memory, and may spin.
+    /// Puts a wire at the end of the link. It can't return out-of-memory, and may spin.
     ///
     /// What the end has put and then the wire has to begin a legal list of the link; so nothing is put after a close.
     ///
@@ -135,8 +135,8 @@ impl<P: NodeProgram> Link<P> {
         }
     }
 
-    /// Takes the oldest wire off the link; `None` only if the link was empty at a moment of the call. It takes no
-    /// memory, and may spin.
+    /// Takes the oldest wire off the link; `None` only if the link was empty at a moment of the call. It
+    /// can't return out-of-memory, and may spin.
     pub fn take<R: Wait>(&self, rt: &R, end: &mut TakeEnd<P>) -> Option<Wire<P::Payload>>
         requires end { IsTakeEndOf self.now end.old }
         ensures end { StaysTakeEnd self.now end.old end.new }

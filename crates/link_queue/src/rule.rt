@@ -36,7 +36,7 @@ impl Naming for Brand {
     ghost name = { record { network = record { ids = []; ports = [] }; vertex = 0; port = 0 } };
 }
 
-// The naming: the one view of a new link gets the name; the pass that this makes is spent.
+// Naming a new link: its one view gets the name; the second pass that the splitting makes is not used.
 pub struct Named<J> {
     name: PhantomData<J>,
 }

@@ -16,8 +16,8 @@ use alpha_laws::{Memory, Network, NodeProgram};
 use std::alloc::Global;
 use std::sync::Wait;
 
-/// What the nodes of a run, ascending, and its links leave, once all threads are joined. The outcome's
-/// capacity may be any number that no link's capacity exceeds.
+/// What the nodes of a run, ascending, and its links leave, once all threads are joined. The outcome
+/// holds for every capacity that no link's own capacity exceeds.
 ///
 /// # Errors
 ///

@@ -9,9 +9,9 @@
 //! if outcome.is_whole() { .. outcome.actors() .. }
 //! ```
 //!
-//! `making` makes the links, each with its two ends, and `starting` the nodes with the ends of theirs; `run` runs them;
-//! `parts` takes the nodes apart again, `cross` brings the ends that take back to where their links leave, and `meeting`
-//! lets each link meet both its ends. `gathering` makes the outcome of what is gathered.
+//! `making` makes the links, each with its two ends, and `starting` the nodes with the ends of theirs; `run` runs them.
+//! `parts` takes the nodes apart again, `cross` brings the ends that take back to where their links leave, and
+//! `meeting` lets each link meet both its ends. `gathering` makes the outcome of what is gathered.
 //!
 //! Limits: `MAX_WORKERS` and `MAX_CAPACITY`. Without a transcript no turn can return out-of-memory. Nothing is promised
 //! of time, of fairness, that an outcome is whole, or that the call returns.

@@ -17,7 +17,7 @@ impl<'a, J: Wiring, P: NodeProgram> Promise<Worked<J, P>> for OfPool<'a, J, P> {
     ghost kept_by = { λ p r. r.pass.table_id ≡ p.0.now.table.shared.table_id };
 }
 
-/// The pass of who starts the workers, and the nodes that are out by it.
+/// The pass of the thread that starts the workers, and the nodes that it has out.
 #[derive(Drop)]
 pub struct Chief<J: Wiring, P: NodeProgram> {
     pub pass: PoolPass<J, P>,

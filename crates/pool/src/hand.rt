@@ -8,8 +8,8 @@ use crossbeam_queue::protocol::{Join, Lesson, Outcome, Protocol, Split};
 use std::collections::LinkedList;
 use std::marker::PhantomData;
 
-/// What a pass of the pool knows: its parts of the right to know the whole, and the vertices of the nodes that came
-/// out by it and didn't go back. Contracts speak of it; no value of it is made.
+/// How many of the `MAX_WORKERS` + 1 shares of the pool a pass has, and the vertices of the nodes that it has out.
+/// Whoever has all shares knows what is in the pool. Contracts speak of it; no value of it is made.
 pub struct Hand {
     pub parts: u64,
     pub out: LinkedList<u32>,

@@ -1,10 +1,10 @@
 //! A run of workers over the pool.
 
-ghost use Rattle.std.specs.Prelude.{◌≡◌, ◌≢◌, ◌<◌, ◌≤◌, ◌+◌, [], All, map, reverse, vec_len, length, IfOk, IfErr};
+ghost use Rattle.std.specs.Prelude.{◌≡◌, ◌≢◌, ◌<◌, ◌≤◌, ◌+◌, [], All, map, reverse, vec_len, length, IfOk, IfErr, ⊥};
 ghost use Rattle.actor.specs.interference.Net.{vertices};
 ghost use Rattle.crossbeam_queue.specs.Passes.{IsPassOf, ruled_capacity, view};
 ghost use Rattle.pool.specs.Hands.{AreSame, all_parts, hand};
-ghost use Rattle.pool.specs.declared.fault.PoolFault.TheVariants.{BadOptions};
+ghost use Rattle.pool.specs.declared.fault.PoolFault.TheVariants.{BadOptions, Memory, Spawn};
 
 use crate::chief::{Chief, OfPool};
 use crate::fault::PoolFault;
@@ -54,6 +54,7 @@ fn settle<J: Wiring, P: NodeProgram>(
     requires theirs { done.pass.table_id ≡ pool.now.table.shared.table_id }
     ensures pool { IfOk result (λ c. c.pass.table_id ≡ pool.now.table.shared.table_id) }
     ensures parts { IfOk result (λ c. (view c.pass).parts ≡ (view chief.pass).parts + 1) }
+    ensures memory { IfErr done.written (λ _. IfOk result (λ _. ⊥)) }
 {
     let Chief { mut pass, mut kept } = chief;
     let Worked {
@@ -174,6 +175,7 @@ fn start<'s, E, J: Wiring + Send + Sync, P: NodeProgram, G: Gate + Sync, R: Thre
     requires room { length (vertices J.net) ≤ ruled_capacity pool.now }
     ensures of { IfOk result (λ h. h.promise.0.now.table.shared.table_id ≡ pool.entry.now.table.shared.table_id) }
     ensures fault { IfErr result (λ fault. fault ≢ BadOptions) }
+    ensures spawn { IfErr result (λ fault. fault ≡ Spawn) }
 {
     let started = scope.spawn_with(
         OfPool(pool),
@@ -207,6 +209,7 @@ fn join_all<'s, J: Wiring, P: NodeProgram, R: Threads + Wait>(
     ensures pool { IfOk result (λ c. c.pass.table_id ≡ pool.entry.now.table.shared.table_id) }
     ensures parts { IfOk result (λ c. (view c.pass).parts ≡ all_parts) }
     ensures fault { IfErr result (λ fault. fault ≢ BadOptions) }
+    ensures memory { IfErr result (λ fault. fault ≡ Memory) }
 {
     for _ in 0..children.len() {
         let Some(child) = children.pop() else {

@@ -18,6 +18,8 @@ pub const MAX_CAPACITY: u32 = 64;
 /// The greatest number of looks of a worker that the command line takes; `node_pool` has no limit.
 pub const MAX_TURNS: u64 = 1_000_000_000_000;
 
+const _: () = prove!(MAX_WORKERS == 64 && MAX_CAPACITY == 64 && MAX_TURNS == 1_000_000_000_000);
+
 /// How the nodes of a network are run.
 #[derive(Debug, Clone, Copy, PartialEq, Eq)]
 pub struct Options {
