@@ -3,7 +3,7 @@
 docs/FORMATS.md (slow_reader.py). The last line is 'N passed, M failed'.
 
   hostile.py [--texts N] [--seed SEED] [--program PROGRAM] [--play PLAY]
-      N         how many random texts, over all commands; default 100000
+      N         how many random texts, over all commands; default 60000
       SEED      of the random texts; default 2026
       PROGRAM   default: the built forestplan
       PLAY      default: the built forestplay
@@ -120,7 +120,7 @@ def long_lines(data, length=2**20):
 
 def main():
     words = argparse.ArgumentParser(description=__doc__, formatter_class=argparse.RawDescriptionHelpFormatter)
-    words.add_argument("--texts", type=int, default=100_000)
+    words.add_argument("--texts", type=int, default=60_000)
     words.add_argument("--seed", default="2026")
     for name, program in (("--program", "forestplan"), ("--play", "forestplay")):
         words.add_argument(name, default=os.path.join(TOP, "crates", program, "out", program))

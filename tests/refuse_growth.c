@@ -2,10 +2,12 @@
    how many calls there were to the file COUNT. Both are words of the environment. For LD_PRELOAD. */
 #define _GNU_SOURCE
 #include <dlfcn.h>
+#include <fcntl.h>
 #include <stdatomic.h>
 #include <stddef.h>
 #include <stdio.h>
 #include <stdlib.h>
+#include <unistd.h>
 
 static atomic_long calls, refused = -1;
 
@@ -20,10 +22,10 @@ static int is_refused(void) {
 __attribute__((destructor)) static void write_count(void) {
     const char *name = getenv("COUNT");
     long made = calls;
-    FILE *file = name ? fopen(name, "w") : NULL;
-    if (file) {
-        fprintf(file, "%ld\n", made);
-        fclose(file);
+    int file = name ? open(name, O_WRONLY | O_CREAT | O_TRUNC, 0644) : -1;
+    if (file >= 0) {
+        dprintf(file, "%ld\n", made);
+        close(file);
     }
 }
 

@@ -4,6 +4,7 @@
 #define _GNU_SOURCE
 #include <dlfcn.h>
 #include <errno.h>
+#include <fcntl.h>
 #include <pthread.h>
 #include <stdatomic.h>
 #include <stdio.h>
@@ -23,10 +24,10 @@ __attribute__((destructor)) static void write_counts(void) {
     const char *name = getenv("COUNT_THREADS");
     if (!name) return;
     for (int i = 0; i < LOOKS && ended < started; i++) usleep(MICROSECONDS);
-    FILE *file = fopen(name, "w");
-    if (file) {
-        fprintf(file, "%ld %ld %ld\n", (long)asked, (long)started, (long)ended);
-        fclose(file);
+    int file = open(name, O_WRONLY | O_CREAT | O_TRUNC, 0644);
+    if (file >= 0) {
+        dprintf(file, "%ld %ld %ld\n", (long)asked, (long)started, (long)ended);
+        close(file);
     }
 }
 
