@@ -449,6 +449,9 @@ def rounds_rows():
         nodes = len(rounds.net.neighbours)
         if rule in SMALLEST:
             note(f"the smallest network without {rule}", (nodes, edges) == SMALLEST[rule], (nodes, edges))
+        if rule == "root":
+            # By hand: after four bit steps 1 has colour 1 and its root 2 has colour 0; then 1 takes 0.
+            note("the first clash without root", rounds.clash == (7, 0, 1, 2, 0), rounds.clash)
         note(f"it goes wrong without {rule}", goes_wrong(rounds.net, rule), edges)
         smaller = [net for net in tried if len(net.neighbours) < nodes]
         smaller += [network_at_random(source, source.randrange(2, nodes)) for _ in range(60 if nodes > 2 else 0)]
@@ -544,7 +547,7 @@ MISTAKES = [
     ("ruled_rounds.py", "colour - colour % 2 if", "colour // 2 if"),
     ("ruled_rounds.py", "and net.parent(f, v) is None else", "and net.parent(f, v) else"),
     ("ruled_rounds.py", "if \"children\" in without else [before[v]]", "if \"parent\" in without else [before[v]]"),
-    ("ruled_rounds.py", "old = dict.fromkeys(old, 0)", "old = dict.fromkeys(old, 1)"),
+    ("ruled_rounds.py", "old = dict.fromkeys(old, 0)", "old = {v: -colour for v, colour in old.items()}"),
     ("ruled_rounds.py", "== f} for v, ws", "<= f} for v, ws"),
     ("ruled_rounds.py", "self.net.number[frozenset((v, w))] <= f and", "self.net.number[frozenset((v, w))] < f and"),
     ("ruled_rounds.py", "for count in range(1, nodes):", "for count in range(2, nodes):"),
