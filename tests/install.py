@@ -14,7 +14,8 @@ from plain_definition import network_of, plan_text
 from rounds_definition import rounds_text
 
 TOP = os.path.dirname(os.path.dirname(os.path.abspath(__file__)))
-LIMIT = 60
+# Seconds; a busy machine takes long for the many calls of help that the manual pages are made of.
+LIMIT = 300
 TALLY = {"passed": 0, "failed": 0}
 PROGRAMS = {"forestplan": ["forests", "plain", "plan", "transcript", "check"], "forestplay": ["events", "replay", "rounds"]}
 SCRIPTS = ("picture", "network", "check-transcript", "replay")
