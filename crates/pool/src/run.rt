@@ -1,10 +1,10 @@
 //! A run of workers over the pool.
 
-ghost use Rattle.std.specs.Prelude.{◌≡◌, ◌≢◌, ◌<◌, ◌≤◌, ◌+◌, [], All, map, reverse, vec_len, length, IfOk, IfErr, ⊥};
+ghost use Rattle.std.specs.Prelude.{◌≡◌, ◌≢◌, ◌<◌, ◌≤◌, ◌+◌, [], All, map, reverse, vec_len, length, IfOk, IfErr};
 ghost use Rattle.actor.specs.interference.Net.{vertices};
 ghost use Rattle.crossbeam_queue.specs.Passes.{IsPassOf, ruled_capacity, view};
 ghost use Rattle.pool.specs.Hands.{AreSame, all_parts, hand};
-ghost use Rattle.pool.specs.declared.fault.PoolFault.TheVariants.{BadOptions, Memory, Spawn};
+ghost use Rattle.pool.specs.declared.fault.PoolFault.TheVariants.{BadOptions, Spawn};
 
 use crate::chief::{Chief, OfPool};
 use crate::fault::PoolFault;
@@ -209,7 +209,7 @@ fn join_all<'s, J: Wiring, P: NodeProgram, R: Threads + Wait>(
     ensures pool { IfOk result (λ c. c.pass.table_id ≡ pool.entry.now.table.shared.table_id) }
     ensures parts { IfOk result (λ c. (view c.pass).parts ≡ all_parts) }
     ensures fault { IfErr result (λ fault. fault ≢ BadOptions) }
-    ensures memory { IfErr result (λ fault. fault ≡ Memory) }
+    ensures memory { IfErr result (λ fault. fault ≡ PoolFault.Memory) }
 {
     for _ in 0..children.len() {
         let Some(child) = children.pop() else {
