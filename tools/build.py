@@ -209,17 +209,18 @@ def built(crates, jobs, name):
         return 2
     _lock = wait_for_turn(name)
     wanted = with_below(crates or below, below)
-    build = Build(crates_named(wanted, toolchain()), jobs, Shown(name, len(wanted)))
+    shown = Shown(name, len(wanted))
     try:
-        crate = build.run()
+        _lock = wait_for_turn(name)
+        crate = Build(crates_named(wanted, toolchain()), jobs, shown).run()
     except KeyboardInterrupt:
-        build.shown.end(f"interrupted after {build.shown.time()}; what is proved is kept, so the next call goes on from here")
         # All that the toolchain's module has started ends with this process.
+        shown.end(f"interrupted after {shown.time()}; what is proved is kept, so the next call goes on from here")
         return 130
     if crate:
-        tell_failure(build.shown, crate)
+        tell_failure(shown, crate)
         return 1
-    build.shown.end(f"{len(wanted)} crates proved and built in {build.shown.time()}")
+    shown.end(f"{len(wanted)} crates proved and built in {shown.time()}")
     return 0
 
 
