@@ -207,7 +207,6 @@ def built(crates, jobs, name):
     if unknown:
         print(f"{name}: crates.txt names no crate {unknown[0]}", file=sys.stderr)
         return 2
-    _lock = wait_for_turn(name)
     wanted = with_below(crates or below, below)
     shown = Shown(name, len(wanted))
     try:
