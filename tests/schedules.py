@@ -343,6 +343,10 @@ def whole_list_rows(play, program):
             file.flush()
             _, listed, _ = explored(file.name, "--limit", str(MOST), "--events")
             _, said, _ = explored(file.name, "--limit", str(MOST))
+            _, apart, _ = explored(file.name, "--limit", str(MOST), "--puts") if name == "two" else (0, "", "")
+        events, wires = count_of_events(net_of(name))
+        wanted = f"\neach has {events} events: {wires} puts, {wires} takes and {events - 2 * wires} pulses\n"
+        note(f"what explore says of {name}, puts apart", name != "two" or wanted in apart, apart)
         status, out, _ = played(play, text_of(name), listed.splitlines())
         channels = [line.split()[-1] for line in out.decode().splitlines() if "channel" in line]
         plan = subprocess.run([program, "plain"], input=text_of(name).encode(), capture_output=True, timeout=LIMIT).stdout
