@@ -228,6 +228,18 @@ class NetState:
                 yield "Take", v, port
 
 
+def make(state, entry):
+    """The event of an entry of a transcript, if it is possible with what the entry says; otherwise nothing is changed."""
+    event = entry.kind, entry.vertex
+    if entry.kind != "Pulse":
+        if (entry.vertex, entry.neighbour) not in state.port_to:
+            raise Refused("NoSuch")
+        event += state.port_to[entry.vertex, entry.neighbour],
+    if state.carried(*event) != entry.what:
+        raise Refused("WrongWire")
+    state.step(*event)
+
+
 def wire_words(wire):
     """A wire as the texts of states and transcripts have it."""
     if wire[0] == "Payload":

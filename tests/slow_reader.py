@@ -4,8 +4,8 @@ byte; what is written of a text that has no fault comes from the other definitio
 An answer is (status, standard output, standard error)."""
 import functools
 
-from alpha_definition import NetState, Refused
-from check_transcript import Wrong, event_of, make, read
+from alpha_definition import NetState, Refused, make
+from check_transcript import Wrong, read
 from events import answer_of, state_text
 from plain_definition import Network, forests_text, network_of, plan_text
 from rounds_definition import rounds_text

@@ -15,7 +15,7 @@ import subprocess
 import sys
 import tempfile
 
-from alpha_definition import NetState, Refused, last_pulse, wire_words
+from alpha_definition import NetState, Refused, last_pulse, make, wire_words
 from check_transcript import Wrong, find_order, first_refused, in_order, read, unfinished, whole_run
 from made_transcripts import MISTAKES, made_transcript, mixed_text, transcript_text, with_mistake
 from one_worker import Run
@@ -200,18 +200,6 @@ def found_in(net, data):
         return found.refusals[first.vertex], in_order([entry.line for entry in order], data)
     made = in_order([entry.line for entry in found.made], data)
     return ("NotWhole" if any(True for _ in unfinished(found.nodes)) else None), made
-
-
-def make(state, entry):
-    """The event of an entry by the definition, if it is possible with what the entry says; otherwise nothing is changed."""
-    event = entry.kind, entry.vertex
-    if entry.kind != "Pulse":
-        if (entry.vertex, entry.neighbour) not in state.port_to:
-            raise Refused("NoSuch")
-        event += state.port_to[entry.vertex, entry.neighbour],
-    if state.carried(*event) != entry.what:
-        raise Refused("WrongWire")
-    state.step(*event)
 
 
 def replayed(net, data):
