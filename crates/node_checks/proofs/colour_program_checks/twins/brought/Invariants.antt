@@ -3,4 +3,4 @@ use Rattle.colour_program.specs.colour_rules.Node.{ports}
 use Rattle.node_checks.proofs.colour_program_checks.twins.brought.Given as goal
 
 abbrev pub invariant-loop-earlier : goal.invariant-loop-earlier
-invariant-loop-earlier g l = ports l.node ≡ 1
+invariant-loop-earlier l = ports l.node ≡ 1
