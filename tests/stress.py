@@ -22,7 +22,7 @@ import threading
 import time
 from collections import Counter
 
-from check_transcript import Wrong, find_order, in_order, read, whole_run
+from check_transcript import Wrong, in_order, whole_run
 from plain_definition import network_of
 from plain_networks import cycle, path, star, text_of, tree
 from transcripts import is_counted, replayed_by
@@ -103,13 +103,12 @@ def fault_in(play, data, answer):
         return f"status {status}, {errors[:300]!r}"
     net = network_of(data)
     try:
-        said = whole_run(net, output)[1]
+        made, said = whole_run(net, output)
     except Wrong as wrong:
         return str(wrong)
     if not is_counted(net, output, said):
         return f"other numbers: {said}"
-    ordered = in_order(find_order(net, read(output)[1]).made, output)
-    return replayed_by(play, data, net, ordered)
+    return replayed_by(play, data, net, in_order(made, output))
 
 
 def main():
