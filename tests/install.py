@@ -18,7 +18,7 @@ TOP = os.path.dirname(os.path.dirname(os.path.abspath(__file__)))
 LIMIT = 300
 TALLY = {"passed": 0, "failed": 0}
 PROGRAMS = {"forestplan": ["forests", "plain", "plan", "transcript", "check"], "forestplay": ["events", "replay", "rounds"]}
-SCRIPTS = ("picture", "network", "check-transcript", "replay")
+SCRIPTS = ("picture", "network", "explore", "check-transcript", "replay")
 # Without the toolchain's command.
 ENVIRONMENT = dict(os.environ, COLUMNS="80", PATH=":".join(
     folder for folder in os.environ["PATH"].split(":") if not os.path.exists(os.path.join(folder, "rt"))))
@@ -64,6 +64,10 @@ def run_rows(name, folder, elsewhere):
     check("replay", got[0] == 0 and len(re.findall(rb"^node \d+ pulse 48 channel \d+$", got[1], re.M)) == 10, got)
     got = call("network", "tell", network)
     check("network tell", got[0] == 0 and b"nodes: 10\n" in got[1] and got[2] == b"", got)
+    got = call("explore", os.path.join(folder, "examples", "two.col"))
+    check("explore", got[0] == 0 and got[1].startswith(b"every schedule of two: 281 states, ") and got[2] == b"", got)
+    got = call("explore", "--without", "root")
+    check("explore without a rule", got[0] == 0 and got[1].startswith(b"broken on 2 nodes with the edges 1-2\n") and got[2] == b"", got)
     for kind in ("plan", "rounds", "run", "player"):
         net = os.path.join(folder, "examples", "triangle.col")
         got = call("picture", kind, net)

@@ -13,23 +13,23 @@ import manuals
 
 # What is copied, each at the path that it has here.
 PROGRAMS = ("forestplan", "forestplay")
-SCRIPTS = ("picture", "network", "check-transcript", "replay")
-FOLDERS = ("examples", "tools/pictures", "tools/networks", "tools/shared")
+SCRIPTS = ("picture", "network", "explore", "check-transcript", "replay")
+FOLDERS = ("examples", "tools/pictures", "tools/networks", "tools/schedules", "tools/shared")
 MODULES = ("tests/check_transcript.py", "tests/transcript_search.py", "tests/alpha_definition.py", "tests/plain_definition.py")
 
 HELP = """\
 Copies forestplan and what belongs to it into a folder, so that it runs there
 without the toolchain and without this tree.
 
-The folder gets the two programs, the scripts picture, network, check-transcript
-and replay with their modules, the examples, and a manual page for each. Commands
-that begin with ./ work in it as they do here; with the folder on the PATH they work
-anywhere without the ./ before them. The programs need the C library alone, the
+The folder gets the two programs, the scripts picture, network, explore,
+check-transcript and replay with their modules, the examples, and a manual page for
+each command. Commands that begin with ./ work in it as they do here; with the folder
+on the PATH they work anywhere without the ./ before them. The programs need the C library alone, the
 scripts bash and Python 3. So one such folder serves every machine of the same
 kind: copy it with cp -r, or put it where all can read it.
 
-Programs that aren't built yet are proved and built first, which takes about an
-hour on four processors, once, and needs the toolchain's command rt.
+Programs that aren't built yet are proved and built first, once. That takes the
+minutes that README.md says, and needs the toolchain's command rt.
 """
 
 MORE_HELP = """\
@@ -57,7 +57,7 @@ def build_programs():
     """Has the programs built by their scripts, which do nothing if they are; returns the status."""
     missing = [name for name in PROGRAMS if not os.path.exists(built(name))]
     if missing:
-        say(f"{' and '.join(missing)} will be proved and built first; that takes about an hour on four processors, once")
+        say(f"{' and '.join(missing)} will be proved and built first, once; README.md says how long that takes")
     for name in PROGRAMS:
         done = subprocess.run([os.path.join(TOP, name), "--help"], stdin=subprocess.DEVNULL, stdout=subprocess.DEVNULL)
         if done.returncode:
