@@ -237,6 +237,10 @@ def form_rows(folder):
     for data, form, edges in ((b"1 2 5\n2 3 9\n", "adjacency", 4), (b"1 2\n2\n3\n3 0\n", "multiline", 2), (b"a,b\n", "pairs", 1)):
         text = written("read", "-", "--as", form, data=data)
         note(f"read as {form}", len(edges_of(text)) == edges, text)
+    asked = call("read", "-", data=b"site,other\nA,B\nB,C\nC,D\n")
+    note("a heading that isn't known is asked for", asked[0] == 0 and b"is line 1 (`site,other`) a heading? then --heading yes" in asked[2], asked)
+    places = call("read", "-", data=b"name,x,y\nUlm,1,2.5\nAue,3,4\nHof,5,6\n")
+    note("a list of places is refused", places[:2] == (1, b"") and b"look like places" in places[2], places)
     heading = b"north,south\na,b\n"
     for choice, edges in (("yes", 1), ("no", 2)):
         note(f"read with a heading: {choice}", len(edges_of(written("read", "-", "--heading", choice, data=heading))) == edges)

@@ -63,6 +63,8 @@ def listed(text, name, form, heading):
     if form == "dimacs":
         return read_dimacs(text, name)
     rows, separator = rows_of(text)
+    if not form and are_places(rows):
+        raise Wrong(f"{name}: a name and two numbers in each line look like places, not like pairs of nodes (if they are pairs: --as pairs)")
     if not rows:
         raise Wrong(f"{name}: it has no line with a node")
     form = form or ("multiline" if "{" in text and groups_of(rows) else guess(rows, separator))
@@ -106,9 +108,29 @@ def heads(rows):
     return None
 
 
+def are_places(rows):
+    """Whether each row but the first has a name of its own and two numbers."""
+    body = [fields for _, fields in rows[1:]]
+    names = [fields[0] for fields in body]
+    return (len(body) > 1 and len(set(names)) == len(names) and all(len(fields) > 2 for fields in body)
+            and all(is_number(field) == (at > 0) for fields in body for at, field in enumerate(fields[:3])))
+
+
+def is_number(field):
+    return re.fullmatch(r"[-+]?(\d+\.?\d*|\.\d+)([eE][-+]?\d+)?", field) is not None
+
+
+def is_alone(rows):
+    """Whether the words of the first row come in no other, though each other row shares one with another: it may be a heading."""
+    first, body = set(rows[0][1][:2]), [set(fields[:2]) for _, fields in rows[1:]]
+    return len(body) > 1 and not any(first & other for other in body) and any(one & other for one, other in zip(body, body[1:]))
+
+
 def read_pairs(rows, name, separator, heading):
     found = Listed("pairs")
     columns = heads(rows) if heading is None else (heads(rows) or (0, 1)) if heading else None
+    if heading is None and not columns and is_alone(rows):
+        found.notes.append(f"is line {rows[0][0]} (`{shown(','.join(rows[0][1]))}`) a heading? then --heading yes")
     if columns:
         found.form = "pairs with a heading"
         rows = rows[1:]

@@ -193,6 +193,8 @@ def was_numbered(given):
 
 
 def was_named(given):
+    if given.file == "-":
+        raise Wrong("names: standard input has the plan, so the network has to be a file")
     network = read_network(bytes_of(given.file).decode("utf-8", "replace"), given.file)
     plan = read_plan(bytes_of("-").decode("utf-8", "replace"), "the plan", network)
     rows = [(network.names.get(v, str(v)), plan[v]) for v in network.vertices]
