@@ -1,5 +1,7 @@
 //! Streams that fail at each read or write in turn, and where the texts of clap go.
 
+ghost use Rattle.std.specs.Prelude.{◌≤◌};
+
 use crate::fake_streams::{NEVER, Reader, Writer};
 use serving::{Program, serve, serve_all};
 use std::alloc::Global;
@@ -78,9 +80,12 @@ fn stream_line(program: Program) -> &'static [u8] {
     }
 }
 
-// How often so many bytes are read, or written: three at a time.
-fn turns_of(bytes: &[u8]) -> u32 {
-    bytes.len().div_ceil(3) as u32
+// How often so many bytes are read, or written: three at a time. The texts here are short.
+fn turns_of(bytes: &[u8]) -> u32
+    ensures few { result ≤ 1000 }
+{
+    let turns = bytes.len().div_ceil(3);
+    if turns > 1_000 { 1_000 } else { turns as u32 }
 }
 
 // One read more meets the end, and the one behind that never comes.
