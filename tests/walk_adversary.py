@@ -232,7 +232,11 @@ def broken_rows(browser, name, network, play):
     note(f"{name}: the dare is won", browser.value("judged(P.dares[0])[0]") is True)
     if play:
         done = played(browser, network, play)
-        note(f"{name}: forestplay refuses the list", done.returncode == 1 and b" line " in done.stderr, done)
+        if name.startswith("two without early"):
+            # The proved machine keeps what comes early apart, so these events are possible there, and go right.
+            note(f"{name}: forestplay accepts the list", done.returncode == 0 and done.stdout.startswith(b"node 1 pulse 1\n"), done)
+        else:
+            note(f"{name}: forestplay refuses the list", done.returncode == 1 and b" line " in done.stderr, done)
 
 
 def walk(browser, name, network, options, size, given):
