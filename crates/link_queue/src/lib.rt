@@ -11,8 +11,8 @@
 //! list that an end put or took. What is put has to begin a legal list of the link in the synchronous run of the
 //! program `P`; so what is taken does too, and when the ends meet, what was put is what was taken and then what is
 //! held. This rests on the promise of `crossbeam_queue`'s ruled array queue, and holds if no queue is pushed more than
-//! 2^62 times: a link is pushed at most 3·R + 1 times, R being the last pulse (`legal_lists_are_short` of `alpha_laws`).
-//! `put`, `take` and `meet` may spin, and are not promised to return.
+//! 2^62 times: a link is pushed at most 3·R + 1 times, R being the last pulse (`legal_lists_are_short` of
+//! `alpha_laws`). `put`, `take` and `meet` may spin, and are not promised to return.
 #![tactic(auto)]
 
 mod ends;
