@@ -138,10 +138,16 @@ class Build:
             if self.crates[name].is_program and self.running:
                 continue
             self.left.remove(name)
-            # A crate that little else waits beside gets the processors that would idle.
-            threads = max(1, min(4, processors() // min(self.jobs, len(ready) + len(self.running))))
+            # The crate that the most waits for gets all processors beside the others, since the whole waits for it; another
+            # one gets those that would idle.
+            share = 1 if self.is_first(name) else min(self.jobs, len(ready) + len(self.running))
+            threads = max(1, min(4, processors() // share))
             self.running[name] = threading.Thread(target=self.work, args=(name, threads), daemon=True)
             self.running[name].start()
+
+    def is_first(self, name):
+        """Whether no crate that is left or runs has a longer chain behind it."""
+        return self.behind[name] >= max(self.behind[other] for other in [name, *self.left, *self.running])
 
     def work(self, name, threads):
         """Builds one crate, in a thread of its own."""
