@@ -13,7 +13,7 @@ use Rattle.alpha_laws.specs.alpha_core.Wire.TheVariants as wire
 use Rattle.alpha_laws.specs.alpha_core.AlphaRefused.{AlphaRefused}
 use Rattle.alpha_laws.specs.alpha_core.View.{Port, View, Node, new_port, can_pulse, none_waits, port_at, set_port}
 use Rattle.alpha_laws.specs.alpha_core.Table.{refusal_of}
-use Rattle.alpha_laws.specs.alpha_core.Alpha.{settles, enter_all, entering, turns, pulse, pulsed, put_done, reaction, reacts, unless_refused}
+use Rattle.alpha_laws.specs.alpha_core.Alpha.{settles, enter_all, entering, advances, pulse, pulsed, put_done, reaction, reacts, unless_refused}
 use Rattle.alpha_laws.specs.alpha_core.Program.{start_node}
 use Rattle.alpha_laws.specs.Laws.{OneMore}
 use Rattle.entries.specs.declared.entry.Entry.{Entry}
@@ -44,7 +44,7 @@ reaction_pulse last view new i w e =
 pulsed_pulse : {S M E : Type 0} (last : ℕ) (node new : Node S M) (r : Result (S × List (Option M)) E) → pulsed last node r ≡ Ok new
     → new.view.pulse ≡ suc node.view.pulse
 pulsed_pulse last node new (Ok next) e =
-    let is = ok_same e in ap (λ n. n.view.pulse) (sym is) ∙ entering_pulse last (suc node.view.pulse) next.1 (map (λ port. turns port) node.view.ports)
+    let is = ok_same e in ap (λ n. n.view.pulse) (sym is) ∙ entering_pulse last (suc node.view.pulse) next.1 (map (λ port. advances port) node.view.ports)
   where
     ok_same : {A B : Type 0} {x y : A} → ◌≡◌ {A = Result A B} (Ok x) (Ok y) → x ≡ y
     ok_same e = cc

@@ -7,7 +7,7 @@ use Rattle.alpha_core.specs.declared.wire.Wire.TheVariants.{Safe}
 use Rattle.alpha_core.specs.Wires.{acks_of}
 use Rattle.alpha_core.specs.Streams.{sent_pulses}
 use Rattle.alpha_core.specs.View.{Port, bit, new_port}
-use Rattle.alpha_core.specs.Alpha.{turns, entry, enters}
+use Rattle.alpha_core.specs.Alpha.{advances, entry, enters}
 use Rattle.alpha_core.proofs.Wires.{acks-append}
 use Rattle.alpha_laws.proofs.Cursor.{moves-append, follows-more}
 use Rattle.alpha_laws.proofs.Kept.{same_at, entered_at}
@@ -47,7 +47,7 @@ module _ {M : Type 0} {last : ℕ} {own other : ℕ → Option M} {p : ℕ} {sai
 
   -- the next pulse, but for its safe
   pub pulses_on : own last ≡ None → said ≡ true → port.safe ≡ true
-      → Kept last own other (suc p) false (enters last (suc p) (own (suc p)) (turns port)) (emitted ++ entry last (suc p) (own (suc p))) taken
+      → Kept last own other (suc p) false (enters last (suc p) (own (suc p)) (advances port)) (emitted ++ entry last (suc p) (own (suc p))) taken
   pulses_on silent was_said first =
       let below : p < last = kept.before_last was_said in
       let at : moves start_at emitted ≡ entered_at (suc p) = kept.emitted_at ∙

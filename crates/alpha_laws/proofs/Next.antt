@@ -11,7 +11,7 @@ use Rattle.std.proofs.lemmas.List.{append_cancel_left}
 use Rattle.alpha_core.specs.interference.Net.{IsVertex, back_port_of}
 use Rattle.alpha_core.specs.node_api.Run.{state_at}
 use Rattle.alpha_core.specs.View.{can_pulse, inbox_of}
-use Rattle.alpha_core.specs.Alpha.{reaction, reacts, unless_refused, pulse, pulsed, entering, turns}
+use Rattle.alpha_core.specs.Alpha.{reaction, reacts, unless_refused, pulse, pulsed, entering, advances}
 use Rattle.alpha_core.proofs.Due.{due-taken}
 use Rattle.alpha_laws.specs.Simulates.{sent_to}
 use Rattle.alpha_laws.proofs.Across.{over, due_at}
@@ -39,7 +39,7 @@ module _ {S M E : Type 0} {program : Program S M E} {net : Net} (ok : IsNetwork 
       → pulse program.next (last_pulse_on program net) (nodes v) ≡ Ok record {
         state = state_at program net (suc (nodes v).view.pulse) v;
         view = entering (last_pulse_on program net) (suc (nodes v).view.pulse) (outbox_at program net (suc (nodes v).view.pulse) v)
-            (map (λ port. turns port) (nodes v).view.ports);
+            (map (λ port. advances port) (nodes v).view.ports);
       }
   next_pulse v vertex can =
       let view = (nodes v).view in

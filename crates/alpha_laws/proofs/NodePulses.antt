@@ -37,7 +37,7 @@ use Rattle.alpha_core.proofs.node_api.Runs.{node_at-none}
 use Rattle.alpha_core.specs.node_api.Program.{own_of, Program, last_pulse_on}
 use Rattle.alpha_core.specs.declared.wire.Wire.{Wire}
 use Rattle.alpha_core.specs.View.{Port, Node, all_safe, new_port, can_pulse, port_at, inbox_of}
-use Rattle.alpha_core.specs.Alpha.{turns, entry, enters, enter_all, entering, started}
+use Rattle.alpha_core.specs.Alpha.{advances, entry, enters, enter_all, entering, started}
 use Rattle.alpha_core.specs.Program.{sends}
 use Rattle.alpha_laws.proofs.Runs.{Runs}
 use Rattle.alpha_laws.proofs.NodeKept.{kept_out, inside, settles_kept, settles_speaks, settles_pulse}
@@ -76,7 +76,7 @@ module _ {S M E : Type 0} {program : Program S M E} {net : Net} {v : ℕ} {node 
       → NodeKept program net v record {
         state = (state_at program net (suc node.view.pulse) v);
         view = entering (last_pulse_on program net) (suc node.view.pulse) (outbox_at program net (suc node.view.pulse) v)
-            (map (λ port. turns port) node.view.ports);
+            (map (λ port. advances port) node.view.ports);
       } sent taken
   pulse_node runs vertex can =
       let last = last_pulse_on program net in
@@ -89,19 +89,19 @@ module _ {S M E : Type 0} {program : Program S M E} {net : Net} {v : ℕ} {node 
         pulse = suc node.view.pulse;
         said = false;
         ports =
-            enter_all last next out (map (λ port. turns port) node.view.ports);
+            enter_all last next out (map (λ port. advances port) node.view.ports);
       } sent taken = record {
         count = enter_all-length _ _ _ _ ∙ length-map node.view.ports _ ∙ kept.ports.count;
         within = let lt = below in omega arith;
         before_last = λ e. cc;
         each = λ i lt.
-            let place = enter_all-at last next out (map (λ port. turns port) node.view.ports) i new_port
-            (omega (arith, length-map node.view.ports (λ (port : Port M). turns port), kept.ports.count, lt)) in
-            let old = get_or-map (λ port. turns port) node.view.ports i new_port new_port (inside kept.ports i lt) in
+            let place = enter_all-at last next out (map (λ port. advances port) node.view.ports) i new_port
+            (omega (arith, length-map node.view.ports (λ (port : Port M). advances port), kept.ports.count, lt)) in
+            let old = get_or-map (λ port. advances port) node.view.ports i new_port new_port (inside kept.ports i lt) in
             let sent' = sends program net v (neighbour_of net v i) next in
             subst (λ x. KeptAt program net v i next false x (sent i ++ x.out) (taken i))
             (sym (place ∙ ap (λ port. enters last next (get_or out i None) port) old ∙
-            ap (λ o. enters last next o (turns (port_at node.view i))) (runs.ports v i next vertex lt)))
+            ap (λ o. enters last next o (advances (port_at node.view i))) (runs.ports v i next vertex lt)))
             (kept_out ((port_at node.view i).out ++ entry last next sent') _ (append_assoc (sent i) (port_at node.view i).out (entry last next sent'))
             (pulses_on (kept.ports.each i lt) (runs.silent v (neighbour_of net v i) vertex) said
             (safe_at node.view.ports i new_port all.1 (inside kept.ports i lt))));

@@ -9,7 +9,7 @@ use Rattle.alpha_core.specs.declared.wire.Wire.TheVariants as wire
 use Rattle.alpha_core.specs.declared.refused.AlphaRefused.{AlphaRefused}
 use Rattle.alpha_core.specs.View.{View, Node, Port, new_port, none_waits, port_at, set_port}
 use Rattle.alpha_core.specs.Table.{refusal_of}
-use Rattle.alpha_core.specs.Alpha.{settles, enter_all, entering, turns, reacts, reaction, unless_refused, pulsed}
+use Rattle.alpha_core.specs.Alpha.{settles, enter_all, entering, advances, reacts, reaction, unless_refused, pulsed}
 use Rattle.alpha_core.specs.Program.{start_node}
 
 settles_pulse : {M : Type 0} (last : ℕ) (view : View M) → (settles last view).pulse ≡ view.pulse
@@ -37,7 +37,7 @@ reaction_pulse last view new i w e =
 pub pulsed_pulse : {S M E : Type 0} (last : ℕ) (node new : Node S M) (r : Result (S × List (Option M)) E) → pulsed last node r ≡ Ok new
     → new.view.pulse ≡ suc node.view.pulse
 pulsed_pulse last node new (Ok next) e =
-    let is = ok_same e in ap (λ n. n.view.pulse) (sym is) ∙ entering_pulse last (suc node.view.pulse) next.1 (map (λ port. turns port) node.view.ports)
+    let is = ok_same e in ap (λ n. n.view.pulse) (sym is) ∙ entering_pulse last (suc node.view.pulse) next.1 (map (λ port. advances port) node.view.ports)
   where
     ok_same : {A B : Type 0} {x y : A} → ◌≡◌ {A = Result A B} (Ok x) (Ok y) → x ≡ y
     ok_same e = cc

@@ -1,6 +1,6 @@
 //! Whether wires come in order.
 
-ghost use Rattle.std.specs.Prelude.{◌≡◌, ◌↔◌, ◌++◌, [], ◌∷◌, List, IsTrue, MatchBool};
+ghost use Rattle.std.specs.Prelude.{◌≡◌, ◌++◌, [], ◌∷◌, List, MatchBool};
 ghost use Rattle.alpha_laws.specs.alpha_core.Wire.{Wire};
 ghost use Rattle.link_rule.specs.Order.{IsInOrder};
 ghost use Rattle.link_rule.specs.Progress.{WasFed, after_wire, at_start, goes_on};
@@ -99,17 +99,4 @@ impl StreamCheck {
     {
         self.step(wire)
     }
-}
-
-/// Whether wires, oldest first, are in order: a check is fed each in turn.
-pub fn is_in_order<T>(last: u32, wires: &[Wire<T>]) -> bool
-    ensures { IsTrue result ↔ IsInOrder last wires.now }
-{
-    let mut check = StreamCheck::new(last);
-    for wire in wires {
-        if !check.feed(wire) {
-            return false;
-        }
-    }
-    true
 }

@@ -16,5 +16,5 @@ mod check;
 pub mod laws;
 mod name;
 
-pub use check::{StreamCheck, is_in_order};
+pub use check::StreamCheck;
 pub use name::LinkName;

@@ -36,7 +36,7 @@ impl<P: NodeProgram> Model for NetState<P> {
 }
 
 /// The nodes of a network at pulse 0, by vertex.
-fn start_nodes<P: NodeProgram>(alloc: Global, net: &Network) -> Result<Vec<AlphaNode<P>>, Memory>
+fn started_nodes<P: NodeProgram>(alloc: Global, net: &Network) -> Result<Vec<AlphaNode<P>>, Memory>
     ensures nodes { IfOk result (λ nodes. nodes.items ≡ started_nodes P.program net.now (vertices net.now)) }
 {
     let mut nodes = Vec::new(alloc);
@@ -58,7 +58,7 @@ impl<P: NodeProgram> NetState<P> {
         ensures simulates { IfOk result (λ view. IsSimulation P.program view.net view.state) }
     {
         net.is_network();
-        let nodes = start_nodes(alloc, net)?;
+        let nodes = started_nodes(alloc, net)?;
         let links = Links::new(alloc, net)?;
         let net = net.copy(alloc)?;
         Ok(NetState { net, nodes, links })

@@ -7,7 +7,7 @@ use Rattle.alpha_core.specs.declared.wire.Wire.TheVariants.{Payload, Ack, Safe, 
 use Rattle.alpha_core.specs.declared.refused.AlphaRefused.{AlphaRefused}
 use Rattle.alpha_core.specs.node_api.Refused.{Refused}
 use Rattle.alpha_core.specs.View.{View, Node, Alpha, port_at, none_waits, set_at}
-use Rattle.alpha_core.specs.Alpha.{reaction, reacts, takes, unless_refused, PulseRefused, pulse, pulsed, turns, emit, entering}
+use Rattle.alpha_core.specs.Alpha.{reaction, reacts, takes, unless_refused, PulseRefused, pulse, pulsed, advances, emit, entering}
 use Rattle.alpha_core.specs.Table.{refusal_of}
 use Rattle.alpha_core.proofs.PortLists.{entering-length}
 
@@ -42,9 +42,9 @@ taken_length last view next i w e =
 pub pulsed_length : {S M E : Type 0} (last : ℕ) (node next : Node S M) (told : Result (S × List (Option M)) E) → pulsed last node told ≡ Ok next
     → length next.view.ports ≡ length node.view.ports
 pulsed_length last node next (Ok x) e =
-    let is : record { state = x.0; view = entering last (suc node.view.pulse) x.1 (map (λ port. turns port) node.view.ports) } ≡ next = cc in
+    let is : record { state = x.0; view = entering last (suc node.view.pulse) x.1 (map (λ port. advances port) node.view.ports) } ≡ next = cc in
     sym (ap (λ n. length n.view.ports) is)
-    ∙ entering-length last (suc node.view.pulse) x.1 (map (λ port. turns port) node.view.ports)
+    ∙ entering-length last (suc node.view.pulse) x.1 (map (λ port. advances port) node.view.ports)
     ∙ length-map node.view.ports _
 pulsed_length last node next (Err why) e = absurd cc
 

@@ -6,7 +6,7 @@ use Rattle.alpha_laws.specs.alpha_core.View.{Alpha}
 use Rattle.alpha_laws.specs.alpha_core.Program.{start_node}
 use Rattle.net_core.specs.State.{started_nodes}
 use Rattle.net_core.proofs.Parts.{map-next}
-use Rattle.net_core.proofs.state.start_nodes.Goals as goal
+use Rattle.net_core.proofs.state.started_nodes.Goals as goal
 
 pub loop-i-preserved : goal.loop-i-preserved
 loop-i-preserved g c =
