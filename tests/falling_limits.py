@@ -4,8 +4,9 @@ import os
 import subprocess
 import tempfile
 
-from check_transcript import Wrong, whole_run
-from events import ALL_PUT, ALL_TAKE
+from alpha_definition import ports_of
+from check_transcript import Wrong, in_order, whole_run
+from one_worker import Run
 from plain_definition import network_of, plan_text
 from refused_memory import build_front
 from slow_reader import PROGRAM_OF, answer_to
@@ -13,14 +14,27 @@ from slow_reader import PROGRAM_OF, answer_to
 LIMIT = 60
 MOST, LEAST, FINE_STEPS = 2**30, 2**20, 40
 LINE = 'ulimit -v "$0"; export LD_PRELOAD="$1" STARTED="$2"; shift 2; exec "$@"'
-PATH = b"p edge 2000 1999\n" + b"".join(b"e %d %d\n" % (v, v + 1) for v in range(1, 2000))
+PATH, SHORT_PATH = (b"p edge %d %d\n" % (n, n - 1) + b"".join(b"e %d %d\n" % (v, v + 1) for v in range(1, n)) for n in (2000, 300))
 TRIANGLE = b"p edge 3 3\ne 1 2\ne 1 3\ne 2 3\n"
-PLAYED = 2 * (ALL_PUT + ALL_TAKE).replace("|", "\n").encode()
+CIRCLE = b"p edge 12 12\n" + b"".join(b"e %d %d\n" % (v, v % 12 + 1) for v in range(1, 13))
 
-# The words, and the input.
-RUNS = [(["forests"], PATH), (["plain"], PATH), (["check"], PATH + plan_text(PATH)), (["events"], TRIANGLE + PLAYED),
-        (["replay"], TRIANGLE + b"transcript 1 3\n1 put 2 payload 0 hello 1\n"), (["rounds"], TRIANGLE),
-        (["plan", "--workers", "1"], PATH), (["plan", "--workers", "64"], TRIANGLE), (["transcript", "--workers", "4"], TRIANGLE)]
+
+def runs():
+    """The words, and the input."""
+    net = network_of(CIRCLE)
+    made, _ = whole_run(net, transcript := Run(net, 4).text())
+    entries = in_order(made, transcript)
+    return [(["forests"], PATH), (["plain"], PATH), (["check"], PATH + plan_text(PATH)), (["events"], CIRCLE + events_of(net, entries)),
+            (["replay"], CIRCLE + entries), (["rounds"], CIRCLE), (["plan", "--workers", "1"], SHORT_PATH),
+            (["plan", "--workers", "64"], TRIANGLE), (["transcript", "--workers", "1"], CIRCLE), (["transcript", "--workers", "4"], CIRCLE)]
+
+
+def events_of(net, entries):
+    """The events of entries in an order that is a run: ports count from 0, by ascending neighbour."""
+    lines = []
+    for v, kind, other, *_ in (line.split() for line in entries.decode().split("\n")[1:-1]):
+        lines.append(f"pulse {v}\n" if kind == "pulse" else f"{kind} {v} {ports_of(net, int(v)).index(int(other))}\n")
+    return "".join(lines).encode()
 
 
 def falling_limit_rows(paths):
@@ -29,14 +43,14 @@ def falling_limit_rows(paths):
         front, failure = build_front(folder, "started")
         if failure is not None:
             return [("the library that says what was loaded builds", False, failure)]
-        return [limits_row(paths, front, words, data) for words, data in RUNS]
+        return [limits_row(paths, front, words, data) for words, data in runs()]
 
 
 def limits_row(paths, front, words, data):
     """Falls in large steps to a limit at which nothing is loaded, and then in small ones between the last at which all went well
     and that one."""
-    name = PROGRAM_OF.get(words[0], "forestplan")
-    program = [paths[name], *words]
+    name = PROGRAM_OF[words[0]]
+    program, is_allowed = [paths[name], *words], allowed(name, words, data)
     seen, last_good, limit = {}, MOST, MOST
     while limit > LEAST:
         seen[limit] = answer_within(program, front, data, limit)
@@ -47,7 +61,7 @@ def limits_row(paths, front, words, data):
     for step in range(1, FINE_STEPS):
         between = limit + (last_good - limit) * step // FINE_STEPS
         seen[between] = answer_within(program, front, data, between)
-    wrong = [(limit, answer) for limit, answer in seen.items() if answer and not is_allowed(name, words, data, answer)]
+    wrong = [(limit, answer) for limit, answer in seen.items() if answer and not is_allowed(answer)]
     refused = sum(answer is not None and answer[0] != 0 for answer in seen.values())
     return (f"falling limits of address space: {' '.join(words)}, {len(seen)} limits, {refused} refusals",
             not wrong and refused > 0 and seen[MOST][0] == 0, wrong[:3] or sorted(seen.items())[:5])
@@ -63,12 +77,17 @@ def answer_within(program, front, data, limit):
         return (done.returncode, done.stdout, done.stderr) if mark.read(1) else None
 
 
-def is_allowed(name, words, data, answer):
-    lines = ["memory", "threads"] if words[0] in ("plan", "transcript") else ["memory"]
-    if answer in [(4, b"", f"{name}: {line}\n".encode()) for line in lines]:
-        return True
-    if words[0] != "transcript":
-        return answer == answer_to(words[0], data)
+def allowed(name, words, data):
+    """Whether an answer is the right one, or the line of what was refused."""
+    is_threaded = words[0] in ("plan", "transcript")
+    refusals = [(4, b"", f"{name}: {line}\n".encode()) for line in (["memory", "threads"] if is_threaded else ["memory"])]
+    if words[0] == "transcript":
+        return lambda answer: answer in refusals or is_whole(data, answer)
+    wanted = answer_to(words[0], data)
+    return lambda answer: answer in refusals or answer == wanted
+
+
+def is_whole(data, answer):
     try:
         return (answer[0], answer[2]) == (0, b"") and bool(whole_run(network_of(data), answer[1]))
     except Wrong:

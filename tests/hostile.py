@@ -2,14 +2,16 @@
 """Feeds the built programs texts that nobody would write, and compares each answer with that of a slow reader written from
 docs/FORMATS.md (slow_reader.py). The last line is 'N passed, M failed'.
 
-  hostile.py [--texts N] [--seed SEED] [--program PROGRAM] [--play PLAY]
+  hostile.py [--texts N] [--seed SEED] [--first K] [--program PROGRAM] [--play PLAY]
       N         how many random texts, over all commands; default 60000
       SEED      of the random texts; default 2026
+      K         the first part of the random texts, which come in parts of 100,000, each from SEED and its number; default 1. From 2 on
+                there is nothing but random texts: so a long run goes on after an interruption
       PROGRAM   default: the built forestplan
       PLAY      default: the built forestplay
 
-Besides the random texts: each byte at each place of a small text, numbers around powers of two, lines of a megabyte; and less and
-less address space. It needs a C compiler, `cc`."""
+Besides the random texts: each byte at each place of a small text, byte order marks and other bytes before each place, numbers around
+powers of two, lines of a megabyte; and less and less address space. It needs a C compiler, `cc`."""
 import argparse
 import os
 import sys
@@ -20,11 +22,11 @@ from events import EDGE, TRIANGLE, text
 from falling_limits import falling_limit_rows
 from hostile_texts import NUMBERS, texts_of
 from refused_memory import build_front
-from run_each import answers_to
-from slow_reader import PROGRAM_OF, answer_to
+from run_each import Running
+from slow_reader import PROGRAM_OF, answer_to, without_reason
 
 TOP = os.path.dirname(os.path.dirname(os.path.abspath(__file__)))
-BATCH = 20_000
+PART, BATCH = 100_000, 5_000
 TALLY = {"passed": 0, "failed": 0}
 
 # Of each command a small good text.
@@ -32,6 +34,7 @@ SMALL = {
     "forests": "p edge 3 3|e 1 2|e 1 3|e 2 3|",
     "plain": "c|p col 2 1|e 1 2|",
     "plan": "p edge 2 1|e 2 1|",
+    "transcript": "p edges 2 1|e 1 2|",
     "check": EDGE + "plan|2 2|1 1|",
     "events": EDGE + "put 1 0|take 2 0|",
     "replay": EDGE + "transcript 1 2|1 put 2 payload 0 hello 1|",
@@ -45,9 +48,12 @@ WHOLE = {
 # Commands that read a text of their own; the others read a network as `forests` does.
 READERS = ("forests", "check", "events", "replay")
 # How many of 100 random texts are for a command.
-SHARES = {"forests": 30, "plain": 3, "plan": 3, "check": 20, "events": 20, "replay": 20, "rounds": 4}
-# One worker, since a thread takes longer to start than a text to be read.
-WORDS = {"plan": ["plan", "--workers", "1"]}
+SHARES = {"forests": 28, "plain": 3, "plan": 3, "transcript": 3, "check": 20, "events": 20, "replay": 20, "rounds": 3}
+# One worker, since a thread takes longer to start than a text to be read; and no look for the transcript, which then is known.
+WORDS = {"plan": ["plan", "--workers", "1"], "transcript": ["transcript", "--workers", "1", "--turns", "0"]}
+# Bytes that editors and other systems put into texts: byte order marks, line ends, spaces that are none.
+MARKS = [b"\xef\xbb\xbf", b"\xff\xfe", b"\xfe\xff", b"\r\n", b"\r\r\n", b"\n\r", b"\r\r", b"\0\0", b"\n\0\n", b"\xc2\xa0", b"\xe2\x80\xa8",
+         b"\x1b[2J"]
 
 
 def note(name, good, what=""):
@@ -60,23 +66,25 @@ class Programs:
     """The built programs behind the library that runs them on many texts."""
 
     def __init__(self, paths, front):
-        self.paths, self.front = paths, front
+        self.paths, self.front, self.texts = paths, front, 0
 
     def differences(self, command, texts):
-        """Of texts in batches: how many there were, how many had no fault, and the first that is answered otherwise."""
+        """Of texts in batches: how many there were, how many had no fault, and the first that is answered otherwise. The slow reader
+        reads a batch while the program does."""
         count, good, rest = 0, 0, iter(texts)
         while batch := list(islice(rest, BATCH)):
-            given = answers_to(self.front, [self.paths[PROGRAM_OF[command]]] + WORDS.get(command, [command]), batch)
-            for data, got in zip(batch, given):
-                wanted = answer_to(command, data)
-                if got != wanted:
+            running = Running(self.front, [self.paths[PROGRAM_OF[command]]] + WORDS.get(command, [command]), batch)
+            answers = [answer_to(command, data) for data in batch]
+            for data, wanted, got in zip(batch, answers, running.answers()):
+                if without_reason(got) != wanted:
                     return count, good, (data[:3000], len(data), wanted, got)
-                count, good = count + 1, good + (wanted[0] == 0)
+                count, good = count + 1, good + (wanted[0] != 1)
         return count, good, None
 
     def row(self, name, command, texts):
         count, good, different = self.differences(command, texts)
         note(f"{name}, {command}", different is None and count > 0, different)
+        self.texts += count
         return count, good
 
 
@@ -85,6 +93,11 @@ def each_byte(data):
     places, values = range(len(data) + 1), [bytes([b]) for b in range(256)]
     return chain((data[:at] + value + data[at + 1:] for at, value in product(places, values)),
                  (data[:at] + value + data[at:] for at, value in product(places, values)))
+
+
+def each_mark(data):
+    """Each of the marks before each byte of the text, and behind it all."""
+    return (data[:at] + mark + data[at:] for at, mark in product(range(len(data) + 1), MARKS))
 
 
 def beginnings(data):
@@ -122,6 +135,7 @@ def main():
     words = argparse.ArgumentParser(description=__doc__, formatter_class=argparse.RawDescriptionHelpFormatter)
     words.add_argument("--texts", type=int, default=60_000)
     words.add_argument("--seed", default="2026")
+    words.add_argument("--first", type=int, default=1)
     for name, program in (("--program", "forestplan"), ("--play", "forestplay")):
         words.add_argument(name, default=os.path.join(TOP, "crates", program, "out", program))
     given = words.parse_args()
@@ -129,27 +143,41 @@ def main():
         front, failure = build_front(folder, "run_each")
         note("the library that runs a program on many texts builds", failure is None, failure)
         programs = Programs({"forestplan": os.path.abspath(given.program), "forestplay": os.path.abspath(given.play)}, front)
+        if failure is None and given.first == 1:
+            all_rows(programs)
+            for row in falling_limit_rows(programs.paths):
+                note(*row)
         if failure is None:
-            all_rows(programs, given.texts, given.seed)
-        for row in falling_limit_rows(programs.paths):
-            note(*row)
+            random_rows(programs, given.texts, given.seed, given.first)
     print(f"{TALLY['passed']} passed, {TALLY['failed']} failed")
     return 1 if TALLY["failed"] else 0
 
 
-def all_rows(programs, count, seed):
+def all_rows(programs):
+    """All but the random texts."""
     for command, small in SMALL.items():
         data = text(small)
         programs.row("each beginning", command, beginnings(text(WHOLE.get(command, small))))
+        programs.row("each mark at each place", command, each_mark(data))
         numbers = each_number(data)
         programs.row("numbers around powers of two", command,
                      numbers if command in ("forests", "check") else without_20_000_nodes(numbers))
         if command in READERS:
             programs.row("each byte at each place", command, each_byte(data))
             programs.row("lines of a megabyte", command, long_lines(data))
-    for command, share in SHARES.items():
-        made, good = programs.row(f"random texts, seed {seed}", command, islice(texts_of(command, seed), count * share // 100))
-        note(f"some of the texts are good, and most are not, {command}", made < 100 or made // 10 < good < made // 2, (made, good))
+    print(f"{programs.texts} texts that aren't random")
+
+
+def random_rows(programs, count, seed, first):
+    """In parts, each of which is the same whatever the others are."""
+    before = programs.texts
+    for part in range(first, first + -(-count // PART)):
+        size = min(PART, count - PART * (part - first))
+        for command, share in SHARES.items():
+            texts = islice(texts_of(command, f"{seed} {part}"), size * share // 100)
+            made, good = programs.row(f"random texts, seed {seed}, part {part}", command, texts)
+            note(f"some of the texts are good, and most are not, {command}", made < 100 or made // 10 < good < made // 2, (made, good))
+        print(f"seed {seed}, parts {first} to {part}: {programs.texts - before} random texts", flush=True)
 
 
 if __name__ == "__main__":

@@ -3,6 +3,7 @@ byte; what is written of a text that has no fault comes from the other definitio
 
 An answer is (status, standard output, standard error)."""
 import functools
+import re
 
 from alpha_definition import NetState, Refused, make
 from check_transcript import Wrong, read
@@ -14,11 +15,17 @@ from verdicts import wrong_plan
 MOST_NODES, MOST_EDGES, MOST_NEIGHBOURS = 20_000, 400_000, 1023
 MOST_VERTEX = 2**32 - 1
 FORMATS, EVENTS = (b"edge", b"edges", b"col"), (b"pulse", b"put", b"take")
-PROGRAM_OF = dict.fromkeys(("forests", "plain", "plan", "check"), "forestplan") | dict.fromkeys(("events", "replay", "rounds"), "forestplay")
+PROGRAM_OF = (dict.fromkeys(("forests", "plain", "plan", "transcript", "check"), "forestplan")
+              | dict.fromkeys(("events", "replay", "rounds"), "forestplay"))
+WITH_A_REASON = re.compile(rb"(forestplay: \w+ line \d+): [ -~]+\n")
 
 
 class Fault(Exception):
     """A fault of the input, in the words that stand behind the program's name."""
+
+
+class Stopped(Exception):
+    """The workers had made all their looks before all nodes were done."""
 
 
 def answer_to(command, data):
@@ -26,6 +33,15 @@ def answer_to(command, data):
         return 0, ANSWERS[command](rows_of(data)), b""
     except Fault as fault:
         return 1, b"", f"{PROGRAM_OF[command]}: {fault}\n".encode()
+    except Stopped:
+        return 3, b"", f"{PROGRAM_OF[command]}: stopped\n".encode()
+
+
+def without_reason(answer):
+    """Behind the line of what `events` or `replay` refuses there may be words that say why; this reader doesn't know them."""
+    status, output, errors = answer
+    line = WITH_A_REASON.fullmatch(errors)
+    return (status, output, line.group(1) + b"\n") if line else answer
 
 
 def rows_of(data):
@@ -201,4 +217,13 @@ def forests(rows):
     return written(forests_text, *network_in(rows))
 
 
-ANSWERS = {"forests": forests, "plain": plain, "plan": plain, "check": check, "events": events, "replay": replay, "rounds": rounds}
+def transcript(rows):
+    """Of workers that make no look (`--turns 0`): without a node there is nothing to be done."""
+    nodes, _ = network_in(rows)
+    if nodes > 0:
+        raise Stopped
+    return b"transcript 1 0\n"
+
+
+ANSWERS = {"forests": forests, "plain": plain, "plan": plain, "transcript": transcript, "check": check, "events": events, "replay": replay,
+           "rounds": rounds}

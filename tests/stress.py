@@ -2,10 +2,13 @@
 """Runs `forestplan transcript` over and over on small networks while processors are taken away from its threads, and checks each
 transcript. It is no part of the gate. The last line is 'N passed, M failed', over the runs.
 
-  stress.py [--runs N] [--minutes M] [--seed SEED] [--program PROGRAM] [--play PLAY]
+  stress.py [--runs N] [--first K] [--minutes M] [--seed SEED] [--jobs J] [--program PROGRAM] [--play PLAY]
       N         how many runs; default 1000
+      K         the number of the first run; default 1. What is printed on the way says how to go on after an interruption
       M         stop after so many minutes, if N runs take longer
-      SEED      of networks and options; default 2026. Which thread does what, and when, is another thing in each run
+      SEED      of networks and options, with the number of the run; default 2026. Which thread does what, and when, is another
+                thing in each run
+      J         how many runs there are side by side; default: the number of processors
       PROGRAM   default: the built forestplan
       PLAY      default: the built forestplay
 
@@ -14,6 +17,8 @@ processors, some of the time all to one, every millisecond or so, and in some ru
 transcript has to be accepted by check_transcript.py, and in the order that it finds by `forestplay replay`."""
 import argparse
 import contextlib
+import functools
+import multiprocessing
 import os
 import random
 import subprocess
@@ -28,9 +33,10 @@ from plain_networks import cycle, path, star, text_of, tree
 from transcripts import is_counted, replayed_by
 
 TOP = os.path.dirname(os.path.dirname(os.path.abspath(__file__)))
-LIMIT = 300
+LIMIT, BATCH = 300, 100
 PROCESSORS = sorted(os.sched_getaffinity(0))
-BUSY = "while :; do :; done"
+# As long as the process is there that started it.
+BUSY = 'while kill -0 "$0" 2>/dev/null; do :; done'
 
 
 def network(source):
@@ -54,7 +60,7 @@ def disturbed(source, words, data):
     """The answer to a text, and how often threads were moved."""
     with contextlib.ExitStack() as beside:
         for _ in range(source.choice((0, 0, 0, 1, len(PROCESSORS)))):
-            busy = beside.enter_context(subprocess.Popen(["bash", "-c", BUSY]))
+            busy = beside.enter_context(subprocess.Popen(["bash", "-c", BUSY, str(os.getpid())]))
             beside.callback(busy.kill)
         started = subprocess.Popen(words, stdin=subprocess.PIPE, stdout=subprocess.PIPE, stderr=subprocess.PIPE,
                                    preexec_fn=lambda: os.nice(source.choice((0, 0, 5))))
@@ -111,29 +117,50 @@ def fault_in(play, data, answer):
     return replayed_by(play, data, net, in_order(made, output))
 
 
+def one_run(given, number):
+    """Run of a number: what is wrong, or None; how often threads were moved; and the number of entries."""
+    source = random.Random(f"{given.seed} {number}")
+    data, workers, capacity = network(source), number_up_to_64(source), number_up_to_64(source)
+    words = [given.program, "transcript", "--workers", str(workers), "--capacity", str(capacity)]
+    answer, moves = disturbed(source, words, data)
+    fault = fault_in(given.play, data, answer)
+    if fault is not None:
+        fault = f"FAILED run {number}, {workers} workers, capacity {capacity}: {fault}; network {data!r}"
+    return fault, moves, answer[1].count(b"\n") - 1
+
+
+def all_runs(given):
+    """The counts of the runs. No run is left unfinished if the minutes are over: they are looked at behind each batch."""
+    end = None if given.minutes is None else time.monotonic() + 60 * given.minutes
+    counts, after = Counter(failed=0), given.first + given.runs
+    with multiprocessing.Pool(given.jobs) as pool:
+        for first in range(given.first, after, BATCH):
+            numbers = range(first, min(first + BATCH, after))
+            for fault, moves, entries in pool.imap(functools.partial(one_run, given), numbers):
+                counts.update(runs=1, failed=fault is not None, moves=moves, entries=entries)
+                if fault is not None:
+                    print(fault, flush=True)
+            print(f"{counts['runs'] - counts['failed']} passed so far; to go on: --first {numbers.stop}", flush=True)
+            if end is not None and time.monotonic() > end:
+                break
+    return counts
+
+
 def main():
     words = argparse.ArgumentParser(description=__doc__, formatter_class=argparse.RawDescriptionHelpFormatter)
     words.add_argument("--runs", type=int, default=1000)
+    words.add_argument("--first", type=int, default=1)
     words.add_argument("--minutes", type=float, default=None)
     words.add_argument("--seed", default="2026")
+    words.add_argument("--jobs", type=int, default=len(PROCESSORS))
     for name, program in (("--program", "forestplan"), ("--play", "forestplay")):
-        words.add_argument(name, default=os.path.join(TOP, "crates", program, "out", program))
+        words.add_argument(name, type=os.path.abspath, default=os.path.join(TOP, "crates", program, "out", program))
     given = words.parse_args()
-    end = None if given.minutes is None else time.monotonic() + 60 * given.minutes
-    source, counts = random.Random(given.seed), Counter()
-    for number in range(1, given.runs + 1):
-        if end is not None and time.monotonic() > end:
-            break
-        data, workers, capacity = network(source), number_up_to_64(source), number_up_to_64(source)
-        answer, moves = disturbed(source, [os.path.abspath(given.program), "transcript", "--workers", str(workers),
-                                           "--capacity", str(capacity)], data)
-        fault = fault_in(os.path.abspath(given.play), data, answer)
-        counts.update(runs=1, failed=fault is not None, moves=moves, entries=answer[1].count(b"\n") - 1)
-        if fault is not None:
-            print(f"FAILED run {number}, {workers} workers, capacity {capacity}: {fault}; network {data!r}", flush=True)
-    print(f"seed {given.seed}: {counts['entries']} entries in all, threads moved {counts['moves']} times")
+    counts = all_runs(given)
+    print(f"seed {given.seed}, runs {given.first} to {given.first + counts['runs'] - 1}: {counts['entries']} entries in all, "
+          f"threads moved {counts['moves']} times")
     print(f"{counts['runs'] - counts['failed']} passed, {counts['failed']} failed")
-    return 1 if counts["failed"] else 0
+    return 1 if counts["failed"] or not counts["runs"] else 0
 
 
 if __name__ == "__main__":
