@@ -7,7 +7,8 @@ use Rattle.link_queue.specs.Ends.{put_list, taken_list}
 use Rattle.actor.specs.declared.wiring.Wiring as wiring
 use Rattle.actor.specs.declared.node.Node.{Node}
 
-module _ {J P T : Type 0} {j : wiring.Ghosts J} {p : program.Ghosts P T} {t : text.Ghosts T} {q : equality.Ghosts T} where
+module _ {J P T : Type 0} {j : wiring.Ghosts J} {p : program.Ghosts P T} {t : text.Ghosts T}
+    {q : equality.Ghosts T} where
   -- It is as it was: its pulse, state and ports, what it set aside, what its ends put and took, and what it wrote down.
   pub record IsUnmoved (old new : Node J P T j p t q) : Type 0 where
     pub alpha : new.alpha ≡ old.alpha
