@@ -1,7 +1,7 @@
 use Rattle.std.proofs.Common.{map, sym, ap, ◌∙◌, rules, map-id}
 use Rattle.std.proofs.lemmas.Iterator.Consumers.{YieldsList-end}
 use Rattle.std.proofs.lemmas.Iterator.Adapters.{YieldsList-from_vec}
-use Rattle.node_pool.proofs.parts.apart.Goals as goal
+use Rattle.node_pool.proofs.taking_apart.apart.Goals as goal
 
 -- at the end all nodes were taken apart
 pub returns : goal.returns

@@ -1,5 +1,5 @@
 use Rattle.std.proofs.Common.{◌≡◌, map}
-use Rattle.node_pool.proofs.parts.apart.Given as goal
+use Rattle.node_pool.proofs.taking_apart.apart.Given as goal
 
 abbrev pub invariant-loop-node : goal.invariant-loop-node
 invariant-loop-node g l = record {

@@ -39,7 +39,7 @@ impl<P: NodeProgram> Actor<P> {
 
 /// The nodes of a run, and the ends that they had, each by vertex and port.
 #[derive(Drop)]
-pub struct Parts<J: Wiring, P: NodeProgram> {
+pub struct NodesAndEnds<J: Wiring, P: NodeProgram> {
     pub actors: Vec<Actor<P>>,
     pub puts: Vec<Vec<WiredPut<J, P::Payload>>>,
     pub takes: Vec<Vec<WiredTake<J, P::Payload>>>,
@@ -53,17 +53,17 @@ pub struct Parts<J: Wiring, P: NodeProgram> {
 pub fn apart<J: Wiring, P: NodeProgram>(
     alloc: Global,
     nodes: Vec<Node<J, P>>,
-) -> Result<Parts<J, P>, AllocError>
+) -> Result<NodesAndEnds<J, P>, AllocError>
     ensures vertices { IfOk result
-        (λ parts. map (λ a. a.vertex) parts.actors.items ≡ map (λ n. n.vertex) nodes.items) }
+        (λ both. map (λ a. a.vertex) both.actors.items ≡ map (λ n. n.vertex) nodes.items) }
     ensures alphas { IfOk result
-        (λ parts. map (λ a. a.alpha) parts.actors.items ≡ map (λ n. n.alpha) nodes.items) }
+        (λ both. map (λ a. a.alpha) both.actors.items ≡ map (λ n. n.alpha) nodes.items) }
     ensures entries { IfOk result
-        (λ parts. map (λ a. a.entries.items) parts.actors.items ≡ map (λ n. n.entries.items) nodes.items) }
+        (λ both. map (λ a. a.entries.items) both.actors.items ≡ map (λ n. n.entries.items) nodes.items) }
     ensures puts { IfOk result
-        (λ parts. map (λ row. row.items) parts.puts.items ≡ map (λ n. n.puts.items) nodes.items) }
+        (λ both. map (λ row. row.items) both.puts.items ≡ map (λ n. n.puts.items) nodes.items) }
     ensures takes { IfOk result
-        (λ parts. map (λ row. row.items) parts.takes.items ≡ map (λ n. n.takes.items) nodes.items) }
+        (λ both. map (λ row. row.items) both.takes.items ≡ map (λ n. n.takes.items) nodes.items) }
 {
     let mut actors = Vec::new(alloc);
     let mut puts = Vec::new(alloc);
@@ -87,7 +87,7 @@ pub fn apart<J: Wiring, P: NodeProgram>(
         puts.push(put_row)?;
         takes.push(take_row)?;
     }
-    Ok(Parts {
+    Ok(NodesAndEnds {
         actors,
         puts,
         takes,
