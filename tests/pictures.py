@@ -22,6 +22,7 @@ from picture_base import LIMIT, SEED, TALLY, TOP, Drawing, call, example, exampl
 from picture_maps import (bits_rows, crowded_rows, forests_rows, grid_rows, matrix_rows, parts_rows, plan_rows, player_rows,
                           rounds_rows)
 from picture_marks import gap, parsed, texts, titles
+from picture_names import name_rows
 from picture_runs import cut_rows, long_rows, run_rows, whole_run_rows, words_rows
 from picture_broken import broken_rows
 from picture_schedules import schedule_rows
@@ -257,6 +258,7 @@ def main():
         rounds_rows(draw, "queen5_5", all_of["queen5_5"], [4, 5], "--forests", "4..5")
         forests_rows(draw, "queen5_5", all_of["queen5_5"], list(range(4, 10)))
         crowded_rows(draw, "a crowd", CROWD)
+        name_rows(draw, all_of)
         grid_rows(draw, 10, 10)
         grid_rows(draw, 4, 7)
         parts_rows(draw)
