@@ -56,7 +56,8 @@ NETWORK is a file in the DIMACS format, or - for standard input, as in
 `./picture plan - < net.col > net.svg`. Comment lines `c at V X Y` place its
 vertices, y growing downwards; they count if each vertex has one. Else up to six
 are on a circle, and more are laid out by their edges. Vertices that would overlap
-are drawn smaller, and those still too near are pushed apart.
+are drawn smaller, and those still too near are pushed apart. Comment lines
+`c name V NAME` name them, in plan, player, run and overview.
 
 Status: 0 done, 1 not drawn (one line on standard error says why), 2 the command
 line is refused; if a program refuses, its own line and status.
