@@ -3,14 +3,14 @@ colours all forests are shown, each in a panel of its own, since they go on at o
 from math import sqrt
 
 from colouring import GREET, LAST_COLOUR, ORIENT, SEED
-from marks import channel_circle, colour_square, draw_edge, number_square
+from marks import channel_circle, colour_square, draw_edge, label_boxes, label_margin, label_of, number_square
 from palette import HAIRLINE, INK, PAPER, SOFT, WIRES, short
-from places import OF_SQUARES, bends, label_places, middle, places_of, spaced
+from places import OF_SQUARES, bends, label_places, middle, moved, places_of, spaced
 from svg import Svg, escaped, shown
 from wrong import Wrong
 
 FULL_FRAMES = 200
-SIZE, RADIUS, LEAST = 560, 15, 9
+SIZE, RADIUS, LEAST, LABEL = 560, 15, 9, 10
 EDGE, MERGED, MINE = "#DDDDDD", "#B0B0B0", "#444444"
 SAY = {
     "greet": "Every node tells its neighbours its identifier.",
@@ -159,9 +159,11 @@ class Film:
     def __init__(self, rounds):
         network = rounds.network
         self.rounds, self.network = rounds, network
-        self.places, self.radius = spaced(places_of(network), SIZE, SIZE, 60, RADIUS, LEAST, OF_SQUARES)
+        beside = label_margin(network, LABEL)
+        places, self.radius = spaced(places_of(network), SIZE - 2 * beside, SIZE, 60, RADIUS, LEAST, OF_SQUARES)
+        self.places = moved(places, beside, 0)
         self.bend = bends(self.places, network.edges, self.radius + 1)
-        self.labels = label_places(self.places, network.edges, self.bend, self.radius + 12)
+        self.labels = label_places(self.places, network.edges, self.bend, self.radius + 12, label_boxes(network, LABEL), self.radius * 1.42)
         self.merged, now = {}, {}
         for pulse in rounds.pulses:
             now = now | pulse.chosen
@@ -240,7 +242,7 @@ class Film:
         for v in self.network.vertices:
             self.vertex(svg, v, pulse, forest)
         for v, (x, y) in self.labels.items():
-            svg.text(x, y + 3.5, v, 10, SOFT, "middle", halo=3)
+            svg.text(x, y + 3.5, label_of(self.network, v), LABEL, SOFT, "middle", halo=3)
         for v, w, word, sent in pulse.puts:
             if word != "colour" or self.rounds.parents.get((w, forest)) == v:
                 self.token(svg, v, w, sent + 1 if word == "chosen" else sent)
