@@ -11,6 +11,8 @@ from wrong import Wrong
 
 FULL_FRAMES = 200
 SIZE, RADIUS, LEAST, LABEL = 560, 15, 9, 10
+# Numbers in a panel beside others are larger, since the panel is drawn smaller; names have no room to be.
+LABEL_IN_PANEL = 14
 EDGE, MERGED, MINE = "#DDDDDD", "#B0B0B0", "#444444"
 SAY = {
     "greet": "Every node tells its neighbours its identifier.",
@@ -225,13 +227,13 @@ class Film:
                     svg.rect(4, 4, SIZE - 8, SIZE - 8, PAPER, HAIRLINE, columns)
                     size = min(34, 9 * columns)
                     svg.text(SIZE / 2, 9 + 0.8 * size, f"forest {forest}", size, INK, "middle", bold=True)
-                self.panel(svg, pulse, forest)
+                self.panel(svg, pulse, forest, LABEL_IN_PANEL if more and not self.network.names else LABEL)
         if not forests:
             with svg.group("panel"):
                 self.panel(svg, pulse, None)
         return svg
 
-    def panel(self, svg, pulse, forest):
+    def panel(self, svg, pulse, forest, size=LABEL):
         """The network with one forest's arrows, at the start with none or all; in a merge those merged before are paler."""
         svg.element("use", href="#edges", color="#8A8A8A" if pulse.number == GREET else EDGE)
         seen = range(self.rounds.forests) if pulse.number == ORIENT else () if forest is None else [forest]
@@ -242,7 +244,7 @@ class Film:
         for v in self.network.vertices:
             self.vertex(svg, v, pulse, forest)
         for v, (x, y) in self.labels.items():
-            svg.text(x, y + 3.5, label_of(self.network, v), LABEL, SOFT, "middle", halo=3)
+            svg.text(x, y + 0.35 * size, label_of(self.network, v), size, SOFT, "middle", halo=3)
         for v, w, word, sent in pulse.puts:
             if word != "colour" or self.rounds.parents.get((w, forest)) == v:
                 self.token(svg, v, w, sent + 1 if word == "chosen" else sent)
