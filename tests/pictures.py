@@ -22,7 +22,9 @@ from picture_base import LIMIT, SEED, TALLY, TOP, Drawing, call, example, exampl
 from picture_maps import (bits_rows, crowded_rows, forests_rows, grid_rows, matrix_rows, parts_rows, plan_rows, player_rows,
                           rounds_rows)
 from picture_marks import gap, parsed, texts, titles
+from picture_names import name_rows
 from picture_runs import cut_rows, long_rows, run_rows, whole_run_rows, words_rows
+from picture_broken import broken_rows
 from picture_schedules import schedule_rows
 from plain_definition import network_of, plan_text
 from rounds_definition import rounds_text
@@ -164,14 +166,15 @@ def one_node_rows(draw):
 def word_rows(draw):
     """The command line, help, places that aren't given, and the same bytes twice."""
     for words in ([], ["plan"], ["map", "x"], ["plan", "x", "y"], ["run", "x", "--pulses", "3"], ["overview", "x", "--pulses", "3,5"],
-                  ["run", "x", "--only", "hello"], ["bits", "x", "--vertex", "y"], ["forests", "x", "--forests", "2"]):
+                  ["run", "x", "--only", "hello"], ["bits", "x", "--vertex", "y"], ["forests", "x", "--forests", "2"], ["broken"],
+                  ["broken", "x", "--without", "safes"]):
         status, picture, fault = call(words)
         prog = b"picture " + words[0].encode() if words and words[0] != "map" else b"picture"
         note(f"the words {words}", (status, picture) == (2, b"") and fault.split(b"\n")[-2].startswith(prog + b": error: "), fault)
     status, told, fault = call(["--help"])
     kinds = re.findall(r"^  ([a-z]+) {2,}", told.decode().split("positional")[0], re.M)
     note("help names standard input", b"./picture plan - <" in told)
-    note("help", (status, fault, len(kinds)) == (0, b"", 12), kinds)
+    note("help", (status, fault, len(kinds)) == (0, b"", 13), kinds)
     for kind in kinds:
         status, told, fault = call([kind, "--help"])
         note(f"help of {kind}", (status, fault) == (0, b"") and f"  ./picture {kind} examples/".encode() in told, told)
@@ -204,16 +207,17 @@ def stored_rows(play):
     note("each stored picture has its command", stored == sorted(name for _, name in commands), stored)
     for words, name in commands:
         words = words.split()
-        option, text = stored_text(words, example(words[1].removeprefix("examples/")), play)
+        option, text = stored_text(words, play)
         status, picture, fault = call(words + option, text, cwd=TOP)
         with open(os.path.join(folder, name), "rb") as file:
             note(f"stored: {name}", (status, picture) == (0, file.read()), fault or "drawn anew it differs")
 
 
-def stored_text(words, network, play):
-    """The option and the text that stand for the program's; nothing if the command names a stored one."""
-    if words[0] in ("schedules", "adversary") or any(word in ("--plan", "--rounds", "--transcript") for word in words):
+def stored_text(words, play):
+    """The option and the text that stand for the program's; nothing if the command needs none, or names a stored one."""
+    if words[0] in ("schedules", "adversary", "broken") or any(word in ("--plan", "--rounds", "--transcript") for word in words):
         return [], b""
+    network = example(words[1].removeprefix("examples/"))
     if words[0] in ("plan", "matrix"):
         return ["--plan", "-"], plan_text(network)
     wanted = rounds_text(network_of(network))
@@ -254,6 +258,7 @@ def main():
         rounds_rows(draw, "queen5_5", all_of["queen5_5"], [4, 5], "--forests", "4..5")
         forests_rows(draw, "queen5_5", all_of["queen5_5"], list(range(4, 10)))
         crowded_rows(draw, "a crowd", CROWD)
+        name_rows(draw, all_of)
         grid_rows(draw, 10, 10)
         grid_rows(draw, 4, 7)
         parts_rows(draw)
@@ -288,6 +293,7 @@ def main():
         pulses_rows(draw)
         word_rows(draw)
         schedule_rows(folder, all_of, play)
+        broken_rows(all_of)
     place_rows()
     stored_rows(play)
     print(f"{TALLY['passed']} passed, {TALLY['failed']} failed")

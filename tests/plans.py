@@ -6,6 +6,7 @@ import itertools
 import random
 import subprocess
 
+from alpha_definition import wire_words
 from one_worker import Run
 from plain_definition import network_of, plan_text
 from plain_networks import FAMILIES, SEED, text_of
@@ -19,6 +20,19 @@ SMALL_FAMILY, SMALL_NETWORKS = "random on up to 12 nodes", 20
 TRIANGLE = b"p edge 3 3\ne 1 2\ne 1 3\ne 2 3\n"
 TRIANGLE_PLAN = b"plan\n1 2\n2 3\n3 1\n"
 STOPPED = b"forestplan: stopped\n"
+
+# Capacity, looks, the entries of the triangle's nodes after so many looks of one worker, and what the links then hold, by hand: node
+# 1 greets both neighbours, and node 2 takes that greeting. On a link that holds one wire its acknowledgement has no place.
+GREETED = ["1 put 2 payload 0 hello 1", "1 put 3 payload 0 hello 1"]
+TAKEN = ["2 take 1 payload 0 hello 1", "2 put 1 payload 0 hello 2"]
+FIRST_LOOKS = [
+    (4, 0, [], {}),
+    (4, 1, GREETED, {(1, 0): ["payload 0 hello 1"], (1, 1): ["payload 0 hello 1"]}),
+    (4, 2, GREETED + TAKEN + ["2 put 1 ack 0", "2 put 3 payload 0 hello 2"],
+     {(1, 1): ["payload 0 hello 1"], (2, 0): ["payload 0 hello 2", "ack 0"], (2, 1): ["payload 0 hello 2"]}),
+    (1, 2, GREETED + TAKEN + ["2 put 3 payload 0 hello 2"],
+     {(1, 1): ["payload 0 hello 1"], (2, 0): ["payload 0 hello 2"], (2, 1): ["payload 0 hello 2"]}),
+]
 
 # (words behind `plan`, input, status, standard output, standard error)
 WORKED_RUNS = [
@@ -43,7 +57,7 @@ def plan_rows(program):
     """Rows (name, good, what)."""
     rows = [one_row(program, *row) for row in WORKED_RUNS]
     rows += [family_row(program, index) for index in range(len(FAMILIES))]
-    return rows + [small_row(program)] + list(turn_rows(program))
+    return rows + [small_row(program)] + list(first_rows(program)) + list(turn_rows(program))
 
 
 def answer_of(program, words, data, environment=None):
@@ -96,6 +110,21 @@ def texts_of(family):
     source = random.Random(f"{SEED} {title}")
     for nodes, edges in networks(source):
         yield text_of(source, nodes, edges)
+
+
+def first_rows(program):
+    """What the first looks leave by the definition of a turn, and that each node's entries in the program's transcript begin so."""
+    for capacity, looks, entries, held in FIRST_LOOKS:
+        left = Run(network_of(TRIANGLE), capacity, looks)
+        links = {at: [wire_words(wire) for wire in wires] for at, wires in left.state.link.items() if wires}
+        _, whole, _ = answer_with(program, TRIANGLE, capacity, 10**9, "transcript")
+        begun = [line for v in "123" for line in of_node(v, (whole or b"").decode().splitlines())[:len(of_node(v, entries))]]
+        got = [line for _, lines in sorted(left.lines.items()) for line in lines], links, begun
+        yield f"the first {looks} looks of one worker with capacity {capacity}", got == (entries, held, entries), got
+
+
+def of_node(v, lines):
+    return [line for line in lines if line.startswith(v + " ")]
 
 
 def turn_rows(program):

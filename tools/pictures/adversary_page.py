@@ -41,7 +41,7 @@ def compact(value):
 def about(space):
     if space.without:
         reach = "" if space.expanded == space.count else f" The table goes as far as {space.depth[space.expanded - 1]} events."
-        return f"{left_out_words(space)} Choose what comes next, and try to make something go wrong.{reach}"
+        return f"{left_out_words(space.without)} Choose what comes next, and try to make something go wrong.{reach}"
     plan = ", ".join(str(space.rounds.colours[v] + 1) for v in space.vertices)
     return (f"Choose what comes next: every order of events is in this page. Whatever you choose, after {space.depth[space.ends[0]]} "
             f"events all have halted, with channels {plan}.")

@@ -81,7 +81,7 @@ def draw_node(automaton):
     automaton.arrow(("ready", "pulse", "asks"), INK, [(815, y + 32), (490, y + 200), (185, y + 34)],
                     "next pulse, payloads to send", (490, y + 134))
     automaton.arrow(("ready", "pulse", "safe"), INK, [(845, y + 32), (690, y + 116), (550, y + 34)],
-                    "next pulse, none to send", (695, y + 48))
+                    "next pulse, none to send", (668, y + 48))
     automaton.arrow(("ready", "pulse", "last"), INK, [(905, y + 32), (915, y + 90), (960, 322)], "pulse R", (915, 306), "end")
     automaton.arrow(("ready", "pulse", "ready"), INK, [(945, y - 32), (985, y - 92), (1040, y - 20), (958, y + 4)],
                     "next pulse, both at once", (1000, y - 82))

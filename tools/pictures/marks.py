@@ -67,6 +67,32 @@ def wire_arrow(svg, x1, y1, x2, y2, kind):
     svg.circle(x1, y1, 2.2 if kind == "payload" else 1.6, WIRES[kind])
 
 
+# Of a vertex's name so many letters are written beside its number, the last one an ellipsis if there are more.
+LONGEST_NAME = 12
+
+
+def short_name(network, v, longest=LONGEST_NAME):
+    """The name that the network's text gives a vertex, as there is room for it; `` if it gives none."""
+    name = "".join(letter if letter.isprintable() else "\ufffd" for letter in network.names.get(v, ""))
+    return name if len(name) <= longest else name[:longest - 1].rstrip() + "…"
+
+
+def label_of(network, v):
+    """A vertex's number, and its name if it has one."""
+    return f"{v} {short_name(network, v)}".rstrip()
+
+
+def label_boxes(network, size):
+    """Half the width and half the height of each vertex's label."""
+    return {v: (text_width(label_of(network, v), size) / 2, 0.45 * size) for v in network.vertices}
+
+
+def label_margin(network, size):
+    """How much more room than numbers the widest label needs beside a vertex at the edge."""
+    widest = max((text_width(label_of(network, v), size) for v in network.vertices if v in network.names), default=0)
+    return max(0, widest - 16)
+
+
 def dash_of(kind):
     return "4 2.5" if kind == "ack" else None
 

@@ -1,4 +1,5 @@
 """The whole run, or some pulses of it: bands and ticks alone. Neighbours are never more than one pulse apart."""
+from marks import short_name
 from palette import BAND, BORDER, INK, PAPER, PULSE, SOFT
 from run_picture import polygon
 from svg import Svg, text_width
@@ -19,7 +20,7 @@ class Overview:
 
     def __init__(self, run, first, last):
         nodes = run.network.vertices
-        self.nodes, self.first, self.last, self.of = nodes, first, last, run.last
+        self.nodes, self.network, self.first, self.last, self.of = nodes, run.network, first, last, run.last
         self.ticks = {v: run.ticks(v) for v in nodes}
         if not any(first in ticks for ticks in self.ticks.values()):
             raise Wrong(f"{run.name}: no node begins pulse {first}")
@@ -27,6 +28,8 @@ class Overview:
         self.start = min(self.time(v, first) for v in nodes)
         self.stop = max(self.time(v, last + 1) for v in nodes)
         self.row = min(22, max(7, 1000 / len(nodes)))
+        self.size = min(13, self.row)
+        self.left = LEFT + max((text_width(short_name(run.network, v), self.name_size()) + 6 for v in nodes if v in run.network.names), default=0)
         self.bottom = self.y(len(nodes))
         self.column = WIDTH / (last - first + 1)
 
@@ -34,8 +37,11 @@ class Overview:
         """When a node begins a pulse; the end of the run, if it doesn't."""
         return self.ticks[v].get(pulse, self.end)
 
+    def name_size(self):
+        return min(10, self.row)
+
     def x(self, time):
-        return LEFT + (time - self.start) / (self.stop - self.start) * WIDTH
+        return self.left + (time - self.start) / (self.stop - self.start) * WIDTH
 
     def y(self, v):
         return TOP + (v - 1) * self.row
@@ -49,7 +55,7 @@ class Overview:
 def draw(run, pulses=None):
     first, last = run.window(pulses, usual(run.last))
     overview = Overview(run, first, last)
-    svg = Svg(LEFT + WIDTH + 28, overview.bottom + 52, f"Overview of {run.name}")
+    svg = Svg(overview.left + WIDTH + 28, overview.bottom + 52, f"Overview of {run.name}")
     svg.heading(f"{run.name}: pulses {first} to {last} of {run.last}, without a clock",
                 "No clock was kept. An event stands as far right as the longest chain of events that lead to it (found by replaying).")
     draw_bands(svg, overview)
@@ -90,8 +96,13 @@ def draw_bands(svg, overview):
 def draw_node(svg, overview, v):
     """A node's line with its pulses; those outside the window are grey."""
     y, half = overview.y(v), overview.row * 0.2
-    svg.line(LEFT - 6, y, LEFT + WIDTH + 8, y, "#8A8A8A", 0.6)
-    svg.text(LEFT - 14, y + 4, v, min(13, overview.row), INK, "end", bold=True)
+    left = overview.left
+    svg.line(left - 6, y, left + WIDTH + 8, y, "#8A8A8A", 0.6)
+    svg.text(left - 14, y + 4, v, overview.size, INK, "end", bold=True)
+    name = short_name(overview.network, v)
+    if name:
+        svg.text(left - 20 - text_width(len(overview.nodes), overview.size) * 1.15, y + 4, name, overview.name_size(), SOFT, "end",
+                 mark="vertex-name")
     for pulse, time in sorted(overview.ticks[v].items()):
         if overview.start <= time <= overview.stop:
             inside = overview.first <= pulse <= overview.last + 1

@@ -11,6 +11,7 @@ sys.path.insert(1, os.path.join(os.path.dirname(os.path.dirname(os.path.realpath
 import adversary_page
 import automaton_picture
 import bits_picture
+import broken_picture
 import forests_picture
 import matrix_picture
 import overview_picture
@@ -32,7 +33,7 @@ from transcripts import read_transcript
 from wrong import Wrong
 
 HELP = """\
-Draws what the programs computed, as SVG on standard output; the last two kinds
+Draws what the programs computed, as SVG on standard output; the last three kinds
 draw what `./explore` searches.
 
   plan       the plan on the map: who has which channel
@@ -47,6 +48,7 @@ draw what `./explore` searches.
   player     a page that plays the pulses (HTML)
   schedules  every order of events of a tiny network, as a lattice
   adversary  a page on which you choose what happens next (HTML)
+  broken     what the rounds do without a rule, beside what they do with all
 """
 
 MORE_HELP = """\
@@ -54,7 +56,8 @@ NETWORK is a file in the DIMACS format, or - for standard input, as in
 `./picture plan - < net.col > net.svg`. Comment lines `c at V X Y` place its
 vertices, y growing downwards; they count if each vertex has one. Else up to six
 are on a circle, and more are laid out by their edges. Vertices that would overlap
-are drawn smaller, and those still too near are pushed apart.
+are drawn smaller, and those still too near are pushed apart. Comment lines
+`c name V NAME` name them, in plan, player, run and overview.
 
 Status: 0 done, 1 not drawn (one line on standard error says why), 2 the command
 line is refused; if a program refuses, its own line and status.
@@ -113,6 +116,11 @@ KINDS = {
                   "may end early, which the page says.",
                   "./picture adversary examples/triangle.col > triangle.html\n"
                   "  ./picture adversary examples/path.col --without safes > path-without-safes.html"),
+    "broken": ("What goes wrong without a rule of the rounds, and the same rounds with all rules.",
+               "At most 2,000 nodes, and 40 if they go wrong in a merge. Without NETWORK, a smallest network that goes\n"
+               "wrong, which is looked for. Rounds that go right are refused.",
+               "./picture broken --without shift > without-shift.svg\n"
+               "  ./picture broken examples/petersen.col --without pair > petersen-without-pair.svg"),
 }
 OF_SPACE = ("schedules", "adversary")
 OF_PLAN, OF_ROUNDS, OF_RUN = ("plan", "matrix"), ("forests", "rounds", "bits", "player"), ("run", "overview", "node", "tally")
@@ -136,11 +144,15 @@ def wires(text):
     return [kind for kind in run_picture.KINDS if kind in kinds]
 
 
-def rules(text):
-    found = schedules_space.rules_of(text)
+def rules(text, among=schedules_space.OF_SCHEDULES):
+    found = schedules_space.rules_of(text, among)
     if found is None:
-        raise argparse.ArgumentTypeError(f"some of {','.join(schedules_space.OF_SCHEDULES)}")
+        raise argparse.ArgumentTypeError(f"some of {','.join(among)}")
     return found
+
+
+def rules_of_rounds(text):
+    return rules(text, schedules_space.OF_ROUNDS)
 
 
 def command_line():
@@ -149,17 +161,25 @@ def command_line():
                                     formatter_class=argparse.RawDescriptionHelpFormatter)
     kinds = words.add_subparsers(dest="kind", metavar="KIND", required=True, help="one of those above")
     for name, (what, more, example) in KINDS.items():
-        kind = kinds.add_parser(name, prog=f"picture {name}", usage=f"picture {name} NETWORK [options]", description=f"{what}\n\n{more}",
+        kind = kinds.add_parser(name, prog=f"picture {name}", usage=usage_of(name), description=f"{what}\n\n{more}",
                                 epilog=f"Example:\n  {example}", formatter_class=argparse.RawDescriptionHelpFormatter)
-        kind.add_argument("network", metavar="NETWORK", help="the network's file, or - for standard input")
+        kind.add_argument("network", metavar="NETWORK", nargs="?" if name == "broken" else None,
+                          help="the network's file, or - for standard input")
         add_options(kind, name)
     return words, kinds.choices
+
+
+def usage_of(name):
+    return "picture broken [NETWORK] --without RULES" if name == "broken" else f"picture {name} NETWORK [options]"
 
 
 def add_options(kind, name):
     """A stored text in place of the program's, and what the kind can be told."""
     if name in OF_SPACE:
         return add_space_options(kind, name)
+    if name == "broken":
+        return kind.add_argument("--without", type=rules_of_rounds, required=True, metavar="RULES",
+                                 help=f"some of {','.join(schedules_space.OF_ROUNDS)}")
     text = "plan" if name in OF_PLAN else "rounds" if name in OF_ROUNDS else "transcript"
     kind.add_argument(f"--{text}", dest="text", metavar="FILE", help=f"a stored {text} text, or - for standard input")
     if name in OF_RUN:
@@ -233,6 +253,8 @@ def name_of(given, network):
 
 def drawn(given):
     """The picture of a kind."""
+    if given.kind == "broken":
+        return drawn_broken(given)
     if given.kind not in OF_SPACE and given.network == stored(given) == "-":
         raise Wrong("standard input has one text: name a file for the network or for the other text")
     network_text = file_text(given.network)
@@ -267,6 +289,14 @@ def until_of(given, network):
     if given.kind == "overview":
         return overview_picture.usual(last)[1]
     return (automaton_picture.usual(network, last) if given.vertex is None else timing_picture.usual(last))[1]
+
+
+def drawn_broken(given):
+    if given.network is None:
+        return broken_picture.draw(None, given.without)
+    network = read_network(file_text(given.network), "standard input" if given.network == "-" else given.network)
+    check_size(given.kind, network)
+    return broken_picture.draw(network, given.without)
 
 
 def drawn_space(given, network):

@@ -8,6 +8,8 @@ LARGEST_CIRCLE = 6
 # How far apart two vertices are at least, in radii: circles don't touch then; and neither do squares of twice that width.
 OF_CIRCLES, OF_SQUARES = 2.3, 2.95
 PUSHES, REFITS = 200, 12
+# A text of about this half width stands as near to its vertex at the side as above it; a wider one is moved aside.
+SHORT, LITTLE = 5, 1.5
 FULL_TURN = 6.283185307179586
 
 
@@ -147,24 +149,44 @@ def points_along(places, bend, a, b, count=12):
                (1 - t) * (1 - t) * y1 + 2 * t * (1 - t) * my + t * t * y2)
 
 
-def label_places(places, edges, bend, distance):
-    """Where each vertex's number is written: of 16 directions the one with most room, upper ones first."""
+def label_places(places, edges, bend, distance, boxes=None, radius=0):
+    """Where each vertex's number is written: of 16 directions the one with most room, upper ones first. `boxes[v]` is half the width
+    and half the height of what is written: then a direction in which it covers less of circles of `radius` and of other texts is
+    better, and only among those alike the one with more room."""
     drawn = {e: list(points_along(places, bend, *e)) for e in edges}
     taken, found = [], {}
     near = 5 * distance
     for v, (x, y) in sorted(places.items()):
-        others = [p for w, p in places.items() if w != v and abs(p[0] - x) < near and abs(p[1] - y) < near]
-        points = [p for e in edges for p in drawn[e] if abs(p[0] - x) < near and abs(p[1] - y) < near]
+        half_wide, half_high = boxes[v] if boxes else (0, 0)
+        aside = half_wide - SHORT if half_wide > SHORT + LITTLE else 0
+        reach = near + half_wide
+        others = [p for w, p in places.items() if w != v and abs(p[0] - x) < reach and abs(p[1] - y) < reach]
+        points = [p for e in edges for p in drawn[e] if abs(p[0] - x) < reach and abs(p[1] - y) < reach]
         best = None
         for k in (2, 14, 1, 15, 3, 13, 0, 4, 12, 6, 10, 5, 11, 7, 9, 8):
             dx, dy = turned(k / 16)
-            spot = x + dx * distance, y + dy * distance
-            room = min([gap(spot, p) for p in points] + [gap(spot, p) - 0.45 * distance for p in others + taken] + [near])
-            if best is None or room > best[0] + 1:
-                best = room, spot
-        found[v] = best[1]
-        taken.append(best[1])
+            spot = x + dx * distance + aside * max(-1, min(1, 2 * dx)), y + dy * distance
+            room = min([gap(spot, p) for p in points] + [gap(spot, p) - 0.45 * distance for p in others + [at for at, _ in taken]] + [near])
+            circles = [*others, (x, y)] if aside else others
+            covered = covers((spot, (half_wide, half_high)), circles, radius, taken) if boxes else 0
+            if best is None or covered < best[0] - 0.5 or covered <= best[0] + 0.5 and room > best[1] + 1:
+                best = covered, room, spot
+        found[v] = best[2]
+        taken.append((best[2], (half_wide, half_high)))
     return found
+
+
+def covers(box, circles, radius, boxes):
+    """How much of circles and of other boxes a box covers, in pixels of depth; a box is its middle and half its sides."""
+    (x, y), (half_wide, half_high) = box
+    depth = 0.0
+    for other_x, other_y in circles:
+        nearest = max(x - half_wide, min(other_x, x + half_wide)), max(y - half_high, min(other_y, y + half_high))
+        depth += max(0.0, radius - gap(nearest, (other_x, other_y)))
+    for (other_x, other_y), (other_wide, other_high) in boxes:
+        wide, high = half_wide + other_wide - abs(x - other_x), half_high + other_high - abs(y - other_y)
+        depth += max(0.0, min(wide, high))
+    return depth
 
 
 def gap(p, q):

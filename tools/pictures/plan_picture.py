@@ -1,5 +1,5 @@
 """The plan on the map: who has which channel."""
-from marks import channel_circle, channel_legend, draw_edge
+from marks import channel_circle, channel_legend, draw_edge, label_boxes, label_margin, label_of
 from palette import PAPER, SOFT
 from places import bends, box_height, label_places, moved, places_of, spaced
 from plans import clashes
@@ -18,14 +18,15 @@ def draw(network, plan):
     width = 900 if is_large else 560 if network.nodes > SMALL else 420
     radius, least = (8.5, 6.5) if is_large else (15, 10) if network.nodes > SMALL else (19, 12)
     margin = 30 if is_large else 44
+    beside = label_margin(network, size_of(network)) if network.nodes <= LARGEST_NUMBERED else 0
     said = said_of(network)
     places = places_of(network)
     height = min(640, box_height(places, width, margin, 150))
-    whole_width = max(width, 40 + text_width(said, 11) * 0.9)
+    whole_width = max(width + 2 * beside, 40 + text_width(said, 11) * 0.9)
     svg = Svg(whole_width, 0, f"Channel plan of {network.name}")
     svg.heading(f"{network.name}: the plan is proper", said)
-    places, radius = spaced(places, whole_width, height, margin, radius, least)
-    draw_map(svg, network, plan, moved(places, 0, 58), radius)
+    places, radius = spaced(places, whole_width - 2 * beside, height, margin, radius, least)
+    draw_map(svg, network, plan, moved(places, beside, 58), radius)
     used = sorted(set(plan.values()))
     svg.height = 58 + height + 26 + channel_legend(svg, 20, 58 + height + 20, used, network.degree + 1, whole_width)
     return svg.document()
@@ -40,6 +41,11 @@ def said_of(network):
             "on each line two different numbers")
 
 
+def size_of(network):
+    """The size of the vertices' numbers."""
+    return 7.5 if network.nodes > LARGE else 9.5
+
+
 def draw_map(svg, network, plan, places, radius):
     is_large, is_dense = network.nodes > LARGE, len(network.edges) > 5 * network.nodes
     bend = {} if is_large else bends(places, network.edges, radius + 1)
@@ -47,10 +53,11 @@ def draw_map(svg, network, plan, places, radius):
     for v, w in network.edges:
         draw_edge(svg, places, bend, v, w, colour, width)
     if network.nodes <= LARGEST_NUMBERED:
-        size = 7.5 if is_large else 9.5
-        for v, (x, y) in label_places(places, network.edges, bend, radius + (6.5 if is_large else 9)).items():
-            svg.text(x, y + size * 0.37, v, size, SOFT, "middle", halo=2.5 if is_large else 3, mark="number")
+        size = size_of(network)
+        spots = label_places(places, network.edges, bend, radius + (6.5 if is_large else 9), label_boxes(network, size), radius + 2)
+        for v, (x, y) in spots.items():
+            svg.text(x, y + size * 0.37, label_of(network, v), size, SOFT, "middle", halo=2.5 if is_large else 3, mark="number")
     for v, (x, y) in sorted(places.items()):
-        with svg.group("vertex", f"vertex {v}: channel {plan[v]}"):
+        with svg.group("vertex", f"vertex {label_of(network, v)}: channel {plan[v]}"):
             svg.circle(x, y, radius + 1.6, PAPER)
             channel_circle(svg, x, y, radius, plan[v])

@@ -3,14 +3,16 @@ colours all forests are shown, each in a panel of its own, since they go on at o
 from math import sqrt
 
 from colouring import GREET, LAST_COLOUR, ORIENT, SEED
-from marks import channel_circle, colour_square, draw_edge, number_square
+from marks import channel_circle, colour_square, draw_edge, label_boxes, label_margin, label_of, number_square
 from palette import HAIRLINE, INK, PAPER, SOFT, WIRES, short
-from places import OF_SQUARES, bends, label_places, middle, places_of, spaced
+from places import OF_SQUARES, bends, label_places, middle, moved, places_of, spaced
 from svg import Svg, escaped, shown
 from wrong import Wrong
 
 FULL_FRAMES = 200
-SIZE, RADIUS, LEAST = 560, 15, 9
+SIZE, RADIUS, LEAST, LABEL = 560, 15, 9, 10
+# Numbers in a panel beside others are larger, since the panel is drawn smaller; names have no room to be.
+LABEL_IN_PANEL = 14
 EDGE, MERGED, MINE = "#DDDDDD", "#B0B0B0", "#444444"
 SAY = {
     "greet": "Every node tells its neighbours its identifier.",
@@ -159,9 +161,11 @@ class Film:
     def __init__(self, rounds):
         network = rounds.network
         self.rounds, self.network = rounds, network
-        self.places, self.radius = spaced(places_of(network), SIZE, SIZE, 60, RADIUS, LEAST, OF_SQUARES)
+        beside = label_margin(network, LABEL)
+        places, self.radius = spaced(places_of(network), SIZE - 2 * beside, SIZE, 60, RADIUS, LEAST, OF_SQUARES)
+        self.places = moved(places, beside, 0)
         self.bend = bends(self.places, network.edges, self.radius + 1)
-        self.labels = label_places(self.places, network.edges, self.bend, self.radius + 12)
+        self.labels = label_places(self.places, network.edges, self.bend, self.radius + 12, label_boxes(network, LABEL), self.radius * 1.42)
         self.merged, now = {}, {}
         for pulse in rounds.pulses:
             now = now | pulse.chosen
@@ -223,13 +227,13 @@ class Film:
                     svg.rect(4, 4, SIZE - 8, SIZE - 8, PAPER, HAIRLINE, columns)
                     size = min(34, 9 * columns)
                     svg.text(SIZE / 2, 9 + 0.8 * size, f"forest {forest}", size, INK, "middle", bold=True)
-                self.panel(svg, pulse, forest)
+                self.panel(svg, pulse, forest, LABEL_IN_PANEL if more and not self.network.names else LABEL)
         if not forests:
             with svg.group("panel"):
                 self.panel(svg, pulse, None)
         return svg
 
-    def panel(self, svg, pulse, forest):
+    def panel(self, svg, pulse, forest, size=LABEL):
         """The network with one forest's arrows, at the start with none or all; in a merge those merged before are paler."""
         svg.element("use", href="#edges", color="#8A8A8A" if pulse.number == GREET else EDGE)
         seen = range(self.rounds.forests) if pulse.number == ORIENT else () if forest is None else [forest]
@@ -240,7 +244,7 @@ class Film:
         for v in self.network.vertices:
             self.vertex(svg, v, pulse, forest)
         for v, (x, y) in self.labels.items():
-            svg.text(x, y + 3.5, v, 10, SOFT, "middle", halo=3)
+            svg.text(x, y + 0.35 * size, label_of(self.network, v), size, SOFT, "middle", halo=3)
         for v, w, word, sent in pulse.puts:
             if word != "colour" or self.rounds.parents.get((w, forest)) == v:
                 self.token(svg, v, w, sent + 1 if word == "chosen" else sent)

@@ -5,7 +5,7 @@ band goes from tick p to tick p + 1 of each node, and wires may cross its border
 bar goes from where a payload is taken to the tick at which it is read, and that tick is p + 1's."""
 from math import sqrt
 
-from marks import dash_of, wire_arrow
+from marks import dash_of, short_name, wire_arrow
 from palette import BAND, BORDER, INK, PAPER, PULSE, SOFT, WIRES
 from svg import Svg, counted, text_width
 from wrong import at_most
@@ -77,12 +77,20 @@ def draw(run, pulses=None, kinds=None):
     for v in run.network.vertices:
         svg.line(LEFT - 6, window.y(v), width - 16, window.y(v), "#8A8A8A", 1)
         svg.text(LEFT - 18, window.y(v) + 5, v, 15, INK, "end", bold=True)
+        name_below(svg, run.network, v, window.y(v))
     with svg.group("upper", clip_path="url(#window)"):
         draw_wires(svg, window, kinds)
         draw_ticks(svg, window)
     svg.text(20, TOP + upper + extra(window, nodes) + 20, early_words(window, kinds), 11.5, SOFT)
     draw_rounds(svg, run, first, last, lower_top, lower_row)
     return svg.document()
+
+
+def name_below(svg, network, v, y):
+    """A vertex's name below its number, if it has one, left of its line."""
+    name = short_name(network, v, 8)
+    if name:
+        svg.text(LEFT - 10, y + 16, name, 9, SOFT, "end", mark="vertex-name")
 
 
 def extra(window, nodes):
@@ -225,6 +233,7 @@ def draw_rounds(svg, run, first, last, top, row_height):
         for v in nodes:
             svg.line(LEFT - 6, y_of(v), LEFT + 1132, y_of(v), "#8A8A8A", 1)
             svg.text(LEFT - 18, y_of(v) + 5, v, 14, INK, "end", bold=True)
+            name_below(svg, run.network, v, y_of(v))
         for put in puts:
             with svg.group("round", put.title()):
                 round_arrow(svg, x_of(put.wire[1]), y_of(put.vertex), x_of(put.wire[1] + 1), y_of(put.neighbour))

@@ -188,7 +188,7 @@ class Lattice:
 
     def lines(self, width):
         space = self.space
-        said = [left_out_words(space)] if space.without else []
+        said = [left_out_words(space.without)] if space.without else []
         inside = ", and inside are the nodes’ pulses" if self.number_size() >= 5 else ""
         said.append(f"A mark is a state of the whole network{inside}; a line is one event. "
                     f"{space.count:,} states, {len(space.target):,} steps" + ("." if space.schedules is None

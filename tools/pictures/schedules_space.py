@@ -1,5 +1,6 @@
 """All states of a tiny network and the steps between them, as tools/schedules/space.py finds them, for the kinds that draw
-every schedule. What is too large for a picture is refused here, in a sentence."""
+every schedule; and the rounds without a rule, as ruled_rounds.py there has them. What is too large for a picture is refused here,
+in a sentence."""
 import os
 import re
 import sys
@@ -9,9 +10,10 @@ from wrong import Wrong
 
 sys.path.append(os.path.join(TOP, "tools", "schedules"))
 
-from definitions import network_of, wire_words  # noqa: E402,F401
-from explore import rounded  # noqa: E402,F401
-from rules import OF_SCHEDULES  # noqa: E402
+from definitions import network_of, read_network, wire_words  # noqa: E402,F401
+from explore import MOST_MERGED, MOST_ROW, rounded  # noqa: E402,F401
+from ruled_rounds import RuledRounds, smallest  # noqa: E402
+from rules import ALL, OF_FORESTS, OF_ROUNDS, OF_SCHEDULES  # noqa: E402
 from space import Space, TooMany  # noqa: E402
 
 MAX_STATES = 200_000
@@ -55,10 +57,27 @@ def progress(states, events):
         print(f"picture: {states:,} states, up to {events} events", file=sys.stderr)
 
 
-def rules_of(text):
-    """The rules of an option `--without RULE,RULE`, or None if one of them is none."""
+def broken_rounds(network, without):
+    """(rounds, how many networks go right that are smaller) of a network that was read, or of a smallest one, on which the rounds
+    go wrong without these rules. Networks that go right are refused."""
+    said = " and ".join(f"`{rule}`" for rule in without)
+    if network is not None:
+        rounds = RuledRounds(network_of(network), without)
+        if rounds.clash is None:
+            raise Wrong(f"not broken: the rounds of {network.name} go right without {said}; without NETWORK, broken draws a smallest one "
+                        "that goes wrong")
+        return rounds, 0
+    most, what = (MOST_ROW, "rows") if set(without) <= set(OF_FORESTS) else (MOST_MERGED, "networks")
+    rounds, tried = smallest(without, most)
+    if rounds is None:
+        raise Wrong(f"not broken: {tried:,} {what} of up to {most} nodes go right without {said}")
+    return rounds, tried - 1
+
+
+def rules_of(text, among):
+    """The rules of an option `--without RULE,RULE`, or None if one of them isn't among those that can be left out."""
     rules = tuple(text.split(","))
-    return rules if set(rules) <= set(OF_SCHEDULES) and len(set(rules)) == len(rules) else None
+    return rules if set(rules) <= set(among) and len(set(rules)) == len(rules) else None
 
 
 def fault_words(space, key=None):
@@ -71,9 +90,9 @@ def quoted(words):
     return re.sub("`([^`]*)`", "‘\\1’", words)
 
 
-def left_out_words(space):
+def left_out_words(without):
     """The rules that are left out, as a sentence."""
-    said = [f"that {OF_SCHEDULES[rule].says}" for rule in space.without]
+    said = [f"that {ALL[rule].says}" for rule in without]
     return f"Left out {'is the rule' if len(said) == 1 else 'are the rules'} {'; '.join(said)}."
 
 

@@ -11,6 +11,7 @@ NODES = {
     "player": (40, "rounds"),
     "schedules": (4, "run, which draws one schedule"),
     "adversary": (4, "player"),
+    "broken": (2000, "`./explore NETWORK --without RULES`, which says it in words"),
 }
 
 

@@ -71,8 +71,9 @@ def draw_bars(svg, counts, pulses, bar, width):
         svg.line(LEFT, y, width - 20, y, "#E4E4E4", 1)
         svg.text(LEFT - 8, y + 4, mark, 10, SOFT, "end")
     every = next(size for size in (1, 2, 5, 10, 20, 50, 100, 200, 500, 1000, 10 ** 9) if bar * size > 17)
-    # Below three pixels a gap between bars would come and go with the screen's own pixels.
+    # Below three pixels a gap between bars would come and go with the screen's own pixels, and so would half a pixel's pale edge.
     space = min(1, bar * 0.1) if bar >= 3 else 0
+    edges = None if space else "crispEdges"
     for column, pulse in enumerate(pulses):
         y, x = TOP + HEIGHT, LEFT + column * bar
         for kind in ORDER:
@@ -80,6 +81,6 @@ def draw_bars(svg, counts, pulses, bar, width):
             if height:
                 y -= height
                 with svg.group(kind, f"pulse {pulse}: {kind} {counts[kind][pulse]}"):
-                    svg.rect(x + space, y, bar - 2 * space, height, WIRES[kind])
+                    svg.rect(x + space, y, bar - 2 * space, height, WIRES[kind], shape_rendering=edges)
         if pulse % every == 0:
             svg.text(x + bar / 2, TOP + HEIGHT + 14, pulse, 9, SOFT, "middle")

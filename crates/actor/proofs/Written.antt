@@ -1,54 +1,22 @@
 -- The entries of a node, as it writes one more down: they still lead to what it is, and have the lists that it put and took.
-use Rattle.std.proofs.Common.{◌≡◌, ℕ, suc, ◌+◌, ◌<◌, ◌==◌, true, false, if◌then◌else◌, List, [], ◌∷◌, ◌++◌, map, refl, sym, ap, ◌∙◌, subst, arith}
-use Rattle.std.proofs.Common.{zero, Some, None, Ok, Err, slice_get, ⊎_elim}
-use Rattle.std.specs.Prelude.{Bool, IsTrue, Option, Result, MatchResult, nat_lt, ◌&&◌, replicate}
+use Rattle.std.proofs.Common.{◌≡◌, ℕ, suc, ◌+◌, ◌<◌, ◌==◌, true, false, if◌then◌else◌, List, [], ◌∷◌, ◌++◌, refl, sym, ap, ◌∙◌, subst, arith}
+use Rattle.std.proofs.Common.{zero, Some, Ok, Err, slice_get, ⊎_elim}
+use Rattle.std.specs.Prelude.{Bool, IsTrue, Result, MatchResult}
 use Rattle.std.specs.List.{range_with_len}
 use Rattle.std.proofs.lemmas.Bool.{cases_eq, cases_Bool, eq-eqb, ne_eqb}
 use Rattle.std.proofs.lemmas.List.{append-nil}
 use Rattle.alpha_laws.specs.interference.Net.{Net, IsNetwork, IsVertex, degree_of, neighbour_of, port_to}
 use Rattle.alpha_laws.proofs.interference.Neighbours.{port_to-is}
-use Rattle.alpha_laws.specs.node_api.Program.{Program, last_pulse_on, own_of}
+use Rattle.alpha_laws.specs.node_api.Program.{Program, last_pulse_on}
 use Rattle.alpha_laws.specs.alpha_core.Wire.{Wire}
-use Rattle.alpha_laws.specs.alpha_core.Wire.TheVariants as wire
-use Rattle.alpha_laws.specs.alpha_core.AlphaRefused.{AlphaRefused}
-use Rattle.alpha_laws.specs.alpha_core.View.{Port, View, Node, new_port, can_pulse, none_waits, port_at, set_port}
-use Rattle.alpha_laws.specs.alpha_core.Table.{refusal_of}
-use Rattle.alpha_laws.specs.alpha_core.Alpha.{settles, enter_all, entering, advances, pulse, pulsed, put_done, reaction, reacts, unless_refused}
+use Rattle.alpha_laws.specs.alpha_core.View.{View, Node, can_pulse, port_at}
+use Rattle.alpha_laws.specs.alpha_core.Alpha.{pulse, put_done, reaction, reacts}
 use Rattle.alpha_laws.specs.alpha_core.Program.{start_node}
 use Rattle.alpha_laws.specs.Laws.{OneMore}
+use Rattle.alpha_laws.proofs.PulseAfter.{pulsed_pulse, reaction_pulse, start_pulse}
 use Rattle.entries.specs.declared.entry.Entry.{Entry}
 use Rattle.entries.specs.declared.entry.Entry.TheVariants.{Pulse, Put, Take}
 use Rattle.actor.specs.Written.{Leads, IsWritten, IsTranscript, puts_in, takes_in, pulses_in}
-
--- ---- the pulse of a node after an event
-settles_pulse : {M : Type 0} (last : ℕ) (view : View M) → (settles last view).pulse ≡ view.pulse
-settles_pulse last view = ⊎_elim (λ met. rw met refl) (λ missed. rw missed refl) (cases_Bool (nat_lt view.pulse last && none_waits view.ports))
-
-entering_pulse : {M : Type 0} (last p : ℕ) (sent : List (Option M)) (ports : List (Port M)) → (entering last p sent ports).pulse ≡ p
-entering_pulse last p sent ports = settles_pulse last record { pulse = p; said = false; ports = enter_all last p sent ports }
-
-reacts_pulse : {M : Type 0} (last : ℕ) (view : View M) (i : ℕ) (w : Wire M) → (reacts last view i w).pulse ≡ view.pulse
-reacts_pulse last view i (wire.Payload q x) = refl
-reacts_pulse last view i (wire.Ack q) = settles_pulse last (set_port view i record (port_at view i) { waits = false })
-reacts_pulse last view i (wire.Safe q) = refl
-reacts_pulse last view i wire.Close = refl
-
-not_refused : {A : Type 0} (o : Option AlphaRefused) (x y : A) → unless_refused o x ≡ Ok y → x ≡ y
-not_refused None x y e = cc
-not_refused (Some refused) x y e = absurd cc
-
-reaction_pulse : {M : Type 0} (last : ℕ) (view new : View M) (i : ℕ) (w : Wire M) → reaction last view i w ≡ Ok new → new.pulse ≡ view.pulse
-reaction_pulse last view new i w e =
-    ap (λ u. u.pulse) (sym (not_refused (refusal_of last view.pulse view.said (port_at view i) w) (reacts last view i w) new e)) ∙ reacts_pulse last view i w
-
-pulsed_pulse : {S M E : Type 0} (last : ℕ) (node new : Node S M) (r : Result (S × List (Option M)) E) → pulsed last node r ≡ Ok new
-    → new.view.pulse ≡ suc node.view.pulse
-pulsed_pulse last node new (Ok next) e =
-    let is = ok_same e in ap (λ n. n.view.pulse) (sym is) ∙ entering_pulse last (suc node.view.pulse) next.1 (map (λ port. advances port) node.view.ports)
-  where
-    ok_same : {A B : Type 0} {x y : A} → ◌≡◌ {A = Result A B} (Ok x) (Ok y) → x ≡ y
-    ok_same e = cc
-pulsed_pulse last node new (Err refused) e = absurd cc
 
 -- ---- a list that is read off the entries gets what the last entry has
 puts_more : {M : Type 0} (xs ys : List (Entry M)) (w : ℕ) → puts_in (xs ++ ys) w ≡ puts_in xs w ++ puts_in ys w
@@ -188,8 +156,7 @@ module _ {S M E : Type 0} (program : Program S M E) (net : Net) (v : ℕ) where
     run = refl;
     puts_are = λ i lt. none_put i;
     takes_are = λ i lt. none_taken i;
-    pulses_are = ap (λ n. range_with_len 1 n) (sym (entering_pulse (last_pulse_on program net) 0 (program.greet (program.made (own_of net v))).1
-        (replicate (degree_of net v) new_port)));
+    pulses_are = ap (λ n. range_with_len 1 n) (sym (start_pulse program net v));
   }
 
   pub starts_transcript : (t : Bool) (puts takens : ℕ → List (Wire M)) (entries : List (Entry M)) → ((i : ℕ) → [] ≡ puts i) → ((i : ℕ) → [] ≡ takens i)

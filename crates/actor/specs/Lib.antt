@@ -1,4 +1,5 @@
 pub mod Written
+pub mod Blocked
 pub mod Props
 pub mod Node
 pub mod Tables

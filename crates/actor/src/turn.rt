@@ -1,7 +1,8 @@
 //! What a node does in a turn.
 
-ghost use Rattle.std.specs.Prelude.{◌≡◌, ◌<◌, IfErr, IsTrue, None};
-ghost use Rattle.alpha_laws.specs.alpha_core.View.{can_take};
+ghost use Rattle.std.specs.Prelude.{◌≡◌, ◌<◌, IfErr, IfOk, IsSome, IsTrue, None, false};
+ghost use Rattle.alpha_laws.specs.alpha_core.View.{can_pulse, can_take};
+ghost use Rattle.actor.specs.Blocked.{IsUnmoved};
 
 use crate::aside::Aside;
 use crate::gate::Gate;
@@ -25,6 +26,7 @@ impl<J: Wiring, P: NodeProgram> Node<J, P> {
         requires going { self.old.aside ≡ None }
         requires room { IsTrue (can_take self.old.alpha.node.view) }
         ensures same { (self.new.vertex ≡ self.old.vertex) × (self.new.degree ≡ self.old.degree) }
+        ensures unmoved { IfOk result (λ did. did ≡ false → IsUnmoved self.old self.new) }
         ensures refused { IfErr result (λ _. IsTrue J.transcript) }
     {
         keep_room(self.transcript, &mut self.entries)?;
@@ -45,6 +47,8 @@ impl<J: Wiring, P: NodeProgram> Node<J, P> {
     fn take_some<R: Wait>(&mut self, rt: &R, links: &Links<J, P>, port: u32) -> Result<bool, Memory>
         requires port { port < self.old.degree }
         ensures same { (self.new.vertex ≡ self.old.vertex) × (self.new.degree ≡ self.old.degree) }
+        ensures unmoved { IfOk result (λ did. did ≡ false → IsUnmoved self.old self.new) }
+        ensures stopped { IfOk result (λ did. IsSome self.old.aside → did ≡ false) }
         ensures refused { IfErr result (λ _. IsTrue J.transcript) }
     {
         let mut took = false;
@@ -63,6 +67,8 @@ impl<J: Wiring, P: NodeProgram> Node<J, P> {
     // Takes by each port, ascending. Returns whether it took a wire.
     fn take_all<R: Wait>(&mut self, rt: &R, links: &Links<J, P>) -> Result<bool, Memory>
         ensures same { (self.new.vertex ≡ self.old.vertex) × (self.new.degree ≡ self.old.degree) }
+        ensures unmoved { IfOk result (λ did. did ≡ false → IsUnmoved self.old self.new) }
+        ensures stopped { IfOk result (λ did. IsSome self.old.aside → did ≡ false) }
         ensures refused { IfErr result (λ _. IsTrue J.transcript) }
     {
         let mut took = false;
@@ -78,6 +84,9 @@ impl<J: Wiring, P: NodeProgram> Node<J, P> {
     fn pulse(&mut self) -> Result<bool, Memory>
         requires going { self.old.aside ≡ None }
         ensures same { (self.new.vertex ≡ self.old.vertex) × (self.new.degree ≡ self.old.degree) }
+        ensures unmoved { IfOk result (λ did. did ≡ false → IsUnmoved self.old self.new) }
+        ensures blocked { IfOk result
+            (λ did. did ≡ false → can_pulse self.new.alpha.last self.new.alpha.node.view ≡ false) }
         ensures refused { IfErr result (λ _. IsTrue J.transcript) }
         ensures going { self.new.aside ≡ None }
     {
@@ -100,6 +109,7 @@ impl<J: Wiring, P: NodeProgram> Node<J, P> {
         requires port { port < self.old.degree }
         requires going { self.old.aside ≡ None }
         ensures same { (self.new.vertex ≡ self.old.vertex) × (self.new.degree ≡ self.old.degree) }
+        ensures unmoved { IfOk result (λ did. did ≡ false → IsUnmoved self.old self.new) }
         ensures refused { IfErr result (λ _. IsTrue J.transcript) }
         ensures going { self.new.aside ≡ None }
     {
@@ -123,6 +133,7 @@ impl<J: Wiring, P: NodeProgram> Node<J, P> {
         requires port { port < self.old.degree }
         requires going { self.old.aside ≡ None }
         ensures same { (self.new.vertex ≡ self.old.vertex) × (self.new.degree ≡ self.old.degree) }
+        ensures unmoved { IfOk result (λ did. did ≡ false → IsUnmoved self.old self.new) }
         ensures refused { IfErr result (λ _. IsTrue J.transcript) }
         ensures going { self.new.aside ≡ None }
     {
@@ -140,6 +151,7 @@ impl<J: Wiring, P: NodeProgram> Node<J, P> {
     fn put_all<R: Wait>(&mut self, rt: &R, links: &Links<J, P>) -> Result<bool, Memory>
         requires going { self.old.aside ≡ None }
         ensures same { (self.new.vertex ≡ self.old.vertex) × (self.new.degree ≡ self.old.degree) }
+        ensures unmoved { IfOk result (λ did. did ≡ false → IsUnmoved self.old self.new) }
         ensures refused { IfErr result (λ _. IsTrue J.transcript) }
         ensures going { self.new.aside ≡ None }
     {
@@ -166,6 +178,10 @@ impl<J: Wiring, P: NodeProgram> Node<J, P> {
         worker: u32,
     ) -> Result<bool, Memory>
         ensures vertex { self.new.vertex ≡ self.old.vertex }
+        ensures unmoved { IfOk result
+            (λ did. did ≡ false → self.new.aside ≡ self.old.aside → IsUnmoved self.old self.new) }
+        ensures blocked { IfOk result (λ did. did ≡ false → self.new.aside ≡ None
+            → can_pulse self.new.alpha.last self.new.alpha.node.view ≡ false) }
         ensures refused { IfErr result (λ _. IsTrue J.transcript) }
     {
         let took = self.take_all(rt, links)?;

@@ -6,8 +6,9 @@ mod Changed
 mod Counts
 mod PortRows
 mod OutLists
-mod OldestWires
+mod OutWires
 mod KeptOuts
 mod Moved
+mod Followed
 pub mod interference
 pub mod node_api

@@ -28,12 +28,14 @@
 //! Limits: degree 1,023, four wires in an out-list.
 #![tactic(auto)]
 
+mod bare;
 mod emitting;
 pub mod laws;
 mod marks;
 mod moving;
 mod node;
 mod out_lists;
+mod payloads;
 mod ports;
 mod refused;
 mod table;

@@ -1,43 +1,47 @@
 //! The wires that a node has still to put, by port.
 
-ghost use Rattle.std.specs.Prelude.{◌≡◌, ◌<◌, ◌≤◌, ◌++◌, ◌∷◌, [], IfOk, replicate, length, drop, slice_get, slice_set};
-ghost use Rattle.std.specs.Prelude.{cond, vec_capacity};
+ghost use Rattle.std.specs.Prelude.{◌≡◌, ◌<◌, ◌≤◌, ◌++◌, ◌∷◌, [], IfOk, cond, drop, length, replicate};
+ghost use Rattle.std.specs.Prelude.{slice_get, slice_index_or, slice_set};
+ghost use Rattle.arrayvec.specs.ArrayVec.{array_vec_len};
+ghost use Rattle.alpha_core.specs.OutLists.{PayloadFits, payloads_in, payloads_out, wires_of};
 ghost use Rattle.alpha_core.specs.Rows.{all_within, out_at, push_out};
 
+use crate::bare::{BareWire, bare_of};
+use crate::payloads::Payloads;
 use crate::wire::Wire;
+use arrayvec::ArrayVec;
 use node_api::Memory;
 use std::alloc::Global;
 use std::marker::Model;
 
-/// A list of wires for each port, with room for four, which `new` reserves.
+/// How many wires an out-list has room for.
+const ROOM: usize = 4;
+
+/// A list of wires for each port, with room for four.
 #[derive(Drop)]
 pub(crate) struct OutLists<T> {
-    // The oldest wire of each port.
-    firsts: Vec<Option<Wire<T>>>,
-    // Those behind it, each with a capacity of three at least. Empty where there is no oldest one.
-    others: Vec<Vec<Wire<T>>>,
-    // How many ports have wires behind the oldest: mostly none, and then `pop` doesn't read `others`.
-    behind: usize,
-    // How many lists are full: that there is none is asked at each wire.
+    // The wires of each port without their payloads, oldest first.
+    wires: Vec<ArrayVec<BareWire, ROOM>>,
+    // The payloads of those wires: as many as there are payload wires, in their order.
+    payloads: Vec<Payloads<T>>,
+    // How many lists are full: whether there is one is asked at each wire.
     full: usize,
 }
 
 impl<T> Model for OutLists<T> {
-    ghost use Rattle.std.specs.Prelude.{◌≡◌, ◌≤◌, List, [], length, map, All, Option, None, count_by, vec_capacity};
+    ghost use Rattle.std.specs.Prelude.{◌≡◌, List, length, map, All, count_by};
     ghost use Rattle.std.specs.List.{zip};
     ghost use Rattle.alpha_core.specs.declared.wire.Wire.{Wire};
     ghost use Rattle.alpha_core.specs.Rows.{is_full};
-    ghost use Rattle.alpha_core.specs.OutLists.{is_behind, wires_of};
+    ghost use Rattle.alpha_core.specs.OutLists.{payloads_in, wires_of};
 
     ghost Value = { List (List (Wire T)) };
 
-    ghost view = { λ a. map (λ p. wires_of p.0 p.1.items) (zip a.firsts.items a.others.items) };
+    ghost view = { λ a. map (λ p. wires_of p.0.items p.1) (zip a.wires.items a.payloads.items) };
 
-    ghost invariant = { λ a. (length a.others.items ≡ length a.firsts.items)
-        × All (λ others. 3 ≤ vec_capacity others) a.others.items
-        × All (λ p. p.0 ≡ None → p.1.items ≡ []) (zip a.firsts.items a.others.items)
-        × (a.behind ≡ count_by (λ p. is_behind (wires_of p.0 p.1.items)) (zip a.firsts.items a.others.items))
-        × (a.full ≡ count_by (λ p. is_full (wires_of p.0 p.1.items)) (zip a.firsts.items a.others.items)) };
+    ghost invariant = { λ a. (length a.payloads.items ≡ length a.wires.items)
+        × All (λ p. payloads_in p.0.items ≡ length p.1) (zip a.wires.items a.payloads.items)
+        × (a.full ≡ count_by (λ p. is_full (wires_of p.0.items p.1)) (zip a.wires.items a.payloads.items)) };
 }
 
 impl<T: Copy> OutLists<T> {
@@ -45,17 +49,15 @@ impl<T: Copy> OutLists<T> {
     pub(crate) fn new(alloc: Global, degree: u32) -> Result<OutLists<T>, Memory>
         ensures empty { IfOk result (λ outs. outs ≡ replicate degree []) }
     {
-        let mut firsts = Vec::with_capacity(alloc, degree as usize)?;
-        let mut others = Vec::with_capacity(alloc, degree as usize)?;
+        let mut wires = Vec::with_capacity(alloc, degree as usize)?;
+        let mut payloads = Vec::with_capacity(alloc, degree as usize)?;
         for _port in 0..degree {
-            firsts.push(None)?;
-            let list = Vec::with_capacity(alloc, 3)?;
-            others.push(list)?;
+            wires.push(ArrayVec::new())?;
+            payloads.push(Payloads::new())?;
         }
         Ok(OutLists {
-            firsts,
-            others,
-            behind: 0,
+            wires,
+            payloads,
             full: 0,
         })
     }
@@ -65,17 +67,14 @@ impl<T: Copy> OutLists<T> {
         requires port { port < length self.now }
         ensures count { result ≡ length (out_at self.now port) }
     {
-        match self.firsts[port] {
-            None => 0,
-            Some(_) => self.others[port].len() + 1,
-        }
+        self.wires[port].len()
     }
 
     /// Whether every list has at most `most` wires.
     pub(crate) fn within(&self, most: usize) -> bool
         ensures within { result ≡ all_within most self.now }
     {
-        for port in 0..self.firsts.len() {
+        for port in 0..self.wires.len() {
             if self.count(port) > most {
                 return false;
             }
@@ -95,33 +94,19 @@ impl<T: Copy> OutLists<T> {
         requires port { port < length self.now }
         ensures oldest { result ≡ slice_get (out_at self.now port) 0 }
     {
-        self.firsts[port as usize]
+        first_wire(&self.wires[port as usize], &self.payloads[port as usize])
     }
 
     /// Puts a wire last, where the port has at most three.
     pub(crate) fn push(&mut self, port: u32, wire: Wire<T>)
         requires port { port < length self.old }
         requires room { length (out_at self.old port) ≤ 3 }
+        requires payload { PayloadFits wire (payloads_out (out_at self.old port)) }
         ensures outs { self.new ≡ push_out self.old port wire }
     {
-        if self.firsts[port as usize].is_none() {
-            self.firsts[port as usize] = Some(wire);
-        } else {
-            self.push_behind(port, wire);
-        }
-    }
-
-    // The same, where the port has a wire. Never inlined, so that the frequent case stays short.
-    #[inline(never)]
-    fn push_behind(&mut self, port: u32, wire: Wire<T>)
-        requires port { port < length self.old }
-        requires some { 0 < length (out_at self.old port) }
-        requires room { length (out_at self.old port) ≤ 3 }
-        ensures outs { self.new ≡ push_out self.old port wire }
-    {
-        let count = push_last(&mut self.others[port as usize], wire);
-        self.behind += one_if(count == 1);
-        self.full += one_if(count == 3);
+        let count = push_last(&mut self.wires[port as usize], bare_of(&wire));
+        self.payloads[port as usize].push_of(wire);
+        self.full += one_if(count == ROOM);
     }
 
     /// Takes the oldest wire of a port off.
@@ -130,53 +115,50 @@ impl<T: Copy> OutLists<T> {
         requires some { 0 < length (out_at self.old port) }
         ensures outs { self.new ≡ slice_set self.old port (drop 1 (out_at self.old port)) }
     {
-        if self.behind == 0 {
-            self.firsts[port as usize] = None;
-        } else {
-            self.move_up(port);
-        }
-    }
-
-    // The same, where some port has wires behind the oldest. Never inlined, as above.
-    #[inline(never)]
-    fn move_up(&mut self, port: u32)
-        requires port { port < length self.old }
-        requires some { 0 < length (out_at self.old port) }
-        ensures outs { self.new ≡ slice_set self.old port (drop 1 (out_at self.old port)) }
-    {
-        let others = &mut self.others[port as usize];
-        let count = others.len();
-        self.firsts[port as usize] = take_first(others);
-        self.behind -= one_if(count == 1);
-        self.full -= one_if(count == 3);
+        let wires = &mut self.wires[port as usize];
+        let count = wires.len();
+        let bare = take_first(wires);
+        self.payloads[port as usize].pop_of(bare);
+        self.full -= one_if(count == ROOM);
     }
 }
 
-// Puts a wire last, where there is room for it, and returns how many there are now.
-fn push_last<T: Copy>(list: &mut Vec<Wire<T>>, wire: Wire<T>) -> usize
-    requires room { length list.old.items < vec_capacity list.old }
-    ensures items { list.new.items ≡ list.old.items ++ wire ∷ [] }
-    ensures capacity { vec_capacity list.old ≤ vec_capacity list.new }
-    ensures count { result ≡ length list.new.items }
+// The first of a port's wires, with its payload.
+fn first_wire<T: Copy>(wires: &ArrayVec<BareWire, ROOM>, payloads: &Payloads<T>) -> Option<Wire<T>>
+    requires payloads { payloads_in wires.now.items ≡ length payloads.now }
+    ensures first { result ≡ slice_get (wires_of wires.now.items payloads.now) 0 }
 {
-    list.push(wire).unwrap();
-    list.len()
-}
-
-// Takes the first wire off, where there is one.
-fn take_first<T: Copy>(list: &mut Vec<Wire<T>>) -> Option<Wire<T>>
-    ensures first { result ≡ slice_get list.old.items 0 }
-    ensures items { list.new.items ≡ drop 1 list.old.items }
-    ensures capacity { vec_capacity list.old ≤ vec_capacity list.new }
-{
-    if list.is_empty() {
-        None
-    } else {
-        Some(list.remove(0))
+    match *wires.first()? {
+        BareWire::Payload(pulse) => Some(Wire::Payload(pulse, payloads.first()?)),
+        BareWire::Ack(pulse) => Some(Wire::Ack(pulse)),
+        BareWire::Safe(pulse) => Some(Wire::Safe(pulse)),
+        BareWire::Close => Some(Wire::Close),
     }
 }
 
-// One where it holds, else none.
+// Puts a wire last, which has room, and returns how many there are now.
+fn push_last(wires: &mut ArrayVec<BareWire, ROOM>, bare: BareWire) -> usize
+    requires room { array_vec_len wires.old ≤ 3 }
+    ensures items { wires.new.items ≡ wires.old.items ++ bare ∷ [] }
+    ensures count { result ≡ length wires.new.items }
+{
+    wires.push(bare);
+    wires.len()
+}
+
+// Takes the first wire off.
+fn take_first(wires: &mut ArrayVec<BareWire, ROOM>) -> BareWire
+    requires some { 0 < array_vec_len wires.old }
+    ensures first { result ≡ slice_index_or wires.old.items 0 result }
+    ensures items { wires.new.items ≡ drop 1 wires.old.items }
+{
+    if wires.len() > 1 {
+        return wires.remove(0);
+    }
+    wires.pop().unwrap()
+}
+
+// One if it holds, else none.
 fn one_if(holds: bool) -> usize
     ensures one { result ≡ cond holds 1 0 }
 {

@@ -20,6 +20,7 @@ use Rattle.channel_plan.proofs.Splitting.{before-text, last-line}
 use Rattle.channel_plan.proofs.Written.{plan-lines, written-read}
 use Rattle.byte_functions.specs.Answers.{IsPlainAnswer, network_with}
 use Rattle.byte_functions.specs.Faults.{fault_status}
+use Rattle.byte_functions.specs.Texts.{colours_text}
 use Rattle.byte_functions.specs.Verdicts.{IsCheckAnswer, IsFaultOfCheck, IsFaultOfPlanText, verdict_text}
 use Rattle.byte_functions.specs.declared.fault.PlanFault.{PlanFault}
 use Rattle.byte_functions.specs.declared.fault.PlanFault.TheVariants as plan
@@ -106,6 +107,11 @@ same-net : (lines : List Line) (m n : ℕ) (edges others : List (ℕ × ℕ)) �
     network_with n others ≡ network_with m edges
 same-net lines m n edges others is also = ap (λ k. network_with k others) (sym (one-nodes lines m n edges others is also)) ∙
     ap (network_with m) (sym (one-edges lines m n edges others is also))
+
+-- and so a text has one plan
+pub one-plan : (input one other : List ℕ) → IsPlainAnswer input one → IsPlainAnswer input other → other ≡ one
+one-plan input one other (m, edges, graph, (ok, is, plan)) (n, others, also, (ok', is', plan')) =
+    is' ∙ ap colours_text (same-net (lines_of input) m n edges others graph also) ∙ sym is
 
 agreed-fault : (both : List ℕ) (fault : PlanFault) → IsAgreed both → IsFaultOfCheck both fault → fault_status fault ≡ 4
 agreed-fault both (plan.Col fault) a is = ap (λ f. fault_status (plan.Col f)) (graph-or_fault (network_lines (lines_of both)) a.nodes a.edges fault a.graph is)

@@ -1,9 +1,11 @@
-pub mod PairLists
-pub mod Places
+pub mod Words
+pub mod Counting
+pub mod Finding
 pub mod Slots
+pub mod SlotCursor
+pub mod SlotPut
 pub mod Filled
 pub mod Keeping
-pub mod Putting
 pub mod Runs
 pub mod Reading
 pub mod interference

@@ -1,5 +1,6 @@
 pub mod Boxes
-pub mod Pairs
+pub mod Marks
+pub mod Slots
 pub mod Sending
 pub mod Sent
 pub mod Program

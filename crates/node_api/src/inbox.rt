@@ -1,12 +1,11 @@
 //! What a node reads at a pulse.
 
-ghost use Rattle.std.specs.Prelude.{◌≡◌, ◌<◌, ◌≤◌, ◌+◌, ◌-◌, ◌↔◌, ℕ, Option, IfOk, IsTrue};
-ghost use Rattle.std.specs.Prelude.{length, slice_set, slice_index, vec_capacity};
-ghost use Rattle.std.specs.List.{insert};
+ghost use Rattle.std.specs.Prelude.{◌≡◌, ◌<◌, ◌≤◌, ◌+◌, ◌↔◌, Option, IfOk, IsTrue};
+ghost use Rattle.std.specs.Prelude.{length, replicate, slice_get, slice_set, vec_capacity};
 ghost use Rattle.interference.specs.declared.limits.TheConstants.{MAX_DEGREE};
 ghost use Rattle.node_api.specs.Boxes.{Mail, nothing, at_port, unread, HasFrom, Reads};
-ghost use Rattle.node_api.specs.Pairs.{ports_of};
 
+use crate::marks::Marks;
 use interference::Memory;
 use std::alloc::Global;
 use std::marker::Model;
@@ -15,54 +14,28 @@ use std::marker::Model;
 /// Contracts see the payload or none at each port, and the port from which reading goes on.
 #[derive(Drop)]
 pub struct Inbox<T> {
-    // Ports and payloads, ascending by port, in room that `new` reserved.
-    pairs: Vec<(u32, T)>,
-    degree: u32,
-    // How many pairs have been read: those before `cursor`.
-    read: usize,
+    // The ports at which a payload is, with their count.
+    marks: Marks,
+    // One slot a port, in room that `new` reserved; none before the first payload. The slot of a port that isn't
+    // marked means nothing.
+    slots: Vec<T>,
+    // How many payloads have been read: those at ports before the cursor.
+    read: u32,
     cursor: u32,
 }
 
 impl<T> Model for Inbox<T> {
-    ghost use Rattle.std.specs.Prelude.{◌≤◌, vec_capacity};
+    ghost use Rattle.std.specs.Prelude.{◌≤◌, length, vec_capacity};
     ghost use Rattle.interference.specs.declared.limits.TheConstants.{MAX_DEGREE};
     ghost use Rattle.node_api.specs.Boxes.{Mail};
-    ghost use Rattle.node_api.specs.Pairs.{IsRead, ports_of, slots_of};
+    ghost use Rattle.node_api.specs.Slots.{AreMade, IsRead, slots_of};
 
     ghost Value = { Mail T };
 
-    ghost view = { λ a. record { slots = slots_of a.degree a.pairs.items; cursor = a.cursor } };
+    ghost view = { λ a. record { slots = slots_of a.marks a.slots.items; cursor = a.cursor } };
 
-    ghost invariant = { λ a. (a.degree ≤ MAX_DEGREE) × (a.degree ≤ vec_capacity a.pairs)
-        × IsRead a.degree a.read a.cursor (ports_of a.pairs.items) };
-}
-
-// How many pairs have a port before this one. Ports mostly come in ascending order, so the search
-// begins at the end.
-fn rank<T: Copy>(pairs: &[(u32, T)], port: u32) -> usize
-    ensures within { result ≤ length pairs.now }
-    ensures before { 0 < result → slice_index (ports_of pairs.now) (result - 1) < port }
-    ensures others { (i : ℕ) → result ≤ i → i < length pairs.now → port ≤ slice_index (ports_of pairs.now) i }
-{
-    let mut rank = pairs.len();
-    while 0 < rank && port <= pairs[rank - 1].0 {
-        rank -= 1;
-    }
-    rank
-}
-
-// Puts a pair in among others, if there is room for it. Most come last, which moves none.
-fn put_pair<T: Copy>(pairs: &mut Vec<(u32, T)>, rank: usize, pair: (u32, T))
-    requires rank { rank ≤ length pairs.old.items }
-    requires room { length pairs.old.items < vec_capacity pairs.old }
-    ensures items { pairs.new.items ≡ insert pairs.old.items rank pair }
-    ensures capacity { vec_capacity pairs.old ≤ vec_capacity pairs.new }
-{
-    if rank == pairs.len() {
-        pairs.push(pair).unwrap();
-    } else {
-        pairs.insert(rank, pair).unwrap();
-    }
+    ghost invariant = { λ a. (length a.marks ≤ MAX_DEGREE) × (length a.marks ≤ vec_capacity a.slots)
+        × AreMade a.marks (length a.slots.items) × IsRead a.marks a.read a.cursor };
 }
 
 impl<T: Copy> Inbox<T> {
@@ -75,10 +48,11 @@ impl<T: Copy> Inbox<T> {
         requires degree { degree ≤ MAX_DEGREE }
         ensures empty { IfOk result (λ inbox. inbox ≡ unread (nothing degree)) }
     {
-        let pairs = Vec::with_capacity(alloc, degree as usize)?;
+        let marks = Marks::new(alloc, degree)?;
+        let slots = Vec::with_capacity(alloc, degree as usize)?;
         Ok(Inbox {
-            pairs,
-            degree,
+            marks,
+            slots,
             read: 0,
             cursor: 0,
         })
@@ -89,8 +63,7 @@ impl<T: Copy> Inbox<T> {
         requires port { port < length self.now.slots }
         ensures empty { IsTrue result ↔ (at_port self.now.slots port ≡ Option.None) }
     {
-        let rank = rank(&self.pairs, port);
-        rank == self.pairs.len() || self.pairs[rank].0 != port
+        !self.marks.has(port)
     }
 
     /// Puts a payload at a port that is empty (`is_empty`). The cursor stays.
@@ -100,8 +73,8 @@ impl<T: Copy> Inbox<T> {
         ensures slots { self.new.slots ≡ slice_set self.old.slots port (Option.Some payload) }
         ensures cursor { self.new.cursor ≡ self.old.cursor }
     {
-        let rank = rank(&self.pairs, port);
-        put_pair(&mut self.pairs, rank, (port, payload));
+        write_slot(&mut self.slots, self.marks.len(), port, payload);
+        self.marks.add(port);
         if port < self.cursor {
             self.read += 1;
         }
@@ -115,29 +88,22 @@ impl<T: Copy> Inbox<T> {
         self.cursor = 0;
     }
 
-    /// Empties the inbox, and begins reading again.
+    /// Empties the inbox, and begins reading again. Costs no walk over the ports.
     pub fn clear(&mut self)
         ensures empty { self.new ≡ unread (nothing (length self.old.slots)) }
     {
-        // An inbox to which nothing came isn't written to.
-        if !self.pairs.is_empty() || self.cursor != 0 {
-            self.empty();
+        self.rewind();
+        // An inbox to which nothing came has no marks to take away.
+        if self.marks.count() != 0 {
+            self.marks.clear();
         }
-    }
-
-    fn empty(&mut self)
-        ensures empty { self.new ≡ unread (nothing (length self.old.slots)) }
-    {
-        self.pairs.clear();
-        self.read = 0;
-        self.cursor = 0;
     }
 
     /// Whether a payload is still to be read.
     pub fn has_next(&self) -> bool
         ensures more { IsTrue result ↔ HasFrom self.now.slots self.now.cursor }
     {
-        self.read < self.pairs.len()
+        self.read < self.marks.count()
     }
 
     /// Reads the next payload by ascending port; there is one (`has_next`).
@@ -145,10 +111,10 @@ impl<T: Copy> Inbox<T> {
         requires more { HasFrom self.old.slots self.old.cursor }
         ensures reads { Reads self.old result self.new }
     {
-        let (port, payload) = self.pairs[self.read];
+        let port = self.marks.first_from(self.cursor);
         self.read += 1;
         self.cursor = port + 1;
-        payload
+        self.slots[port as usize]
     }
 
     /// The port of the payload that `next` read last. `next` was called since the last rewind.
@@ -157,5 +123,35 @@ impl<T: Copy> Inbox<T> {
         ensures port { result + 1 ≡ self.now.cursor }
     {
         self.cursor - 1
+    }
+}
+
+// Writes the slot of a port. The first payload makes the slots, in reserved room.
+fn write_slot<T: Copy>(slots: &mut Vec<T>, degree: u32, port: u32, payload: T)
+    requires port { port < degree }
+    requires room { degree ≤ vec_capacity slots.old }
+    requires made { 0 < length slots.old.items → length slots.old.items ≡ degree }
+    ensures made { length slots.new.items ≡ degree }
+    ensures here { slice_get slots.new.items port ≡ Option.Some payload }
+    ensures others { 0 < length slots.old.items → slots.new.items ≡ slice_set slots.old.items port payload }
+    ensures room { vec_capacity slots.old ≤ vec_capacity slots.new }
+{
+    if slots.is_empty() {
+        fill_slots(slots, degree, payload);
+    } else {
+        slots[port as usize] = payload;
+    }
+}
+
+// Makes so many slots, in reserved room. Never inlined, since an inbox does it once.
+#[inline(never)]
+fn fill_slots<T: Copy>(slots: &mut Vec<T>, degree: u32, payload: T)
+    requires none { length slots.old.items ≡ 0 }
+    requires room { degree ≤ vec_capacity slots.old }
+    ensures slots { slots.new.items ≡ replicate degree payload }
+    ensures room { vec_capacity slots.old ≤ vec_capacity slots.new }
+{
+    for _port in 0..degree {
+        slots.push_reserved(payload);
     }
 }

@@ -1,5 +1,5 @@
 -- The value of what a run leaves.
-use Rattle.node_pool.specs.declared.parts.Actor.{Actor}
+use Rattle.node_pool.specs.declared.taking_apart.Actor.{Actor}
 use Rattle.gather_laws.specs.Outcome.{Gathered}
 
 -- a node after the run

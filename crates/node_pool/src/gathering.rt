@@ -10,7 +10,7 @@ ghost use Rattle.gather_laws.specs.Outcome.{IsOutcome};
 use crate::cross::crossed;
 use crate::meeting::meet_rows;
 use crate::outcome::Outcome;
-use crate::parts::{Parts, apart};
+use crate::taking_apart::{NodesAndEnds, apart};
 use actor::{Link, Node, Wiring};
 use alpha_laws::{Memory, Network, NodeProgram};
 use std::alloc::Global;
@@ -38,7 +38,7 @@ pub(crate) fn gathered<J: Wiring, P: NodeProgram, R: Wait>(
         → IsOutcome P.program net.now capacity J.transcript outcome) }
 {
     net.is_network();
-    let Parts {
+    let NodesAndEnds {
         actors,
         puts,
         takes,

@@ -10,7 +10,7 @@
 //! ```
 //!
 //! `making` makes the links, each with its two ends, and `starting` the nodes with the ends of theirs; `run` runs them.
-//! `parts` takes the nodes apart again, `cross` brings the ends that take back to where their links leave, and
+//! `taking_apart` takes the nodes apart again, `cross` brings the ends that take back to where their links leave, and
 //! `meeting` lets each link meet both its ends. `gathering` makes the outcome of what is gathered.
 //!
 //! Limits: `MAX_WORKERS` and `MAX_CAPACITY`. Without a transcript no turn can return out-of-memory. Nothing is promised
@@ -23,12 +23,12 @@ mod making;
 mod meeting;
 mod outcome;
 mod pairs;
-mod parts;
 mod run;
 mod starting;
+mod taking_apart;
 mod wires;
 
-pub use crate::parts::Actor;
+pub use crate::taking_apart::Actor;
 pub use actor::{Gate, OpenGate};
 pub use outcome::Outcome;
 pub use pool::PoolFault;

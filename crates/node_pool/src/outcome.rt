@@ -5,7 +5,7 @@ ghost use Rattle.node_pool.specs.Meets.{history_of};
 ghost use Rattle.gather_laws.specs.Outcome.{all_drained, all_empty, is_whole, link_in, none_held, row_in};
 ghost use Rattle.node_pool.specs.Gathers.{gathered_of};
 
-use crate::parts::Actor;
+use crate::taking_apart::Actor;
 use actor::Met;
 use alpha_laws::NodeProgram;
 use std::marker::Model;

@@ -23,7 +23,7 @@ fn last_row<T>(rows: &mut Vec<Vec<T>>) -> Vec<T>
 }
 
 // The node of a vertex, in a box.
-fn start_node<J: Wiring, P: NodeProgram>(
+fn boxed_node<J: Wiring, P: NodeProgram>(
     alloc: Global,
     net: &Network,
     v: u32,
@@ -72,7 +72,7 @@ pub fn start_nodes<J: Wiring, P: NodeProgram>(
     let mut nodes = Vec::new(alloc);
     let count = net.nodes();
     for k in 0..count {
-        let node = start_node::<J, P>(
+        let node = boxed_node::<J, P>(
             alloc,
             net,
             count - k,

@@ -33,8 +33,8 @@ loop-k-init g c =
       first = all_none (λ b. b.value.alpha.node ≡ start_node g.P.NodeProgram.program c.args.net.now b.value.vertex) _ c.new-nodes.ensures.items;
     }
 
-pub start_node-requires-clause-puts : goal.start_node-requires-clause-puts
-start_node-requires-clause-puts g c κs within =
+pub boxed_node-requires-clause-puts : goal.boxed_node-requires-clause-puts
+boxed_node-requires-clause-puts g c κs within =
     let n = c.nodes-count.result - c.loop-k.k in
     let m = c.nodes-count.result - (c.loop-k.k + 1) in
     let next : n ≡ m + 1 = omega arith in
@@ -42,8 +42,8 @@ start_node-requires-clause-puts g c κs within =
     last_says (λ row. row.items) (AreNewPutsFrom g.J.Wiring.net g.J.Wiring.tables) c.loop-k.puts.items c.last_row.new.rows.items
     c.last_row.result n m next long c.last_row.ensures.rows c.loop-k.invariant.puts
 
-pub start_node-requires-clause-takes : goal.start_node-requires-clause-takes
-start_node-requires-clause-takes g c κs within =
+pub boxed_node-requires-clause-takes : goal.boxed_node-requires-clause-takes
+boxed_node-requires-clause-takes g c κs within =
     let n = c.nodes-count.result - c.loop-k.k in
     let m = c.nodes-count.result - (c.loop-k.k + 1) in
     let next : n ≡ m + 1 = omega arith in

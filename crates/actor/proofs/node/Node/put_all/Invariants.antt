@@ -1,5 +1,11 @@
-use Rattle.std.proofs.Common.{◌≡◌, None}
+use Rattle.std.proofs.Common.{◌≡◌, None, false}
+use Rattle.actor.specs.Blocked.{IsUnmoved}
 use Rattle.actor.proofs.node.Node.put_all.Given as goal
 
 abbrev pub invariant-loop-port : goal.invariant-loop-port
-invariant-loop-port g l = record { vertex : l.self.vertex ≡ l.fn.self.vertex; going : l.self.aside ≡ None; degree : l.self.degree ≡ l.fn.self.degree }
+invariant-loop-port g l = record {
+  vertex : l.self.vertex ≡ l.fn.self.vertex;
+  going : l.self.aside ≡ None;
+  degree : l.self.degree ≡ l.fn.self.degree;
+  unmoved : l.put ≡ false → IsUnmoved l.fn.self l.self;
+}

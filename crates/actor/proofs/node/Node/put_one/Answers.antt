@@ -1,4 +1,4 @@
-use Rattle.std.proofs.Common.{ℕ, [], ◌∷◌, ◌++◌, ◌<◌, length, sym, ap, ◌∙◌, subst, arith}
+use Rattle.std.proofs.Common.{ℕ, [], ◌∷◌, ◌++◌, ◌<◌, length, refl, sym, ap, ◌∙◌, subst, arith}
 use Rattle.link_queue.specs.Ends.{put_list, taken_list}
 use Rattle.actor.proofs.Lists.{same_all, get_map, as_long, at_place}
 use Rattle.actor.proofs.Kept.{may_put, legal_by_name}
@@ -87,3 +87,13 @@ invariant_of-self-in-Ok g c =
           count lt is at.put (sym c.in-Some.ensures.oldest) c.put_done.ensures.view c.put_done.ensures.state c.keep_room.ensures.same
           (ap (λ (p : ℕ × ℕ). p.0) from) c.write_put.ensures.entries old.writes;
     }
+
+-- the link was full
+pub returns-in-Err-clause-unmoved : goal.returns-in-Err-clause-unmoved
+returns-in-Err-clause-unmoved g c _ = record {
+  alpha = refl;
+  aside = refl;
+  puts = same_all (λ e. put_list e.end) _ _ _ _ c.index_mut.ensures.value c.in-Err.ensures.unchanged;
+  takes = refl;
+  entries = c.keep_room.ensures.same;
+}

@@ -1,5 +1,11 @@
-use Rattle.std.proofs.Common.{◌≡◌, None}
+use Rattle.std.proofs.Common.{◌≡◌, None, false}
+use Rattle.actor.specs.Blocked.{IsUnmoved}
 use Rattle.actor.proofs.node.Node.put_some.Given as goal
 
 abbrev pub invariant-loop : goal.invariant-loop
-invariant-loop g l = record { vertex : l.self.vertex ≡ l.fn.self.vertex; going : l.self.aside ≡ None; degree : l.self.degree ≡ l.fn.self.degree }
+invariant-loop g l = record {
+  vertex : l.self.vertex ≡ l.fn.self.vertex;
+  going : l.self.aside ≡ None;
+  degree : l.self.degree ≡ l.fn.self.degree;
+  unmoved : l.put ≡ false → IsUnmoved l.fn.self l.self;
+}

@@ -1,5 +1,12 @@
-use Rattle.std.proofs.Common.{◌≡◌}
+use Rattle.std.proofs.Common.{◌≡◌, false}
+use Rattle.std.specs.Prelude.{IsSome}
+use Rattle.actor.specs.Blocked.{IsUnmoved}
 use Rattle.actor.proofs.node.Node.take_all.Given as goal
 
 abbrev pub invariant-loop-port : goal.invariant-loop-port
-invariant-loop-port g l = record { vertex : l.self.vertex ≡ l.fn.self.vertex; degree : l.self.degree ≡ l.fn.self.degree }
+invariant-loop-port g l = record {
+  vertex : l.self.vertex ≡ l.fn.self.vertex;
+  degree : l.self.degree ≡ l.fn.self.degree;
+  stopped : IsSome l.fn.self.aside → l.took ≡ false;
+  unmoved : l.took ≡ false → IsUnmoved l.fn.self l.self;
+}

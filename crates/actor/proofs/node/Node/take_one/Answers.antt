@@ -95,3 +95,13 @@ invariant_of-self-in-Err g c =
       writes = wrote_refused g.P.NodeProgram.program net (λ e. put_list e.end) (λ e. taken_list e.end) _ _ _ _ _ _ _ _ _ _ _ aside _ _ refl count lt
           c.requires.going is at.taken same c.keep_room.ensures.same old.writes;
     }
+
+-- the link was empty
+pub returns-in-None-clause-unmoved : goal.returns-in-None-clause-unmoved
+returns-in-None-clause-unmoved g c _ = record {
+  alpha = refl;
+  aside = refl;
+  puts = refl;
+  takes = same_all (λ e. taken_list e.end) _ _ _ _ c.index_mut-end.ensures.value c.in-None.ensures.unchanged;
+  entries = c.keep_room.ensures.same;
+}

@@ -1,31 +1,51 @@
-use Rattle.std.proofs.Common.{◌<◌, ◌≤◌, length, ap, sym, ◌∙◌, arith}
-use Rattle.std.specs.Prelude.{slice_get, vec_capacity}
+use Rattle.std.proofs.Common.{◌<◌, length, ap, ◌∙◌, arith}
+use Rattle.std.specs.Prelude.{slice_get}
 use Rattle.alpha_core.specs.Rows.{out_at}
-use Rattle.alpha_core.proofs.OldestWires.{element-at, oldest}
-use Rattle.alpha_core.proofs.KeptOuts.{out-is, outs-length}
+use Rattle.alpha_core.proofs.KeptOuts.{out-is, outs-length, whole-at}
 use Rattle.alpha_core.proofs.out_lists.OutLists.front.Goals as goal
 
 pub index-requires : goal.index-requires
-index-requires g c = omega (
-  arith,
-  c.requires.port,
-  ap length c.self.view_is,
-  outs-length (λ v. v.items) (λ v. 3 ≤ vec_capacity v) c.self.inside.firsts.items c.self.inside.others.items c.self.invariant.0,
-)
+index-requires g c =
+    let a = c.self.inside in
+    let same = c.self.invariant.0 in
+    let below : c.args.port < length a.wires.items =
+    omega (arith, c.requires.port, ap length c.self.view_is, outs-length (λ v. v.items) a.wires.items a.payloads.items same) in
+    omega (arith, below)
+
+pub index-requires-2 : goal.index-requires-2
+index-requires-2 g c =
+    let a = c.self.inside in
+    let same = c.self.invariant.0 in
+    let below : c.args.port < length a.wires.items =
+    omega (arith, c.requires.port, ap length c.self.view_is, outs-length (λ v. v.items) a.wires.items a.payloads.items same) in
+    omega (arith, below, same)
+
+pub first_wire-requires : goal.first_wire-requires
+first_wire-requires g c =
+    let a = c.self.inside in
+    let same = c.self.invariant.0 in
+    let below : c.args.port < length a.wires.items =
+    omega (arith, c.requires.port, ap length c.self.view_is, outs-length (λ v. v.items) a.wires.items a.payloads.items same) in
+    let w = c.index.result.now in
+    let p = c.index-2.result.now in
+    let second = c.index-2.ensures in
+    let first = c.index.ensures in
+    record {
+      payloads = whole-at (λ v. v.items) a.wires.items a.payloads.items c.args.port w p below same first second c.self.invariant.1;
+    }
 
 pub returns : goal.returns
 returns g c =
     let a = c.self.inside in
-    let below : c.args.port < length a.firsts.items =
-    omega (
-      arith,
-      c.requires.port,
-      ap length c.self.view_is,
-      outs-length (λ v. v.items) (λ v. 3 ≤ vec_capacity v) a.firsts.items a.others.items c.self.invariant.0,
-    ) in
-    let at = element-at a.others.items c.args.port (omega (arith, below, c.self.invariant.0)) in
+    let same = c.self.invariant.0 in
+    let below : c.args.port < length a.wires.items =
+    omega (arith, c.requires.port, ap length c.self.view_is, outs-length (λ v. v.items) a.wires.items a.payloads.items same) in
+    let w = c.index.result.now in
+    let p = c.index-2.result.now in
+    let second = c.index-2.ensures in
+    let first = c.index.ensures in
     record {
-      oldest = sym (oldest c.index.result.now at.0.items)
-          ∙ ap (λ l. slice_get l 0) (out-is (λ v. v.items) (λ v. 3 ≤ vec_capacity v) a.firsts.items a.others.items c.args.port c.index.result.now at.0
-          below c.self.invariant.0 c.index.ensures at.1 ∙ ap (λ outs. out_at outs c.args.port) c.self.view_is);
+      oldest = c.first_wire.ensures.first
+          ∙ ap (λ l. slice_get l 0) (out-is (λ v. v.items) a.wires.items a.payloads.items c.args.port w p below same first second
+          ∙ ap (λ outs. out_at outs c.args.port) c.self.view_is);
     }

@@ -1,24 +1,31 @@
-use Rattle.std.proofs.Common.{◌≡◌, ℕ, List, [], length, ap, sym, ◌∙◌, arith}
-use Rattle.std.specs.Prelude.{vec_len}
-use Rattle.std.proofs.lemmas.Bool.Decides.{nat_tests}
-use Rattle.std.proofs.lemmas.List.{drop_all}
-use Rattle.node_api.specs.Boxes.{Mail, unread, nothing}
-use Rattle.node_api.specs.Pairs.{slots_of}
-use Rattle.node_api.proofs.Slots.{slots_of-none, length-slots_of}
+use Rattle.std.proofs.Common.{◌≡◌, ℕ, Bool, List, length, ap, sym, ◌∙◌, arith}
+use Rattle.std.specs.Prelude.{Option}
+use Rattle.node_api.specs.Marks.{count_marks}
+use Rattle.node_api.specs.Boxes.{Mail, nothing, unread}
+use Rattle.node_api.specs.Slots.{slots_of}
+use Rattle.node_api.proofs.Slots.{length-slots_of, slots_of-none, slots_of-uncounted}
 use Rattle.node_api.proofs.inbox.Inbox.clear.Goals as goal
 
-pub returns-else-self-ne0 : goal.returns-else-self-ne0
-returns-else-self-ne0 g c =
+pub returns-then-count-ne0 : goal.returns-then-count-ne0
+returns-then-count-ne0 g c =
     let a = c.self.inside in
-    let no_pairs : vec_len a.pairs ≡ 0 = (let e = c.if-not-is_empty.ensures in grind (arith, nat_tests)) in
-    let none : a.pairs.items ≡ [] = drop_all 0 a.pairs.items (omega (arith, no_pairs, a.pairs.ok.0)) in
-    let size : a.degree ≡ length c.args.self.now.slots = sym (length-slots_of a.degree a.pairs.items) ∙
-    ap (λ (mail : Mail g.row.T.Denot). length mail.slots) c.self.view_is in
+    let now = c.self.view_is ∙ c.rewind.ensures.unread in
+    let size : length a.marks ≡ length c.args.self.now.slots = sym (length-slots_of a.marks a.slots.items) ∙ ap (λ (m : Mail _). length m.slots) now in
     record {
-      empty =
-          sym c.self.view_is
-          ∙ (ap (λ (pairs : List (ℕ × g.row.T.Denot)). record { slots = slots_of a.degree pairs; cursor = a.cursor }) none
-          ∙ (ap (λ (slots : List _). record { slots = slots; cursor = a.cursor }) (slots_of-none a.degree)
-          ∙ (ap (λ (cursor : ℕ). record { slots = nothing a.degree; cursor = cursor }) c.if-self-ne0.false
-          ∙ ap (λ (n : ℕ). unread (nothing n)) size)));
+      empty = ap (λ (marks : List Bool). record { slots = slots_of marks a.slots.items; cursor = a.cursor }) c.clear.ensures.none
+          ∙ (ap (λ (slots : List (Option _)). record { slots = slots; cursor = a.cursor }) (slots_of-none (length a.marks) a.slots.items)
+          ∙ (ap (λ (cursor : ℕ). record { slots = nothing (length a.marks); cursor = cursor }) (ap (λ (m : Mail _). m.cursor) now)
+          ∙ ap (λ (n : ℕ). unread (nothing n)) size));
+    }
+
+pub returns-else-count-ne0 : goal.returns-else-count-ne0
+returns-else-count-ne0 g c =
+    let a = c.self.inside in
+    let now = c.self.view_is ∙ c.rewind.ensures.unread in
+    let size : length a.marks ≡ length c.args.self.now.slots = sym (length-slots_of a.marks a.slots.items) ∙ ap (λ (m : Mail _). length m.slots) now in
+    let none : count_marks a.marks ≡ 0 = omega (arith, c.count.ensures.count, c.if-count-ne0.false) in
+    record {
+      empty = c.rewind.ensures.unread
+          ∙ (ap (λ (slots : List (Option _)). unread slots) (sym (ap (λ (m : Mail _). m.slots) now) ∙ slots_of-uncounted a.marks a.slots.items none)
+          ∙ ap (λ (n : ℕ). unread (nothing n)) size);
     }

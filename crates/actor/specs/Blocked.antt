@@ -1,0 +1,18 @@
+-- A node before and after a turn in which it did nothing.
+use Rattle.std.specs.Prelude.{◌≡◌, map}
+use Rattle.std.specs.declared.cmp.PartialEq as equality
+use Rattle.alpha_laws.specs.declared.NodeProgram as program
+use Rattle.alpha_laws.specs.declared.PayloadText as text
+use Rattle.link_queue.specs.Ends.{put_list, taken_list}
+use Rattle.actor.specs.declared.wiring.Wiring as wiring
+use Rattle.actor.specs.declared.node.Node.{Node}
+
+module _ {J P T : Type 0} {j : wiring.Ghosts J} {p : program.Ghosts P T} {t : text.Ghosts T}
+    {q : equality.Ghosts T} where
+  -- It is as it was: its pulse, state and ports, what it set aside, what its ends put and took, and what it wrote down.
+  pub record IsUnmoved (old new : Node J P T j p t q) : Type 0 where
+    pub alpha : new.alpha ≡ old.alpha
+    pub aside : new.aside ≡ old.aside
+    pub puts : map (λ e. put_list e.end) new.puts.items ≡ map (λ e. put_list e.end) old.puts.items
+    pub takes : map (λ e. taken_list e.end) new.takes.items ≡ map (λ e. taken_list e.end) old.takes.items
+    pub entries : new.entries.items ≡ old.entries.items

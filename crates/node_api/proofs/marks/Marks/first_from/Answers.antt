@@ -1,0 +1,144 @@
+use Rattle.std.proofs.Common.{◌≡◌, ℕ, List, Bool, ◌+◌, ◌*◌, ◌/◌, ◌<◌, ◌≤◌, true, false, length, ap, sym, ◌∙◌, arith, w64}
+use Rattle.std.specs.Int.{trailing_zeros}
+use Rattle.std.proofs.lemmas.Bool.Decides.{nat_tests}
+use Rattle.std.proofs.lemmas.List.{get_or_default}
+use native.Mathlib.Decide.{dec_lt}
+use Prim.{yes, no}
+use Rattle.node_api.specs.Marks.{has_bit, is_marked, marks_in}
+use Rattle.node_api.proofs.Words.{length-marks_in, marks_in-at}
+use Rattle.node_api.proofs.Finding.{IsRest, rest-first, rest-next, none-here, found-later, found-marked, found-first}
+use Rattle.node_api.proofs.marks.Marks.first_from.Goals as goal
+
+-- the marked place that there is, as a bit of the words
+some_bit : (n : ℕ) (words : List ℕ) (marks : List Bool) (from : ℕ) → marks_in n words ≡ marks →
+    (place : ℕ) × (from ≤ place) × (place < length marks) × (is_marked marks place ≡ true) →
+    (place : ℕ) × (from ≤ place) × (place < n) × (has_bit words place ≡ true)
+some_bit n words marks from is (place, later, below, marked) =
+    let low : place < n = omega (arith, below, ap length is, length-marks_in n words) in
+    (place, later, low, sym (marks_in-at n words place false low) ∙ (ap (λ l. is_marked l place) is ∙ marked))
+
+pub index-requires : goal.index-requires
+index-requires c =
+    let a = c.self.inside in
+    let (place, later, below, marked) = some_bit a.places a.words.items c.args.self.now c.args.from c.self.view_is c.requires.some in
+    omega (arith, later, below, c.self.invariant.0, a.words.ok.0)
+
+pub loop-rest-init : goal.loop-rest-init
+loop-rest-init c =
+    let a = c.self.inside in
+    let (place, later, below, marked) = some_bit a.places a.words.items c.args.self.now c.args.from c.self.view_is c.requires.some in
+    let inside : c.args.from / 64 < length a.words.items = omega (arith, later, below, c.self.invariant.0) in
+    rest-first a.words.items c.args.from c.index.result.now (c.index.ensures ∙ get_or_default a.words.items (c.args.from / 64) _ 0 inside)
+    (omega arith) inside
+
+-- a place that counts is beyond the words that were looked at
+beyond : (words : List ℕ) (from word rest place : ℕ) → IsRest words from word rest → rest ≡ 0 → from ≤ place →
+    has_bit words place ≡ true → (word + 1) * 64 ≤ place
+beyond words from word rest place r none later marked =
+    elim (dec_lt place ((word + 1) * 64)) [
+      | yes low ↦ absurd (let wrong : false ≡ true = sym (none-here words from word rest r none place later low) ∙ marked in cc)
+      | no other ↦ omega arith
+    ]
+
+pub index-rest-requires : goal.index-rest-requires
+index-rest-requires c =
+    let a = c.self.inside in
+    let l = c.loop-rest in
+    let (place, later, below, marked) = some_bit a.places a.words.items c.args.self.now c.args.from c.self.view_is c.requires.some in
+    let none : l.rest ≡ 0 = grind (arith, nat_tests, c.loop-rest-test.true) in
+    omega (arith, beyond a.words.items c.args.from l.word l.rest place l.invariant none later marked, below, c.self.invariant.0, a.words.ok.0)
+
+pub loop-rest-preserved : goal.loop-rest-preserved
+loop-rest-preserved c =
+    let a = c.self.inside in
+    let l = c.loop-rest in
+    let (place, later, below, marked) = some_bit a.places a.words.items c.args.self.now c.args.from c.self.view_is c.requires.some in
+    let none : l.rest ≡ 0 = grind (arith, nat_tests, c.loop-rest-test.true) in
+    let far = beyond a.words.items c.args.from l.word l.rest place l.invariant none later marked in
+    let inside : l.word + 1 < length a.words.items = omega (arith, far, below, c.self.invariant.0) in
+    rest-next a.words.items c.args.from l.word l.rest l.invariant none c.index-rest.result.now
+    (c.index-rest.ensures ∙ get_or_default a.words.items (l.word + 1) _ 0 inside) (omega arith) inside
+    (omega (arith, l.invariant.past))
+
+-- something is left of the word: its lowest place is the one
+some_left : (n : ℕ) → (n ≡ 0 → ⊥) → 0 < n
+some_left n e = omega (arith, e)
+
+-- the place that is found is no later than the one that there is
+no_later : (words : List ℕ) (from word rest place : ℕ) (r : IsRest words from word rest) (some : 0 < rest) → from ≤ place → has_bit words place ≡ true →
+    word * 64 + trailing_zeros w64 rest ≤ place
+no_later words from word rest place r some later marked =
+    elim (dec_lt place (word * 64 + trailing_zeros w64 rest)) [
+      | yes low ↦ absurd (let wrong : false ≡ true = sym (found-first words from word rest r some place later low) ∙ marked in cc)
+      | no other ↦ omega arith
+    ]
+
+pub overflow_mul-result : goal.overflow_mul-result
+overflow_mul-result c =
+    let a = c.self.inside in
+    let l = c.loop-rest in
+    let (place, later, below, marked) = some_bit a.places a.words.items c.args.self.now c.args.from c.self.view_is c.requires.some in
+    let some : 0 < l.rest = some_left l.rest c.loop-rest-test.false in
+    let near = no_later a.words.items c.args.from l.word l.rest place l.invariant some later marked in
+    omega (arith, near, below, c.self.invariant.2)
+
+pub overflow_cast-result : goal.overflow_cast-result
+overflow_cast-result c =
+    let a = c.self.inside in
+    let l = c.loop-rest in
+    let (place, later, below, marked) = some_bit a.places a.words.items c.args.self.now c.args.from c.self.view_is c.requires.some in
+    let some : 0 < l.rest = some_left l.rest c.loop-rest-test.false in
+    let near = no_later a.words.items c.args.from l.word l.rest place l.invariant some later marked in
+    omega (arith, near, below, c.self.invariant.2)
+
+pub overflow_add-result : goal.overflow_add-result
+overflow_add-result c =
+    let a = c.self.inside in
+    let l = c.loop-rest in
+    let (place, later, below, marked) = some_bit a.places a.words.items c.args.self.now c.args.from c.self.view_is c.requires.some in
+    let some : 0 < l.rest = some_left l.rest c.loop-rest-test.false in
+    let near = no_later a.words.items c.args.from l.word l.rest place l.invariant some later marked in
+    omega (arith, near, below, c.self.invariant.2)
+
+pub returns-clause-later : goal.returns-clause-later
+returns-clause-later c =
+    let a = c.self.inside in
+    let l = c.loop-rest in
+    let (place, later, below, marked) = some_bit a.places a.words.items c.args.self.now c.args.from c.self.view_is c.requires.some in
+    let some : 0 < l.rest = some_left l.rest c.loop-rest-test.false in
+    let near = no_later a.words.items c.args.from l.word l.rest place l.invariant some later marked in
+    found-later a.words.items c.args.from l.word l.rest l.invariant some
+
+pub returns-clause-within : goal.returns-clause-within
+returns-clause-within c =
+    let a = c.self.inside in
+    let l = c.loop-rest in
+    let (place, later, below, marked) = some_bit a.places a.words.items c.args.self.now c.args.from c.self.view_is c.requires.some in
+    let some : 0 < l.rest = some_left l.rest c.loop-rest-test.false in
+    let near = no_later a.words.items c.args.from l.word l.rest place l.invariant some later marked in
+    omega (arith, near, below, ap length c.self.view_is, length-marks_in a.places a.words.items)
+
+pub returns-clause-marked : goal.returns-clause-marked
+returns-clause-marked c =
+    let a = c.self.inside in
+    let l = c.loop-rest in
+    let (place, later, below, marked) = some_bit a.places a.words.items c.args.self.now c.args.from c.self.view_is c.requires.some in
+    let some : 0 < l.rest = some_left l.rest c.loop-rest-test.false in
+    let near = no_later a.words.items c.args.from l.word l.rest place l.invariant some later marked in
+    let low : l.word * 64 + trailing_zeros w64 l.rest < a.places = omega (arith, near, below) in
+    ap (λ m. is_marked m (l.word * 64 + trailing_zeros w64 l.rest)) (sym c.self.view_is)
+    ∙ (marks_in-at a.places a.words.items (l.word * 64 + trailing_zeros w64 l.rest) false low
+    ∙ found-marked a.words.items c.args.from l.word l.rest l.invariant some)
+
+pub returns-clause-first : goal.returns-clause-first
+returns-clause-first c =
+    let a = c.self.inside in
+    let l = c.loop-rest in
+    let (place, later, below, marked) = some_bit a.places a.words.items c.args.self.now c.args.from c.self.view_is c.requires.some in
+    let some : 0 < l.rest = some_left l.rest c.loop-rest-test.false in
+    let near = no_later a.words.items c.args.from l.word l.rest place l.invariant some later marked in
+    λ q after before.
+    (let low : q < a.places = omega (arith, near, below, before) in
+    ap (λ m. is_marked m q) (sym c.self.view_is)
+    ∙ (marks_in-at a.places a.words.items q false low
+    ∙ found-first a.words.items c.args.from l.word l.rest l.invariant some q after before))

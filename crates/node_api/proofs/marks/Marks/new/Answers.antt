@@ -1,0 +1,18 @@
+use Rattle.std.proofs.Common.{length, ap, sym, ◌∙◌, arith, ℕ}
+use Rattle.std.proofs.lemmas.List.{length-replicate}
+use Rattle.node_api.specs.Marks.{count_marks, marks_in}
+use Rattle.node_api.proofs.Counting.{count-none}
+use Rattle.node_api.proofs.Words.{marks_in-zeros}
+use Rattle.node_api.proofs.marks.Marks.new.Goals as goal
+
+pub invariant_of-result : goal.invariant_of-result
+invariant_of-result c =
+    let words = c.loop-word.invariant in
+    let n = c.loop-word._word in (
+      omega (arith, ap length words, length-replicate {A = ℕ} n 0, c.loop-word-test.false, c.div_ceil-count.ensures),
+      sym (ap (λ l. count_marks (marks_in c.args.places l)) words ∙ (ap count_marks (marks_in-zeros c.args.places n) ∙ count-none c.args.places)),
+      omega (arith, c.ranges.places.fits),
+    )
+
+pub returns : goal.returns
+returns c = record { none = ap (λ l. marks_in c.args.places l) c.loop-word.invariant ∙ marks_in-zeros c.args.places c.loop-word._word }
