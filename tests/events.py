@@ -129,6 +129,9 @@ NOT_REPLAYED = [
     (EDGE + "transcript 1 2|1 put 1 close|", "NoSuch line 4"), (EDGE + "transcript 1 2|1 put 2 payload 0 hello 2|", "WrongWire line 4"),
     (EDGE + "transcript 1 2||" + GREETING + "|1 put 2 ack 0|", "NothingToPut line 7"),
     (EDGE + "transcript 1 2|" + GREETING + "2 take 1 payload 0 hello 2|", "WrongWire line 5"),
+    # the greatest number of each kind of payload, which is read and isn't the wire that is due, and one more
+    *((EDGE + f"transcript 1 2|1 put 2 payload 0 {kind} {most + more}|", ("X1" if more else "WrongWire") + " line 4")
+      for kind, most in [("hello", 2**64 - 1), ("label", 2**16 - 1), ("colour", 2**64 - 1), ("chosen", 2**16 - 1)] for more in (0, 1)),
     ("p edge 1 0|transcript 1 1|1 pulse 2|", "WrongWire line 3"), ("p edge 1 0|transcript 1 1|1 pulse 1|1 pulse 1|", "WrongWire line 4"),
 ]
 
