@@ -460,6 +460,11 @@ def rounds_rows():
         smaller = [net for net in tried if len(net.neighbours) < nodes]
         smaller += [network_at_random(source, source.randrange(2, nodes)) for _ in range(60 if nodes > 2 else 0)]
         note(f"smaller networks go right without {rule}", not any(goes_wrong(net, rule) for net in smaller), count)
+    # Neighbours in the forest that was just merged never have one colour, whichever rules of the merging are left out: two are given one.
+    rounds = ruled_rounds.RuledRounds(net_of("two"), ())
+    rounds.merged.append({1: 0, 2: 0})
+    clashes = [tuple(clash) for clash in rounds.merge_clashes(0)]
+    note("neighbours in the forest just merged with one colour", clashes == [(None, 0, 1, 2, 0)], clashes)
     nets = [network_at_random(source, 9) for _ in range(40)]
     whole = [ruled_rounds.RuledRounds(net, ()) for net in nets]
     note("with all rules the plan is the plan", all(rounds.clash is None and rounds.plan == colours(net)
