@@ -14,7 +14,8 @@ run. It is no part of the gate. The last line is 'N passed, M failed', over the 
 Of four runs one has a limit of address space from its start, as `ulimit -v` sets it. The others get one once their last thread has been
 started, of address space or of data: what they have at that time, and at most a little more. A run passes if it ends within a minute,
 with the right answer, or with nothing but the line and the status of memory or of threads, and if each thread that it started has ended.
-It needs a C compiler, `cc`."""
+A limit under which the program can't be loaded is no run. The status is 0 if none failed, and memory was refused to one at least whose
+threads were all started. It needs a C compiler, `cc`."""
 import argparse
 import contextlib
 import functools
@@ -34,10 +35,11 @@ from plain_definition import network_of, plan_text
 from refused_memory import build_front
 
 TOP = os.path.dirname(os.path.dirname(os.path.abspath(__file__)))
-LIMIT, BATCH = 60, 50
+LIMIT, BATCH = 60, 100
 KIB, MIB = 2**10, 2**20
 REFUSALS = {(4, b"", b"forestplan: memory\n"): "memory", (4, b"", b"forestplan: threads\n"): "threads"}
 FRONTS = ("started", "refuse_thread", "limit_under_way")
+NOT_LOADED = "not loaded"
 
 
 def text_of(nodes, edges):
@@ -118,7 +120,7 @@ class Run:
         """What came of it, and what is wrong with it, or None."""
         answer, is_limited, threads = self.answer(fronts, folder)
         if answer is None:
-            return "not loaded", None
+            return NOT_LOADED, None
         if answer == "no end":
             return answer, answer
         asked, started, ended = threads or (0, 0, -1)
@@ -158,11 +160,14 @@ def all_runs(given, fronts, folder):
                 failed += fault is not None
                 if fault is not None:
                     print(fault, flush=True)
-            if numbers.stop % 1000 < BATCH:
-                print(f"{came.total() - failed} passed so far; to go on: --first {numbers.stop}", flush=True)
+            print(f"{passed_of(came, failed)} passed so far; to go on: --first {numbers.stop}", flush=True)
             if end is not None and time.monotonic() > end:
                 break
     return came, failed
+
+
+def passed_of(came, failed):
+    return came.total() - came[NOT_LOADED] - failed
 
 
 def main():
@@ -183,7 +188,7 @@ def main():
     for what, count in sorted(came.items()):
         print(f"{count:8} {what}")
     late = sum(count for what, count in came.items() if "memory refused, all" in what)
-    print(f"{came.total() - failed} passed, {failed} failed")
+    print(f"{passed_of(came, failed)} passed, {failed} failed")
     return 1 if failed or not late else 0
 
 
