@@ -1,3 +1,7 @@
+pub mod Absorbing
 pub mod Each
+pub mod Holds
+pub mod Out
+pub mod Pushed
 pub mod Rule
-pub mod Steps
+pub mod Views

@@ -1,0 +1,33 @@
+-- What is so of all, at one place; and what fresh passes pushed and took.
+use Rattle.std.proofs.Common.{◌≡◌, ℕ, ◌<◌, ◌≤◌, List, [], ◌∷◌, ◌++◌, map, length, get_or, take, suc, sym, ap, ◌∙◌, subst, arith}
+use Rattle.std.specs.Prelude.{All}
+use Rattle.std.proofs.lemmas.List.{length-map, length-append, map-append}
+use Rattle.pool.specs.declared.ledger.Ledger.{Ledger}
+use Rattle.pool.specs.Ledgers.{ledger, weigh, pushed_by, taken_by}
+use Rattle.pool.proofs.Views.{last_front, total_zero}
+
+pub holds_at : {X : Type 0} (P : X → Type 0) (xs : List X) (i : ℕ) (x : X) → i < length xs → x ≡ get_or xs i x → All P xs → P x
+holds_at P xs i x lt at all = subst P (sym at) (all i x lt)
+
+pub fresh_sums : {A : Type 0} (see : A → Ledger) (p : ℕ) (xs : List A) → All (λ x. see x ≡ ledger p [] []) xs → (h : ℕ → ℕ)
+    → (taken_by h (map see xs) ≡ 0) × (pushed_by h (map see xs) ≡ 0)
+fresh_sums see p xs all h = (
+  total_zero (λ v. weigh h v.taken) see xs (λ k d lt. ap (λ (v : Ledger). weigh h v.taken) (all k d lt)),
+  total_zero (λ v. weigh h v.pushed) see xs (λ k d lt. ap (λ (v : Ledger). weigh h v.pushed) (all k d lt)),
+)
+
+-- the last of things whose images begin a list
+pub popped_front : {G C : Type 0} (f : G → C) (row rest : List G) (x : G) (ids : List C) (d : C) → row ≡ rest ++ x ∷ []
+    → map f row ≡ take (length row) ids → length row ≤ length ids
+    → (length row ≡ suc (length rest)) × ((f x ≡ get_or ids (length rest) d) × (map f rest ≡ take (length rest) ids))
+popped_front f row rest x ids d e front few =
+    let n : length row ≡ suc (length rest) = ap length e ∙ length-append rest (x ∷ []) ∙ (omega arith) in
+    let m : length (map f rest) ≡ length rest = length-map rest f in
+    let k : length row ≡ suc (length (map f rest)) = omega arith in
+    let t : map f rest ++ f x ∷ [] ≡ take (suc (length (map f rest))) ids =
+    sym (map-append f rest (x ∷ [])) ∙ ap (map f) (sym e) ∙ front ∙ ap (λ z. take z ids) k in
+    let r = last_front (map f rest) ids (f x) d t (omega arith) in
+    (n, (r.0 ∙ ap (λ z. get_or ids z d) m, r.1 ∙ ap (λ z. take z ids) m))
+
+pub length_more : {X : Type 0} (xs rest : List X) (x : X) → xs ≡ rest ++ x ∷ [] → length xs ≡ suc (length rest)
+length_more xs rest x e = ap length e ∙ length-append rest (x ∷ []) ∙ (omega arith)
