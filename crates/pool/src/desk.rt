@@ -32,11 +32,11 @@ fn victim(worker: u32, attempt: usize, workers: usize) -> usize
     ensures place { (result ≡ worker + attempt) ⊎ (result + workers ≡ worker + attempt) }
     ensures other { result ≢ worker }
 {
-    let place = worker as usize + attempt;
-    if place < workers {
-        place
+    let above = workers - worker as usize;
+    if attempt < above {
+        worker as usize + attempt
     } else {
-        place - workers
+        attempt - above
     }
 }
 

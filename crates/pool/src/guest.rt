@@ -20,14 +20,14 @@ pub type Thief<J: Wiring, P: NodeProgram> = Stealer<Box<Node<J, P>>, Global, Led
 #[derive(Drop)]
 pub struct Guest<J: Wiring, P: NodeProgram> {
     pub pass: Pass<Box<Node<J, P>>, Ledger>,
-    pub ghost rests: { (pass.me.ledger ≡ None) × (pass.me.spare ≡ None) },
+    pub ghost rests: { (pass.me.hand ≡ None) × (pass.me.spare ≡ None) },
     pub ghost share: { (view pass).shares ≡ 1 },
 }
 
 impl<J: Wiring, P: NodeProgram> Guest<J, P> {
     /// A pass that was just made.
     pub fn new(pass: Pass<Box<Node<J, P>>, Ledger>) -> Guest<J, P>
-        requires rests { (pass.me.ledger ≡ None) × (pass.me.spare ≡ None) }
+        requires rests { (pass.me.hand ≡ None) × (pass.me.spare ≡ None) }
         requires share { (view pass).shares ≡ 1 }
         ensures pass { result.pass ≡ pass }
     {

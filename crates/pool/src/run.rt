@@ -164,13 +164,13 @@ pub fn run_nodes<J: Wiring + Send + Sync, P: NodeProgram, G: Gate + Sync, R: Thr
     let (owns, dealt) = cut::<J, P, Dealt>(alloc, owns)?;
     let desks = desks(alloc, count, owns)?;
     let signals = Signals::new();
-    let all = Crew {
+    let shared = Crew {
         links,
         gate,
         signals: &signals,
         nodes: count as u64,
     };
-    let (crew, thieves) = (&all, &thieves);
+    let (crew, thieves) = (&shared, &thieves);
     let done = thread::scope(
         thread::scope_env(),
         rt,
