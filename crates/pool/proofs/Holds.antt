@@ -3,8 +3,8 @@ use Rattle.std.proofs.Common.{◌≡◌, ℕ, ◌<◌, ◌≤◌, List, [], ◌�
 use Rattle.std.specs.Prelude.{All}
 use Rattle.std.proofs.lemmas.List.{length-map, length-append, map-append}
 use Rattle.pool.specs.declared.ledger.Ledger.{Ledger}
-use Rattle.pool.specs.Ledgers.{ledger, weigh, pushed_by, taken_by}
-use Rattle.pool.proofs.Views.{last_front, total_zero}
+use Rattle.pool.specs.Ledgers.{AreOut, ledger, weigh, pushed_by, taken_by}
+use Rattle.pool.proofs.Views.{carried, last_front, total_zero}
 
 pub holds_at : {X : Type 0} (P : X → Type 0) (xs : List X) (i : ℕ) (x : X) → i < length xs → x ≡ get_or xs i x → All P xs → P x
 holds_at P xs i x lt at all = subst P (sym at) (all i x lt)
@@ -31,3 +31,16 @@ popped_front f row rest x ids d e front few =
 
 pub length_more : {X : Type 0} (xs rest : List X) (x : X) → xs ≡ rest ++ x ∷ [] → length xs ≡ suc (length rest)
 length_more xs rest x e = ap length e ∙ length-append rest (x ∷ []) ∙ (omega arith)
+
+-- what all passes know after the same step of each, or of passes that are cut off of each
+pub all_to : {A B : Type 0} (see : A → Ledger) (see' : B → Ledger) (m : Ledger → Ledger) (xs : List A) (ys : List B) (v w : Ledger)
+    → map see' ys ≡ map (λ x. m (see x)) xs → m v ≡ w → All (λ x. see x ≡ v) xs → All (λ y. see' y ≡ w) ys
+all_to see see' m xs ys v w e to all = carried (λ x. m (see x)) see' (λ u. u ≡ w) xs ys e (λ k d lt. ap m (all k d lt) ∙ to)
+
+-- fresh passes have nothing out
+pub fresh_out : {A : Type 0} (see : A → Ledger) (p : ℕ) (xs : List A) → All (λ x. see x ≡ ledger p [] []) xs → AreOut (map see xs) []
+fresh_out see p xs all h =
+    let z = fresh_sums see p xs all h in
+    let t = z.0 in
+    let q = z.1 in
+    omega arith

@@ -30,3 +30,8 @@ total_more f see xs x = ap (total f) (map-append see xs (x ∷ [])) ∙ total_sn
 pub in_rows_more : {A : Type 0} (f : List Ledger → ℕ) (see : A → List Ledger) (xs : List A) (x : A) → in_rows f (map see (xs ++ x ∷ [])) ≡ in_rows f (map see xs) + f (see x)
 in_rows_more f see [] x = omega arith
 in_rows_more f see (y ∷ ys) x = let r = in_rows_more f see ys x in omega arith
+
+-- the images of a list with one more
+pub image_pushed : {A C : Type 0} (f : A → C) (xs new : List A) (ys : List C) (x : A) (y : C) → new ≡ xs ++ x ∷ [] → f x ≡ y → map f xs ≡ ys
+    → map f new ≡ ys ++ y ∷ []
+image_pushed f xs new ys x y e same all = ap (map f) e ∙ map-append f xs (x ∷ []) ∙ ap (λ l. l ++ f x ∷ []) all ∙ ap (λ c. ys ++ c ∷ []) same

@@ -75,6 +75,41 @@ alone f (x ∷ xs) (suc pass) v at e idle =
     let r = alone f xs pass v at (omega arith) (λ j u a. idle (suc j) u a) in
     omega arith
 
+pub forks : (pass : ℕ) (v : Ledger) → 1 < v.shares → Forks Balanced pass v (ledger (v.shares - 1) v.pushed v.taken) (ledger 1 [] [])
+forks pass v more items views b at =
+    let l = ledger (v.shares - 1) v.pushed v.taken in
+    let r = ledger 1 [] [] in
+    let vs = set views pass l in
+    record {
+      shares = let s = total_set (λ u. u.shares) views pass v l at in let t = total_snoc (λ u. u.shares) vs r in let p = b.shares in omega arith;
+      even = λ h.
+          let s = total_set (λ u. weigh h u.pushed) views pass v l at in
+          let t = total_snoc (λ u. weigh h u.pushed) vs r in
+          let s' = total_set (λ u. weigh h u.taken) views pass v l at in
+          let t' = total_snoc (λ u. weigh h u.taken) vs r in
+          let p = b.even h in
+          omega arith;
+      idle = idle_snoc vs r (λ none. (refl, refl)) (idle_set views pass l (λ none. absurd (omega arith)) b.idle);
+    }
+
+-- all that was pushed and taken so far goes with the new pass
+pub deals : (pass : ℕ) (v : Ledger) → 1 < v.shares → Forks Balanced pass v (ledger (v.shares - 1) [] []) (ledger 1 v.pushed v.taken)
+deals pass v more items views b at =
+    let l = ledger (v.shares - 1) [] [] in
+    let r = ledger 1 v.pushed v.taken in
+    let vs = set views pass l in
+    record {
+      shares = let s = total_set (λ u. u.shares) views pass v l at in let t = total_snoc (λ u. u.shares) vs r in let p = b.shares in omega arith;
+      even = λ h.
+          let s = total_set (λ u. weigh h u.pushed) views pass v l at in
+          let t = total_snoc (λ u. weigh h u.pushed) vs r in
+          let s' = total_set (λ u. weigh h u.taken) views pass v l at in
+          let t' = total_snoc (λ u. weigh h u.taken) vs r in
+          let p = b.even h in
+          omega arith;
+      idle = idle_snoc vs r (λ none. absurd (omega arith)) (idle_set views pass l (λ none. (refl, refl)) b.idle);
+    }
+
 module _ {A : Type 0} (f : A → ℕ) where
   abbrev pub Held : List A → List Ledger → Type 0
   Held items views = Balanced (map f items) views
@@ -144,41 +179,6 @@ module _ {A : Type 0} (f : A → ℕ) where
       leaves pass v (x ∷ []) (items ++ x ∷ []) items views some_share
           (λ h. let e = ap (weigh h) (map-append f items (x ∷ [])) ∙ weigh-append h (map f items) (f x ∷ []) in omega arith) b at,
       refl)
-
-  pub forks : (pass : ℕ) (v : Ledger) → 1 < v.shares → Forks Held pass v (ledger (v.shares - 1) v.pushed v.taken) (ledger 1 [] [])
-  forks pass v more items views b at =
-      let l = ledger (v.shares - 1) v.pushed v.taken in
-      let r = ledger 1 [] [] in
-      let vs = set views pass l in
-      record {
-        shares = let s = total_set (λ u. u.shares) views pass v l at in let t = total_snoc (λ u. u.shares) vs r in let p = b.shares in omega arith;
-        even = λ h.
-            let s = total_set (λ u. weigh h u.pushed) views pass v l at in
-            let t = total_snoc (λ u. weigh h u.pushed) vs r in
-            let s' = total_set (λ u. weigh h u.taken) views pass v l at in
-            let t' = total_snoc (λ u. weigh h u.taken) vs r in
-            let p = b.even h in
-            omega arith;
-        idle = idle_snoc vs r (λ none. (refl, refl)) (idle_set views pass l (λ none. absurd (omega arith)) b.idle);
-      }
-
-  -- all that was pushed and taken so far goes with the new pass
-  pub deals : (pass : ℕ) (v : Ledger) → 1 < v.shares → Forks Held pass v (ledger (v.shares - 1) [] []) (ledger 1 v.pushed v.taken)
-  deals pass v more items views b at =
-      let l = ledger (v.shares - 1) [] [] in
-      let r = ledger 1 v.pushed v.taken in
-      let vs = set views pass l in
-      record {
-        shares = let s = total_set (λ u. u.shares) views pass v l at in let t = total_snoc (λ u. u.shares) vs r in let p = b.shares in omega arith;
-        even = λ h.
-            let s = total_set (λ u. weigh h u.pushed) views pass v l at in
-            let t = total_snoc (λ u. weigh h u.pushed) vs r in
-            let s' = total_set (λ u. weigh h u.taken) views pass v l at in
-            let t' = total_snoc (λ u. weigh h u.taken) vs r in
-            let p = b.even h in
-            omega arith;
-        idle = idle_snoc vs r (λ none. absurd (omega arith)) (idle_set views pass l (λ none. (refl, refl)) b.idle);
-      }
 
   pub merges : (pass : ℕ) (v : Ledger) (other : ℕ) (u : Ledger) → 0 < v.shares
       → Merges Held pass v other u (ledger (v.shares + u.shares) (v.pushed ++ u.pushed) (v.taken ++ u.taken)) (ledger 0 [] [])

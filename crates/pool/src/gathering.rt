@@ -1,9 +1,9 @@
 //! What workers hand back becomes all nodes of the run.
 
-ghost use Rattle.std.specs.Prelude.{◌≡◌, ◌<◌, ◌≤◌, ◌+◌, ℕ, [], All, IfOk, map, vec_len};
+ghost use Rattle.std.specs.Prelude.{◌≡◌, ◌<◌, ◌≤◌, ◌+◌, ◌++◌, ℕ, [], All, IfErr, IfOk, map, vec_len};
 ghost use Rattle.actor.specs.interference.Net.{vertices};
 ghost use Rattle.crossbeam_deque.specs.Handles.{view, worker_deque, worker_view};
-ghost use Rattle.pool.specs.Ledgers.{AreDealt, AreSame, all_shares, in_rows, pushed_by, shares_of, taken_by, weigh};
+ghost use Rattle.pool.specs.Ledgers.{AreDealt, AreSame, all_shares, in_hand, in_rows, pushed_by, shares_of, taken_by, weigh};
 ghost use Rattle.pool.specs.Deques.{deque_of};
 
 use crate::desk::Desk;
@@ -104,6 +104,23 @@ fn absorb_rows<J: Wiring, P: NodeProgram>(
     }
 }
 
+// The nodes so far, with those that one worker handed back.
+fn with_those_of<J: Wiring, P: NodeProgram>(
+    mut nodes: Vec<Box<Node<J, P>>>,
+    node: Option<Box<Node<J, P>>>,
+    mut finished: Vec<Box<Node<J, P>>>,
+) -> Result<Vec<Box<Node<J, P>>>, AllocError>
+    ensures nodes { IfOk result (λ all. (h : ℕ → ℕ) → weigh h (map (λ b. b.value.vertex) all.items)
+        ≡ weigh h (map (λ b. b.value.vertex) nodes.items)
+            + weigh h (in_hand (λ b. b.value.vertex) node ++ map (λ b. b.value.vertex) finished.items)) }
+{
+    nodes.append(&mut finished)?;
+    if let Some(node) = node {
+        nodes.push(node)?;
+    }
+    Ok(nodes)
+}
+
 // What workers handed back, apart, unless one of them was refused memory.
 fn apart<J: Wiring, P: NodeProgram>(
     alloc: Global,
@@ -121,6 +138,7 @@ fn apart<J: Wiring, P: NodeProgram>(
         ≡ pushed_by h (map worker_view b.owns.items)
             + in_rows (pushed_by h) (map (λ row. map (λ g. view g.pass) row.items) b.rows.items)
             + weigh h (map (λ b. b.value.vertex) b.nodes.items)) }
+    ensures memory { IfOk result (λ _. All (λ w. IfErr w.written (λ _. ⊥)) done.items) }
 {
     let mut owns = Vec::new(alloc);
     let mut rows = Vec::new(alloc);
@@ -132,12 +150,9 @@ fn apart<J: Wiring, P: NodeProgram>(
             own,
             guests,
             node,
-            mut finished,
+            finished,
         } = desk;
-        nodes.append(&mut finished)?;
-        if let Some(node) = node {
-            nodes.push(node)?;
-        }
+        nodes = with_those_of(nodes, node, finished)?;
         owns.push(own)?;
         rows.push(guests)?;
     }

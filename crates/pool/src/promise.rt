@@ -1,22 +1,20 @@
 //! What is promised of what a worker hands back.
 
-use crate::guest::Thief;
+use crate::desk::Desk;
 use crate::looks::Worked;
 use actor::{NodeProgram, Wiring};
+use std::snapshot::Snapshot;
 use std::thread::Promise;
 
-/// The promise that what a worker hands back is of its own deque, and of all deques.
+/// The promise that a worker hands back the deque with which it began, and its passes at the same deques.
 #[derive(Drop)]
-pub struct OfDeque<'a, J: Wiring, P: NodeProgram> {
-    pub thief: &'a Thief<J, P>,
-    pub thieves: &'a Vec<Thief<J, P>>,
-}
+pub struct SameDeques<J: Wiring, P: NodeProgram>(pub Snapshot<Desk<J, P>>);
 
-impl<'a, J: Wiring, P: NodeProgram> Promise<Worked<J, P>> for OfDeque<'a, J, P> {
+impl<J: Wiring, P: NodeProgram> Promise<Worked<J, P>> for SameDeques<J, P> {
     ghost use Rattle.std.specs.Prelude.{◌≡◌, map};
-    ghost use Rattle.crossbeam_deque.specs.Handles.{stealer_deque, worker_deque};
+    ghost use Rattle.crossbeam_deque.specs.Handles.{worker_deque};
     ghost use Rattle.pool.specs.Deques.{deque_of};
 
-    ghost kept_by = { λ p r. (worker_deque r.desk.own ≡ stealer_deque p.thief.now)
-        × (map (λ g. deque_of g.pass) r.desk.guests.items ≡ map stealer_deque p.thieves.now.items) };
+    ghost kept_by = { λ p r. (worker_deque r.desk.own ≡ worker_deque p.0.value.own)
+        × (map (λ g. deque_of g.pass) r.desk.guests.items ≡ map (λ g. deque_of g.pass) p.0.value.guests.items) };
 }
