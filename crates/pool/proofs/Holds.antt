@@ -1,10 +1,11 @@
 -- What is so of all, at one place; and what fresh passes pushed and took.
-use Rattle.std.proofs.Common.{◌≡◌, ℕ, ◌<◌, ◌≤◌, List, [], ◌∷◌, ◌++◌, map, length, get_or, take, suc, sym, ap, ◌∙◌, subst, arith}
+use Rattle.std.proofs.Common.{◌≡◌, ℕ, ◌<◌, ◌≤◌, List, [], ◌∷◌, ◌++◌, map, length, get_or, reverse, take, suc, refl, sym, ap, ◌∙◌, subst, arith}
 use Rattle.std.specs.Prelude.{All}
 use Rattle.std.proofs.lemmas.List.{length-map, length-append, map-append}
 use Rattle.pool.specs.declared.ledger.Ledger.{Ledger}
-use Rattle.pool.specs.Ledgers.{AreOut, ledger, weigh, pushed_by, taken_by}
-use Rattle.pool.proofs.Views.{carried, last_front, total_zero}
+use Rattle.pool.specs.Ledgers.{AreDealt, AreOut, ledger, weigh, pushed_by, taken_by}
+use Rattle.pool.proofs.Rule.{weigh-reverse}
+use Rattle.pool.proofs.Views.{carried, last_front, total_same, total_zero}
 
 pub holds_at : {X : Type 0} (P : X → Type 0) (xs : List X) (i : ℕ) (x : X) → i < length xs → x ≡ get_or xs i x → All P xs → P x
 holds_at P xs i x lt at all = subst P (sym at) (all i x lt)
@@ -44,3 +45,15 @@ fresh_out see p xs all h =
     let t = z.0 in
     let q = z.1 in
     omega arith
+
+-- what was dealt goes with the passes that are cut off
+pub dealt_on : {A B : Type 0} (see : A → Ledger) (see' : B → Ledger) (xs : List A) (ys : List B) (nodes all : List ℕ)
+    → map see' ys ≡ map (λ x. ledger 1 (see x).pushed (see x).taken) xs → nodes ≡ reverse all → AreDealt (map see xs) nodes → AreDealt (map see' ys) all
+dealt_on see see' xs ys nodes all e down dealt h =
+    let d = dealt h in
+    let none = d.0 in
+    let these = d.1 in
+    let t = ap (taken_by h) e ∙ total_same (λ v. weigh h v.taken) (λ v. ledger 1 v.pushed v.taken) see (λ v. refl) xs in
+    let p = ap (pushed_by h) e ∙ total_same (λ v. weigh h v.pushed) (λ v. ledger 1 v.pushed v.taken) see (λ v. refl) xs in
+    let w = ap (weigh h) down ∙ weigh-reverse h all in
+    (omega arith, omega arith)

@@ -1,7 +1,7 @@
 -- Each step keeps the rule of a deque.
-use Rattle.std.proofs.Common.{◌≡◌, ◌≢◌, ℕ, zero, suc, ◌+◌, ◌-◌, ◌<◌, ◌≤◌, List, [], ◌∷◌, ◌++◌, length, map, set, sym, refl, ap, ◌∙◌, subst}
+use Rattle.std.proofs.Common.{◌≡◌, ◌≢◌, ℕ, zero, suc, ◌+◌, ◌-◌, ◌<◌, ◌≤◌, List, [], ◌∷◌, ◌++◌, length, map, reverse, set, sym, refl, ap, ◌∙◌, subst}
 use Rattle.std.proofs.Common.{⊎_elim, arith}
-use Rattle.std.proofs.lemmas.List.{map-append}
+use Rattle.std.proofs.lemmas.List.{map-append, reverse-append}
 use mathlib.Core.Option as option
 use lib.ListN.{get_elem?}
 use Rattle.crossbeam_deque.specs.Tasks.{Pushes, Takes, Pops, Finds, FindsFew, Blocks, Forks, Merges}
@@ -12,6 +12,13 @@ use Rattle.pool.specs.Ledgers.{ledger, weigh, total, all_shares, pushed_by, take
 pub weigh-append : (h : ℕ → ℕ) (xs ys : List ℕ) → weigh h (xs ++ ys) ≡ weigh h xs + weigh h ys
 weigh-append h [] ys = omega arith
 weigh-append h (x ∷ xs) ys = let e = weigh-append h xs ys in omega arith
+
+pub weigh-reverse : (h : ℕ → ℕ) (xs : List ℕ) → weigh h (reverse xs) ≡ weigh h xs
+weigh-reverse h [] = refl
+weigh-reverse h (x ∷ xs) =
+    let e = weigh-reverse h xs in
+    let q = ap (weigh h) (reverse-append (x ∷ []) xs) in
+    omega (arith, weigh-append h (reverse xs) (x ∷ []))
 
 pub weigh-one : (xs : List ℕ) → weigh (λ _. 1) xs ≡ length xs
 weigh-one [] = refl

@@ -16,7 +16,7 @@ use std::alloc::{AllocError, Global};
 // A pass at each deque for each worker.
 fn hire<J: Wiring, P: NodeProgram>(
     alloc: Global,
-    owns: Vec<Own<J, P>>,
+    mut owns: Vec<Own<J, P>>,
 ) -> Result<(Vec<Own<J, P>>, Vec<Vec<Guest<J, P>>>), AllocError>
     requires few { vec_len owns ≤ MAX_WORKERS }
     requires new { All (λ o. worker_view o ≡ ledger (all_shares - 1) [] []) owns.items }
@@ -28,7 +28,6 @@ fn hire<J: Wiring, P: NodeProgram>(
     ensures fresh { IfOk result (λ r. All (λ row. AreOut (map (λ g. view g.pass) row.items) []) r.1.items) }
 {
     let count = owns.len();
-    let mut owns = owns;
     let mut rows = Vec::new(alloc);
     for _ in 0..count {
         let (left, row) = cut::<J, P, OneShare>(alloc, owns)?;

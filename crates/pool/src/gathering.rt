@@ -5,6 +5,7 @@ ghost use Rattle.actor.specs.interference.Net.{vertices};
 ghost use Rattle.crossbeam_deque.specs.Handles.{view, worker_deque, worker_view};
 ghost use Rattle.pool.specs.Ledgers.{AreDealt, AreSame, all_shares, in_hand, in_rows, pushed_by, shares_of, taken_by, weigh};
 ghost use Rattle.pool.specs.Deques.{deque_of};
+ghost use Rattle.run_options.specs.declared.TheConstants.{MAX_WORKERS};
 
 use crate::desk::Desk;
 use crate::guest::{Guest, Own};
@@ -173,6 +174,7 @@ pub fn gather<J: Wiring, P: NodeProgram, R: Wait>(
     requires deques { map (λ g. deque_of g.pass) dealt.items ≡ map (λ w. worker_deque w.desk.own) done.items }
     requires guests { All (λ w. map (λ g. deque_of g.pass) w.desk.guests.items
         ≡ map (λ g. deque_of g.pass) dealt.items) done.items }
+    requires few { vec_len dealt ≤ MAX_WORKERS }
     requires dealt { AreDealt (map (λ g. view g.pass) dealt.items) (vertices J.net) }
     ensures once { IfOk result (λ all. AreSame (map (λ b. b.value.vertex) all.items) (vertices J.net)) }
 {

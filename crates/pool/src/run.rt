@@ -100,9 +100,9 @@ fn join_all<J: Wiring, P: NodeProgram, R: Threads + Wait>(
     children: Vec<Child<J, P>>,
 ) -> Result<Vec<Worked<J, P>>, PoolFault>
     ensures owns { IfOk result (λ done. map (λ w. worker_deque w.desk.own) done.items
-        ≡ map (λ h. worker_deque h.promise.0.value.own) children.items) }
+        ≡ map (λ d. worker_deque d.own) (map (λ h. h.promise.0.value) children.items)) }
     ensures guests { IfOk result (λ done. map (λ w. map (λ g. deque_of g.pass) w.desk.guests.items) done.items
-        ≡ map (λ h. map (λ g. deque_of g.pass) h.promise.0.value.guests.items) children.items) }
+        ≡ map (λ d. map (λ g. deque_of g.pass) d.guests.items) (map (λ h. h.promise.0.value) children.items)) }
     ensures memory { IfErr result (λ fault. fault ≡ PoolFault.Memory) }
 {
     match thread::join_promised(rt, children) {
