@@ -24,7 +24,7 @@ cut-requires-clause-shares g c k d lt =
 pub loop-preserved : goal.loop-preserved
 loop-preserved g c =
     let inv = c.loop.invariant in
-    let said = c.in_ok-cut.ensures in
+    let said = c.in_ok-left.ensures in
     let more = c.in_ok-push.ensures in
     let before = ledger (all_shares - 1 - c.loop.counter) [] [] in
     record {

@@ -21,7 +21,7 @@ loop-worked-preserved g c =
           inv.shares;
       out = λ h.
           let before = inv.out h in
-          let nodes = c.in_ok-with_those_of.ensures.nodes h in
+          let nodes = c.in_ok-nodes.ensures.nodes h in
           let out = worked.desk.out h in
           let t = ap (λ os. taken_by h (map worker_view os)) owns ∙ total_more (λ v. weigh h v.taken) worker_view c.loop-worked.owns.items worked.desk.own in
           let p = ap (λ os. pushed_by h (map worker_view os)) owns ∙ total_more (λ v. weigh h v.pushed) worker_view c.loop-worked.owns.items worked.desk.own in
