@@ -1,4 +1,5 @@
 pub mod Absorbing
+pub mod Back
 pub mod Each
 pub mod Holds
 pub mod Joined

@@ -92,5 +92,5 @@ impl<J: Wiring, P: NodeProgram> Outcome<Box<Node<J, P>>, Ledger> for Steals {
     ghost use Rattle.std.specs.Prelude.{◌≡◌, ◌++◌, map};
     ghost use Rattle.pool.specs.Ledgers.{ledger};
 
-    ghost then = { λ v xs w. w ≡ ledger v.shares v.pushed (v.taken ++ map (λ b. b.value.vertex) xs) };
+    ghost then = { λ v stolen w. w ≡ ledger v.shares v.pushed (v.taken ++ map (λ b. b.value.vertex) stolen) };
 }

@@ -19,6 +19,7 @@ pub cut-requires-clause-shares : goal.cut-requires-clause-shares
 cut-requires-clause-shares g c k d lt =
     let s = ap (λ (v : Ledger). v.shares) (c.loop.invariant.left k d lt) in
     let f = c.requires.few in
+    let n = c.len-count.ensures in
     omega arith
 
 pub loop-preserved : goal.loop-preserved
@@ -27,10 +28,11 @@ loop-preserved g c =
     let said = c.in_ok-left.ensures in
     let more = c.in_ok-push.ensures in
     let before = ledger (all_shares - 1 - c.loop.counter) [] [] in
+    let fewer : all_shares - 1 - c.loop.counter - 1 ≡ all_shares - 1 - (c.loop.counter + 1) = omega arith in
     record {
       owns = said.owns ∙ inv.owns;
       left = all_to worker_view worker_view (λ v. ledger (v.shares - 1) v.pushed v.taken) c.loop.owns.items _ before _ said.left
-          (ap (λ k. ledger k [] []) (omega arith)) inv.left;
+          (ap (λ k. ledger k [] []) fewer) inv.left;
       rows = let n = more.len in let i = inv.rows in omega arith;
       guests = All-same (λ row. map (λ g'. deque_of g'.pass) row.items ≡ map worker_deque c.args.owns.items) _ _ more.items
           (All-push (λ row. map (λ g'. deque_of g'.pass) row.items ≡ map worker_deque c.args.owns.items) c.loop.rows.items _ inv.guests
@@ -40,3 +42,8 @@ loop-preserved g c =
           (fresh_out (λ g'. view g'.pass) 1 _
           (all_to worker_view (λ g'. view g'.pass) (λ v. ledger 1 [] []) c.loop.owns.items _ before (ledger 1 [] []) said.right refl inv.left)));
     }
+
+pub returns-clause-left : goal.returns-clause-left
+returns-clause-left g c k d lt =
+    let n = c.len-count.ensures in
+    c.loop.invariant.left k d lt ∙ ap (λ m. ledger (all_shares - 1 - m) [] []) (omega arith)

@@ -36,7 +36,7 @@ drain_all-requires-clause-shares g c k d lt =
         c.in_ok-owns.ensures.rows in
     let many = as_many (λ w. worker_deque w.desk.own) (λ g'. deque_of g'.pass) c.args.done.items dealt.items c.requires.deques in
     let few = c.requires.few in
-    omega (arith, dealt.ok.0)
+    omega (arith, dealt.ok.0, c.in_ok-owns.rows.ok.0)
 
 pub returns-clause-once : goal.returns-clause-once
 returns-clause-once g c h =
