@@ -18,16 +18,16 @@ pub up_to_set : (p i : ℕ) (views : List Ledger) (v w : Ledger) → i < length 
 up_to_set p i views v w within at more there up j lt =
     ⊎_elim
     (λ (s : _ × (j ≡ i)).
-        let here : get_or (set views i w) j nobody ≡ w = ap (λ k. get_or (set views i w) k nobody) s.1 ∙ get_or-set_same views i w nobody within in
-        let h = ap (λ (u : Ledger). u.shares) here in
-        let o = ap (λ (u : Ledger). u.shares) (there nobody) in
-        let was = (up i within).0 (omega arith) in
-        let q = s.1 in
-        ((λ less. absurd (omega arith)), λ more'. omega arith))
+    let here : get_or (set views i w) j nobody ≡ w = ap (λ k. get_or (set views i w) k nobody) s.1 ∙ get_or-set_same views i w nobody within in
+    let h = ap (λ (u : Ledger). u.shares) here in
+    let o = ap (λ (u : Ledger). u.shares) (there nobody) in
+    let was = (up i within).0 (omega arith) in
+    let q = s.1 in
+    ((λ less. absurd (omega arith)), λ more'. omega arith))
     (λ (o : _ × (j ≢ i)).
-        let h = ap (λ (u : Ledger). u.shares) (get_or-set_other views i j w nobody o.1) in
-        let n = up j (omega (arith, length-set views i w)) in
-        ((λ less. let a = n.0 (omega arith) in omega arith), λ more'. let a = n.1 (apart i j o.1 more') in omega arith))
+    let h = ap (λ (u : Ledger). u.shares) (get_or-set_other views i j w nobody o.1) in
+    let n = up j (omega (arith, length-set views i w)) in
+    ((λ less. let a = n.0 (omega arith) in omega arith), λ more'. let a = n.1 (apart i j o.1 more') in omega arith))
     (eqb_tells j i)
   where
     apart : (i j : ℕ) → j ≢ i → i ≤ j → suc i ≤ j

@@ -15,6 +15,6 @@ kept_images (h ∷ hs) (r ∷ rs) n g see f q says e e' keeps =
     let k = (keeps zero r (omega arith)).1 in
     let here : f r ≡ q (see h.promise) = says k.handle.promise r k.kept ∙ ap (λ z. q (see z.promise)) k.handle_is in
     let rest = kept_images hs rs (length hs) g see f q says refl (omega arith) (λ i d lt.
-        let a = (keeps (suc i) d (omega arith)).1 in
-        (refl, record { handle = a.handle; handle_is = a.handle_is; kept = a.kept })) in
+    let a = (keeps (suc i) d (omega arith)).1 in
+    (refl, record { handle = a.handle; handle_is = a.handle_is; kept = a.kept })) in
     λ i. here i ∷ rest i

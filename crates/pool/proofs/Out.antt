@@ -87,16 +87,20 @@ module _ {A : Type 0} (f : A → ℕ) where
   pub pushed : (own new : Ledger) (guests : List Ledger) (before after : Option A) (x : A) (rest : List ℕ) → before ≡ Some x → after ≡ None
       → new ≡ ledger own.shares (own.pushed ++ map f (x ∷ [])) own.taken
       → AreOut (own ∷ guests) (in_hand f before ++ rest) → (new.shares ≡ own.shares) × AreOut (new ∷ guests) (in_hand f after ++ rest)
-  pushed own new guests before after x rest e nothing is out =
-      (ap (λ v. v.shares) is, subst (λ o. AreOut (new ∷ guests) (in_hand f o ++ rest)) (sym nothing)
-      (gave own new guests rest (f x) is (subst (λ o. AreOut (own ∷ guests) (in_hand f o ++ rest)) e out)))
+  pushed own new guests before after x rest e nothing is out = (
+    ap (λ v. v.shares) is,
+    subst (λ o. AreOut (new ∷ guests) (in_hand f o ++ rest)) (sym nothing)
+        (gave own new guests rest (f x) is (subst (λ o. AreOut (own ∷ guests) (in_hand f o ++ rest)) e out)),
+  )
 
   -- a push that is refused
   pub kept : (own new : Ledger) (guests : List Ledger) (before : Option A) (x y : A) (rest : List ℕ) → before ≡ Some x → y ≡ x → new ≡ own
       → AreOut (own ∷ guests) (in_hand f before ++ rest) → (new.shares ≡ own.shares) × AreOut (new ∷ guests) (in_hand f (Some y) ++ rest)
-  kept own new guests before x y rest e same is out =
-      (ap (λ v. v.shares) is, subst (λ v. AreOut (v ∷ guests) (f y ∷ rest)) (sym is)
-      (subst (λ z. AreOut (own ∷ guests) (f z ∷ rest)) (sym same) (subst (λ o. AreOut (own ∷ guests) (in_hand f o ++ rest)) e out)))
+  kept own new guests before x y rest e same is out = (
+    ap (λ v. v.shares) is,
+    subst (λ v. AreOut (v ∷ guests) (f y ∷ rest)) (sym is)
+        (subst (λ z. AreOut (own ∷ guests) (f z ∷ rest)) (sym same) (subst (λ o. AreOut (own ∷ guests) (in_hand f o ++ rest)) e out)),
+  )
 
   -- the node in hand goes to the finished places
   pub finished : (views : List Ledger) (before after : Option A) (x : A) (old new : List A) → before ≡ Some x → after ≡ None → new ≡ old ++ x ∷ []

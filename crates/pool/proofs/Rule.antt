@@ -173,19 +173,21 @@ module _ {A : Type 0} (f : A → ℕ) where
 
   pub takes : (pass : ℕ) (v : Ledger) (most : ℕ) → 0 < v.shares
       → Takes Held pass v most (λ xs w. w ≡ ledger v.shares v.pushed (v.taken ++ map f xs))
-  takes pass v most some_share xs items views one few b at =
-      (ledger v.shares v.pushed (v.taken ++ map f xs),
-      leaves pass v xs (xs ++ items) items views some_share
-          (λ h. ap (weigh h) (map-append f xs items) ∙ weigh-append h (map f xs) (map f items)) b at,
-      refl)
+  takes pass v most some_share xs items views one few b at = (
+    ledger v.shares v.pushed (v.taken ++ map f xs),
+    leaves pass v xs (xs ++ items) items views some_share
+        (λ h. ap (weigh h) (map-append f xs items) ∙ weigh-append h (map f xs) (map f items)) b at,
+    refl,
+  )
 
   pub pops : (pass : ℕ) (v : Ledger) → 0 < v.shares
       → Pops Held pass v (λ xs w. w ≡ ledger v.shares v.pushed (v.taken ++ map f xs))
-  pops pass v some_share x items views b at =
-      (ledger v.shares v.pushed (v.taken ++ f x ∷ []),
-      leaves pass v (x ∷ []) (items ++ x ∷ []) items views some_share
-          (λ h. let e = ap (weigh h) (map-append f items (x ∷ [])) ∙ weigh-append h (map f items) (f x ∷ []) in omega arith) b at,
-      refl)
+  pops pass v some_share x items views b at = (
+    ledger v.shares v.pushed (v.taken ++ f x ∷ []),
+    leaves pass v (x ∷ []) (items ++ x ∷ []) items views some_share
+        (λ h. let e = ap (weigh h) (map-append f items (x ∷ [])) ∙ weigh-append h (map f items) (f x ∷ []) in omega arith) b at,
+    refl,
+  )
 
   pub merges : (pass : ℕ) (v : Ledger) (other : ℕ) (u : Ledger) → 0 < v.shares
       → Merges Held pass v other u (ledger (v.shares + u.shares) (v.pushed ++ u.pushed) (v.taken ++ u.taken)) (ledger 0 [] [])

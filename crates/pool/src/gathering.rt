@@ -24,10 +24,7 @@ pub struct Back<J: Wiring, P: NodeProgram> {
 }
 
 // All shares of a pass come back to its deque's owner.
-fn absorb_row<J: Wiring, P: NodeProgram>(
-    owns: &mut Vec<Own<J, P>>,
-    mut row: Vec<Guest<J, P>>,
-)
+fn absorb_row<J: Wiring, P: NodeProgram>(owns: &mut Vec<Own<J, P>>, mut row: Vec<Guest<J, P>>)
     requires deques { map (λ g. deque_of g.pass) row.items ≡ map worker_deque owns.old.items }
     requires some { All (λ o. 0 < shares_of (worker_view o)) owns.old.items }
     ensures deques { map worker_deque owns.new.items ≡ map worker_deque owns.old.items }
@@ -85,20 +82,17 @@ fn drain_all<J: Wiring, P: NodeProgram, R: Wait>(
 }
 
 // All rows of passes come back to the deques' owners.
-fn absorb_rows<J: Wiring, P: NodeProgram>(
-    owns: &mut Vec<Own<J, P>>,
-    rows: Vec<Vec<Guest<J, P>>>,
-)
+fn absorb_rows<J: Wiring, P: NodeProgram>(owns: &mut Vec<Own<J, P>>, rows: Vec<Vec<Guest<J, P>>>)
     requires deques { All (λ row. map (λ g. deque_of g.pass) row.items ≡ map worker_deque owns.old.items) rows.items }
     requires some { All (λ o. 0 < shares_of (worker_view o)) owns.old.items }
     ensures shares { (p : ℕ) → All (λ o. shares_of (worker_view o) ≡ p) owns.old.items
         → All (λ o. shares_of (worker_view o) ≡ p + vec_len rows) owns.new.items }
     ensures pushed { (h : ℕ → ℕ) → pushed_by h (map worker_view owns.new.items)
         ≡ pushed_by h (map worker_view owns.old.items)
-            + in_rows (pushed_by h) (map (λ row. map (λ g. view g.pass) row.items) rows.items) }
+        + in_rows (pushed_by h) (map (λ row. map (λ g. view g.pass) row.items) rows.items) }
     ensures taken { (h : ℕ → ℕ) → taken_by h (map worker_view owns.new.items)
         ≡ taken_by h (map worker_view owns.old.items)
-            + in_rows (taken_by h) (map (λ row. map (λ g. view g.pass) row.items) rows.items) }
+        + in_rows (taken_by h) (map (λ row. map (λ g. view g.pass) row.items) rows.items) }
 {
     for row in rows {
         absorb_row(owns, row);
@@ -113,7 +107,7 @@ fn with_those_of<J: Wiring, P: NodeProgram>(
 ) -> Result<Vec<Box<Node<J, P>>>, AllocError>
     ensures nodes { IfOk result (λ all. (h : ℕ → ℕ) → weigh h (map (λ b. b.value.vertex) all.items)
         ≡ weigh h (map (λ b. b.value.vertex) nodes.items)
-            + weigh h (in_hand (λ b. b.value.vertex) node ++ map (λ b. b.value.vertex) finished.items)) }
+        + weigh h (in_hand (λ b. b.value.vertex) node ++ map (λ b. b.value.vertex) finished.items)) }
 {
     nodes.append(&mut finished)?;
     if let Some(node) = node {
@@ -135,10 +129,10 @@ fn apart<J: Wiring, P: NodeProgram>(
         ≡ map (λ w. shares_of (worker_view w.desk.own)) done.items) }
     ensures out { IfOk result (λ b. (h : ℕ → ℕ) →
         taken_by h (map worker_view b.owns.items)
-            + in_rows (taken_by h) (map (λ row. map (λ g. view g.pass) row.items) b.rows.items)
+        + in_rows (taken_by h) (map (λ row. map (λ g. view g.pass) row.items) b.rows.items)
         ≡ pushed_by h (map worker_view b.owns.items)
-            + in_rows (pushed_by h) (map (λ row. map (λ g. view g.pass) row.items) b.rows.items)
-            + weigh h (map (λ b. b.value.vertex) b.nodes.items)) }
+        + in_rows (pushed_by h) (map (λ row. map (λ g. view g.pass) row.items) b.rows.items)
+        + weigh h (map (λ b. b.value.vertex) b.nodes.items)) }
     ensures memory { IfOk result (λ _. All (λ w. IfErr w.written (λ _. ⊥)) done.items) }
 {
     let mut owns = Vec::new(alloc);

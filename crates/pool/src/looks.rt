@@ -30,10 +30,7 @@ pub struct Worked<J: Wiring, P: NodeProgram> {
 
 // The node goes to the finished places, if nothing is left for it to do, or else to the worker's own deque. If that
 // refuses it, it stays in hand.
-fn put_back<J: Wiring, P: NodeProgram>(
-    signals: &Signals,
-    desk: &mut Desk<J, P>,
-)
+fn put_back<J: Wiring, P: NodeProgram>(signals: &Signals, desk: &mut Desk<J, P>)
     ensures own { worker_deque desk.new.own ≡ worker_deque desk.old.own }
     ensures guests { desk.new.guests ≡ desk.old.guests }
 {

@@ -51,7 +51,7 @@ fn start<'s, E, J: Wiring + Send + Sync, P: NodeProgram, G: Gate + Sync, R: Thre
                 × (map (λ g. deque_of g.pass) desk.guests.items ≡ map stealer_deque thieves.now.items) }
             ensures { (worker_deque result.desk.own ≡ worker_deque desk.own)
                 × (map (λ g. deque_of g.pass) result.desk.guests.items
-                    ≡ map (λ g. deque_of g.pass) desk.guests.items) }
+                ≡ map (λ g. deque_of g.pass) desk.guests.items) }
         { work(rt, crew, thieves, worker, desk, turns) },
     );
     match started {
@@ -64,7 +64,14 @@ fn start<'s, E, J: Wiring + Send + Sync, P: NodeProgram, G: Gate + Sync, R: Thre
 }
 
 // Starts a worker for each desk, in threads of the scope.
-fn start_all<'s, E, J: Wiring + Send + Sync, P: NodeProgram, G: Gate + Sync, R: Threads + Wait + Sync>(
+fn start_all<
+    's,
+    E,
+    J: Wiring + Send + Sync,
+    P: NodeProgram,
+    G: Gate + Sync,
+    R: Threads + Wait + Sync,
+>(
     scope: &Scope<'s, E>,
     rt: &'s R,
     alloc: Global,
@@ -154,7 +161,7 @@ pub fn run_nodes<J: Wiring + Send + Sync, P: NodeProgram, G: Gate + Sync, R: Thr
         move |scope| -> Result<Vec<Worked<J, P>>, PoolFault>
             requires { (vec_len desks ≤ MAX_WORKERS) × (vec_len desks ≡ vec_len thieves.now)
                 × All (λ d. map (λ g. deque_of g.pass) d.guests.items
-                    ≡ map stealer_deque thieves.now.items) desks.items }
+                ≡ map stealer_deque thieves.now.items) desks.items }
             ensures owns { IfOk result (λ done. map (λ w. worker_deque w.desk.own) done.items
                 ≡ map (λ d. worker_deque d.own) desks.items) }
             ensures guests { IfOk result (λ done. map (λ w. map (λ g. deque_of g.pass) w.desk.guests.items) done.items

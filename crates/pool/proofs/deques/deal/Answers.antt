@@ -53,8 +53,8 @@ each-preserved g c =
           let pa = ap (λ (v : Ledger). weigh h v.pushed) is in
           let a = weigh-append h (worker_view old).pushed (c.in-Some.node.value.vertex ∷ []) in
           let m = ap (λ l. weigh h (map (λ b. b.value.vertex) l)) c.in-Some.ensures.items
-              ∙ ap (weigh h) (map_snoc (λ b. b.value.vertex) c.pop.new.self.items c.in-Some.node)
-              ∙ weigh-append h (map (λ b. b.value.vertex) c.pop.new.self.items) (c.in-Some.node.value.vertex ∷ []) in
+          ∙ ap (weigh h) (map_snoc (λ b. b.value.vertex) c.pop.new.self.items c.in-Some.node)
+          ∙ weigh-append h (map (λ b. b.value.vertex) c.pop.new.self.items) (c.in-Some.node.value.vertex ∷ []) in
           let i = c.each.invariant.dealt h in
           let i0 = i.0 in
           let i1 = i.1 in

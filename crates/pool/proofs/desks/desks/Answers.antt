@@ -16,7 +16,7 @@ pub desk-requires-clause-few : goal.desk-requires-clause-few
 desk-requires-clause-few g c =
     let row = c.in-Some-pop.row in
     let theirs = All-pop (λ row. map (λ g'. deque_of g'.pass) row.items ≡ map worker_deque c.args.owns.items) _ c.pop.new.self.items (Some row)
-        c.in-Some-pop.ensures.items c.loop-own.invariant.theirs in
+    c.in-Some-pop.ensures.items c.loop-own.invariant.theirs in
     let many = as_many worker_deque (λ g'. deque_of g'.pass) c.args.owns.items row.items theirs.1 in
     let f = c.requires.few in
     omega (arith, row.ok.0, c.args.owns.ok.0)
@@ -25,7 +25,7 @@ pub desk-requires-clause-new : goal.desk-requires-clause-new
 desk-requires-clause-new g c =
     let row = c.in-Some-pop.row in
     let theirs = All-pop (λ row. map (λ g'. deque_of g'.pass) row.items ≡ map worker_deque c.args.owns.items) _ c.pop.new.self.items (Some row)
-        c.in-Some-pop.ensures.items c.loop-own.invariant.theirs in
+    c.in-Some-pop.ensures.items c.loop-own.invariant.theirs in
     let many = as_many worker_deque (λ g'. deque_of g'.pass) c.args.owns.items row.items theirs.1 in
     let turn = YieldsList-turn (YieldsList-from_vec {s = c.into_iter-own-iterator.result} c.in_ok-owns.owns.items (search rules) (search rules))
     c.loop-own.yielded c.loop-own.own-iterator c.loop-own.yielded_by c.next.result c.next.new.self c.in-Some.own c.in-Some.is c.next.ensures.steps in
@@ -44,7 +44,7 @@ loop-own-preserved g c =
     let said = c.in_ok-desk.ensures in
     let more = c.in_ok-push.ensures in
     let theirs = All-pop (λ row. map (λ g'. deque_of g'.pass) row.items ≡ map worker_deque c.args.owns.items) _ c.pop.new.self.items (Some row)
-        c.in-Some-pop.ensures.items inv.theirs in
+    c.in-Some-pop.ensures.items inv.theirs in
     record {
       owns = both_pushed (λ d. worker_deque d.own) worker_deque c.loop-own.all.items _ c.loop-own.yielded _ _ c.in-Some.own more.items refl
           (ap worker_deque said.own) inv.owns;

@@ -85,7 +85,7 @@ each-preserved g c =
       pushed = λ h.
           let t = total_change (λ v. weigh h v.pushed) worker_view owns at own new lt value in
           let m = ap (λ l. total (λ v. weigh h v.pushed) (map (λ g'. view g'.pass) l)) c.in-Some.ensures.items
-              ∙ total_more (λ v. weigh h v.pushed) (λ g'. view g'.pass) rest guest in
+          ∙ total_more (λ v. weigh h v.pushed) (λ g'. view g'.pass) rest guest in
           let e = ap (λ (v : Ledger). weigh h v.pushed) is in
           let a = weigh-append h (worker_view own).pushed (view guest.pass).pushed in
           let o = inv.pushed h in
@@ -93,7 +93,7 @@ each-preserved g c =
       taken = λ h.
           let t = total_change (λ v. weigh h v.taken) worker_view owns at own new lt value in
           let m = ap (λ l. total (λ v. weigh h v.taken) (map (λ g'. view g'.pass) l)) c.in-Some.ensures.items
-              ∙ total_more (λ v. weigh h v.taken) (λ g'. view g'.pass) rest guest in
+          ∙ total_more (λ v. weigh h v.taken) (λ g'. view g'.pass) rest guest in
           let e = ap (λ (v : Ledger). weigh h v.taken) is in
           let a = weigh-append h (worker_view own).taken (view guest.pass).taken in
           let o = inv.taken h in

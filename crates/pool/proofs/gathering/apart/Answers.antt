@@ -26,9 +26,9 @@ loop-worked-preserved g c =
           let t = ap (λ os. taken_by h (map worker_view os)) owns ∙ total_more (λ v. weigh h v.taken) worker_view c.loop-worked.owns.items worked.desk.own in
           let p = ap (λ os. pushed_by h (map worker_view os)) owns ∙ total_more (λ v. weigh h v.pushed) worker_view c.loop-worked.owns.items worked.desk.own in
           let rt = ap (λ rs. in_rows (taken_by h) (map (λ row. map (λ g'. view g'.pass) row.items) rs)) rows
-              ∙ in_rows_more (taken_by h) (λ row. map (λ g'. view g'.pass) row.items) c.loop-worked.rows.items worked.desk.guests in
+          ∙ in_rows_more (taken_by h) (λ row. map (λ g'. view g'.pass) row.items) c.loop-worked.rows.items worked.desk.guests in
           let rp = ap (λ rs. in_rows (pushed_by h) (map (λ row. map (λ g'. view g'.pass) row.items) rs)) rows
-              ∙ in_rows_more (pushed_by h) (λ row. map (λ g'. view g'.pass) row.items) c.loop-worked.rows.items worked.desk.guests in
+          ∙ in_rows_more (pushed_by h) (λ row. map (λ g'. view g'.pass) row.items) c.loop-worked.rows.items worked.desk.guests in
           omega arith;
       memory = All-push (λ w. IfErr w.written (λ _. ⊥)) c.loop-worked.yielded worked inv.memory ?;
     }

@@ -36,7 +36,7 @@ desks-requires-clause-few g c =
 pub desks-requires-clause-new : goal.desks-requires-clause-new
 desks-requires-clause-new g c =
     carried (λ o. ledger (shares_of (worker_view o) - 1) [] []) worker_view (λ v. v ≡ ledger (all_shares - 1) [] []) c.deal-owns.result.items _
-        c.in_ok-owns-2.ensures.left (λ k d lt. ap (λ n. ledger (n - 1) [] []) (c.deal-owns.ensures.shares k d lt))
+    c.in_ok-owns-2.ensures.left (λ k d lt. ap (λ n. ledger (n - 1) [] []) (c.deal-owns.ensures.shares k d lt))
 
 -- the threads begin with a desk for each thief
 pub scope-requires : goal.scope-requires
@@ -46,10 +46,11 @@ scope-requires g c =
     let desks = as_many stealer_deque (λ d. worker_deque d.own) c.in_ok-owns.thieves.items c.in_ok-desks.desks.items (c.in_ok-desks.ensures.owns ∙ deques) in
     let thieves = as_many worker_deque stealer_deque made.items c.in_ok-owns.thieves.items (sym c.in_ok-owns.ensures.deques) in
     let n = c.in_ok-owns.ensures.workers in
-    let few = c.requires.workers.1 in
-    (omega (arith, made.ok.0, c.in_ok-desks.desks.ok.0),
-    omega (arith, c.in_ok-owns.thieves.ok.0, c.in_ok-desks.desks.ok.0),
-    λ k d lt. c.in_ok-desks.ensures.guests k d lt ∙ deques)
+    let few = c.requires.workers.1 in (
+      omega (arith, made.ok.0, c.in_ok-desks.desks.ok.0),
+      omega (arith, c.in_ok-owns.thieves.ok.0, c.in_ok-desks.desks.ok.0),
+      λ k d lt. c.in_ok-desks.ensures.guests k d lt ∙ deques,
+    )
 
 pub gather-requires-clause-deques : goal.gather-requires-clause-deques
 gather-requires-clause-deques g c = c.in_ok-owns-2.ensures.guests ∙ sym c.in_ok-owns-2.ensures.owns ∙ sym c.in_ok-desks.ensures.owns ∙ sym c.in_ok-done.ensures.owns
@@ -57,8 +58,8 @@ gather-requires-clause-deques g c = c.in_ok-owns-2.ensures.guests ∙ sym c.in_o
 pub gather-requires-clause-guests : goal.gather-requires-clause-guests
 gather-requires-clause-guests g c =
     carried (λ d. map (λ g'. deque_of g'.pass) d.guests.items) (λ w. map (λ g'. deque_of g'.pass) w.desk.guests.items)
-        (λ ids. ids ≡ map (λ g'. deque_of g'.pass) c.in_ok-owns-2.dealt.items) c.in_ok-desks.desks.items _ c.in_ok-done.ensures.guests
-        (λ k d lt. c.in_ok-desks.ensures.guests k d lt ∙ c.in_ok-owns-2.ensures.owns ∙ sym c.in_ok-owns-2.ensures.guests)
+    (λ ids. ids ≡ map (λ g'. deque_of g'.pass) c.in_ok-owns-2.dealt.items) c.in_ok-desks.desks.items _ c.in_ok-done.ensures.guests
+    (λ k d lt. c.in_ok-desks.ensures.guests k d lt ∙ c.in_ok-owns-2.ensures.owns ∙ sym c.in_ok-owns-2.ensures.guests)
 
 pub gather-requires-clause-few : goal.gather-requires-clause-few
 gather-requires-clause-few g c =
@@ -72,4 +73,4 @@ gather-requires-clause-few g c =
 pub gather-requires-clause-dealt : goal.gather-requires-clause-dealt
 gather-requires-clause-dealt g c =
     dealt_on worker_view (λ g'. view g'.pass) c.deal-owns.result.items c.in_ok-owns-2.dealt.items (map (λ b. b.value.vertex) c.args.nodes.items)
-        (vertices g.J.Wiring.net) c.in_ok-owns-2.ensures.right c.requires.nodes c.deal-owns.ensures.dealt
+    (vertices g.J.Wiring.net) c.in_ok-owns-2.ensures.right c.requires.nodes c.deal-owns.ensures.dealt
