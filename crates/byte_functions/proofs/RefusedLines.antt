@@ -2,7 +2,7 @@
 use Rattle.std.proofs.Common.{◌≡◌, ◌≢◌, ◌++◌, ◌∷◌, [], ◌∙◌, ℕ, Option, Some, Ok, List, ap, length, map, refl, slice_get, slice_index_or, subst, sym, take}
 use Rattle.std.specs.declared.vec.Vec.{Vec}
 use Rattle.dimacs_col.specs.Lines.{Line}
-use Rattle.alpha_core.specs.interference.Net.{Net}
+use Rattle.alpha_core.specs.interference.Net.{IsNetwork, Net}
 use Rattle.net_core.specs.declared.refused.RunRefused.TheVariants as run
 use Rattle.colour_program.specs.colour_rules.Payload.{Payload}
 use Rattle.colour_program.specs.colour_rules.Program.{colouring}
@@ -11,7 +11,7 @@ use Rattle.replay.specs.Replays.{IsReplay, Stops, at_entry}
 use Rattle.replay.specs.declared.refused.EntryRefused.{EntryRefused}
 use Rattle.replay.specs.declared.refused.EntryRefused.TheVariants.{Step, WrongWire}
 use Rattle.net_core.specs.declared.refused.StepRefused.TheVariants.{LinkEmpty, Memory, NoSuch, NotReady, NothingToPut}
-use Rattle.replay.proofs.Decided.{by-index, replays-are-exact}
+use Rattle.replay.proofs.Decided.{by-index, decided}
 use Rattle.transcripts.specs.TranscriptText.{Row}
 use Rattle.replay.specs.declared.refused.ReplayRefused.{ReplayRefused}
 use Rattle.replay.specs.declared.refused.ReplayRefused.TheVariants as replay
@@ -48,10 +48,10 @@ take-at [] after = refl
 take-at (first ∷ before) after = ap (λ l. first ∷ l) (take-at before after)
 
 -- The entries before the refused one, replayed once more, lead to the state in which the entries stop.
-says-there : (net : Net) (rows : List (Row Payload)) (numbers : List ℕ) (refused : ReplayRefused) (told : ReplayFault) →
+says-there : (net : Net) → IsNetwork net → (rows : List (Row Payload)) (numbers : List ℕ) (refused : ReplayRefused) (told : ReplayFault) →
     (stops : Stops colouring net rows refused) → (is : IsToldAs net rows numbers refused told) →
     is.words.items ≡ words_text net stops.reached stops.row refused
-says-there net rows numbers refused told stops is =
+says-there net ok rows numbers refused told stops is =
     let place : is.index ≡ length stops.before = index-is (length stops.before) is.index stops.reason (ap index_of (sym stops.index) ∙ is.is_index) in
     let before : take is.index rows ≡ stops.before =
         ap (λ k. take k rows) place ∙ ap (take (length stops.before)) stops.splits ∙ take-at stops.before (stops.row ∷ stops.after) in
@@ -60,13 +60,13 @@ says-there net rows numbers refused told stops is =
         ∙ get-at stops.before stops.row stops.after in
     let row : is.row ≡ stops.row = cc in
     let state : is.reached ≡ stops.reached =
-        (replays-are-exact colouring net).one_state stops.before is.reached stops.reached
+        (decided colouring net ok).one_state stops.before is.reached stops.reached
         (subst (λ l. IsReplay colouring net l is.reached) before is.is_replay) stops.is_replay in
     is.says ∙ ap (λ s. words_text net s is.row refused) state ∙ ap (λ r. words_text net stops.reached r refused) row
 
-refusal : (net : Net) (lines : List Line) (read : Transcript Payload) (refused : ReplayRefused) (told : ReplayFault) → transcript_in lines ≡ Ok read →
+refusal : (net : Net) → IsNetwork net → (lines : List Line) (read : Transcript Payload) (refused : ReplayRefused) (told : ReplayFault) → transcript_in lines ≡ Ok read →
     Stops colouring net read.1 refused → IsToldAs net read.1 (entry_lines lines) refused told → IsRefusal net lines told
-refusal net lines read refused told e stops as =
+refusal net ok lines read refused told e stops as =
     let is = as.is_told in
     let rows = (entries-have-lines payload_from lines read e).rows_are ∙ ap (map (λ x. Some x)) stops.splits in
     let numbers = entry_lines lines in
@@ -78,7 +78,7 @@ refusal net lines read refused told e stops as =
       is_read = e;
       stops = stops;
       words = as.words;
-      says = says-there net read.1 numbers refused told stops as;
+      says = says-there net ok read.1 numbers refused told stops as;
       is_told = is;
       has_line = subst (HasLineOf lines stops.row) (sym (is ∙ ap (fault_at numbers as.words) stops.index)) has;
     }
@@ -110,10 +110,10 @@ not-memory numbers words (replay.Run (run.LinkEmpty k)) index e = λ same. cc
 not-memory numbers words (replay.Run (run.NoSuch k)) index e = λ same. cc
 not-memory numbers words (replay.WrongWire k) index e = λ same. cc
 
-pub fault-refused : (net : Net) (lines : List Line) (read : Transcript Payload) (refused : ReplayRefused) (told : ReplayFault) →
+pub fault-refused : (net : Net) → IsNetwork net → (lines : List Line) (read : Transcript Payload) (refused : ReplayRefused) (told : ReplayFault) →
     transcript_in lines ≡ Ok read → (refused ≢ replay.Run run.Memory → Stops colouring net read.1 refused) →
     IsTold net read.1 (entry_lines lines) refused told → IsFaultOfTranscript net lines told
-fault-refused net lines read refused told e stops is =
+fault-refused net ok lines read refused told e stops is =
     by-fault net lines told (λ no.
         let as = told-as net read.1 (entry_lines lines) refused told is no in
-        refusal net lines read refused told e (stops (not-memory (entry_lines lines) as.words refused as.index as.is_index)) as)
+        refusal net ok lines read refused told e (stops (not-memory (entry_lines lines) as.words refused as.index as.is_index)) as)

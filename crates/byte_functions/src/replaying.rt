@@ -153,6 +153,7 @@ fn replayed(
     ensures ok { IfOk result (λ view. IsReplayed network.now (lines_of input.now) view.state) }
     ensures fault { IfErr result (IsFaultOfTranscript network.now (lines_of input.now)) }
 {
+    network.is_network();
     let (_, rows) = read_behind_network::<Payload>(alloc, input)?;
     match replay::<Colouring>(alloc, network, rows.as_slice()) {
         Ok(state) => Ok(state),
