@@ -20,11 +20,13 @@ abbrev pub lacks : {M : Type 0} → Lack → Port M → Bool
 lacks Ack port = port.waits
 lacks Safe port = not port.safe
 
--- the neighbours at these ports, ascending
+-- the neighbour at a port, if it is one of these
+abbrev pub lacking_at : {M : Type 0} → Net → ℕ → View M → Lack → ℕ → List ℕ
+lacking_at net v view lack port = if lacks lack (port_at view port) then neighbour_of net v port ∷ [] else []
+
+-- the neighbours at all these ports, ascending
 abbrev pub lacking : {M : Type 0} → Net → ℕ → View M → Lack → List ℕ
-lacking net v view lack =
-    flat_map (λ port. if lacks lack (port_at view port) then neighbour_of net v port ∷ [] else [])
-    (range_with_len 0 (degree_of net v))
+lacking net v view lack = flat_map (λ port. lacking_at net v view lack port) (range_with_len 0 (degree_of net v))
 
 -- what stands before the name at an index of so many: `of 2, 3 and 5`
 abbrev pub before_name : ℕ → ℕ → List ℕ
@@ -33,20 +35,19 @@ before_name count index =
     else if nat_eq (index + 1) count then codes " and "
     else codes ", "
 
+abbrev pub name_text : List ℕ → ℕ → List ℕ
+name_text names i = numbered (before_name (length names) i) (slice_index_or names i 0)
+
 abbrev pub names_text : List ℕ → List ℕ
-names_text names =
-    flat_map (λ i. numbered (before_name (length names) i) (slice_index_or names i 0))
-    (range_with_len 0 (length names))
+names_text names = flat_map (λ i. name_text names i) (range_with_len 0 (length names))
 
 -- words, a pulse and these neighbours, if there are some
 abbrev pub lack_text : List ℕ → ℕ → List ℕ → List ℕ
-lack_text words p [] = []
-lack_text words p (first ∷ others) = numbered words p ++ names_text (first ∷ others)
+lack_text words p names = if nat_eq (length names) 0 then [] else numbered words p ++ names_text names
 
 -- the words of what comes behind the acknowledgements
 abbrev pub safe_words : List ℕ → List ℕ
-safe_words [] = codes ": safe "
-safe_words (first ∷ others) = codes "; safe "
+safe_words acks = if nat_eq (length acks) 0 then codes ": safe " else codes "; safe "
 
 -- why a node doesn't make its next pulse: it has made the last one, or these wires are still to come
 abbrev pub pulse_text : {M : Type 0} → Net → ℕ → ℕ → View M → List ℕ

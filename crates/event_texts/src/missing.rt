@@ -1,12 +1,13 @@
 //! What an event lacks that isn't possible.
 
 ghost use Rattle.std.specs.Prelude.{◌≡◌, ◌<◌, ◌++◌, IfOk, length};
-ghost use Rattle.alpha_core.specs.interference.Net.{IsVertex};
+ghost use Rattle.alpha_core.specs.interference.Net.{IsVertex, degree_of};
 ghost use Rattle.alpha_core.specs.node_api.Program.{last_pulse_on};
 ghost use Rattle.alpha_core.specs.View.{port_at};
 ghost use Rattle.net_core.specs.State.{node_of};
 ghost use Rattle.net_core.specs.Step.{has_port, is_vertex};
-ghost use Rattle.event_texts.specs.Missing.{before_name, lack_text, lacking, lacks, missing_text, pulse_text};
+ghost use Rattle.event_texts.specs.Missing.{before_name, lack_text, lacking, lacking_at, lacks};
+ghost use Rattle.event_texts.specs.Missing.{missing_text, name_text, names_text, pulse_text};
 
 use alpha_core::{AlphaNode, Network, NodeProgram};
 use net_core::{Event, NetState};
@@ -46,6 +47,26 @@ fn lacks<P: NodeProgram>(node: &AlphaNode<P>, lack: Lack, port: u32) -> bool
     }
 }
 
+// Appends the neighbour at a port, if its vertex lacks a wire there.
+fn push_lacking<P: NodeProgram>(
+    names: &mut Vec<u32>,
+    state: &NetState<P>,
+    v: u32,
+    lack: Lack,
+    port: u32,
+) -> Result<(), AllocError>
+    requires vertex { IsVertex state.now.net v }
+    requires port { port < degree_of state.now.net v }
+    ensures { IfOk result (λ _. names.new.items ≡ names.old.items
+        ++ lacking_at state.now.net v (node_of P.program state.now.net state.now.state v).view lack port) }
+{
+    state.is_simulation();
+    if lacks(state.node(v), lack, port) {
+        names.push(state.network().neighbour(v, port))?;
+    }
+    Ok(())
+}
+
 // The neighbours of which a vertex lacks a wire of its pulse, ascending.
 fn lacking<P: NodeProgram>(
     alloc: Global,
@@ -57,13 +78,9 @@ fn lacking<P: NodeProgram>(
     ensures { IfOk result (λ names. names.items
         ≡ lacking state.now.net v (node_of P.program state.now.net state.now.state v).view lack) }
 {
-    state.is_simulation();
-    let node = state.node(v);
     let mut names = Vec::new(alloc);
     for port in 0..state.network().degree(v) {
-        if lacks(node, lack, port) {
-            names.push(state.network().neighbour(v, port))?;
-        }
+        push_lacking(&mut names, state, v, lack, port)?;
     }
     Ok(names)
 }
@@ -81,6 +98,24 @@ fn before_name(count: usize, index: usize) -> &'static [u8]
     }
 }
 
+// Appends the name at an index.
+fn push_name(text: &mut Vec<u8>, names: &[u32], i: usize) -> Result<(), AllocError>
+    requires index { i < length names.now }
+    ensures { IfOk result (λ _. text.new.items ≡ text.old.items ++ name_text names.now i) }
+{
+    push_numbered(text, before_name(names.len(), i), u128::from(names[i]))
+}
+
+// Appends the names of neighbours.
+fn push_names(text: &mut Vec<u8>, names: &[u32]) -> Result<(), AllocError>
+    ensures { IfOk result (λ _. text.new.items ≡ text.old.items ++ names_text names.now) }
+{
+    for i in 0..names.len() {
+        push_name(text, names, i)?;
+    }
+    Ok(())
+}
+
 // Appends words, a pulse and the names of neighbours, if there are some.
 fn push_lack(
     text: &mut Vec<u8>,
@@ -94,10 +129,7 @@ fn push_lack(
         return Ok(());
     }
     push_numbered(text, words, u128::from(pulse))?;
-    for i in 0..names.len() {
-        push_numbered(text, before_name(names.len(), i), u128::from(names[i]))?;
-    }
-    Ok(())
+    push_names(text, names)
 }
 
 // Appends why a vertex doesn't make its next pulse.
