@@ -147,7 +147,8 @@ fn push_pulse<P: NodeProgram>(
     let pulse = state.pulse_of(v);
     if state.node(v).halted() {
         push_numbered(text, b": pulse ", u128::from(pulse))?;
-        return text.extend_from_slice(b" is the last");
+        text.extend_from_slice(b" is the last")?;
+        return Ok(());
     }
     let acks = lacking(alloc, state, v, Lack::Ack)?;
     let safes = lacking(alloc, state, v, Lack::Safe)?;
