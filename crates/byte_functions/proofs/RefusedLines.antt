@@ -1,6 +1,7 @@
 -- The number of a refused entry's line: the line is the entry (entry-at), whatever the refusal (refusal).
 use Rattle.std.proofs.Common.{◌≡◌, ◌≢◌, ◌++◌, ◌∷◌, [], ◌∙◌, ℕ, Option, Some, Ok, List, ap, length, map, refl, slice_get, slice_index_or, subst, sym, take}
 use Rattle.std.specs.declared.vec.Vec.{Vec}
+use Rattle.std.specs.declared.alloc.Global.{Global}
 use Rattle.dimacs_col.specs.Lines.{Line}
 use Rattle.alpha_core.specs.interference.Net.{IsNetwork, Net}
 use Rattle.net_core.specs.declared.refused.RunRefused.TheVariants as run
@@ -102,7 +103,7 @@ told-as net rows numbers refused (fault.NoSuch n) is no = is
 told-as net rows numbers refused (fault.WrongWire n words) is no = is
 told-as net rows numbers refused fault.Memory is no = absurd (no refl)
 
-not-memory : (numbers : List ℕ) (words : Vec ℕ) (refused : ReplayRefused) (index : ℕ) → index_of refused ≡ Some index → refused ≢ replay.Run run.Memory
+not-memory : (numbers : List ℕ) (words : Vec ℕ Global) (refused : ReplayRefused) (index : ℕ) → index_of refused ≡ Some index → refused ≢ replay.Run run.Memory
 not-memory numbers words (replay.Run run.Memory) index e = absurd cc
 not-memory numbers words (replay.Run (run.NotReady k)) index e = λ same. cc
 not-memory numbers words (replay.Run (run.NothingToPut k)) index e = λ same. cc

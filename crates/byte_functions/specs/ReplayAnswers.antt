@@ -1,6 +1,7 @@
 -- The answer to a network and the transcript behind it.
 use Rattle.std.specs.Prelude.{◌≡◌, ℕ, List, Option, Some, None, Result, Ok, Err, slice_get, slice_index_or, take}
 use Rattle.std.specs.declared.vec.Vec.{Vec}
+use Rattle.std.specs.declared.alloc.Global.{Global}
 use Rattle.dimacs_col.specs.Lines.{Line, lines_of}
 use Rattle.dimacs_col.specs.Reading.{IsFault}
 use Rattle.alpha_core.specs.interference.Net.{Net, IsNetwork}
@@ -50,7 +51,7 @@ abbrev pub line_at : List ℕ → ℕ → ℕ
 line_at lines index = slice_index_or lines index 0
 
 -- the refusal of a replay, with the line of its entry in place of the index, and words behind it
-abbrev pub fault_at : List ℕ → Vec ℕ → ReplayRefused → ReplayFault
+abbrev pub fault_at : List ℕ → Vec ℕ Global → ReplayRefused → ReplayFault
 fault_at lines words (replay.Run (run.NotReady k)) = fault.NotReady (line_at lines k) words
 fault_at lines words (replay.Run (run.NothingToPut k)) = fault.NothingToPut (line_at lines k) words
 fault_at lines words (replay.Run (run.LinkEmpty k)) = fault.LinkEmpty (line_at lines k) words
@@ -89,7 +90,7 @@ pub record IsRefusal (net : Net) (lines : List Line) (told : ReplayFault) : Type
   pub refused : ReplayRefused
   pub is_read : transcript_in lines ≡ Ok read
   pub stops : Stops colouring net read.1 refused
-  pub words : Vec ℕ
+  pub words : Vec ℕ Global
   pub says : words.items ≡ words_text net stops.reached stops.row refused
   pub is_told : told ≡ fault_at (entry_lines lines) words refused
   pub has_line : HasLineOf lines stops.row told
@@ -103,7 +104,7 @@ pub record IsToldAs (net : Net) (rows : List (Row Payload)) (lines : List ℕ) (
   pub is_row : slice_get rows index ≡ Some row
   pub reached : ColourState
   pub is_replay : IsReplay colouring net (take index rows) reached
-  pub words : Vec ℕ
+  pub words : Vec ℕ Global
   pub says : words.items ≡ words_text net reached row refused
   pub is_told : told ≡ fault_at lines words refused
 

@@ -1,6 +1,7 @@
 -- What playing the events of a text comes to.
 use Rattle.std.specs.Prelude.{◌≡◌, ℕ, Ok, Err, List, ◌∷◌, ◌++◌, map}
 use Rattle.std.specs.declared.vec.Vec.{Vec}
+use Rattle.std.specs.declared.alloc.Global.{Global}
 use Rattle.alpha_core.specs.interference.Net.{Net}
 use Rattle.alpha_core.specs.node_api.Program.{Program}
 use Rattle.net_core.specs.declared.event.Event.{Event}
@@ -17,7 +18,7 @@ abbrev pub events_in : Script → List Event
 events_in script = map (λ row. row.1) script
 
 -- the refusal of an event, with its line, and words behind it
-abbrev pub fault_with : ℕ → Vec ℕ → StepRefused → EventFault
+abbrev pub fault_with : ℕ → Vec ℕ Global → StepRefused → EventFault
 fault_with line words step_refused.NotReady = NotReady line words
 fault_with line words step_refused.NothingToPut = NothingToPut line words
 fault_with line words step_refused.LinkEmpty = LinkEmpty line words
@@ -27,7 +28,7 @@ fault_with line words step_refused.Memory = Memory
 -- the same, with the words for what the event lacks in a state
 pub record IsFaultOfStep {S M E : Type 0} (program : Program S M E) (net : Net) (state : State S M) (line : ℕ)
     (event : Event) (reason : StepRefused) (fault : EventFault) : Type 0 where
-  pub words : Vec ℕ
+  pub words : Vec ℕ Global
   pub says : words.items ≡ missing_text program net state event
   pub is_fault : fault ≡ fault_with line words reason
 
