@@ -28,5 +28,5 @@ mod reader;
 pub use fault::ColFault;
 pub use fields::Fields;
 pub use laws::reading_is_one;
-pub use limits::{MAX_EDGES, MAX_NODES};
+pub use limits::{IDENTIFIER_DIGITS, MAX_EDGES, MAX_NODES};
 pub use reader::{ColFile, read, without_carriage_return};
