@@ -5,5 +5,6 @@ pub mod Lists
 pub mod Verdicts
 pub mod Knowing
 pub mod Edges
+pub mod Identifiers
 pub mod Whole
 pub mod Unique

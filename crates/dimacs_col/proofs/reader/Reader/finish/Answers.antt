@@ -10,7 +10,9 @@ pub returns-clause-ok : goal.returns-clause-ok
 returns-clause-ok c = λ lines knows. record {
   good = knows.good;
   nodes_are = sym knows.nodes_are ∙ c.in-Some.is;
-  ascending = c.in_ok-into_ascending.ensures.ascending;
+  ids_ascend = rw (← c.in_ok-by_vertex.ensures.items) c.by_vertex.ensures.ordered;
+  ids_are = λ v. id_in-at c.in_ok-by_vertex.field-0.items v ∙ ap (λ xs. lookup (is_at (nat_cmp v)) xs) c.in_ok-by_vertex.ensures.items ∙ knows.ids_are v;
+  edges_ascend = c.in_ok-into_ascending.ensures.ascending;
   edges_are = same-members c.in_ok-into_ascending.field-0.items (edges_of lines) (λ pair. c.in_ok-into_ascending.ensures.members pair ∙ knows.edges_are pair);
 }
 
