@@ -1,6 +1,6 @@
 -- What a reader knows after one more identifier line, and what is told of one.
 use Rattle.std.proofs.Common.{◌≡◌, ◌<◌, ◌≤◌, ◌++◌, ◌==◌, ◌⊎◌, inl, inr, ℕ, Bool, true, false, cond, Option, Some, None, List, [], ◌∷◌}
-use Rattle.std.proofs.Common.{refl, sym, ◌∙◌, ap, arith, subst}
+use Rattle.std.proofs.Common.{refl, sym, ◌∙◌, ap, not, subst}
 use Rattle.std.specs.Option.{is_some}
 use Rattle.std.specs.BTreeMap.{BTreeMap, get, is_at, Updates}
 use Rattle.std.specs.Cmp.{unsigned_ties}
@@ -81,7 +81,7 @@ module _ (before : List Line) (word : List ℕ) (fields : Line) (r : Reader) (no
         a.is ∙ ap Some (kept-inside nodes a.number v small a.kept_is high)
 
     told-by : (b c : Bool) → is_identifier number ≡ b → has_id before v ≡ c → verdict before (word ∷ fields)
-        ≡ first_of ((false, VertexRange (number_after before)) ∷ (cond b false true, NumberRange (number_after before)) ∷ (
+        ≡ first_of ((false, VertexRange (number_after before)) ∷ (not b, NumberRange (number_after before)) ∷ (
           c,
           IdTwice (number_after before),
         ) ∷ [])

@@ -1,5 +1,6 @@
 pub mod Cutting
 pub mod Numbers
+pub mod FieldNumbers
 pub mod Members
 pub mod Lists
 pub mod Verdicts

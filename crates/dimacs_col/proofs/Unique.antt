@@ -105,13 +105,16 @@ same-ids : (ids others : List (ℕ × ℕ)) → IsStrictlySortedBy nat_cmp (keys
 same-ids ids others f g same =
     sym (ids-are ids)
     ∙ btree_map_read_from_get nat_cmp_total (as-map ids) (as-map others) f g
-        (λ v. sym (id_in-at ids v) ∙ same v ∙ id_in-at others v) (λ v. v) (λ x y e. exact_unsigned x y e)
+    (λ v. sym (id_in-at ids v) ∙ same v ∙ id_in-at others v) (λ v. v) (λ x y e. exact_unsigned x y e)
     ∙ ids-are others
 
 -- ---- graphs
+abbrev graph-with : ℕ → List (ℕ × ℕ) → List (ℕ × ℕ) → Graph
+graph-with nodes ids edges = record { nodes = nodes; ids = ids; edges = edges }
+
 same-graph : (m n : ℕ) (ids more : List (ℕ × ℕ)) (edges others : List (ℕ × ℕ)) → m ≡ n → ids ≡ more → edges ≡ others →
-    record { nodes = m; ids = ids; edges = edges } ≡ the Graph (record { nodes = n; ids = more; edges = others })
-same-graph m n ids more edges others a b d = rw (a, b, d) refl
+    graph-with m ids edges ≡ graph-with n more others
+same-graph m n ids more edges others a b d = ap (λ k. graph-with k ids edges) a ∙ ap (λ xs. graph-with n xs edges) b ∙ ap (graph-with n more) d
 
 pub one-graph : (lines : List Line) (graph other : Graph) → IsGraph lines graph → IsGraph lines other → graph ≡ other
 one-graph lines graph other f g =

@@ -185,10 +185,7 @@ impl Reader {
 }
 
 // The identifiers of a map, by vertex.
-fn by_vertex(
-    alloc: Global,
-    ids: BTreeMap<u32, u128>,
-) -> Result<Vec<(u32, u128)>, AllocError>
+fn by_vertex(alloc: Global, ids: BTreeMap<u32, u128>) -> Result<Vec<(u32, u128)>, AllocError>
     ensures items { IfOk result (λ pairs. pairs.items ≡ ids.entries) }
     ensures ordered { IsStrictlySortedBy nat_cmp (keys_of ids.entries) }
 {
