@@ -10,7 +10,7 @@ use Rattle.byte_functions.specs.Texts.{colours_text, forests_text}
 use Rattle.byte_functions.specs.declared.fault.PlanFault.{PlanFault}
 use Rattle.byte_functions.specs.declared.fault.PlanFault.TheVariants as plan
 
--- the identifier of each vertex: the one that a line gives it, or its own number
+-- the identifier of each vertex: the one that it is given, or its own number
 abbrev pub identifiers_with : List (ℕ × ℕ) → ℕ → List ℕ
 identifiers_with ids nodes = map (λ v. unwrap_or (id_in ids v) v) (range_with_len 1 nodes)
 

@@ -2,9 +2,6 @@
 
 ghost use Rattle.std.specs.Prelude.{◌≡◌, IfOk, IfErr};
 ghost use Rattle.std.specs.List.{range_with_len};
-ghost use Rattle.std.specs.List.Sorted.{IsStrictlySortedBy};
-ghost use Rattle.std.specs.Map.{keys_of};
-ghost use Rattle.std.specs.Ordering.{nat_cmp};
 ghost use Rattle.dimacs_col.specs.Pairs.{AreVertices};
 ghost use Rattle.dimacs_col.specs.Reading.{graph_of};
 ghost use Rattle.alpha_core.specs.interference.Making.{EdgesFit, IsFaultOf};
@@ -32,15 +29,18 @@ fn numbers(alloc: Global, nodes: u32) -> Result<Vec<u128>, AllocError>
     Ok(ids)
 }
 
-// The identifier of each vertex: the one given, or its number.
-fn identifiers(alloc: Global, nodes: u32, given: &[(u32, u128)]) -> Result<Vec<u128>, AllocError>
-    requires vertices { AreVertices nodes given.now }
-    requires ascend { IsStrictlySortedBy nat_cmp (keys_of given.now) }
+// The identifier of each vertex: the first one given, and so the one that is written last, or its number.
+fn identifiers(
+    alloc: Global,
+    nodes: u32,
+    given: &[(u32, u128)],
+) -> Result<Vec<u128>, AllocError>
+    requires { AreVertices nodes given.now }
     ensures { IfOk result (λ ids. ids.items ≡ identifiers_with given.now nodes) }
 {
     let mut ids = numbers(alloc, nodes)?;
-    for k in 0..given.len() {
-        let (v, id) = given[k];
+    for written in 0..given.len() {
+        let (v, id) = given[given.len() - 1 - written];
         ids[v as usize - 1] = id;
     }
     Ok(ids)
@@ -50,7 +50,6 @@ fn identifiers(alloc: Global, nodes: u32, given: &[(u32, u128)]) -> Result<Vec<u
 fn network_of_graph(alloc: Global, graph: &ColFile) -> Result<Network, NetFault>
     requires edges { EdgesFit graph.now.nodes graph.now.edges.items }
     requires vertices { AreVertices graph.now.nodes graph.now.ids.items }
-    requires ascend { IsStrictlySortedBy nat_cmp (keys_of graph.now.ids.items) }
     ensures ok { IfOk result (λ net. (net ≡ network_with (graph_of graph.now)) × IsNetwork net) }
     ensures fault { IfErr result (IsFaultOf (network_with (graph_of graph.now))) }
 {
