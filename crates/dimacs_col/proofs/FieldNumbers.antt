@@ -1,6 +1,6 @@
--- Which number a field is, from what std reads of it.
+-- Which number a field is, from what std reads of it, and whether it is an identifier.
 use Rattle.std.proofs.Common.{◌≡◌, ◌≢◌, ◌<◌, ◌^◌, ◌∙◌, ℕ, Bool, true, false, Option, Some, None, Result, Ok, Err, MatchOption, MatchResult, List, [], ◌∷◌}
-use Rattle.std.proofs.Common.{inl, inr, ap, arith, get_or, length, nat_lt, refl, subst, sym, if◌then◌else◌, option_and_then}
+use Rattle.std.proofs.Common.{suc, zero, inl, inr, ap, arith, get_or, length, nat_lt, refl, subst, sym, if◌then◌else◌, option_and_then}
 use Rattle.std.proofs.lemmas.Bool.{cases_lt, lt-ltb, le-ltb}
 use Rattle.std.proofs.lemmas.Fmt.{IsAscii-from_digits}
 use Rattle.std.proofs.lemmas.Str.{IsUtf8-from_ascii}
@@ -8,7 +8,10 @@ use Rattle.std.proofs.lemmas.Str.Parse.{IsNumeralModel, numerals_by_value, parse
 use Rattle.std.specs.Result.{OkIff, result_ok}
 use Rattle.std.specs.Str.{IsUtf8, all_ascii_digits}
 use Rattle.std.specs.Str.Parse.{ParsesUnsigned, digits_value}
-use Rattle.dimacs_col.specs.Lines.{is_field, number_of}
+use Rattle.std.specs.List.{slice_get}
+use Rattle.std.specs.Option.{option_map}
+use Rattle.dimacs_col.specs.Lines.{Line, field_at, fitting, is_field, is_identifier, number_of, wide_number}
+use Rattle.dimacs_col.specs.State.{kept, kept_number}
 
 own : IsNumeralModel (λ ds. all_ascii_digits ds ≡ true) (digits_value 10)
 own = numerals_by_value (λ ds. all_ascii_digits ds ≡ true) tells_all_ascii_digits
@@ -82,3 +85,51 @@ parsed k field bs r same plain is =
         → result_ok r ≡ below k field
     by-result (Ok n) ((e, some, low), value) = ap (λ v. Some v) value ∙ sym (below-digits k field e some low)
     by-result (Err e) never = sym (below-none k field never)
+
+-- ---- identifiers
+pub fitting-missing : (line : Line) (place : ℕ) → slice_get line place ≡ None → option_map fitting (number_of (field_at line place)) ≡ None
+unfolding number_of
+fitting-missing [] place e = refl
+fitting-missing (f ∷ fs) zero e = absurd cc
+fitting-missing (f ∷ fs) (suc place) e = fitting-missing fs place e
+
+pub fitting-none : (field : List ℕ) → kept_number field ≡ None → option_map fitting (number_of field) ≡ None
+fitting-none field e = none-by (number_of field) refl
+  where
+    none-by : (o : Option ℕ) → number_of field ≡ o → option_map fitting (number_of field) ≡ None
+    none-by None o = rw o refl
+    none-by (Some n) o = let some : Some (kept n) ≡ None = (rw o at e) in absurd cc
+
+pub fitting-some : (field : List ℕ) (v : ℕ) → kept_number field ≡ Some v → option_map fitting (number_of field) ≡ Some (wide_number field)
+fitting-some field v e = some-by (number_of field) refl
+  where
+    some-by : (o : Option ℕ) → number_of field ≡ o → option_map fitting (number_of field) ≡ Some (wide_number field)
+    some-by None o = let none : None ≡ Some v = (rw o at e) in absurd cc
+    some-by (Some n) o = rw o refl
+
+-- the number of a field that a reader took as an identifier, or as a number too great for one
+pub record IsFitting (field : List ℕ) (held : Option ℕ) : Type 0 where
+  pub number : ℕ
+  pub is : number_of field ≡ Some number
+  pub held_is : held ≡ fitting number
+
+pub fitting-from : (field : List ℕ) (held : Option ℕ) → option_map fitting (number_of field) ≡ Some held → IsFitting field held
+fitting-from field held e = from-by (number_of field) refl
+  where
+    from-by : (o : Option ℕ) → number_of field ≡ o → IsFitting field held
+    from-by None o = let none : None ≡ Some held = (rw o at e) in absurd cc
+    from-by (Some n) o = let some : Some (fitting n) ≡ Some held = (rw o at e) in record { number = n; is = o; held_is = cc }
+
+pub fits : (n id : ℕ) → Some id ≡ fitting n → (is_identifier n ≡ true) × (id ≡ n)
+fits n id e = fits-by (is_identifier n) refl
+  where
+    fits-by : (b : Bool) → is_identifier n ≡ b → (is_identifier n ≡ true) × (id ≡ n)
+    fits-by true t = let some : Some id ≡ Some n = (rw t at e) in (t, cc)
+    fits-by false t = let none : Some id ≡ None = (rw t at e) in absurd cc
+
+pub fits-not : (n : ℕ) → None ≡ fitting n → is_identifier n ≡ false
+fits-not n e = not-by (is_identifier n) refl
+  where
+    not-by : (b : Bool) → is_identifier n ≡ b → is_identifier n ≡ false
+    not-by true t = let some : None ≡ Some n = (rw t at e) in absurd cc
+    not-by false t = t
