@@ -30,11 +30,7 @@ fn numbers(alloc: Global, nodes: u32) -> Result<Vec<u128>, AllocError>
 }
 
 // The identifier of each vertex: the first one given, and so the one that is written last, or its number.
-fn identifiers(
-    alloc: Global,
-    nodes: u32,
-    given: &[(u32, u128)],
-) -> Result<Vec<u128>, AllocError>
+fn identifiers(alloc: Global, nodes: u32, given: &[(u32, u128)]) -> Result<Vec<u128>, AllocError>
     requires { AreVertices nodes given.now }
     ensures { IfOk result (λ ids. ids.items ≡ identifiers_with given.now nodes) }
 {
