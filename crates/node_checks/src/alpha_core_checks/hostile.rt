@@ -96,8 +96,8 @@ static TWO_PULSES_PUT: [Wire<Payload>; 6] = [
     Wire::Safe(2),
 ];
 
-// What comes to vertex 2, which has no parent: at pulse 1 it sends nothing, and so is safe at once. At pulse 2 the label
-// of its child is due.
+// What comes to vertex 2, which has no parent: at pulse 1 it sends nothing, and so is safe at once. At pulse 2 the
+// label of its child is due.
 static UNLABELLED: [Act<Payload>; 6] = [
     Act::Take(Wire::Payload(0, Payload::Hello(1))),
     Act::Take(Wire::Ack(0)),
