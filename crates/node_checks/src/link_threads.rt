@@ -19,7 +19,7 @@ use std::thread;
 use std::thread::Threads;
 use sync_rounds::{Best, Greatest};
 
-const TRIES: u32 = 1_000_000;
+const TRIES: u32 = 100_000_000;
 
 // Tries to put a wire; whether it was put.
 fn put_one<const D: u32, R: Wait>(

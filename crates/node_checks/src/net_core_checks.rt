@@ -11,7 +11,7 @@ use net_core::{Event, NetState, RunRefused, run};
 use std::alloc::Global;
 use std::test::Fail;
 
-const PUTS: [Event; 6] = [
+static PUTS: [Event; 6] = [
     Event::Put(1, 0),
     Event::Put(1, 1),
     Event::Put(2, 0),
@@ -20,7 +20,7 @@ const PUTS: [Event; 6] = [
     Event::Put(3, 1),
 ];
 
-const TAKES: [Event; 6] = [
+static TAKES: [Event; 6] = [
     Event::Take(1, 0),
     Event::Take(1, 1),
     Event::Take(2, 0),
@@ -30,7 +30,7 @@ const TAKES: [Event; 6] = [
 ];
 
 // What comes after the safes of pulse 0 were put: node 1 makes its pulse, and node 3 hears of it early.
-const LATER: [Event; 17] = [
+static LATER: [Event; 17] = [
     Event::Take(1, 0),
     Event::Take(1, 1),
     Event::Pulse(1),

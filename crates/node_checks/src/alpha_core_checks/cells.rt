@@ -7,12 +7,11 @@ ghost use Rattle.alpha_core.specs.interference.Net.{IsVertex, degree_of};
 use crate::alpha_core_checks::alone::{Act, Played, ask, leaf, play, put_next};
 use alpha_core::{AlphaNode, AlphaRefused, Memory, Network, Wire};
 use std::alloc::Global;
-use std::cmp::Ordering;
 use std::test::Fail;
 use sync_rounds::{Best, Greatest};
 
 // A legal list of wires for vertex 1 of two, whose last pulse is 3, and its pulses among them.
-const RUN: [Act<Best>; 13] = [
+static RUN: [Act<Best>; 13] = [
     Act::Take(Wire::Payload(0, Best(2))),
     Act::Take(Wire::Safe(0)),
     Act::Take(Wire::Ack(0)),
@@ -29,7 +28,7 @@ const RUN: [Act<Best>; 13] = [
 ];
 
 // What it puts.
-const PUT: [Wire<Best>; 10] = [
+static PUT: [Wire<Best>; 10] = [
     Wire::Payload(0, Best(1)),
     Wire::Ack(0),
     Wire::Safe(0),
@@ -42,21 +41,6 @@ const PUT: [Wire<Best>; 10] = [
     Wire::Close,
 ];
 
-#[derive(Debug, Clone, Copy, PartialEq, Eq)]
-enum Kind {
-    Payload,
-    Ack,
-    Safe,
-    Close,
-}
-
-#[derive(Debug, Clone, Copy, PartialEq, Eq)]
-enum Situation {
-    Fresh,
-    Paid,
-    Closed,
-}
-
 // What a cell says of its wire.
 #[derive(Debug, Clone, Copy, PartialEq, Eq)]
 enum Cell {
@@ -65,9 +49,10 @@ enum Cell {
     Acknowledged,
     Settled,
     Refused(AlphaRefused),
-    // No calls lead there.
-    Unreachable,
 }
+
+// After how many acts of the run a wire comes, the wire, and what its cell says.
+type Row = (usize, Wire<Best>, Cell);
 
 const WRONG: Cell = Cell::Refused(AlphaRefused::WrongPulse);
 
@@ -79,40 +64,50 @@ const SAFE: Cell = Cell::Refused(AlphaRefused::DoubleSafe);
 
 const AFTER: Cell = Cell::Refused(AlphaRefused::AfterClose);
 
-const NEVER: Cell = Cell::Unreachable;
-
-// A row for each kind and relation; in it the cell of a port that is fresh, paid, closed.
-const TABLE: [(Kind, Ordering, [Cell; 3]); 12] = [
-    (Kind::Payload, Ordering::Less, [WRONG, WRONG, AFTER]),
-    (
-        Kind::Payload,
-        Ordering::Equal,
-        [Cell::Acknowledged, PAID, AFTER],
-    ),
-    (Kind::Payload, Ordering::Greater, [WRONG, WRONG, AFTER]),
-    (Kind::Ack, Ordering::Less, [STRAY, STRAY, AFTER]),
-    (
-        Kind::Ack,
-        Ordering::Equal,
-        [Cell::Settled, Cell::Settled, AFTER],
-    ),
-    (Kind::Ack, Ordering::Greater, [STRAY, STRAY, AFTER]),
-    (Kind::Safe, Ordering::Less, [SAFE, SAFE, AFTER]),
-    (
-        Kind::Safe,
-        Ordering::Equal,
-        [Cell::Taken, Cell::Taken, AFTER],
-    ),
-    (Kind::Safe, Ordering::Greater, [WRONG, WRONG, AFTER]),
-    (Kind::Close, Ordering::Less, [NEVER, NEVER, NEVER]),
-    (Kind::Close, Ordering::Equal, [Cell::Taken, NEVER, AFTER]),
-    (Kind::Close, Ordering::Greater, [WRONG, WRONG, NEVER]),
+// A row for each cell that calls reach: after how many acts of the run, its wire, and what it says. A port is fresh at
+// pulse 1 (after 4 acts; after 11, where close is due), paid at pulse 1 (after 5), or closed at pulse 2 (after 12). The
+// pulse that can come is 1, or 3 at a port that is closed, and the wire's is below it, equal to it, above it.
+static TABLE: [Row; 31] = [
+    // Payload: below, equal, above, each at a port that is fresh, paid, closed.
+    (4, Wire::Payload(0, Best(5)), WRONG),
+    (5, Wire::Payload(0, Best(5)), WRONG),
+    (12, Wire::Payload(2, Best(5)), AFTER),
+    (4, Wire::Payload(1, Best(5)), Cell::Acknowledged),
+    (5, Wire::Payload(1, Best(5)), PAID),
+    (12, Wire::Payload(3, Best(5)), AFTER),
+    (4, Wire::Payload(2, Best(5)), WRONG),
+    (5, Wire::Payload(2, Best(5)), WRONG),
+    (12, Wire::Payload(4, Best(5)), AFTER),
+    // Ack. The pulse that can come is the node's own, 1 or 2.
+    (4, Wire::Ack(0), STRAY),
+    (5, Wire::Ack(0), STRAY),
+    (12, Wire::Ack(1), AFTER),
+    (4, Wire::Ack(1), Cell::Settled),
+    (5, Wire::Ack(1), Cell::Settled),
+    (12, Wire::Ack(2), AFTER),
+    (4, Wire::Ack(2), STRAY),
+    (5, Wire::Ack(2), STRAY),
+    (12, Wire::Ack(3), AFTER),
+    // Safe.
+    (4, Wire::Safe(0), SAFE),
+    (5, Wire::Safe(0), SAFE),
+    (12, Wire::Safe(2), AFTER),
+    (4, Wire::Safe(1), Cell::Taken),
+    (5, Wire::Safe(1), Cell::Taken),
+    (12, Wire::Safe(3), AFTER),
+    (4, Wire::Safe(2), WRONG),
+    (5, Wire::Safe(2), WRONG),
+    (12, Wire::Safe(4), AFTER),
+    // Close, which is due behind the last safe: no calls lead to the cells below, to a paid port where it is due, or to
+    // a closed one above.
+    (11, Wire::Close, Cell::Taken),
+    (12, Wire::Close, AFTER),
+    (4, Wire::Close, WRONG),
+    (5, Wire::Close, WRONG),
 ];
 
-const SITUATIONS: [Situation; 3] = [Situation::Fresh, Situation::Paid, Situation::Closed];
-
-// What else decides a cell that is due: a wire that comes after so many acts of the run.
-const CONDITIONS: [(usize, Wire<Best>, Cell); 8] = [
+// What else decides a cell that is due.
+static CONDITIONS: [Row; 8] = [
     // At pulse 0 before safe is said nothing of pulse 1 comes; then it does.
     (2, Wire::Payload(1, Best(5)), WRONG),
     (2, Wire::Safe(1), WRONG),
@@ -126,37 +121,6 @@ const CONDITIONS: [(usize, Wire<Best>, Cell); 8] = [
     (11, Wire::Payload(3, Best(5)), WRONG),
     (11, Wire::Safe(3), WRONG),
 ];
-
-// After how many acts of the run a port is in a situation: at pulse 1, where the pulse that can come is 1, or closed,
-// at pulse 2, where that is 3. Close is due after the last safe.
-fn acts_before(kind: Kind, relation: Ordering, situation: Situation) -> usize {
-    match situation {
-        Situation::Fresh if kind == Kind::Close && relation == Ordering::Equal => 11,
-        Situation::Fresh => 4,
-        Situation::Paid => 5,
-        Situation::Closed => 12,
-    }
-}
-
-// The wire of a kind whose pulse is so related to the one that can come.
-fn wire_of(kind: Kind, relation: Ordering, situation: Situation) -> Wire<Best> {
-    let least = match (situation, kind) {
-        (Situation::Closed, Kind::Ack) => 1,
-        (Situation::Closed, _) => 2,
-        _ => 0,
-    };
-    let pulse = match relation {
-        Ordering::Less => least,
-        Ordering::Equal => least + 1,
-        Ordering::Greater => least + 2,
-    };
-    match kind {
-        Kind::Payload => Wire::Payload(pulse, Best(5)),
-        Kind::Ack => Wire::Ack(pulse),
-        Kind::Safe => Wire::Safe(pulse),
-        Kind::Close => Wire::Close,
-    }
-}
 
 // What came of a run into which another wire was fed: what the node returned to that wire and emitted then, what came
 // of the acts of the run, whether it was drained at the end, and the greatest identifier that it knew.
@@ -230,18 +194,12 @@ fn is_told(cell: Cell, node: &Outcome, twin: &Outcome) -> bool {
         Cell::Refused(refused) => {
             node.answer == Some(Err(refused)) && node.emitted == None && alike(node, twin)
         }
-        Cell::Unreachable => false,
     }
 }
 
 // Whether a node says of a wire after so many acts of the run what the cell says.
-fn walk(
-    alloc: Global,
-    net: &Network,
-    before: usize,
-    wire: Wire<Best>,
-    cell: Cell,
-) -> Result<bool, Memory> {
+fn walk(alloc: Global, net: &Network, row: &Row) -> Result<bool, Memory> {
+    let (before, wire, cell) = *row;
     if net.nodes() != 2 || net.degree(1) != 1 || before > RUN.len() {
         return Ok(false);
     }
@@ -251,30 +209,21 @@ fn walk(
     Ok(is_told(cell, &node, &twin) && twin.played.put.as_slice() == PUT.as_slice())
 }
 
+// The first row of which a node says something else.
+fn first_wrong(alloc: Global, net: &Network, rows: &[Row]) -> Result<Option<Row>, Memory> {
+    for row in rows {
+        if !walk(alloc, net, row)? {
+            return Ok(Some(*row));
+        }
+    }
+    Ok(None)
+}
+
 #[test]
 fn each_cell_that_calls_reach(rt: HostRuntime) -> Result<(), Fail> {
     let alloc = rt.alloc();
     let net = Network::try_new(alloc, &[1, 2], &[(1, 2)])?;
-    let mut walked = 0u32;
-    for (kind, relation, cells) in TABLE {
-        for (situation, cell) in SITUATIONS.into_iter().zip(cells) {
-            if cell != Cell::Unreachable {
-                let before = acts_before(kind, relation, situation);
-                let wire = wire_of(kind, relation, situation);
-                assert!(rt;
-                    walk(alloc, &net, before, wire, cell)?,
-                    "{wire:?} after {before}"
-                );
-                walked = walked.wrapping_add(1);
-            }
-        }
-    }
-    assert_eq!(rt; walked, 31);
-    for (before, wire, cell) in CONDITIONS {
-        assert!(rt;
-            walk(alloc, &net, before, wire, cell)?,
-            "{wire:?} after {before}"
-        );
-    }
+    assert_eq!(rt; first_wrong(alloc, &net, &TABLE)?, None);
+    assert_eq!(rt; first_wrong(alloc, &net, &CONDITIONS)?, None);
     Ok(())
 }

@@ -1,16 +1,30 @@
-//! A neighbour that puts wires as it likes: each is taken or refused, and the node is afterwards as its twin that got
-//! only those it took.
+//! A node of the colouring, and a neighbour that puts wires as it likes: each is taken or refused, and the node is
+//! afterwards as its twin that got only those it took.
 
-use crate::alpha_core_checks::alone::{Act, Played, ask, leaf, play, put_next};
-use alpha_core::{AlphaNode, AlphaRefused, Network, Refused, Wire};
+ghost use Rattle.std.specs.Prelude.{◌≡◌};
+ghost use Rattle.alpha_core.specs.interference.Net.{IsVertex, degree_of};
+
+use crate::alpha_core_checks::alone::{Act, Played, leaf, play};
+use crate::alpha_core_checks::runs::edge;
+use alpha_core::{AlphaNode, AlphaRefused, Memory, Network, Refused, Wire};
 use colour_program::{Colouring, Payload};
+use std::alloc::Global;
 use std::test::Fail;
-use sync_rounds::Greatest;
 
 const LABEL: Act<Payload> = Act::Take(Wire::Payload(1, Payload::Label(0)));
 
-// What comes to vertex 1 of an edge from its start.
-const HOSTILE: [Act<Payload>; 11] = [
+const TAKEN: Option<Result<(), AlphaRefused>> = Some(Ok(()));
+
+const EARLY: Option<Result<(), AlphaRefused>> = Some(Err(AlphaRefused::WrongPulse));
+
+// Safe came without a payload, so the pulse is made, and what is due is missing.
+const MISSING: Option<Result<(), AlphaRefused>> = Some(Err(AlphaRefused::Program(Refused {
+    rule: 5,
+    port: Some(0),
+})));
+
+// What comes to vertex 1 of an edge from its start, and the next pulse.
+static HOSTILE: [Act<Payload>; 12] = [
     LABEL,
     Act::Take(Wire::Safe(0)),
     LABEL,
@@ -22,69 +36,140 @@ const HOSTILE: [Act<Payload>; 11] = [
     Act::Take(Wire::Close),
     Act::Take(Wire::Safe(1)),
     Act::Take(Wire::Safe(2)),
+    Act::Pulse,
 ];
 
 // What it returns to each.
-const ANSWERS: [Option<Result<(), AlphaRefused>>; 11] = [
-    Some(Err(AlphaRefused::WrongPulse)),
-    Some(Ok(())),
-    Some(Err(AlphaRefused::WrongPulse)),
-    Some(Ok(())),
-    Some(Ok(())),
+static ANSWERS: [Option<Result<(), AlphaRefused>>; 12] = [
+    EARLY,
+    TAKEN,
+    EARLY,
+    TAKEN,
+    TAKEN,
     Some(Err(AlphaRefused::DoublePayload)),
     Some(Err(AlphaRefused::StrayAck)),
     Some(Err(AlphaRefused::DoubleSafe)),
-    Some(Err(AlphaRefused::WrongPulse)),
-    Some(Ok(())),
-    Some(Err(AlphaRefused::WrongPulse)),
+    EARLY,
+    TAKEN,
+    EARLY,
+    MISSING,
 ];
 
-// Those that it takes.
-const TAKEN: [Act<Payload>; 4] = [
+// Those that it takes, what its twin returns that gets only these, and what both put.
+static ONLY_TAKEN: [Act<Payload>; 5] = [
     Act::Take(Wire::Safe(0)),
     Act::Take(Wire::Ack(0)),
     LABEL,
     Act::Take(Wire::Safe(1)),
+    Act::Pulse,
 ];
 
-// Safe 0 came without a payload, so the pulse is made, and the greeting is missing.
-#[test]
-fn each_wire_of_a_hostile_neighbour(rt: HostRuntime) -> Result<(), Fail> {
-    let alloc = rt.alloc();
-    let net = Network::try_new(alloc, &[1, 2], &[(1, 2)])?;
-    assert!(rt; net.nodes() == 2);
-    assert!(rt; net.degree(1) == 1);
-    let mut node: AlphaNode<Colouring> = leaf(alloc, &net, 1)?;
+static ONLY_TAKEN_ANSWERS: [Option<Result<(), AlphaRefused>>; 5] = [
+    TAKEN, TAKEN, TAKEN, TAKEN, MISSING,
+];
+
+static BOTH_PUT: [Wire<Payload>; 3] = [
+    Wire::Payload(0, Payload::Hello(1)),
+    Wire::Safe(0),
+    Wire::Ack(1),
+];
+
+// What comes to vertex 1 as it makes two pulses, and what it puts.
+static TWO_PULSES: [Act<Payload>; 7] = [
+    Act::Take(Wire::Payload(0, Payload::Hello(2))),
+    Act::Take(Wire::Ack(0)),
+    Act::Take(Wire::Safe(0)),
+    Act::Pulse,
+    Act::Take(Wire::Ack(1)),
+    Act::Take(Wire::Safe(1)),
+    Act::Pulse,
+];
+
+static ALL_TAKEN: [Option<Result<(), AlphaRefused>>; 7] = [TAKEN; 7];
+
+static TWO_PULSES_PUT: [Wire<Payload>; 6] = [
+    Wire::Payload(0, Payload::Hello(1)),
+    Wire::Ack(0),
+    Wire::Safe(0),
+    Wire::Payload(1, Payload::Label(0)),
+    Wire::Safe(1),
+    Wire::Safe(2),
+];
+
+// What comes to vertex 2, which has no parent: at pulse 1 it sends nothing, and so is safe at once. At pulse 2 the
+// label of its child is due.
+static UNLABELLED: [Act<Payload>; 6] = [
+    Act::Take(Wire::Payload(0, Payload::Hello(1))),
+    Act::Take(Wire::Ack(0)),
+    Act::Take(Wire::Safe(0)),
+    Act::Pulse,
+    Act::Take(Wire::Safe(1)),
+    Act::Pulse,
+];
+
+static UNLABELLED_ANSWERS: [Option<Result<(), AlphaRefused>>; 6] = [
+    TAKEN, TAKEN, TAKEN, TAKEN, TAKEN, MISSING,
+];
+
+static UNLABELLED_PUT: [Wire<Payload>; 4] = [
+    Wire::Payload(0, Payload::Hello(2)),
+    Wire::Ack(0),
+    Wire::Safe(0),
+    Wire::Safe(1),
+];
+
+// Whether a node returns this to these acts, puts these wires, and is at this pulse then.
+fn plays(
+    alloc: Global,
+    net: &Network,
+    v: u32,
+    acts: &[Act<Payload>],
+    answers: &[Option<Result<(), AlphaRefused>>],
+    put: &[Wire<Payload>],
+    pulse: u32,
+) -> Result<bool, Memory>
+    requires vertex { IsVertex net.now v }
+    requires one { degree_of net.now v ≡ 1 }
+{
+    let mut node: AlphaNode<Colouring> = leaf(alloc, net, v)?;
     let mut played = Played::new(alloc);
-    play(&mut node, &HOSTILE, &mut played)?;
-    assert_eq!(rt; played.answers.as_slice(), ANSWERS.as_slice());
-    let mut twin: AlphaNode<Colouring> = leaf(alloc, &net, 1)?;
-    let mut wanted = Played::new(alloc);
-    play(&mut twin, &TAKEN, &mut wanted)?;
-    assert_eq!(rt; played.put.as_slice(), wanted.put.as_slice());
-    let missing = AlphaRefused::Program(Refused {
-        rule: 5,
-        port: Some(0),
-    });
-    assert_eq!(rt; ask(&mut node, Act::Pulse), Some(Err(missing)));
-    assert_eq!(rt; ask(&mut twin, Act::Pulse), Some(Err(missing)));
-    assert_eq!(rt; node.pulse_number(), 0);
-    assert!(rt; put_next(&mut node).is_none() && put_next(&mut twin).is_none());
-    Ok(())
+    play(&mut node, acts, &mut played)?;
+    Ok(
+        played.answers.as_slice() == answers
+            && played.put.as_slice() == put
+            && node.pulse_number() == pulse,
+    )
 }
 
 #[test]
-fn nothing_comes_after_close(rt: HostRuntime) -> Result<(), Fail> {
+fn each_wire_of_a_hostile_neighbour(rt: HostRuntime) -> Result<(), Fail> {
     let alloc = rt.alloc();
-    let net = Network::try_new(alloc, &[1, 2], &[(1, 2)])?;
+    let net = edge(alloc)?;
     assert!(rt; net.nodes() == 2);
-    assert!(rt; net.degree(1) == 1);
-    let mut node: AlphaNode<Greatest<0>> = leaf(alloc, &net, 1)?;
-    let safe = Act::Take(Wire::Safe(0));
-    assert_eq!(rt; ask(&mut node, safe), Some(Err(AlphaRefused::WrongPulse)));
-    assert_eq!(rt; ask(&mut node, Act::Take(Wire::Close)), Some(Ok(())));
-    assert_eq!(rt; ask(&mut node, safe), Some(Err(AlphaRefused::AfterClose)));
-    assert_eq!(rt; put_next(&mut node), Some(Wire::Close));
-    assert!(rt; node.drained());
+    assert!(rt; net.degree(1) == 1 && net.degree(2) == 1);
+    assert!(rt; plays(alloc, &net, 1, &HOSTILE, &ANSWERS, &BOTH_PUT, 0)?);
+    assert!(rt;
+        plays(
+            alloc,
+            &net,
+            1,
+            &ONLY_TAKEN,
+            &ONLY_TAKEN_ANSWERS,
+            &BOTH_PUT,
+            0
+        )?
+    );
+    assert!(rt; plays(alloc, &net, 1, &TWO_PULSES, &ALL_TAKEN, &TWO_PULSES_PUT, 2)?);
+    assert!(rt;
+        plays(
+            alloc,
+            &net,
+            2,
+            &UNLABELLED,
+            &UNLABELLED_ANSWERS,
+            &UNLABELLED_PUT,
+            1
+        )?
+    );
     Ok(())
 }

@@ -2,18 +2,18 @@
 
 ghost use Rattle.std.specs.Prelude.{◌≡◌, ◌≤◌, length};
 
-use crate::alpha_core_checks::alone::{Act, Played, ask, leaf, play, put_next};
+use crate::alpha_core_checks::alone::{Act, ask, leaf, put_next};
 use crate::counted::Counted;
-use alpha_core::{AlphaNode, AlphaRefused, Network, NodeProgram, Refused, Wire};
-use colour_program::{Colouring, Payload};
+use alpha_core::{AlphaNode, AlphaRefused, Network, NodeProgram, Wire};
 use std::alloc::Global;
 use std::test::Fail;
 use sync_rounds::{Best, Greatest};
 
-fn edge(alloc: Global) -> Result<Network, Fail> {
+pub fn edge(alloc: Global) -> Result<Network, Fail> {
     Ok(Network::try_new(alloc, &[1, 2], &[(1, 2)])?)
 }
 
+// Two nodes without pulses close their links. Before that nothing else comes, and after it nothing at all.
 #[test]
 fn a_node_without_pulses_starts_halted(rt: HostRuntime) -> Result<(), Fail> {
     let alloc = rt.alloc();
@@ -23,69 +23,17 @@ fn a_node_without_pulses_starts_halted(rt: HostRuntime) -> Result<(), Fail> {
         assert!(rt; net.degree(v) == 1);
         let mut node: AlphaNode<Greatest<0>> = leaf(alloc, &net, v)?;
         assert!(rt; node.halted() && !node.drained());
-        assert_eq!(rt; put_next(&mut node), Some(Wire::Close));
+        // Vertex 1 takes the close before it puts its own, vertex 2 after.
+        let puts_first = v == 2;
+        assert!(rt; !puts_first || put_next(&mut node) == Some(Wire::Close));
+        let safe = Act::Take(Wire::Safe(0));
+        assert!(rt; ask(&mut node, safe) == Some(Err(AlphaRefused::WrongPulse)));
         assert!(rt; !node.drained());
-        assert_eq!(rt; ask(&mut node, Act::Take(Wire::Close)), Some(Ok(())));
+        assert!(rt; ask(&mut node, Act::Take(Wire::Close)) == Some(Ok(())));
+        assert!(rt; ask(&mut node, safe) == Some(Err(AlphaRefused::AfterClose)));
+        assert!(rt; puts_first || put_next(&mut node) == Some(Wire::Close));
         assert!(rt; node.drained());
     }
-    Ok(())
-}
-
-#[test]
-fn a_node_of_the_colouring_makes_two_pulses(rt: HostRuntime) -> Result<(), Fail> {
-    let alloc = rt.alloc();
-    let net = edge(alloc)?;
-    assert!(rt; net.nodes() == 2);
-    assert!(rt; net.degree(1) == 1);
-    let mut node: AlphaNode<Colouring> = leaf(alloc, &net, 1)?;
-    let mut played = Played::new(alloc);
-    let acts = [
-        Act::Take(Wire::Payload(0, Payload::Hello(2))),
-        Act::Take(Wire::Ack(0)),
-        Act::Take(Wire::Safe(0)),
-        Act::Pulse,
-        Act::Take(Wire::Ack(1)),
-        Act::Take(Wire::Safe(1)),
-        Act::Pulse,
-    ];
-    play(&mut node, &acts, &mut played)?;
-    let put = [
-        Wire::Payload(0, Payload::Hello(1)),
-        Wire::Ack(0),
-        Wire::Safe(0),
-        Wire::Payload(1, Payload::Label(0)),
-        Wire::Safe(1),
-        Wire::Safe(2),
-    ];
-    assert_eq!(rt; played.answers.as_slice(), [Some(Ok(())); 7].as_slice());
-    assert_eq!(rt; played.put.as_slice(), put.as_slice());
-    assert_eq!(rt; node.pulse_number(), 2);
-    Ok(())
-}
-
-#[test]
-fn a_pulse_that_the_colouring_refuses(rt: HostRuntime) -> Result<(), Fail> {
-    let alloc = rt.alloc();
-    let net = edge(alloc)?;
-    assert!(rt; net.nodes() == 2);
-    assert!(rt; net.degree(2) == 1);
-    let mut node: AlphaNode<Colouring> = leaf(alloc, &net, 2)?;
-    let mut played = Played::new(alloc);
-    let acts = [
-        Act::Take(Wire::Payload(0, Payload::Hello(1))),
-        Act::Take(Wire::Ack(0)),
-        Act::Take(Wire::Safe(0)),
-        Act::Pulse,
-        Act::Take(Wire::Safe(1)),
-    ];
-    play(&mut node, &acts, &mut played)?;
-    assert_eq!(rt; played.answers.as_slice(), [Some(Ok(())); 5].as_slice());
-    let missing = AlphaRefused::Program(Refused {
-        rule: 5,
-        port: Some(0),
-    });
-    assert_eq!(rt; ask(&mut node, Act::Pulse), Some(Err(missing)));
-    assert_eq!(rt; node.pulse_number(), 1);
     Ok(())
 }
 

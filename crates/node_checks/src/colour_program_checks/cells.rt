@@ -30,7 +30,9 @@ const P2: Option<u16> = Some(WRONG_ROLE);
 const P6: Option<u16> = Some(AFTER_HALT);
 
 // Pulse, payload, and what it breaks from a port that is Unknown, Up and Down.
-const TABLE: [(u32, Payload, [Option<u16>; 3]); 32] = [
+type Row = (u32, Payload, [Option<u16>; 3]);
+
+static TABLE: [Row; 32] = [
     // Greet
     (0, HELLO, [P1, P1, P1]),
     (0, LABEL, [P1, P1, P1]),
@@ -103,24 +105,37 @@ fn answer(
     Ok(answer)
 }
 
+// What a node returns that refuses a payload of its one port by a rule, or takes it.
+fn told(broken: Option<u16>) -> Result<(), Refused> {
+    match broken {
+        Some(rule) => Err(Refused {
+            rule,
+            port: Some(0),
+        }),
+        None => Ok(()),
+    }
+}
+
+// Whether nodes with a port of each kind return what a row says.
+fn walk(rt: &impl Abort, alloc: Global, net: &Network, row: &Row) -> Result<bool, Fail> {
+    let (pulse, payload, [unknown, up, down]) = *row;
+    let at_unknown = answer(rt, alloc, net, 1, &[], pulse, payload)?;
+    let at_up = answer(rt, alloc, net, 1, &[HELLO], pulse, payload)?;
+    let at_down = answer(rt, alloc, net, 2, &[LOWER_HELLO, LABEL], pulse, payload)?;
+    Ok(at_unknown == told(unknown) && at_up == told(up) && at_down == told(down))
+}
+
+fn walk_all(rt: &impl Abort, alloc: Global, net: &Network, rows: &[Row]) -> Result<(), Fail> {
+    for row in rows {
+        assert!(rt; walk(rt, alloc, net, row)?, "{row:?}");
+    }
+    Ok(())
+}
+
 #[test]
 fn each_cell_of_the_table_has_its_rule(rt: HostRuntime) -> Result<(), Fail> {
     let alloc = rt.alloc();
     let net = Network::try_new(alloc, &[1, 2], &[(1, 2)])?;
-    for (pulse, payload, broken) in TABLE {
-        let answers = [
-            answer(&rt, alloc, &net, 1, &[], pulse, payload)?,
-            answer(&rt, alloc, &net, 1, &[HELLO], pulse, payload)?,
-            answer(&rt, alloc, &net, 2, &[LOWER_HELLO, LABEL], pulse, payload)?,
-        ];
-        let want = broken.map(|rule| match rule {
-            Some(rule) => Err(Refused {
-                rule,
-                port: Some(0),
-            }),
-            None => Ok(()),
-        });
-        assert_eq!(rt; answers, want, "{payload:?} at {pulse}");
-    }
-    Ok(())
+    let table = TABLE;
+    walk_all(&rt, alloc, &net, &table)
 }

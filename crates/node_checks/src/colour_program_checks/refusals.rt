@@ -20,9 +20,9 @@ type Came = (u32, [Option<Payload>; 2]);
 
 // A triangle with identifiers 1, 2 and 30: two forests, degree 2, last pulse 30. Vertex 1 has two
 // parents, vertex 2 a child and a parent, vertex 3 two children.
-const IDS: [u64; 3] = [1, 2, 30];
+static IDS: [u64; 3] = [1, 2, 30];
 
-const EDGES: [(u32, u32); 3] = [(1, 2), (1, 3), (2, 3)];
+static EDGES: [(u32, u32); 3] = [(1, 2), (1, 3), (2, 3)];
 
 // What comes to its vertices before, in turn.
 fn came_before(v: u32, turn: u32) -> Came {
@@ -37,7 +37,9 @@ fn came_before(v: u32, turn: u32) -> Came {
 }
 
 // A vertex, how many pulses came before, what it refuses then, by which rule and of which port.
-const REFUSALS: [(u32, u32, Came, u16, Option<u32>); 20] = [
+type Row = (u32, u32, Came, u16, Option<u32>);
+
+static REFUSALS: [Row; 20] = [
     // A wrong kind, and a wrong role.
     (
         1,
@@ -145,71 +147,70 @@ fn node_after(
     Ok(node)
 }
 
+fn is_refused(rt: &impl Abort, alloc: Global, net: &Network, row: &Row) -> Result<(), Fail> {
+    let (v, turns, came, rule, port) = *row;
+    assert!(rt; 1 <= v && v <= net.nodes());
+    let mut node = node_after(rt, alloc, net, v, turns)?;
+    let colour = node.colour();
+    let (answer, out) = deliver(alloc, &mut node, came)?;
+    assert!(rt; answer == Err(Refused { rule, port }), "{row:?}");
+    assert!(rt; out.is_quiet() && node.colour() == colour, "{row:?}");
+    Ok(())
+}
+
+fn are_refused(rt: &impl Abort, alloc: Global, net: &Network, rows: &[Row]) -> Result<(), Fail> {
+    for row in rows {
+        is_refused(rt, alloc, net, row)?;
+    }
+    Ok(())
+}
+
+// The greatest colour that may come from a parent at each pulse from 4 on.
+static BOUNDS: [(u32, u64); 9] = [
+    (4, 127),
+    (5, 13),
+    (6, 7),
+    (7, 5),
+    (8, 5),
+    (9, 4),
+    (10, 4),
+    (11, 3),
+    (12, 3),
+];
+
+// One more is refused, and then the bound is taken.
+fn are_bounds(
+    rt: &impl Abort,
+    alloc: Global,
+    net: &Network,
+    rows: &[(u32, u64)],
+) -> Result<(), Fail> {
+    for (pulse, bound) in rows {
+        assert!(rt; net.nodes() == 3 && *bound < 1000);
+        let above = [Some(Colour(1)), Some(Colour(*bound + 1))];
+        is_refused(
+            rt,
+            alloc,
+            net,
+            &(1, 1, (*pulse, above), COLOUR_RANGE, Some(1)),
+        )?;
+        let mut node = node_after(rt, alloc, net, 1, 1)?;
+        let within = [Some(Colour(1)), Some(Colour(*bound))];
+        let (answer, _) = deliver(alloc, &mut node, (*pulse, within))?;
+        assert!(rt; answer == Ok(()), "at {pulse}");
+    }
+    Ok(())
+}
+
 #[test]
 fn a_refusal_has_its_rule_and_its_port(rt: HostRuntime) -> Result<(), Fail> {
     let alloc = rt.alloc();
     let net = Network::try_new(alloc, &IDS, &EDGES)?;
-    for (v, turns, came, rule, port) in REFUSALS {
-        assert!(rt; 1 <= v && v <= net.nodes());
-        let mut node = node_after(&rt, alloc, &net, v, turns)?;
-        let colour = node.colour();
-        let (answer, out) = deliver(alloc, &mut node, came)?;
-        let want = Err(Refused { rule, port });
-        assert_eq!(rt; answer, want, "vertex {v}, {came:?}");
-        assert!(rt; out.is_quiet() && node.colour() == colour);
-    }
+    let refusals = REFUSALS;
+    are_refused(&rt, alloc, &net, &refusals)?;
+    are_bounds(&rt, alloc, &net, &BOUNDS)?;
     // On a path a node has one parent at most, and here both neighbours say that they are higher.
     let path = Network::try_new(alloc, &[1, 2, 3], &[(1, 2), (2, 3)])?;
-    assert!(rt; path.nodes() == 3);
-    let mut node = node_after(&rt, alloc, &path, 2, 0)?;
-    let (answer, _) = deliver(alloc, &mut node, (1, [Some(Hello(5)), Some(Hello(6))]))?;
-    assert_eq!(rt;
-        answer,
-        Err(Refused {
-            rule: FOREST_RANGE,
-            port: None
-        })
-    );
-    Ok(())
-}
-
-// The greatest colour that may come from a parent at each pulse from 4 on, and one more.
-#[test]
-fn colours_have_their_bounds(rt: HostRuntime) -> Result<(), Fail> {
-    let alloc = rt.alloc();
-    let net = Network::try_new(alloc, &IDS, &EDGES)?;
-    assert!(rt; net.nodes() == 3);
-    for (pulse, bound) in [
-        (4, 127),
-        (5, 13),
-        (6, 7),
-        (7, 5),
-        (8, 5),
-        (9, 4),
-        (10, 4),
-        (11, 3),
-        (12, 3),
-    ] {
-        let mut node = node_after(&rt, alloc, &net, 1, 1)?;
-        let (above, _) = deliver(
-            alloc,
-            &mut node,
-            (pulse, [Some(Colour(1)), Some(Colour(bound + 1))]),
-        )?;
-        assert_eq!(rt;
-            above,
-            Err(Refused {
-                rule: COLOUR_RANGE,
-                port: Some(1)
-            }),
-            "at {pulse}"
-        );
-        let (within, _) = deliver(
-            alloc,
-            &mut node,
-            (pulse, [Some(Colour(1)), Some(Colour(bound))]),
-        )?;
-        assert_eq!(rt; within, Ok(()), "at {pulse}");
-    }
-    Ok(())
+    let higher = (1, [Some(Hello(5)), Some(Hello(6))]);
+    is_refused(&rt, alloc, &path, &(2, 0, higher, FOREST_RANGE, None))
 }

@@ -11,12 +11,13 @@ use colour_program::Payload::{Chosen, Colour, Hello, Label};
 use colour_program::rules::{AFTER_HALT, COLOUR_RANGE, FOREST_RANGE, WRONG_KIND, WRONG_ROLE};
 use colour_program::{Colouring, Payload};
 use std::alloc::Global;
+use std::process::Abort;
 use std::test::Fail;
 
 // What comes to vertices 1 and 2 of an edge at the pulses from 1 on, worked by hand: vertex 2 is the root of the one
 // forest, its colours there are 2, then 0 after each bit step, then 1, 1, 0, 0, 1, 1. Vertex 1 chooses at pulse 13,
 // vertex 2 at 15.
-const CAME: [[Option<Payload>; 18]; 2] = [
+static CAME: [[Option<Payload>; 18]; 2] = [
     [
         Some(Hello(2)),
         None,
@@ -60,7 +61,9 @@ const CAME: [[Option<Payload>; 18]; 2] = [
 ];
 
 // A vertex, a pulse, what comes at it in place of what is due, and the rule and port of the refusal.
-const REFUSALS: [(u32, u32, Payload, u16, Option<u32>); 8] = [
+type Row = (u32, u32, Payload, u16, Option<u32>);
+
+static REFUSALS: [Row; 8] = [
     (1, 1, Hello(1), COLOUR_RANGE, Some(0)),
     (1, 2, Label(0), WRONG_ROLE, Some(0)),
     (1, 4, Colour(256), COLOUR_RANGE, Some(0)),
@@ -139,32 +142,41 @@ fn brought(alloc: Global, net: &Network, v: u32, pulse: u32) -> Result<Colouring
     Ok(node)
 }
 
+// Of two nodes in one state one refuses what comes, and then both go on alike.
+fn refuses_and_goes_on(
+    rt: &impl Abort,
+    alloc: Global,
+    net: &Network,
+    row: &Row,
+) -> Result<(), Fail> {
+    let (v, pulse, payload, rule, port) = *row;
+    assert!(rt; 1 <= v && v <= net.nodes());
+    assert!(rt; net.degree(v) == 1);
+    let mut node = brought(alloc, net, v, pulse)?;
+    let mut twin = brought(alloc, net, v, pulse)?;
+    let before = node.colour();
+    let shown = show(alloc, &mut node, pulse, Some(payload))?;
+    assert!(rt; shown.answer == Err(Refused { rule, port }), "{row:?}");
+    assert!(rt; shown.is_quiet && shown.colour == before, "{row:?}");
+    assert!(rt;
+        go_on_alike(alloc, &mut node, &mut twin, v, pulse)?,
+        "{row:?}"
+    );
+    // The colours of the edge: those of the plan less one.
+    assert!(rt; u32::from(node.colour()) == v - 1, "{row:?}");
+    Ok(())
+}
+
+fn all_go_on(rt: &impl Abort, alloc: Global, net: &Network, rows: &[Row]) -> Result<(), Fail> {
+    for row in rows {
+        refuses_and_goes_on(rt, alloc, net, row)?;
+    }
+    Ok(())
+}
+
 #[test]
 fn a_node_goes_on_after_a_refusal_as_its_twin(rt: HostRuntime) -> Result<(), Fail> {
     let alloc = rt.alloc();
     let net = Network::try_new(alloc, &[1, 2], &[(1, 2)])?;
-    for (v, pulse, payload, rule, port) in REFUSALS {
-        assert!(rt; 1 <= v && v <= net.nodes());
-        assert!(rt; net.degree(v) == 1);
-        let mut node = brought(alloc, &net, v, pulse)?;
-        let mut twin = brought(alloc, &net, v, pulse)?;
-        let before = node.colour();
-        let shown = show(alloc, &mut node, pulse, Some(payload))?;
-        assert_eq!(rt;
-            shown.answer,
-            Err(Refused { rule, port }),
-            "{payload:?} at {pulse}"
-        );
-        assert!(rt;
-            shown.is_quiet && shown.colour == before,
-            "{payload:?} at {pulse}"
-        );
-        assert!(rt;
-            go_on_alike(alloc, &mut node, &mut twin, v, pulse)?,
-            "{payload:?} at {pulse}"
-        );
-        // The colours of the edge: those of the plan less one.
-        assert_eq!(rt; u32::from(node.colour()), v - 1);
-    }
-    Ok(())
+    all_go_on(&rt, alloc, &net, &REFUSALS)
 }

@@ -12,7 +12,7 @@ use sync_rounds::Greatest;
 
 // Two nodes with an edge, whose last pulse is 1: payloads, acknowledgements and safes of pulse 0, the pulses, and what
 // closes the links.
-const EVENTS: [Event; 18] = [
+static EVENTS: [Event; 18] = [
     Event::Put(1, 0),
     Event::Put(2, 0),
     Event::Take(1, 0),
