@@ -1,5 +1,5 @@
 mod Numbers
 mod Splitting
 mod Readings
-mod Within
+mod Plays
 mod Scripts

@@ -67,7 +67,7 @@ fn each_function_returns_its_bytes_or_runs_out_of_memory(rt: HostRuntime) -> Res
             Ok(bytes) => assert!(rt; bytes.as_slice() == wanted),
             Err(fault) => {
                 let report = fault_report(alloc, "name", fault)?;
-                let line = report.line.as_bytes();
+                let line = report.line.as_slice();
                 assert!(rt;
                     line == b"name: memory\n".as_slice() || line == b"name: threads\n".as_slice()
                 );
