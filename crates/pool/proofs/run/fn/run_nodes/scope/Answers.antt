@@ -1,0 +1,16 @@
+use Rattle.std.proofs.Common.{◌≡◌, map, subst}
+use Rattle.std.specs.Prelude.{IfOk}
+use Rattle.crossbeam_deque.specs.Handles.{worker_deque}
+use Rattle.pool.specs.Deques.{deque_of}
+use Rattle.pool.proofs.run.fn.run_nodes.scope.Goals as goal
+
+pub returns-clause-owns : goal.returns-clause-owns
+returns-clause-owns g c =
+    subst (λ ds. IfOk c.join_all.result (λ done. map (λ w. worker_deque w.desk.own) done.items ≡ map (λ d. worker_deque d.own) ds))
+    c.in_ok-children.ensures.desks c.join_all.ensures.owns
+
+pub returns-clause-guests : goal.returns-clause-guests
+returns-clause-guests g c =
+    subst (λ ds. IfOk c.join_all.result (λ done. map (λ w. map (λ g'. deque_of g'.pass) w.desk.guests.items) done.items
+    ≡ map (λ d. map (λ g'. deque_of g'.pass) d.guests.items) ds))
+    c.in_ok-children.ensures.desks c.join_all.ensures.guests
