@@ -6,10 +6,14 @@ use Rattle.std.specs.Set.{is_member}
 use Rattle.std.specs.List.{Contains, AllByRecursion}
 use Rattle.std.specs.List.Sorted.{IsStrictlySortedBy}
 use Rattle.std.specs.Cmp.{both_ways}
-use Rattle.std.specs.Ordering.{ordering_reverse}
+use Rattle.std.specs.Map.{keys_of}
+use Rattle.std.specs.Ordering.{nat_cmp, ordering_reverse}
+use Rattle.std.specs.BTreeMap.{BTreeMap}
+use Rattle.std.proofs.lemmas.Cmp.{nat_cmp_total}
+use Rattle.std.proofs.lemmas.Map.Lookups.{btree_map_read_from_get, exact_unsigned, map_keys}
 use Rattle.std.specs.declared.cmp.Ordering.TheVariants.{Less}
 use Rattle.dimacs_col.specs.Lines.{Line}
-use Rattle.dimacs_col.specs.Reading.{AllGood, nodes_of, verdict, IsFirstFault, IsFault, IsGraph}
+use Rattle.dimacs_col.specs.Reading.{AllGood, Graph, id_in, nodes_of, verdict, IsFirstFault, IsFault, IsGraph}
 use Rattle.dimacs_col.specs.Pairs.{pair_cmp, same_pair}
 use Rattle.dimacs_col.specs.Bag.{SameMembers}
 use Rattle.dimacs_col.specs.declared.fault.ColFault.{ColFault}
@@ -22,8 +26,12 @@ use Rattle.dimacs_col.specs.declared.fault.ColFault.TheVariants.{
   SelfLoop,
   TooLarge,
   UnknownLine,
+  EarlyLine,
+  NumberRange,
+  IdTwice,
   Memory,
 }
+use Rattle.dimacs_col.proofs.Identifiers.{id_in-at}
 use Rattle.dimacs_col.proofs.Members.{pair_total, same_pair-laws, same_pair-exact, members-from_Contains}
 
 -- ---- ascending lists
@@ -84,15 +92,39 @@ same-list (x ∷ xs) (y ∷ ys) f g same =
     (λ h. tail-in x ys xs q low (λ p. sym (both p)) h)) in
     ap (λ zs. x ∷ zs) rest ∙ ap (λ z. z ∷ ys) is
 
--- ---- graphs
-pub one-nodes : (lines : List Line) (m n : ℕ) (edges others : List (ℕ × ℕ)) → IsGraph lines m edges → IsGraph lines n others → m ≡ n
-one-nodes lines m n edges others f g = let e : Some m ≡ Some n = sym f.nodes_are ∙ g.nodes_are in cc
+-- ---- identifiers: two ascending lists that give each vertex the same are one list
+ids-are : (ids : List (ℕ × ℕ)) → map_keys (λ v. v) ids ≡ ids
+ids-are [] = refl
+ids-are (e ∷ es) = ap (λ xs. e ∷ xs) (ids-are es)
 
-pub one-edges : (lines : List Line) (m n : ℕ) (edges others : List (ℕ × ℕ)) → IsGraph lines m edges → IsGraph lines n others → edges ≡ others
-one-edges lines m n edges others f g =
-    let there = λ (pair : ℕ × ℕ) (h : Contains edges pair). (g.edges_are pair).1 ((f.edges_are pair).0 h) in
-    let back = λ (pair : ℕ × ℕ) (h : Contains others pair). (f.edges_are pair).1 ((g.edges_are pair).0 h) in
-    same-list edges others f.ascending g.ascending (members-from_Contains edges others there back)
+as-map : List (ℕ × ℕ) → BTreeMap ℕ ℕ
+as-map ids = record { entries = ids; layout = inl tt }
+
+same-ids : (ids others : List (ℕ × ℕ)) → IsStrictlySortedBy nat_cmp (keys_of ids) → IsStrictlySortedBy nat_cmp (keys_of others) →
+    ((v : ℕ) → id_in ids v ≡ id_in others v) → ids ≡ others
+same-ids ids others f g same =
+    sym (ids-are ids)
+    ∙ btree_map_read_from_get nat_cmp_total (as-map ids) (as-map others) f g
+    (λ v. sym (id_in-at ids v) ∙ same v ∙ id_in-at others v) (λ v. v) (λ x y e. exact_unsigned x y e)
+    ∙ ids-are others
+
+-- ---- graphs
+abbrev graph-with : ℕ → List (ℕ × ℕ) → List (ℕ × ℕ) → Graph
+graph-with nodes ids edges = record { nodes = nodes; ids = ids; edges = edges }
+
+same-graph : (m n : ℕ) (ids more : List (ℕ × ℕ)) (edges others : List (ℕ × ℕ)) → m ≡ n → ids ≡ more → edges ≡ others →
+    graph-with m ids edges ≡ graph-with n more others
+same-graph m n ids more edges others a b d = ap (λ k. graph-with k ids edges) a ∙ ap (λ xs. graph-with n xs edges) b ∙ ap (graph-with n more) d
+
+pub one-graph : (lines : List Line) (graph other : Graph) → IsGraph lines graph → IsGraph lines other → graph ≡ other
+one-graph lines graph other f g =
+    let e : Some graph.nodes ≡ Some other.nodes = sym f.nodes_are ∙ g.nodes_are in
+    let nodes : graph.nodes ≡ other.nodes = cc in
+    let ids = same-ids graph.ids other.ids f.ids_ascend g.ids_ascend (λ v. f.ids_are v ∙ sym (g.ids_are v)) in
+    let there = λ (pair : ℕ × ℕ) (h : Contains graph.edges pair). (g.edges_are pair).1 ((f.edges_are pair).0 h) in
+    let back = λ (pair : ℕ × ℕ) (h : Contains other.edges pair). (f.edges_are pair).1 ((g.edges_are pair).0 h) in
+    let edges = same-list graph.edges other.edges f.edges_ascend g.edges_ascend (members-from_Contains graph.edges other.edges there back) in
+    same-graph graph.nodes other.nodes graph.ids other.ids graph.edges other.edges nodes ids edges
 
 -- ---- faults
 -- what a fault is, with the faults of a line taken together
@@ -111,14 +143,17 @@ told lines (VertexRange n) h = at_line h
 told lines (SelfLoop n) h = at_line h
 told lines (TooLarge n) h = at_line h
 told lines (UnknownLine n) h = at_line h
+told lines (EarlyLine n) h = at_line h
+told lines (NumberRange n) h = at_line h
+told lines (IdTwice n) h = at_line h
 
 not-good : (lines : List Line) (fault : ColFault) → AllGood lines → IsFirstFault lines fault → ⊥
 not-good lines fault good h = let e : Some fault ≡ None = sym h.told ∙ good h.before h.line h.after h.place in absurd cc
 
-pub graph-or_fault : (lines : List Line) (n : ℕ) (edges : List (ℕ × ℕ)) (fault : ColFault) → IsGraph lines n edges → IsFault lines fault → fault ≡ Memory
-graph-or_fault lines n edges fault g h = elim (told lines fault h) [
+pub graph-or_fault : (lines : List Line) (graph : Graph) (fault : ColFault) → IsGraph lines graph → IsFault lines fault → fault ≡ Memory
+graph-or_fault lines graph fault g h = elim (told lines fault h) [
   | no_memory is ↦ is
-  | no_problem is good none ↦ let e : Some n ≡ None = sym g.nodes_are ∙ none in absurd cc
+  | no_problem is good none ↦ let e : Some graph.nodes ≡ None = sym g.nodes_are ∙ none in absurd cc
   | at_line first ↦ absurd (not-good lines fault g.good first)
 ]
 

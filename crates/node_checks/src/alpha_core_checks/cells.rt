@@ -130,7 +130,7 @@ struct Outcome {
     emitted: Option<Wire<Best>>,
     played: Played<Best>,
     drained: bool,
-    best: u64,
+    best: u128,
 }
 
 // Plays vertex 1, with another wire, if there is one, between two lists of acts.
