@@ -1,6 +1,5 @@
 pub mod Digits
 pub mod FieldNumbers
-pub mod LineLists
 pub mod Payloads
 pub mod Readings
 pub mod Spaced
