@@ -42,6 +42,7 @@ fn begins(line: &[u8], words: &[&[u8]]) -> bool
 /// Where the first line of an input is whose first field is one of some words; `None` if there is no such line.
 pub fn text_start(input: &[u8], words: &[&[u8]]) -> Option<TextStart>
     ensures within { IfSome result (λ start. start.bytes ≤ length input.now) }
+    ensures short { IfSome result (λ start. start.lines ≤ start.bytes) }
     ensures lines { IfSome result (λ start. start.lines ≡ length (lines_before (words_in words.now) (lines_of input.now))) }
     ensures none { IfNone result (lines_before (words_in words.now) (lines_of input.now) ≡ lines_of input.now) }
     ensures no_text { IfNone result (lines_from (words_in words.now) (lines_of input.now) ≡ []) }

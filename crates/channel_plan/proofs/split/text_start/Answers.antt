@@ -5,7 +5,7 @@ use Rattle.std.proofs.Common.{◌==◌, ◌≡◌, ◌<◌, ◌+◌, ◌++◌, �
 use Rattle.std.proofs.Common.{subst, sym, take, tests}
 use Rattle.std.specs.Slice.Iter.{split_callee, split_done, split_rest}
 use Rattle.std.proofs.lemmas.Iterator.Splits.{YieldsList-from_slice_split}
-use Rattle.std.proofs.lemmas.List.{map-append, map_push, take-append-drop}
+use Rattle.std.proofs.lemmas.List.{length-append, map-append, map_push, take-append-drop}
 use Rattle.dimacs_col.specs.Lines.{Line, line_of, lines_of}
 use Rattle.dimacs_col.proofs.Whole.{items-at_end, items-at_turn, length-mapped, lines-at_turn, map-twice}
 use Rattle.channel_plan.specs.Split.{EndsLine, begins, lines_before, lines_from, words_in}
@@ -98,7 +98,8 @@ loop-line-preserved c = record {
   before = subst (AreBefore (words_in c.args.words.now)) (sym (map_push (λ x. line_of x.now) c.loop-line.yielded c.in-Some.line))
       (before-push (words_in c.args.words.now) (map (λ x. line_of x.now) c.loop-line.yielded) (line_of c.in-Some.line.now) (sym c.begins.ensures ∙
       c.if-begins.false) c.loop-line.invariant.before);
-  lines = search rules;
+  lines = omega (arith, c.loop-line.invariant.lines, length-append c.loop-line.yielded (c.in-Some.line ∷ []));
+  short = omega (arith, c.loop-line.invariant.short);
   bytes = ap (λ k. k + (length c.in-Some.line.now + 1)) c.loop-line.invariant.bytes
       ∙ sym (ap (λ ps. length (closed ps)) (map_push (λ x. x.now) c.loop-line.yielded c.in-Some.line) ∙
       closed-push (map (λ x. x.now) c.loop-line.yielded) c.in-Some.line.now);

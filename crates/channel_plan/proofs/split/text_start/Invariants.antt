@@ -1,4 +1,4 @@
-use Rattle.std.proofs.Common.{◌≡◌, length, map}
+use Rattle.std.proofs.Common.{◌≡◌, ◌≤◌, length, map}
 use Rattle.dimacs_col.specs.Lines.{line_of}
 use Rattle.channel_plan.specs.Split.{words_in}
 use Rattle.channel_plan.proofs.Parts.{closed}
@@ -11,5 +11,6 @@ invariant-loop-line l = record {
   steps : (goal.iterator-loop-line).can_next l.line-iterator × (goal.iterator-loop-line).is_finite l.line-iterator;
   before : AreBefore (words_in l.words) (map (λ x. line_of x.now) l.yielded);
   lines : l.start.lines ≡ length l.yielded;
+  short : l.start.lines ≤ l.start.bytes;
   bytes : l.start.bytes ≡ length (closed (map (λ x. x.now) l.yielded));
 }
