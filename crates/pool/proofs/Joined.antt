@@ -1,8 +1,8 @@
 -- What joined workers hand back keeps what was promised of it, at each place.
 use Rattle.std.proofs.Common.{◌≡◌, ℕ, zero, suc, ◌<◌, List, [], ◌∷◌, length, map, refl, ap, ◌∙◌, arith}
 use Rattle.std.specs.PromisedHandle.{KeepsAt, KeepsEach}
-use Rattle.core.specs.declared.thread.PromisedHandle.{PromisedHandle}
-use Rattle.core.specs.declared.thread.Promise as Promise
+use Rattle.std.specs.declared.thread.PromisedHandle.{PromisedHandle}
+use Rattle.std.specs.declared.thread.Promise as Promise
 
 -- what each promise says of an image, they say of all images
 pub kept_images : {T P D C : Type 0} (hs : List (PromisedHandle T P)) (rs : List T) (n : ℕ) (g : Promise.Ghosts P T) (see : P → D) (f : T → C) (q : D → C)

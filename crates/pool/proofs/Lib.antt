@@ -6,4 +6,5 @@ pub mod Joined
 pub mod Out
 pub mod Pushed
 pub mod Rule
+pub mod Steps
 pub mod Views

@@ -110,9 +110,10 @@ fn with_those_of<J: Wiring, P: NodeProgram>(
         + weigh h (in_hand (λ b. b.value.vertex) node ++ map (λ b. b.value.vertex) finished.items)) }
 {
     nodes.append(&mut finished)?;
-    if let Some(node) = node {
-        nodes.push(node)?;
-    }
+    let Some(node) = node else {
+        return Ok(nodes);
+    };
+    nodes.push(node)?;
     Ok(nodes)
 }
 

@@ -22,7 +22,7 @@ desk-requires-clause-few g c =
     omega (arith, row.ok.0, c.args.owns.ok.0)
 
 pub desk-requires-clause-new : goal.desk-requires-clause-new
-desk-requires-clause-new g c =
+desk-requires-clause-new g c κ b =
     let row = c.in-Some-pop.row in
     let theirs = All-pop (λ row. map (λ g'. deque_of g'.pass) row.items ≡ map worker_deque c.args.owns.items) _ c.pop.new.self.items (Some row)
     c.in-Some-pop.ensures.items c.loop-own.invariant.theirs in
@@ -33,7 +33,7 @@ desk-requires-clause-new g c =
     new ∙ ap (λ k. ledger (all_shares - 1 - k) [] []) (omega (arith, row.ok.0, c.args.owns.ok.0))
 
 pub desk-requires-clause-fresh : goal.desk-requires-clause-fresh
-desk-requires-clause-fresh g c =
+desk-requires-clause-fresh g c κ b =
     (All-pop (λ row. AreOut (map (λ g'. view g'.pass) row.items) []) _ c.pop.new.self.items (Some c.in-Some-pop.row) c.in-Some-pop.ensures.items
     c.loop-own.invariant.fresh).1
 

@@ -10,13 +10,13 @@ use Rattle.pool.proofs.Rule.{forks}
 use Rattle.pool.proofs.desks.hire.Goals as goal
 
 pub cut-requires-clause-rule : goal.cut-requires-clause-rule
-cut-requires-clause-rule g c = record {
+cut-requires-clause-rule g c κ b = record {
   forks = forks;
   one = λ v. refl;
 }
 
 pub cut-requires-clause-shares : goal.cut-requires-clause-shares
-cut-requires-clause-shares g c k d lt =
+cut-requires-clause-shares g c κ b k d lt =
     let s = ap (λ (v : Ledger). v.shares) (c.loop.invariant.left k d lt) in
     let f = c.requires.few in
     let n = c.len-count.ensures in

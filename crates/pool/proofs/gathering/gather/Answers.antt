@@ -7,22 +7,22 @@ use Rattle.pool.proofs.Views.{as_many, carried}
 use Rattle.pool.proofs.gathering.gather.Goals as goal
 
 pub absorb_row-requires-clause-deques : goal.absorb_row-requires-clause-deques
-absorb_row-requires-clause-deques g c = c.requires.deques ∙ sym c.in_ok-owns.ensures.owns
+absorb_row-requires-clause-deques g c κ b = c.requires.deques ∙ sym c.in_ok-owns.ensures.owns
 
 pub absorb_row-requires-clause-some : goal.absorb_row-requires-clause-some
-absorb_row-requires-clause-some g c =
+absorb_row-requires-clause-some g c κ b =
     carried (λ w. shares_of (worker_view w.desk.own)) (λ o. shares_of (worker_view o)) (λ n. 0 < n) c.args.done.items _ c.in_ok-owns.ensures.shares
     (λ k d lt. (get_or c.args.done.items k d).desk.some)
 
 pub absorb_rows-requires-clause-deques : goal.absorb_rows-requires-clause-deques
-absorb_rows-requires-clause-deques g c =
+absorb_rows-requires-clause-deques g c κ b =
     carried (λ w. map (λ g'. deque_of g'.pass) w.desk.guests.items) (λ row. map (λ g'. deque_of g'.pass) row.items) _ c.args.done.items _
     c.in_ok-owns.ensures.rows
     (λ k d lt. c.requires.guests k d lt ∙ c.requires.deques ∙ sym c.in_ok-owns.ensures.owns ∙ sym c.absorb_row.ensures.deques)
 
 -- each deque's owner has all shares but one for what was dealt and one for each worker, and these come back
 pub drain_all-requires-clause-shares : goal.drain_all-requires-clause-shares
-drain_all-requires-clause-shares g c k d lt =
+drain_all-requires-clause-shares g c κ b k d lt =
     let dealt = c.args.dealt in
     let left = all_shares - 1 - length dealt.items in
     let first = carried (λ w. shares_of (worker_view w.desk.own)) (λ o. shares_of (worker_view o)) (λ m. m ≡ left) c.args.done.items _
@@ -38,8 +38,8 @@ drain_all-requires-clause-shares g c k d lt =
     let few = c.requires.few in
     omega (arith, dealt.ok.0, c.in_ok-owns.rows.ok.0)
 
-pub returns-clause-once : goal.returns-clause-once
-returns-clause-once g c h =
+pub returns : goal.returns
+returns g c h =
     let apart = c.in_ok-owns.ensures.out h in
     let row = c.absorb_row.ensures.taken h in
     let row' = c.absorb_row.ensures.pushed h in

@@ -10,19 +10,19 @@ use Rattle.pool.proofs.Views.{as_many, carried}
 use Rattle.pool.proofs.run.run_nodes.Goals as goal
 
 pub deal-requires-clause-room : goal.deal-requires-clause-room
-deal-requires-clause-room g c k d lt =
+deal-requires-clause-room g c κ b k d lt =
     let room = c.in_ok-owns.ensures.room k d lt in
     let count = c.len-count.ensures in
     omega arith
 
 pub cut-requires-clause-rule : goal.cut-requires-clause-rule
-cut-requires-clause-rule g c = record {
+cut-requires-clause-rule g c κ b = record {
   forks = deals;
   one = λ v. refl;
 }
 
 pub cut-requires-clause-shares : goal.cut-requires-clause-shares
-cut-requires-clause-shares g c k d lt = let s = c.deal-owns.ensures.shares k d lt in omega arith
+cut-requires-clause-shares g c κ b k d lt = let s = c.deal-owns.ensures.shares k d lt in omega arith
 
 pub desks-requires-clause-few : goal.desks-requires-clause-few
 desks-requires-clause-few g c =
@@ -34,7 +34,7 @@ desks-requires-clause-few g c =
     omega (arith, made.ok.0, c.in_ok-owns-2.owns.ok.0)
 
 pub desks-requires-clause-new : goal.desks-requires-clause-new
-desks-requires-clause-new g c =
+desks-requires-clause-new g c κ b =
     carried (λ o. ledger (shares_of (worker_view o) - 1) [] []) worker_view (λ v. v ≡ ledger (all_shares - 1) [] []) c.deal-owns.result.items _
     c.in_ok-owns-2.ensures.left (λ k d lt. ap (λ n. ledger (n - 1) [] []) (c.deal-owns.ensures.shares k d lt))
 
@@ -53,10 +53,10 @@ scope-requires g c =
     )
 
 pub gather-requires-clause-deques : goal.gather-requires-clause-deques
-gather-requires-clause-deques g c = c.in_ok-owns-2.ensures.guests ∙ sym c.in_ok-owns-2.ensures.owns ∙ sym c.in_ok-desks.ensures.owns ∙ sym c.in_ok-done.ensures.owns
+gather-requires-clause-deques g c κ b = c.in_ok-owns-2.ensures.guests ∙ sym c.in_ok-owns-2.ensures.owns ∙ sym c.in_ok-desks.ensures.owns ∙ sym c.in_ok-done.ensures.owns
 
 pub gather-requires-clause-guests : goal.gather-requires-clause-guests
-gather-requires-clause-guests g c =
+gather-requires-clause-guests g c κ b =
     carried (λ d. map (λ g'. deque_of g'.pass) d.guests.items) (λ w. map (λ g'. deque_of g'.pass) w.desk.guests.items)
     (λ ids. ids ≡ map (λ g'. deque_of g'.pass) c.in_ok-owns-2.dealt.items) c.in_ok-desks.desks.items _ c.in_ok-done.ensures.guests
     (λ k d lt. c.in_ok-desks.ensures.guests k d lt ∙ c.in_ok-owns-2.ensures.owns ∙ sym c.in_ok-owns-2.ensures.guests)
@@ -71,6 +71,6 @@ gather-requires-clause-few g c =
     omega (arith, made.ok.0, c.in_ok-owns-2.dealt.ok.0)
 
 pub gather-requires-clause-dealt : goal.gather-requires-clause-dealt
-gather-requires-clause-dealt g c =
+gather-requires-clause-dealt g c κ b =
     dealt_on worker_view (λ g'. view g'.pass) c.deal-owns.result.items c.in_ok-owns-2.dealt.items (map (λ b. b.value.vertex) c.args.nodes.items)
     (vertices g.J.Wiring.net) c.in_ok-owns-2.ensures.right c.requires.nodes c.deal-owns.ensures.dealt

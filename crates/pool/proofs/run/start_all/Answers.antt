@@ -16,7 +16,7 @@ start-requires-clause-worker g c =
     omega (arith, turn.0, c.args.desks.ok.0)
 
 pub start-requires-clause-deques : goal.start-requires-clause-deques
-start-requires-clause-deques g c =
+start-requires-clause-deques g c κ b =
     let turn = YieldsList-turn (YieldsList-from_vec {s = c.into_iter-desk-iterator.result} c.args.desks.items (search rules) (search rules))
     c.loop-desk.yielded c.loop-desk.desk-iterator c.loop-desk.yielded_by c.next.result c.next.new.self c.in-Some.desk c.in-Some.is c.next.ensures.steps in
     subst (λ d. map (λ g'. deque_of g'.pass) d.guests.items ≡ map stealer_deque c.args.thieves.now.items) (sym turn.1) (c.requires.deques _ _ turn.0)
