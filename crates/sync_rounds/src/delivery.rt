@@ -69,6 +69,7 @@ fn deliver_everywhere<T: Copy>(net: &Network, w: u32, payload: T, inboxes: &mut 
     ensures after { (outs : List (List (Option T))) → Broadcasts net.now outs w payload inboxes.old
         → Delivered net.now outs (w + 1) [] inboxes.new }
 {
+    net.is_network();
     for port in 0..net.degree(w) {
         deliver_one(net, w, port, payload, inboxes);
     }
