@@ -49,10 +49,14 @@ lack_text words p names = if nat_eq (length names) 0 then [] else numbered words
 abbrev pub safe_words : List ℕ → List ℕ
 safe_words acks = if nat_eq (length acks) 0 then codes ": safe " else codes "; safe "
 
+-- that a pulse is the last
+abbrev pub last_text : ℕ → List ℕ
+last_text p = numbered (codes ": pulse ") p ++ codes " is the last"
+
 -- why a node doesn't make its next pulse: it has made the last one, or these wires are still to come
 abbrev pub pulse_text : {M : Type 0} → Net → ℕ → ℕ → View M → List ℕ
 pulse_text net last v view =
-    if is_halted last view then numbered (codes ": pulse ") view.pulse ++ codes " is the last"
+    if is_halted last view then last_text view.pulse
     else (lack_text (codes ": ack ") view.pulse (lacking net v view Ack)
     ++ lack_text (safe_words (lacking net v view Ack)) view.pulse (lacking net v view Safe))
 

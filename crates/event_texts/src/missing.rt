@@ -6,7 +6,7 @@ ghost use Rattle.alpha_core.specs.node_api.Program.{last_pulse_on};
 ghost use Rattle.alpha_core.specs.View.{port_at};
 ghost use Rattle.net_core.specs.State.{node_of};
 ghost use Rattle.net_core.specs.Step.{has_port, is_vertex};
-ghost use Rattle.event_texts.specs.Missing.{before_name, lack_text, lacking, lacking_at, lacks};
+ghost use Rattle.event_texts.specs.Missing.{before_name, lack_text, lacking, lacking_at, lacks, last_text};
 ghost use Rattle.event_texts.specs.Missing.{missing_text, name_text, names_text, pulse_text};
 
 use alpha_core::{AlphaNode, Network, NodeProgram};
@@ -132,6 +132,14 @@ fn push_lack(
     push_names(text, names)
 }
 
+// Appends that a pulse is the last.
+fn push_last(text: &mut Vec<u8>, pulse: u32) -> Result<(), AllocError>
+    ensures { IfOk result (λ _. text.new.items ≡ text.old.items ++ last_text pulse) }
+{
+    push_numbered(text, b": pulse ", u128::from(pulse))?;
+    text.extend_from_slice(b" is the last")
+}
+
 // Appends why a vertex doesn't make its next pulse.
 fn push_pulse<P: NodeProgram>(
     alloc: Global,
@@ -146,9 +154,7 @@ fn push_pulse<P: NodeProgram>(
 {
     let pulse = state.pulse_of(v);
     if state.node(v).halted() {
-        push_numbered(text, b": pulse ", u128::from(pulse))?;
-        text.extend_from_slice(b" is the last")?;
-        return Ok(());
+        return push_last(text, pulse);
     }
     let acks = lacking(alloc, state, v, Lack::Ack)?;
     let safes = lacking(alloc, state, v, Lack::Safe)?;
