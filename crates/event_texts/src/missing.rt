@@ -117,12 +117,7 @@ fn push_names(text: &mut Vec<u8>, names: &[u32]) -> Result<(), AllocError>
 }
 
 // Appends words, a pulse and the names of neighbours, if there are some.
-fn push_lack(
-    text: &mut Vec<u8>,
-    words: &[u8],
-    pulse: u32,
-    names: &[u32],
-) -> Result<(), AllocError>
+fn push_lack(text: &mut Vec<u8>, words: &[u8], pulse: u32, names: &[u32]) -> Result<(), AllocError>
     ensures { IfOk result (λ _. text.new.items ≡ text.old.items ++ lack_text words.now pulse names.now) }
 {
     if names.is_empty() {
@@ -137,7 +132,8 @@ fn push_last(text: &mut Vec<u8>, pulse: u32) -> Result<(), AllocError>
     ensures { IfOk result (λ _. text.new.items ≡ text.old.items ++ last_text pulse) }
 {
     push_numbered(text, b": pulse ", u128::from(pulse))?;
-    text.extend_from_slice(b" is the last")
+    text.extend_from_slice(b" is the last")?;
+    Ok(())
 }
 
 // Appends why a vertex doesn't make its next pulse.
@@ -188,7 +184,11 @@ pub fn missing_words<P: NodeProgram>(
             push_numbered(&mut text, b" for ", u128::from(net.neighbour(v, port)))?;
         }
         Event::Take(v, port) if has_port(net, v, port) => {
-            push_numbered(&mut text, b": link from ", u128::from(net.neighbour(v, port)))?;
+            push_numbered(
+                &mut text,
+                b": link from ",
+                u128::from(net.neighbour(v, port)),
+            )?;
             push_numbered(&mut text, b" to ", u128::from(v))?;
         }
         _ => {}

@@ -29,4 +29,6 @@ returns-in-Err-clause-fault g c =
     fault-told program c.args.net.now script i row c.loop-row-test.true (get_or_default script i (0, Pulse 0) row c.loop-row-test.true) state
     c.loop-row.invariant.run c.in-Err.refused c.fault_of.result
     (λ no. ap (λ n. step program n state row.1) (sym c.loop-row.invariant.net) ∙ c.in-Err.ensures.step no)
-    (subst (λ view. IsToldOfStep program view.net view.state row.0 row.1 c.in-Err.refused c.fault_of.result) c.in-Err.ensures.refused c.fault_of.ensures)
+    (subst (λ n. IsToldOfStep program n state row.0 row.1 c.in-Err.refused c.fault_of.result) c.loop-row.invariant.net
+    (subst (λ view. IsToldOfStep program view.net view.state row.0 row.1 c.in-Err.refused c.fault_of.result) c.in-Err.ensures.refused
+    c.fault_of.ensures))
