@@ -6,10 +6,14 @@ use Rattle.alpha_core.proofs.node.AlphaNode.take_payload.Goals as goal
 
 pub invariant_of-self : goal.invariant_of-self
 invariant_of-self g c =
-    kept-set _ _ (unsaid c.self.inside.said) _ c.self.inside.ports c.args.port _ c.take_present.new.self c.take_present.ensures.set
-    (omega (arith, c.requires.port, ap (λ v. length v.node.view.ports) c.self.view_is)) (λ f. stays (unsaid c.self.inside.said) _ (Ack c.args.q) refl f) c.self.invariant
+    let a = c.self.inside in
+    kept-set _ _ (unsaid a.said) _ a.ports c.args.port _ c.take_present.new.self c.take_present.ensures.set
+    (omega (arith, c.requires.port, ap (λ v. length v.node.view.ports) c.self.view_is))
+    (λ f. stays (unsaid a.said) _ (Ack c.args.q) refl f) c.self.invariant
 
 pub invariant_of-self-else-q-self : goal.invariant_of-self-else-q-self
 invariant_of-self-else-q-self g c =
-    kept-set _ _ (unsaid c.self.inside.said) _ c.self.inside.ports c.args.port _ c.take_early.new.self c.take_early.ensures.set
-    (omega (arith, c.requires.port, ap (λ v. length v.node.view.ports) c.self.view_is)) (λ f. stays (unsaid c.self.inside.said) _ (Ack c.args.q) refl f) c.self.invariant
+    let a = c.self.inside in
+    kept-set _ _ (unsaid a.said) _ a.ports c.args.port _ c.take_early.new.self c.take_early.ensures.set
+    (omega (arith, c.requires.port, ap (λ v. length v.node.view.ports) c.self.view_is))
+    (λ f. stays (unsaid a.said) _ (Ack c.args.q) refl f) c.self.invariant
