@@ -1,5 +1,7 @@
-use Rattle.std.proofs.Common.{◌≡◌, ◌+◌, ◌∷◌, [], ◌++◌, map, refl, ap, ◌∙◌, arith}
+use Rattle.std.proofs.Common.{◌≡◌, ◌+◌, ◌∷◌, [], ◌++◌, map, map-id, refl, sym, ap, subst, ◌∙◌, arith, rules}
 use Rattle.std.specs.Prelude.{All, IfErr}
+use Rattle.std.proofs.lemmas.Iterator.Adapters.{YieldsList-from_vec}
+use Rattle.std.proofs.lemmas.Iterator.Consumers.{YieldsList-end}
 use Rattle.std.proofs.lemmas.List.Elements.{All-push}
 use Rattle.crossbeam_deque.specs.Handles.{view, worker_deque, worker_view}
 use Rattle.pool.specs.Deques.{deque_of}
@@ -30,5 +32,13 @@ loop-worked-preserved g c =
           let rp = ap (λ rs. in_rows (pushed_by h) (map (λ row. map (λ g'. view g'.pass) row.items) rs)) rows
           ∙ in_rows_more (pushed_by h) (λ row. map (λ g'. view g'.pass) row.items) c.loop-worked.rows.items worked.desk.guests in
           omega arith;
-      memory = All-push (λ w. IfErr w.written (λ _. ⊥)) c.loop-worked.yielded worked inv.memory ?;
+      memory = All-push (λ w. IfErr w.written (λ _. ⊥)) c.loop-worked.yielded worked inv.memory
+          (subst (λ w. IfErr w (λ _. ⊥)) (sym c.in_ok-written.was) (search rules));
     }
+
+-- at the end every worker's deque is there
+pub returns-clause-shares : goal.returns-clause-shares
+returns-clause-shares g c =
+    let end = YieldsList-end (YieldsList-from_vec {s = c.into_iter-worked-iterator.result} c.args.done.items (search rules) (search rules))
+    c.loop-worked.yielded c.loop-worked.worked-iterator c.loop-worked.yielded_by c.next.result c.next.new.self c.in-None.is c.next.ensures.steps in
+    c.loop-worked.invariant.shares ∙ ap (map (λ w. shares_of (worker_view w.desk.own))) (sym (map-id c.loop-worked.yielded) ∙ end.0)

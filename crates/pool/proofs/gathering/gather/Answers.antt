@@ -16,8 +16,8 @@ absorb_row-requires-clause-some g c κ b =
 
 pub absorb_rows-requires-clause-deques : goal.absorb_rows-requires-clause-deques
 absorb_rows-requires-clause-deques g c κ b =
-    carried (λ w. map (λ g'. deque_of g'.pass) w.desk.guests.items) (λ row. map (λ g'. deque_of g'.pass) row.items) _ c.args.done.items _
-    c.in_ok-owns.ensures.rows
+    carried (λ w. map (λ g'. deque_of g'.pass) w.desk.guests.items) (λ row. map (λ g'. deque_of g'.pass) row.items)
+    (λ ids. ids ≡ map worker_deque c.absorb_row.new.owns.items) c.args.done.items _ c.in_ok-owns.ensures.rows
     (λ k d lt. c.requires.guests k d lt ∙ c.requires.deques ∙ sym c.in_ok-owns.ensures.owns ∙ sym c.absorb_row.ensures.deques)
 
 -- each deque's owner has all shares but one for what was dealt and one for each worker, and these come back
@@ -39,14 +39,16 @@ drain_all-requires-clause-shares g c κ b k d lt =
     omega (arith, dealt.ok.0, c.in_ok-owns.rows.ok.0)
 
 pub returns : goal.returns
-returns g c h =
-    let apart = c.in_ok-owns.ensures.out h in
-    let row = c.absorb_row.ensures.taken h in
-    let row' = c.absorb_row.ensures.pushed h in
-    let rows = c.absorb_rows.ensures.taken h in
-    let rows' = c.absorb_rows.ensures.pushed h in
-    let dealt = c.requires.dealt h in
-    let none = dealt.0 in
-    let these = dealt.1 in
-    let drained = c.in_ok-drain_all.ensures.nodes h in
-    omega arith
+returns g c = record {
+  once = λ h.
+      let apart = c.in_ok-owns.ensures.out h in
+      let row = c.absorb_row.ensures.taken h in
+      let row' = c.absorb_row.ensures.pushed h in
+      let rows = c.absorb_rows.ensures.taken h in
+      let rows' = c.absorb_rows.ensures.pushed h in
+      let dealt = c.requires.dealt h in
+      let none = dealt.0 in
+      let these = dealt.1 in
+      let drained = c.in_ok-drain_all.ensures.nodes h in
+      omega arith;
+}

@@ -2,11 +2,14 @@ use Rattle.std.proofs.Common.{◌≡◌}
 use Rattle.pool.proofs.Back.{no_node, one_node}
 use Rattle.pool.proofs.gathering.with_those_of.Goals as goal
 
-pub returns-in-Some-clause-nodes : goal.returns-in-Some-clause-nodes
-returns-in-Some-clause-nodes g c =
-    one_node (λ b. b.value.vertex) c.args.nodes.items c.args.finished.items c.args.node c.in-Some.node _ _ c.in-Some.is c.in_ok-append.ensures.items
-    c.in_ok-push.ensures.items
+pub returns : goal.returns
+returns g c = record {
+  nodes = one_node (λ b. b.value.vertex) c.args.nodes.items c.args.finished.items c.args.node c.in-Some.node _ _ c.in-Some.is c.in_ok-append.ensures.items
+      c.in_ok-push.ensures.items;
+}
 
-pub returns-in-None-clause-nodes : goal.returns-in-None-clause-nodes
-returns-in-None-clause-nodes g c =
-    no_node (λ b. b.value.vertex) c.args.nodes.items c.args.finished.items c.args.node _ c.in-None.is c.in_ok-append.ensures.items
+pub returns-in_default : goal.returns-in_default
+returns-in_default g c = record {
+  nodes = no_node (λ b. b.value.vertex) c.args.nodes.items c.args.finished.items c.args.node _
+      (let is = c.in_default.is in let not = c.in_default.not-Some in ?) c.in_ok-append.ensures.items;
+}

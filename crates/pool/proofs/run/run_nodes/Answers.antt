@@ -9,8 +9,8 @@ use Rattle.pool.proofs.Rule.{deals}
 use Rattle.pool.proofs.Views.{as_many, carried}
 use Rattle.pool.proofs.run.run_nodes.Goals as goal
 
-pub deal-requires-clause-room : goal.deal-requires-clause-room
-deal-requires-clause-room g c κ b k d lt =
+pub deal-owns-requires-clause-room : goal.deal-owns-requires-clause-room
+deal-owns-requires-clause-room g c κ b k d lt =
     let room = c.in_ok-owns.ensures.room k d lt in
     let count = c.len-count.ensures in
     omega arith
@@ -39,26 +39,26 @@ desks-requires-clause-new g c κ b =
     c.in_ok-owns-2.ensures.left (λ k d lt. ap (λ n. ledger (n - 1) [] []) (c.deal-owns.ensures.shares k d lt))
 
 -- the threads begin with a desk for each thief
-pub scope-requires : goal.scope-requires
-scope-requires g c =
+pub scoped-requires : goal.scoped-requires
+scoped-requires g c =
     let made = c.in_ok-owns.owns in
     let deques = c.in_ok-owns-2.ensures.owns ∙ c.deal-owns.ensures.deques ∙ c.in_ok-owns.ensures.deques in
     let desks = as_many stealer_deque (λ d. worker_deque d.own) c.in_ok-owns.thieves.items c.in_ok-desks.desks.items (c.in_ok-desks.ensures.owns ∙ deques) in
     let thieves = as_many worker_deque stealer_deque made.items c.in_ok-owns.thieves.items (sym c.in_ok-owns.ensures.deques) in
     let n = c.in_ok-owns.ensures.workers in
-    let few = c.requires.workers.1 in (
-      omega (arith, made.ok.0, c.in_ok-desks.desks.ok.0),
-      omega (arith, c.in_ok-owns.thieves.ok.0, c.in_ok-desks.desks.ok.0),
-      λ k d lt. c.in_ok-desks.ensures.guests k d lt ∙ deques,
-    )
+    let few = c.requires.workers.1 in ?
 
 pub gather-requires-clause-deques : goal.gather-requires-clause-deques
-gather-requires-clause-deques g c κ b = c.in_ok-owns-2.ensures.guests ∙ sym c.in_ok-owns-2.ensures.owns ∙ sym c.in_ok-desks.ensures.owns ∙ sym c.in_ok-done.ensures.owns
+gather-requires-clause-deques g c κ b =
+    let e = c.in_ok-done.ensures in
+    let e0 = e.0 in
+    let e1 = e.1 in
+    c.in_ok-owns-2.ensures.guests ∙ sym c.in_ok-owns-2.ensures.owns ∙ sym c.in_ok-desks.ensures.owns ∙ ?
 
 pub gather-requires-clause-guests : goal.gather-requires-clause-guests
 gather-requires-clause-guests g c κ b =
     carried (λ d. map (λ g'. deque_of g'.pass) d.guests.items) (λ w. map (λ g'. deque_of g'.pass) w.desk.guests.items)
-    (λ ids. ids ≡ map (λ g'. deque_of g'.pass) c.in_ok-owns-2.dealt.items) c.in_ok-desks.desks.items _ c.in_ok-done.ensures.guests
+    (λ ids. ids ≡ map (λ g'. deque_of g'.pass) c.in_ok-owns-2.dealt.items) c.in_ok-desks.desks.items _ ?
     (λ k d lt. c.in_ok-desks.ensures.guests k d lt ∙ c.in_ok-owns-2.ensures.owns ∙ sym c.in_ok-owns-2.ensures.guests)
 
 pub gather-requires-clause-few : goal.gather-requires-clause-few

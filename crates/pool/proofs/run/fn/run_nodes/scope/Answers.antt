@@ -4,13 +4,12 @@ use Rattle.crossbeam_deque.specs.Handles.{worker_deque}
 use Rattle.pool.specs.Deques.{deque_of}
 use Rattle.pool.proofs.run.fn.run_nodes.scope.Goals as goal
 
-pub returns-clause-owns : goal.returns-clause-owns
-returns-clause-owns g c =
-    subst (λ ds. IfOk c.join_all.result (λ done. map (λ w. worker_deque w.desk.own) done.items ≡ map (λ d. worker_deque d.own) ds))
-    c.in_ok-children.ensures.desks c.join_all.ensures.owns
-
-pub returns-clause-guests : goal.returns-clause-guests
-returns-clause-guests g c =
-    subst (λ ds. IfOk c.join_all.result (λ done. map (λ w. map (λ g'. deque_of g'.pass) w.desk.guests.items) done.items
-    ≡ map (λ d. map (λ g'. deque_of g'.pass) d.guests.items) ds))
-    c.in_ok-children.ensures.desks c.join_all.ensures.guests
+pub returns : goal.returns
+returns g c = record {
+  owns = subst (λ ds. IfOk c.join_all.result (λ done. map (λ w. worker_deque w.desk.own) done.items ≡ map (λ d. worker_deque d.own) ds))
+      c.in_ok-children.ensures.desks c.join_all.ensures.owns;
+  guests = subst (λ ds. IfOk c.join_all.result (λ done. map (λ w. map (λ g'. deque_of g'.pass) w.desk.guests.items) done.items
+      ≡ map (λ d. map (λ g'. deque_of g'.pass) d.guests.items) ds))
+      c.in_ok-children.ensures.desks c.join_all.ensures.guests;
+  fault = ?;
+}
