@@ -5,5 +5,6 @@ pub mod Readings
 pub mod Spaced
 pub mod Written
 pub mod Texts
-pub mod Numbered
+pub mod LinesBehind
 pub mod EntryNumbers
+pub mod LineEnds

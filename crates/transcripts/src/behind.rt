@@ -7,6 +7,7 @@ ghost use Rattle.transcripts.specs.Behind.{AreNetworkLines, entry_lines, numbers
 ghost use Rattle.transcripts.specs.Reading.{IsFaultOf};
 
 use crate::fault::TextFault;
+use crate::lines::first_line;
 use crate::reading::read_lines;
 use alpha_core::PayloadText;
 use channel_plan::{text_before, text_start};
@@ -53,12 +54,15 @@ fn push_numbers(numbers: &mut Vec<usize>, before: usize, text: &[u8]) -> Result<
     ensures { IfOk result (λ _. numbers.new.items
         ≡ numbers.old.items ++ numbers_from (before + 2) (drop 1 (lines_of text.now))) }
 {
-    let mut number = before;
-    for line in text.split(|byte| *byte == b'\n') {
+    let (_, mut rest) = first_line(text);
+    let mut number = before + 1;
+    'each: while let Some(left) = rest {
+        let (line, behind) = first_line(left);
         number += 1;
-        if number > before + 1 && has_fields(line) {
+        if has_fields(line) {
             numbers.push(number)?;
         }
+        rest = behind;
     }
     Ok(())
 }

@@ -7,6 +7,7 @@ ghost use Rattle.transcripts.specs.Reader.{IsSyntaxFault};
 
 use crate::entry_line::{header_of, row_of};
 use crate::fault::TextFault;
+use crate::lines::first_line;
 use alpha_core::PayloadText;
 use dimacs_col::{Fields, without_carriage_return};
 use entries::Entry;
@@ -99,8 +100,11 @@ pub(crate) fn read_lines<T: PayloadText>(
     ensures fault { IfErr result (IsFaultOf (read_from T.payload_of (before + 1) None (lines_of text.now))) }
 {
     let mut reader = Reader::behind(before);
-    for line in text.split(|byte| *byte == b'\n') {
+    let mut rest = Some(text);
+    'each: while let Some(left) = rest {
+        let (line, behind) = first_line(left);
         reader.step(alloc, Fields::of(without_carriage_return(line)))?;
+        rest = behind;
     }
     reader.finish()
 }

@@ -1,12 +1,16 @@
-use Rattle.std.proofs.Common.{◌≡◌, ◌+◌, ◌++◌, drop, length, map}
-use Rattle.dimacs_col.specs.Lines.{line_of}
+use Rattle.std.proofs.Common.{◌≡◌, ◌+◌, ◌++◌, drop, length}
+use Rattle.dimacs_col.specs.Lines.{lines_of}
 use Rattle.transcripts.specs.Behind.{numbers_from}
+use Rattle.transcripts.specs.Reader.{lines_in}
 use Rattle.transcripts.proofs.behind.push_numbers.Given as goal
 
--- the number of the last line, and the numbers of the lines so far
-abbrev pub invariant-loop-line : goal.invariant-loop-line
-invariant-loop-line l = record {
-  steps : (goal.iterator-loop-line).can_next l.line-iterator × (goal.iterator-loop-line).is_finite l.line-iterator;
-  number : l.number ≡ l.before + length l.yielded;
-  numbers : l.numbers.items ≡ l.fn.numbers.items ++ numbers_from (l.before + 2) (drop 1 (map (λ x. line_of x.now) l.yielded));
+-- all numbers are those so far, and those of the lines that are left
+abbrev pub invariant-each : goal.invariant-each
+invariant-each l = record {
+  number : l.number + length (lines_in l.rest) ≡ l.before + length (lines_of l.text);
+  numbers : l.fn.numbers.items ++ numbers_from (l.before + 2) (drop 1 (lines_of l.text))
+      ≡ l.numbers.items ++ numbers_from (l.number + 1) (lines_in l.rest);
 }
+
+abbrev pub decreases-each : goal.decreases-each
+decreases-each l = length (lines_in l.rest)

@@ -1,6 +1,6 @@
-use Rattle.std.proofs.Common.{◌≡◌, ◌∙◌, IfErr, IfOk, Ok, ap, drop, subst}
-use Rattle.std.proofs.lemmas.List.{take_rest}
 use Rattle.dimacs_col.specs.Lines.{lines_of}
-use Rattle.transcripts.specs.Reading.{IsFaultOf}
-use Rattle.transcripts.proofs.Numbered.{behind-is, nothing-behind}
+use Rattle.transcripts.proofs.LinesBehind.{nothing-behind}
 use Rattle.transcripts.proofs.behind.read_behind_network.Goals as goal
+
+pub returns-in-None-clause-fault : goal.returns-in-None-clause-fault
+returns-in-None-clause-fault g c = nothing-behind g.T.PayloadText.payload_of (lines_of c.args.input.now) c.in-None.ensures.no_text
