@@ -31,19 +31,19 @@ id_in-at ids v = lookup-by (λ w. v == w) (is_at (nat_cmp v)) (λ w. unsigned_ti
 
 lookup-more : (f : ℕ → Bool) (ids more : List (ℕ × ℕ)) → lookup f ids ≡ None → lookup f (ids ++ more) ≡ lookup f more
 lookup-more f [] more e = refl
-lookup-more f (x ∷ xs) more e = more-by (f x.0) refl
+lookup-more f (x ∷ xs) more e = more-by (f x.0) (λ rest. lookup-more f xs more rest) refl
   where
-    more-by : (b : Bool) → f x.0 ≡ b → lookup f ((x ∷ xs) ++ more) ≡ lookup f more
-    more-by true t = let some : Some x.1 ≡ None = (rw t at e) in absurd cc
-    more-by false t = let rest : lookup f xs ≡ None = (rw t at e) in rw t (lookup-more f xs more rest)
+    more-by : (b : Bool) → (lookup f xs ≡ None → lookup f (xs ++ more) ≡ lookup f more) → f x.0 ≡ b → lookup f ((x ∷ xs) ++ more) ≡ lookup f more
+    more-by true go t = let some : Some x.1 ≡ None = (rw t at e) in absurd cc
+    more-by false go t = let rest : lookup f xs ≡ None = (rw t at e) in rw t (go rest)
 
 lookup-found : (f : ℕ → Bool) (ids more : List (ℕ × ℕ)) (id : ℕ) → lookup f ids ≡ Some id → lookup f (ids ++ more) ≡ Some id
 lookup-found f [] more id e = absurd cc
-lookup-found f (x ∷ xs) more id e = found-by (f x.0) refl
+lookup-found f (x ∷ xs) more id e = found-by (f x.0) (λ rest. lookup-found f xs more id rest) refl
   where
-    found-by : (b : Bool) → f x.0 ≡ b → lookup f ((x ∷ xs) ++ more) ≡ Some id
-    found-by true t = let some : Some x.1 ≡ Some id = (rw t at e) in rw t some
-    found-by false t = let rest : lookup f xs ≡ Some id = (rw t at e) in rw t (lookup-found f xs more id rest)
+    found-by : (b : Bool) → (lookup f xs ≡ Some id → lookup f (xs ++ more) ≡ Some id) → f x.0 ≡ b → lookup f ((x ∷ xs) ++ more) ≡ Some id
+    found-by true go t = let some : Some x.1 ≡ Some id = (rw t at e) in rw t some
+    found-by false go t = let rest : lookup f xs ≡ Some id = (rw t at e) in rw t (go rest)
 
 -- one more, of a vertex that has none
 pub id_in-here : (ids : List (ℕ × ℕ)) (v id : ℕ) → id_in ids v ≡ None → id_in (ids ++ (v, id) ∷ []) v ≡ Some id
@@ -92,9 +92,9 @@ module _ (before : List Line) (word : List ℕ) (fields : Line) (r : Reader) (no
     pub great-told : is_identifier number ≡ false → verdict before (word ∷ fields) ≡ Some (NumberRange (number_after before))
     great-told f = told-by false (has_id before v) f refl
 
-    pub twice-told : (old : ℕ) → is_identifier number ≡ true → get nat_cmp r.ids v ≡ Some old →
+    pub twice-told : is_identifier number ≡ true → is_some (get nat_cmp r.ids v) ≡ true →
         verdict before (word ∷ fields) ≡ Some (IdTwice (number_after before))
-    twice-told old f h = told-by true true f (ap is_some (sym (e.knows.ids_are v) ∙ h))
+    twice-told f h = told-by true true f (ap is_some (sym (e.knows.ids_are v)) ∙ h)
 
     -- one more vertex with an identifier
     named : edges_of ((word ∷ fields) ∷ []) ≡ []

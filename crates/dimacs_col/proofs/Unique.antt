@@ -1,17 +1,19 @@
 -- A text has one reading.
 -- Two ascending lists with the same members are one list: their heads are each other's least member.
 -- Two places in a list are one, or one stands among the lines before the other, and is good.
-use Rattle.std.proofs.Common.{◌≡◌, ◌≢◌, ◌++◌, ◌⊎◌, inl, inr, ◌||◌, ℕ, Bool, true, false, Some, None, List, [], ◌∷◌, refl, sym, ◌∙◌, ap, subst}
+use Rattle.std.proofs.Common.{◌≡◌, ◌≢◌, ◌++◌, ◌⊎◌, inl, inr, ◌||◌, ◌==◌, ℕ, Bool, true, false, Some, None, List, [], ◌∷◌, refl, sym, ◌∙◌, ap, subst}
 use Rattle.std.specs.Set.{is_member}
 use Rattle.std.specs.List.{Contains, AllByRecursion}
 use Rattle.std.specs.List.Sorted.{IsStrictlySortedBy}
 use Rattle.std.specs.Cmp.{both_ways}
 use Rattle.std.specs.Map.{keys_of}
 use Rattle.std.specs.Ordering.{nat_cmp, ordering_reverse}
-use Rattle.std.specs.BTreeMap.{BTreeMap}
+use Rattle.std.specs.Cmp.{unsigned_ties}
+use Rattle.std.proofs.lemmas.Bool.{cases_eq, eq-eqb, ne_eqb}
 use Rattle.std.proofs.lemmas.Cmp.{nat_cmp_total}
-use Rattle.std.proofs.lemmas.Map.Lookups.{btree_map_read_from_get, exact_unsigned, map_keys}
-use Rattle.std.specs.declared.cmp.Ordering.TheVariants.{Less}
+use Rattle.std.proofs.lemmas.Map.Lookups.{exact_unsigned}
+use Rattle.std.specs.declared.cmp.Ordering.{Ordering}
+use Rattle.std.specs.declared.cmp.Ordering.TheVariants.{Less, Equal, Greater}
 use Rattle.dimacs_col.specs.Lines.{Line}
 use Rattle.dimacs_col.specs.Reading.{AllGood, Graph, id_in, nodes_of, verdict, IsFirstFault, IsFault, IsGraph}
 use Rattle.dimacs_col.specs.Pairs.{pair_cmp, same_pair}
@@ -31,7 +33,6 @@ use Rattle.dimacs_col.specs.declared.fault.ColFault.TheVariants.{
   IdTwice,
   Memory,
 }
-use Rattle.dimacs_col.proofs.Identifiers.{id_in-at}
 use Rattle.dimacs_col.proofs.Members.{pair_total, same_pair-laws, same_pair-exact, members-from_Contains}
 
 -- ---- ascending lists
@@ -93,20 +94,58 @@ same-list (x ∷ xs) (y ∷ ys) f g same =
     ap (λ zs. x ∷ zs) rest ∙ ap (λ z. z ∷ ys) is
 
 -- ---- identifiers: two ascending lists that give each vertex the same are one list
-ids-are : (ids : List (ℕ × ℕ)) → map_keys (λ v. v) ids ≡ ids
-ids-are [] = refl
-ids-are (e ∷ es) = ap (λ xs. e ∷ xs) (ids-are es)
+-- a vertex below all those of a list has none there
+below-all : (v : ℕ) (ids : List (ℕ × ℕ)) → AllByRecursion (λ k. nat_cmp v k ≡ Less) (keys_of ids) → id_in ids v ≡ None
+below-all v [] low = refl
+below-all v (e ∷ es) low = let apart : (v == e.0) ≡ false = unsigned_ties v e.0 ∙ ap is_eq low.0 in rw apart (below-all v es low.1)
 
-as-map : List (ℕ × ℕ) → BTreeMap ℕ ℕ
-as-map ids = record { entries = ids; layout = inl tt }
+further-below : (a b : ℕ) (ks : List ℕ) → nat_cmp a b ≡ Less → AllByRecursion (λ k. nat_cmp b k ≡ Less) ks → AllByRecursion (λ k. nat_cmp a k ≡ Less) ks
+further-below a b [] h low = tt
+further-below a b (k ∷ ks) h low = (nat_cmp_total.trans a b k h low.0, further-below a b ks h low.1)
+
+id-here : (x : ℕ × ℕ) (xs : List (ℕ × ℕ)) → id_in (x ∷ xs) x.0 ≡ Some x.1
+id-here x xs = rw (eq-eqb x.0 x.0 refl) refl
+
+id-there : (v : ℕ) (x : ℕ × ℕ) (xs : List (ℕ × ℕ)) → (v ≡ x.0 → ⊥) → id_in (x ∷ xs) v ≡ id_in xs v
+id-there v x xs apart = rw (ne_eqb v x.0 apart) refl
+
+no-less : (x y : ℕ × ℕ) (xs ys : List (ℕ × ℕ)) → nat_cmp x.0 y.0 ≡ Less → AllByRecursion (λ k. nat_cmp y.0 k ≡ Less) (keys_of ys) →
+    id_in (x ∷ xs) x.0 ≡ id_in (y ∷ ys) x.0 → ⊥
+no-less x y xs ys h low same =
+    let none : id_in (y ∷ ys) x.0 ≡ None = below-all x.0 (y ∷ ys) (h, further-below x.0 y.0 (keys_of ys) h low) in
+    let e : Some x.1 ≡ None = sym (id-here x xs) ∙ same ∙ none in absurd cc
+
+same-keys : (x y : ℕ × ℕ) (xs ys : List (ℕ × ℕ)) → AllByRecursion (λ k. nat_cmp x.0 k ≡ Less) (keys_of xs) →
+    AllByRecursion (λ k. nat_cmp y.0 k ≡ Less) (keys_of ys) → ((v : ℕ) → id_in (x ∷ xs) v ≡ id_in (y ∷ ys) v) → x.0 ≡ y.0
+same-keys x y xs ys f g same = by-order (nat_cmp x.0 y.0) refl
+  where
+    by-order : (o : Ordering) → nat_cmp x.0 y.0 ≡ o → x.0 ≡ y.0
+    by-order Less o = absurd (no-less x y xs ys o g (same x.0))
+    by-order Equal o = exact_unsigned x.0 y.0 o
+    by-order Greater o = absurd (no-less y x ys xs (nat_cmp_total.antisymm y.0 x.0 ∙ ap ordering_reverse o) f (sym (same y.0)))
+
+same-tails : (x y : ℕ × ℕ) (xs ys : List (ℕ × ℕ)) → x.0 ≡ y.0 → AllByRecursion (λ k. nat_cmp x.0 k ≡ Less) (keys_of xs) →
+    AllByRecursion (λ k. nat_cmp y.0 k ≡ Less) (keys_of ys) → ((v : ℕ) → id_in (x ∷ xs) v ≡ id_in (y ∷ ys) v) →
+    (v : ℕ) → (v ≡ x.0) ⊎ (v ≡ x.0 → ⊥) → id_in xs v ≡ id_in ys v
+same-tails x y xs ys key f g same v (inl is) =
+    ap (λ q. id_in xs q) is ∙ below-all x.0 xs f ∙ sym (ap (λ q. id_in ys q) (is ∙ key) ∙ below-all y.0 ys g)
+same-tails x y xs ys key f g same v (inr apart) = sym (id-there v x xs apart) ∙ same v ∙ id-there v y ys (λ e. apart (e ∙ sym key))
+
+same-entry : (x y : ℕ × ℕ) → x.0 ≡ y.0 → x.1 ≡ y.1 → x ≡ y
+same-entry (a, b) (c, d) p q = ap (λ k. (k, b)) p ∙ ap (λ n. (c, n)) q
 
 same-ids : (ids others : List (ℕ × ℕ)) → IsStrictlySortedBy nat_cmp (keys_of ids) → IsStrictlySortedBy nat_cmp (keys_of others) →
     ((v : ℕ) → id_in ids v ≡ id_in others v) → ids ≡ others
-same-ids ids others f g same =
-    sym (ids-are ids)
-    ∙ btree_map_read_from_get nat_cmp_total (as-map ids) (as-map others) f g
-    (λ v. sym (id_in-at ids v) ∙ same v ∙ id_in-at others v) (λ v. v) (λ x y e. exact_unsigned x y e)
-    ∙ ids-are others
+unfolding IsStrictlySortedBy
+same-ids [] [] f g same = refl
+same-ids [] (y ∷ ys) f g same = let e : None ≡ Some y.1 = same y.0 ∙ id-here y ys in absurd cc
+same-ids (x ∷ xs) [] f g same = let e : None ≡ Some x.1 = sym (same x.0) ∙ id-here x xs in absurd cc
+same-ids (x ∷ xs) (y ∷ ys) f g same =
+    let key : x.0 ≡ y.0 = same-keys x y xs ys f.0 g.0 same in
+    let e : Some x.1 ≡ Some y.1 = sym (id-here x xs) ∙ same x.0 ∙ ap (λ q. id_in (y ∷ ys) q) key ∙ id-here y ys in
+    let value : x.1 ≡ y.1 = cc in
+    let rest : xs ≡ ys = same-ids xs ys f.1 g.1 (λ v. same-tails x y xs ys key f.0 g.0 same v (cases_eq v x.0)) in
+    ap (λ zs. x ∷ zs) rest ∙ ap (λ z. z ∷ ys) (same-entry x y key value)
 
 -- ---- graphs
 abbrev graph-with : ℕ → List (ℕ × ℕ) → List (ℕ × ℕ) → Graph
