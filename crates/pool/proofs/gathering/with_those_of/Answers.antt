@@ -11,5 +11,5 @@ returns g c = record {
 pub returns-in_default : goal.returns-in_default
 returns-in_default g c = record {
   nodes = no_node (λ b. b.value.vertex) c.args.nodes.items c.args.finished.items c.args.node _
-      (let is = c.in_default.is in let not = c.in_default.not-Some in ?) c.in_ok-append.ensures.items;
+      c.in_default.is c.in_ok-append.ensures.items;
 }

@@ -1,4 +1,4 @@
-use Rattle.std.proofs.Common.{◌≡◌, ◌≤◌, ◌<◌, ◌+◌, ◌-◌, [], length, map, refl, sym, ap, ◌∙◌, arith}
+use Rattle.std.proofs.Common.{◌≡◌, ◌≤◌, ◌<◌, ◌+◌, ◌-◌, [], length, map, refl, sym, ap, ◌∙◌, arith, rules}
 use Rattle.std.specs.Prelude.{All, reverse}
 use Rattle.actor.specs.interference.Net.{vertices}
 use Rattle.crossbeam_deque.specs.Handles.{stealer_deque, view, worker_deque, worker_view}
@@ -46,19 +46,24 @@ scoped-requires g c =
     let desks = as_many stealer_deque (λ d. worker_deque d.own) c.in_ok-owns.thieves.items c.in_ok-desks.desks.items (c.in_ok-desks.ensures.owns ∙ deques) in
     let thieves = as_many worker_deque stealer_deque made.items c.in_ok-owns.thieves.items (sym c.in_ok-owns.ensures.deques) in
     let n = c.in_ok-owns.ensures.workers in
-    let few = c.requires.workers.1 in ?
+    let few = c.requires.workers.1 in
+    λ a. (
+      (
+        omega (arith, made.ok.0, c.in_ok-desks.desks.ok.0),
+        omega (arith, c.in_ok-owns.thieves.ok.0, c.in_ok-desks.desks.ok.0),
+        λ k d lt. c.in_ok-desks.ensures.guests k d lt ∙ deques,
+      ),
+      search rules,
+    )
 
 pub gather-requires-clause-deques : goal.gather-requires-clause-deques
 gather-requires-clause-deques g c κ b =
-    let e = c.in_ok-done.ensures in
-    let e0 = e.0 in
-    let e1 = e.1 in
-    c.in_ok-owns-2.ensures.guests ∙ sym c.in_ok-owns-2.ensures.owns ∙ sym c.in_ok-desks.ensures.owns ∙ ?
+    c.in_ok-owns-2.ensures.guests ∙ sym c.in_ok-owns-2.ensures.owns ∙ sym c.in_ok-desks.ensures.owns ∙ sym c.in_ok-done.ensures.1.0
 
 pub gather-requires-clause-guests : goal.gather-requires-clause-guests
 gather-requires-clause-guests g c κ b =
     carried (λ d. map (λ g'. deque_of g'.pass) d.guests.items) (λ w. map (λ g'. deque_of g'.pass) w.desk.guests.items)
-    (λ ids. ids ≡ map (λ g'. deque_of g'.pass) c.in_ok-owns-2.dealt.items) c.in_ok-desks.desks.items _ ?
+    (λ ids. ids ≡ map (λ g'. deque_of g'.pass) c.in_ok-owns-2.dealt.items) c.in_ok-desks.desks.items _ c.in_ok-done.ensures.1.1.0
     (λ k d lt. c.in_ok-desks.ensures.guests k d lt ∙ c.in_ok-owns-2.ensures.owns ∙ sym c.in_ok-owns-2.ensures.guests)
 
 pub gather-requires-clause-few : goal.gather-requires-clause-few

@@ -1,4 +1,7 @@
 use Rattle.pool.proofs.run.fn.start.spawn_with+FnOnce.call_once.Goals as goal
 
+-- the bounds of what the thread calls, and what its closure requires
 pub spawn_with-requires : goal.spawn_with-requires
-spawn_with-requires g c = ?
+spawn_with-requires g c =
+    let r = c.requires.1.1.1.1.1 in
+    (r.1.0, r.1.1.0, r.1.1.1.0, r.1.1.1.1.0, r.1.1.1.1.1.0, r.1.1.1.1.1.1, r.0)
