@@ -1,14 +1,21 @@
 -- A text, cut at its first line feed.
-use Rattle.std.proofs.Common.{◌≡◌, ◌<◌, ◌≤◌, ◌+◌, ◌++◌, ◌∷◌, [], ◌==◌, ◌∙◌, ℕ, suc, true, false, All, List, Option, Some, None, Bor, ap, arith, drop, get_or}
+use Rattle.std.proofs.Common.{◌≡◌, ◌<◌, ◌≤◌, ◌+◌, ◌++◌, ◌∷◌, [], ◌==◌, ◌∙◌, ℕ, suc, Bool, true, false, All, List, ap, arith, drop, get_or}
 use Rattle.std.proofs.Common.{length, map, refl, sym, take}
 use Rattle.std.proofs.Math.Seq.{drop-cons}
 use Rattle.std.specs.List.{slice_split}
+use Rattle.std.proofs.lemmas.Bool.{eqb-true}
 use Rattle.std.proofs.lemmas.List.{take-append-drop}
 use Rattle.std.proofs.lemmas.List.Splits.{length-slice_split, slice_split_at}
 use Rattle.std.proofs.lemmas.List.Sums.{count_by-le-length}
-use Rattle.dimacs_col.specs.Lines.{Line, line_of, lines_of}
+use Rattle.dimacs_col.specs.Lines.{line_of, lines_of}
 use Rattle.dimacs_col.proofs.Whole.{length-mapped}
-use Rattle.transcripts.specs.Reader.{lines_in}
+
+pub no-feed : (byte : ℕ) → (byte ≡ 10 → ⊥) → (byte == 10) ≡ false
+no-feed byte other = no-feed-by (byte == 10) refl
+  where
+    no-feed-by : (b : Bool) → (byte == 10) ≡ b → (byte == 10) ≡ false
+    no-feed-by true e = absurd (other (eqb-true byte 10 e))
+    no-feed-by false e = e
 
 pub cut-here : (text : List ℕ) (i d : ℕ) → i < length text → All (λ byte. (byte == 10) ≡ false) (take i text) → (get_or text i d == 10) ≡ true →
     slice_split (λ byte. byte == 10) text ≡ take i text ∷ slice_split (λ byte. byte == 10) (drop (i + 1) text)

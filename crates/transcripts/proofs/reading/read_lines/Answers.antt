@@ -1,6 +1,6 @@
 -- The plan: the lines that are left are the line at hand and those behind it (one); a wrong line is refused as the definition
 -- refuses it (fault-line); a line more leaves the reader as the definition has it; at the end no line is left (ended).
-use Rattle.std.proofs.Common.{◌≡◌, ◌∷◌, ◌∙◌, Err, IfOk, List, None, Ok, Some, ap, arith, length, subst, sym, ℕ}
+use Rattle.std.proofs.Common.{◌≡◌, ◌+◌, ◌∷◌, ◌∙◌, Err, IfOk, List, None, Ok, Some, ap, arith, length, subst, sym, ℕ}
 use Rattle.std.proofs.lemmas.Result.{err_from_is_err_and}
 use Rattle.dimacs_col.specs.Lines.{fields_of, line_of, lines_of}
 use Rattle.transcripts.specs.Reader.{lines_in}
