@@ -9,9 +9,9 @@ returns-clause-knows c = record {
   good = AllGood-none;
   nodes_are = refl;
   nodes_fit = tt;
-  ids_are = λ v. rw c.new-ids.ensures.empty refl;
+  ids_are = λ v. rw c.new.ensures.empty refl;
   ids_fit = λ v id e. absurd (cc);
   edges_few = omega arith;
   edges_fit = λ pair e. absurd (cc);
-  edges_are = λ pair. rw c.new-edges.ensures refl;
+  edges_are = λ pair. rw c.new-2.ensures refl;
 }
