@@ -1,5 +1,5 @@
 -- The number of a refused entry's line: the line is the entry (entry-at), whatever the refusal (refusal).
-use Rattle.std.proofs.Common.{◌≡◌, ◌≢◌, ◌++◌, ◌∷◌, [], ◌∙◌, ℕ, Option, Some, Ok, List, ap, length, map, refl, slice_get, slice_index_or, subst, sym, take}
+use Rattle.std.proofs.Common.{◌≡◌, ◌≢◌, ◌++◌, ◌∷◌, [], ◌∙◌, ℕ, Option, Some, None, Ok, List, ap, length, map, refl, slice_get, slice_index_or, subst, sym, take}
 use Rattle.std.specs.declared.vec.Vec.{Vec}
 use Rattle.std.specs.declared.alloc.Global.{Global}
 use Rattle.dimacs_col.specs.Lines.{Line}
@@ -8,10 +8,7 @@ use Rattle.net_core.specs.declared.refused.RunRefused.TheVariants as run
 use Rattle.colour_program.specs.colour_rules.Payload.{Payload}
 use Rattle.colour_program.specs.colour_rules.Program.{colouring}
 use Rattle.colour_program.specs.colour_rules.Words.{payload_from}
-use Rattle.replay.specs.Replays.{IsReplay, Stops, at_entry}
-use Rattle.replay.specs.declared.refused.EntryRefused.{EntryRefused}
-use Rattle.replay.specs.declared.refused.EntryRefused.TheVariants.{Step, WrongWire}
-use Rattle.net_core.specs.declared.refused.StepRefused.TheVariants.{LinkEmpty, Memory, NoSuch, NotReady, NothingToPut}
+use Rattle.replay.specs.Replays.{IsReplay, Stops}
 use Rattle.replay.proofs.Decided.{by-index, decided}
 use Rattle.transcripts.specs.TranscriptText.{Row}
 use Rattle.replay.specs.declared.refused.ReplayRefused.{ReplayRefused}
@@ -31,14 +28,11 @@ entry-at f (n ∷ numbers) [] row after e = cc
 entry-at f (n ∷ numbers) (first ∷ before) row after e =
     let left : map f numbers ≡ map (λ x. Some x) (before ++ row ∷ after) = cc in entry-at f numbers before row after left
 
--- the index of a refusal is the number of the entries before the refused one
-index-is : (k index : ℕ) (reason : EntryRefused) → index_of (at_entry k reason) ≡ Some index → index ≡ k
-index-is k index (Step NotReady) e = cc
-index-is k index (Step NothingToPut) e = cc
-index-is k index (Step LinkEmpty) e = cc
-index-is k index (Step NoSuch) e = cc
-index-is k index (Step Memory) e = absurd cc
-index-is k index WrongWire e = cc
+some-is : (k index : ℕ) → Some k ≡ Some index → index ≡ k
+some-is k index e = cc
+
+none-is : (k index : ℕ) → None ≡ Some index → index ≡ k
+none-is k index e = absurd cc
 
 get-at : {X : Type 0} (before : List X) (row : X) (after : List X) → slice_get (before ++ (row ∷ after)) (length before) ≡ Some row
 get-at [] row after = refl
@@ -53,9 +47,12 @@ says-there : (net : Net) → IsNetwork net → (rows : List (Row Payload)) (numb
     (stops : Stops colouring net rows refused) → (is : IsToldAs net rows numbers refused told) →
     is.words.items ≡ words_text net stops.reached stops.row refused
 says-there net ok rows numbers refused told stops is =
-    let place : is.index ≡ length stops.before = index-is (length stops.before) is.index stops.reason (ap index_of (sym stops.index) ∙ is.is_index) in
+    let k = length stops.before in
+    let same = some-is k is.index in
+    let place : is.index ≡ k = by-index (λ r. index_of r ≡ Some is.index → is.index ≡ k) k same same same same (none-is k is.index) same stops.reason
+        (ap index_of (sym stops.index) ∙ is.is_index) in
     let before : take is.index rows ≡ stops.before =
-        ap (λ k. take k rows) place ∙ ap (take (length stops.before)) stops.splits ∙ take-at stops.before (stops.row ∷ stops.after) in
+        ap (λ k. take k rows) place ∙ ap (take k) stops.splits ∙ take-at stops.before (stops.row ∷ stops.after) in
     let here : Some is.row ≡ Some stops.row =
         sym is.is_row ∙ ap (λ k. slice_get rows k) place ∙ ap (λ l. slice_get l (length stops.before)) stops.splits
         ∙ get-at stops.before stops.row stops.after in
@@ -67,21 +64,21 @@ says-there net ok rows numbers refused told stops is =
 
 refusal : (net : Net) → IsNetwork net → (lines : List Line) (read : Transcript Payload) (refused : ReplayRefused) (told : ReplayFault) → transcript_in lines ≡ Ok read →
     Stops colouring net read.1 refused → IsToldAs net read.1 (entry_lines lines) refused told → IsRefusal net lines told
-refusal net ok lines read refused told e stops as =
-    let is = as.is_told in
+refusal net ok lines read refused told e stops so =
+    let is = so.is_told in
     let rows = (entries-have-lines payload_from lines read e).rows_are ∙ ap (map (λ x. Some x)) stops.splits in
     let numbers = entry_lines lines in
     let line = entry-at (entry_on payload_from lines) numbers stops.before stops.row stops.after rows in
-    let has = by-index (λ r. HasLineOf lines stops.row (fault_at numbers as.words r)) (length stops.before) line line line line tt line stops.reason in
+    let has = by-index (λ r. HasLineOf lines stops.row (fault_at numbers so.words r)) (length stops.before) line line line line tt line stops.reason in
     record {
       read = read;
       refused = refused;
       is_read = e;
       stops = stops;
-      words = as.words;
-      says = says-there net ok read.1 numbers refused told stops as;
+      words = so.words;
+      says = says-there net ok read.1 numbers refused told stops so;
       is_told = is;
-      has_line = subst (HasLineOf lines stops.row) (sym (is ∙ ap (fault_at numbers as.words) stops.index)) has;
+      has_line = subst (HasLineOf lines stops.row) (sym (is ∙ ap (fault_at numbers so.words) stops.index)) has;
     }
 
 by-fault : (net : Net) (lines : List Line) (told : ReplayFault) → (told ≢ fault.Memory → IsRefusal net lines told) → IsFaultOfTranscript net lines told
@@ -95,13 +92,23 @@ by-fault net lines fault.Memory is = tt
 
 told-as : (net : Net) (rows : List (Row Payload)) (numbers : List ℕ) (refused : ReplayRefused) (told : ReplayFault) →
     IsTold net rows numbers refused told → told ≢ fault.Memory → IsToldAs net rows numbers refused told
-told-as net rows numbers refused (fault.Syntax n) is no = is
-told-as net rows numbers refused (fault.NotReady n words) is no = is
-told-as net rows numbers refused (fault.NothingToPut n words) is no = is
-told-as net rows numbers refused (fault.LinkEmpty n words) is no = is
-told-as net rows numbers refused (fault.NoSuch n) is no = is
-told-as net rows numbers refused (fault.WrongWire n words) is no = is
-told-as net rows numbers refused fault.Memory is no = absurd (no refl)
+told-as net rows numbers refused (fault.Syntax n) so isnt = so
+told-as net rows numbers refused (fault.NotReady n words) so isnt = so
+told-as net rows numbers refused (fault.NothingToPut n words) so isnt = so
+told-as net rows numbers refused (fault.LinkEmpty n words) so isnt = so
+told-as net rows numbers refused (fault.NoSuch n) so isnt = so
+told-as net rows numbers refused (fault.WrongWire n words) so isnt = so
+told-as net rows numbers refused fault.Memory so isnt = absurd (isnt refl)
+
+pub is-told : (net : Net) (rows : List (Row Payload)) (numbers : List ℕ) (refused : ReplayRefused) (told : ReplayFault) →
+    IsToldAs net rows numbers refused told → IsTold net rows numbers refused told
+is-told net rows numbers refused (fault.Syntax n) so = so
+is-told net rows numbers refused (fault.NotReady n words) so = so
+is-told net rows numbers refused (fault.NothingToPut n words) so = so
+is-told net rows numbers refused (fault.LinkEmpty n words) so = so
+is-told net rows numbers refused (fault.NoSuch n) so = so
+is-told net rows numbers refused (fault.WrongWire n words) so = so
+is-told net rows numbers refused fault.Memory so = tt
 
 not-memory : (numbers : List ℕ) (words : Vec ℕ Global) (refused : ReplayRefused) (index : ℕ) → index_of refused ≡ Some index → refused ≢ replay.Run run.Memory
 not-memory numbers words (replay.Run run.Memory) index e = absurd cc
@@ -116,5 +123,5 @@ pub fault-refused : (net : Net) → IsNetwork net → (lines : List Line) (read 
     IsTold net read.1 (entry_lines lines) refused told → IsFaultOfTranscript net lines told
 fault-refused net ok lines read refused told e stops is =
     by-fault net lines told (λ no.
-        let as = told-as net read.1 (entry_lines lines) refused told is no in
-        refusal net ok lines read refused told e (stops (not-memory (entry_lines lines) as.words refused as.index as.is_index)) as)
+        let so = told-as net read.1 (entry_lines lines) refused told is no in
+        refusal net ok lines read refused told e (stops (not-memory (entry_lines lines) so.words refused so.index so.is_index)) so)
