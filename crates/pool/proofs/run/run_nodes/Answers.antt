@@ -47,14 +47,17 @@ scoped-requires g c =
     let thieves = as_many worker_deque stealer_deque made.items c.in_ok-owns.thieves.items (sym c.in_ok-owns.ensures.deques) in
     let n = c.in_ok-owns.ensures.workers in
     let few = c.requires.workers.1 in
-    λ a. (
-      (
-        omega (arith, made.ok.0, c.in_ok-desks.desks.ok.0),
-        omega (arith, c.in_ok-owns.thieves.ok.0, c.in_ok-desks.desks.ok.0),
-        λ k d lt. c.in_ok-desks.ensures.guests k d lt ∙ deques,
-      ),
-      search rules,
-    )
+    let may = c.type_bounds in
+    record {
+      at = λ a. (
+        (
+          omega (arith, made.ok.0, c.in_ok-desks.desks.ok.0),
+          omega (arith, c.in_ok-owns.thieves.ok.0, c.in_ok-desks.desks.ok.0),
+          λ k d lt. c.in_ok-desks.ensures.guests k d lt ∙ deques,
+        ),
+        (search rules, search rules, may.send-P-Payload, search rules, search rules, search rules),
+      );
+    }
 
 pub gather-requires-clause-deques : goal.gather-requires-clause-deques
 gather-requires-clause-deques g c κ b =
