@@ -1,5 +1,5 @@
 -- The number of a refused entry's line: the line is the entry (entry-at), whatever the refusal (refusal).
-use Rattle.std.proofs.Common.{◌≡◌, ◌≢◌, ◌++◌, ◌∷◌, [], ◌∙◌, ℕ, Option, Some, None, Ok, List, ap, length, map, refl, slice_get, slice_index_or, subst, sym, take}
+use Rattle.std.proofs.Common.{◌≡◌, ◌≢◌, ◌++◌, ◌∷◌, [], ◌∙◌, ◌<◌, ℕ, zero, suc, Option, Some, None, Ok, List, ap, arith, get_or, length, map, refl, slice_get, slice_index_or, subst, sym, take}
 use Rattle.std.specs.declared.vec.Vec.{Vec}
 use Rattle.std.specs.declared.alloc.Global.{Global}
 use Rattle.dimacs_col.specs.Lines.{Line}
@@ -38,6 +38,11 @@ get-at : {X : Type 0} (before : List X) (row : X) (after : List X) → slice_get
 get-at [] row after = refl
 get-at (first ∷ before) row after = get-at before row after
 
+pub get-here : {X : Type 0} (xs : List X) (i : ℕ) (x : X) → i < length xs → x ≡ get_or xs i x → slice_get xs i ≡ Some x
+get-here [] i x lt is = absurd (omega arith)
+get-here (y ∷ xs) zero x lt is = ap (λ z. Some z) (sym is)
+get-here (y ∷ xs) (suc i) x lt is = get-here xs i x (omega arith) is
+
 take-at : {X : Type 0} (before after : List X) → take (length before) (before ++ after) ≡ before
 take-at [] after = refl
 take-at (first ∷ before) after = ap (λ l. first ∷ l) (take-at before after)
@@ -50,16 +55,16 @@ says-there net ok rows numbers refused told stops is =
     let k = length stops.before in
     let same = some-is k is.index in
     let place : is.index ≡ k = by-index (λ r. index_of r ≡ Some is.index → is.index ≡ k) k same same same same (none-is k is.index) same stops.reason
-        (ap index_of (sym stops.index) ∙ is.is_index) in
+    (ap index_of (sym stops.index) ∙ is.is_index) in
     let before : take is.index rows ≡ stops.before =
-        ap (λ k. take k rows) place ∙ ap (take k) stops.splits ∙ take-at stops.before (stops.row ∷ stops.after) in
+    ap (λ k. take k rows) place ∙ ap (take k) stops.splits ∙ take-at stops.before (stops.row ∷ stops.after) in
     let here : Some is.row ≡ Some stops.row =
-        sym is.is_row ∙ ap (λ k. slice_get rows k) place ∙ ap (λ l. slice_get l (length stops.before)) stops.splits
-        ∙ get-at stops.before stops.row stops.after in
+    sym is.is_row ∙ ap (λ k. slice_get rows k) place ∙ ap (λ l. slice_get l (length stops.before)) stops.splits
+    ∙ get-at stops.before stops.row stops.after in
     let row : is.row ≡ stops.row = cc in
     let state : is.reached ≡ stops.reached =
-        (decided colouring net ok).one_state stops.before is.reached stops.reached
-        (subst (λ l. IsReplay colouring net l is.reached) before is.is_replay) stops.is_replay in
+    (decided colouring net ok).one_state stops.before is.reached stops.reached
+    (subst (λ l. IsReplay colouring net l is.reached) before is.is_replay) stops.is_replay in
     is.says ∙ ap (λ s. words_text net s is.row refused) state ∙ ap (λ r. words_text net stops.reached r refused) row
 
 refusal : (net : Net) → IsNetwork net → (lines : List Line) (read : Transcript Payload) (refused : ReplayRefused) (told : ReplayFault) → transcript_in lines ≡ Ok read →
@@ -123,5 +128,5 @@ pub fault-refused : (net : Net) → IsNetwork net → (lines : List Line) (read 
     IsTold net read.1 (entry_lines lines) refused told → IsFaultOfTranscript net lines told
 fault-refused net ok lines read refused told e stops is =
     by-fault net lines told (λ no.
-        let so = told-as net read.1 (entry_lines lines) refused told is no in
-        refusal net ok lines read refused told e (stops (not-memory (entry_lines lines) so.words refused so.index so.is_index)) so)
+    let so = told-as net read.1 (entry_lines lines) refused told is no in
+    refusal net ok lines read refused told e (stops (not-memory (entry_lines lines) so.words refused so.index so.is_index)) so)

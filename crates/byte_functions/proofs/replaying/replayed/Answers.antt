@@ -13,5 +13,5 @@ returns-clause-fault c =
     fault-refused net c.is_network.ensures (lines_of c.args.input.now) (c.in_ok-rows.field-0-0, c.in_ok-rows.rows.items) refused c.told.result
     c.in_ok-rows.ensures.ok
     (λ no. subst (λ rows. Stops colouring net rows refused) c.as_slice.ensures.value (c.in-Err.ensures.refuses no))
-    (subst (λ numbers. IsTold net c.in_ok-rows.rows.items numbers refused c.told.result) (c.as_slice-in-Err.ensures.value ∙ c.in_ok-lines-in-Err.ensures)
-    (subst (λ rows. IsTold net rows c.as_slice-in-Err.result.now refused c.told.result) c.as_slice.ensures.value c.told.ensures))
+    (subst (λ numbers. IsTold net c.in_ok-rows.rows.items numbers refused c.told.result) (c.as_slice-in-Err-2.ensures.value ∙ c.in_ok-lines-in-Err.ensures)
+    (subst (λ rows. IsTold net rows c.as_slice-in-Err-2.result.now refused c.told.result) c.as_slice-in-Err.ensures.value c.told.ensures))
