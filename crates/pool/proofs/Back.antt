@@ -1,5 +1,5 @@
 -- What one worker hands back, beside the nodes so far.
-use Rattle.std.proofs.Common.{◌≡◌, ℕ, ◌+◌, List, [], ◌∷◌, ◌++◌, map, sym, ap, subst, ◌∙◌, arith, Option, Some, None}
+use Rattle.std.proofs.Common.{◌≡◌, ℕ, ◌+◌, List, [], ◌∷◌, ◌++◌, map, ap, ◌∙◌, arith, Option, Some, None}
 use Rattle.std.proofs.lemmas.List.{map-append}
 use Rattle.pool.specs.Ledgers.{in_hand, weigh}
 use Rattle.pool.proofs.Rule.{map_snoc, weigh-append}

@@ -1,10 +1,10 @@
 -- What a worker has out, step by step.
-use Rattle.std.proofs.Common.{◌≡◌, ℕ, ◌+◌, ◌<◌, List, [], ◌∷◌, ◌++◌, length, map, set, get_or, refl, sym, ap, ◌∙◌, subst, arith, Option, Some, None}
+use Rattle.std.proofs.Common.{◌≡◌, ℕ, ◌<◌, List, [], ◌∷◌, ◌++◌, length, map, set, get_or, sym, ap, ◌∙◌, subst, arith, Option, Some, None}
 use Rattle.std.specs.Prelude.{MatchOption, IfNone, IfSome}
 use Rattle.std.proofs.lemmas.List.{length-map, get_or-map, map-set}
 use Rattle.crossbeam_deque.proofs.Lists.{at_index}
 use Rattle.pool.specs.declared.ledger.Ledger.{Ledger}
-use Rattle.pool.specs.Ledgers.{ledger, weigh, total, AreOut, in_hand}
+use Rattle.pool.specs.Ledgers.{ledger, weigh, AreOut, in_hand}
 use Rattle.pool.proofs.Rule.{weigh-append, map_snoc, total_set}
 
 took : (own new : Ledger) (guests : List Ledger) (nodes : List ℕ) (k : ℕ) → new ≡ ledger own.shares own.pushed (own.taken ++ k ∷ [])

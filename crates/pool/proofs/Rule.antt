@@ -4,10 +4,10 @@ use Rattle.std.proofs.Common.{⊎_elim, arith}
 use Rattle.std.proofs.lemmas.List.{map-append, reverse-append}
 use mathlib.Core.Option as option
 use lib.ListN.{get_elem?}
-use Rattle.crossbeam_deque.specs.Tasks.{Pushes, Takes, Pops, Finds, FindsFew, Blocks, Forks, Merges}
+use Rattle.crossbeam_deque.specs.Tasks.{Pushes, Takes, Pops, Finds, Forks, Merges}
 use Rattle.crossbeam_deque.proofs.Lists.{at_set, at_snoc}
 use Rattle.pool.specs.declared.ledger.Ledger.{Ledger}
-use Rattle.pool.specs.Ledgers.{ledger, weigh, total, all_shares, pushed_by, taken_by, AreSame, IdleIsEmpty, Balanced, KnowsEmpty}
+use Rattle.pool.specs.Ledgers.{ledger, weigh, total, all_shares, IdleIsEmpty, Balanced, KnowsEmpty}
 
 pub weigh-append : (h : ℕ → ℕ) (xs ys : List ℕ) → weigh h (xs ++ ys) ≡ weigh h xs + weigh h ys
 weigh-append h [] ys = omega arith

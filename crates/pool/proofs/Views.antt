@@ -5,7 +5,7 @@ use Rattle.std.proofs.lemmas.List.{length-map, get_or-map, map-set}
 use Rattle.std.proofs.lemmas.List.Elements.{All-map, All-head, All-tail}
 use Rattle.crossbeam_deque.proofs.Lists.{at_index}
 use Rattle.pool.specs.declared.ledger.Ledger.{Ledger}
-use Rattle.pool.specs.Ledgers.{weigh, total, pushed_by, taken_by}
+use Rattle.pool.specs.Ledgers.{total}
 use Rattle.pool.proofs.Rule.{total_set}
 
 -- what is so of the images of a list is so of the list, and the other way round

@@ -1,5 +1,5 @@
 -- The rule of a deque: what was pushed to it is what was taken from it and what it holds.
-use Rattle.std.specs.Prelude.{◌≡◌, ℕ, ◌+◌, ◌<◌, List, [], ◌∷◌, map, Option, Some, None}
+use Rattle.std.specs.Prelude.{◌≡◌, ℕ, ◌+◌, ◌<◌, List, [], ◌∷◌, Option, Some, None}
 use mathlib.Core.Option as option
 use lib.ListN.{get_elem?}
 use Rattle.crossbeam_deque.specs.Tasks.{Forks}

@@ -1,4 +1,4 @@
-use Rattle.std.proofs.Common.{◌≡◌, ◌<◌, map, ap, sym, ◌∙◌, subst, rules, map-id}
+use Rattle.std.proofs.Common.{◌<◌, map, ap, sym, ◌∙◌, subst, rules, map-id}
 use Rattle.std.proofs.lemmas.Iterator.Consumers.{YieldsList-end, YieldsList-turn}
 use Rattle.std.proofs.lemmas.Iterator.Adapters.{YieldsList-from_vec}
 use Rattle.crossbeam_deque.specs.Handles.{worker_view}

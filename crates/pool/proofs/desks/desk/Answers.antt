@@ -1,4 +1,4 @@
-use Rattle.std.proofs.Common.{◌≡◌, ◌++◌, [], map, ap, ◌∙◌, arith}
+use Rattle.std.proofs.Common.{map, ap, ◌∙◌, arith}
 use Rattle.pool.specs.declared.ledger.Ledger.{Ledger}
 use Rattle.pool.specs.Ledgers.{weigh}
 use Rattle.pool.proofs.desks.desk.Goals as goal

@@ -1,6 +1,5 @@
-use Rattle.std.proofs.Common.{◌≡◌, ◌<◌, ℕ, [], ◌∷◌, ◌++◌, map, ap, ◌∙◌, arith}
+use Rattle.std.proofs.Common.{ℕ, [], ◌∷◌, ◌++◌, ap, ◌∙◌, arith}
 use Rattle.crossbeam_deque.specs.Handles.{worker_view}
-use Rattle.pool.specs.Ledgers.{weigh}
 use Rattle.pool.proofs.Pushed.{popped_more}
 use Rattle.pool.proofs.Rule.{emptied, pops, takes}
 use Rattle.pool.proofs.gathering.drain.Goals as goal

@@ -1,5 +1,4 @@
 use Rattle.std.proofs.Common.{◌≡◌, ◌+◌, ◌-◌, ◌<◌, ◌∙◌, length, map, get_or, sym, arith}
-use Rattle.std.specs.Prelude.{All}
 use Rattle.crossbeam_deque.specs.Handles.{worker_deque, worker_view}
 use Rattle.pool.specs.Deques.{deque_of}
 use Rattle.pool.specs.Ledgers.{all_shares, shares_of}

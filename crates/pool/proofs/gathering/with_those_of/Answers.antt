@@ -1,4 +1,3 @@
-use Rattle.std.proofs.Common.{◌≡◌}
 use Rattle.pool.proofs.Back.{no_node, one_node}
 use Rattle.pool.proofs.gathering.with_those_of.Goals as goal
 

@@ -1,4 +1,4 @@
-use Rattle.std.proofs.Common.{◌≡◌, map, sym, ◌∙◌, arith}
+use Rattle.std.proofs.Common.{map, sym, ◌∙◌, arith}
 use Rattle.std.proofs.Common.{◌∷◌}
 use Rattle.crossbeam_deque.specs.Handles.{view, worker_view}
 use Rattle.pool.proofs.Out.{finished, pushed}

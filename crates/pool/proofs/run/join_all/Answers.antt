@@ -1,4 +1,4 @@
-use Rattle.std.proofs.Common.{◌≡◌, map, ◌∙◌, sym, arith}
+use Rattle.std.proofs.Common.{map, arith}
 use Rattle.crossbeam_deque.specs.Handles.{worker_deque}
 use Rattle.pool.specs.Deques.{deque_of}
 use Rattle.pool.proofs.Joined.{kept_images}

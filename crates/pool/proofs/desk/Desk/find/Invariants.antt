@@ -1,4 +1,4 @@
-use Rattle.std.proofs.Common.{◌≡◌, ◌<◌, map, vec_len}
+use Rattle.std.proofs.Common.{◌≡◌, map}
 use Rattle.crossbeam_deque.specs.Handles.{stealer_deque, worker_deque}
 use Rattle.pool.specs.Deques.{deque_of}
 use Rattle.pool.proofs.desk.Desk.find.Given as goal

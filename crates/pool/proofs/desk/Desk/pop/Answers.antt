@@ -1,5 +1,5 @@
-use Rattle.std.proofs.Common.{◌≡◌, ◌<◌, map, arith}
-use Rattle.crossbeam_deque.specs.Handles.{view, worker_view}
+use Rattle.std.proofs.Common.{arith}
+use Rattle.crossbeam_deque.specs.Handles.{worker_view}
 use Rattle.pool.specs.Ledgers.{KnowsEmpty}
 use Rattle.pool.proofs.Out.{popped}
 use Rattle.pool.proofs.Rule.{pops, takes}

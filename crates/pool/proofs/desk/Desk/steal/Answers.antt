@@ -1,5 +1,4 @@
-use Rattle.std.proofs.Common.{◌≡◌, ◌<◌, length, map, get_or, sym, ap, ◌∙◌, arith}
-use Rattle.std.proofs.lemmas.List.{length-map, get_or-map}
+use Rattle.std.proofs.Common.{◌<◌, length, arith}
 use Rattle.crossbeam_deque.specs.Handles.{stealer_deque, view, worker_view}
 use Rattle.pool.specs.Deques.{deque_of}
 use Rattle.pool.proofs.Out.{stolen}
