@@ -1,4 +1,4 @@
 mod Numbers
 mod Readings
-mod Within
+mod Plays
 mod Scripts

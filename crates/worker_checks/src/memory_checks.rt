@@ -48,7 +48,7 @@ fn is_of_the_triangle(transcript: &[u8]) -> bool {
 // Whether a fault is reported as memory; or as a thread, which takes memory to start.
 fn is_memory(alloc: Global, fault: PlanFault) -> Result<bool, Fail> {
     let report = fault_report(alloc, "name", fault)?;
-    let line = report.line.as_bytes();
+    let line = report.line.as_slice();
     Ok(line == b"name: memory\n".as_slice() || line == b"name: threads\n".as_slice())
 }
 
