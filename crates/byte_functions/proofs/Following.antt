@@ -56,7 +56,8 @@ or-false false e = e
 
 line-kind : (line : Line) → begins_plan line ≡ true → kind_of line ≡ Unknown
 line-kind [] e = absurd cc
-line-kind (word ∷ words) e = let is : word ≡ codes "plan" = (bytes_eq-Decides word (codes "plan")).0 (or-false (bytes_eq word (codes "plan")) e) in ap kind_of_word is ∙ plan-kind
+line-kind (word ∷ words) e = let is : word ≡ codes "plan" = (bytes_eq-Decides word (codes "plan")).0 (or-false (bytes_eq word (codes "plan")) e) in
+    ap kind_of_word is ∙ plan-kind
 
 good-line : (before : List Line) (line : Line) → verdict before line ≡ None → begins_plan line ≡ false
 good-line before line good = good-by (begins_plan line) refl

@@ -1,5 +1,6 @@
 -- The number of a refused entry's line: the line is the entry (entry-at), whatever the refusal (refusal).
-use Rattle.std.proofs.Common.{◌≡◌, ◌≢◌, ◌++◌, ◌∷◌, [], ◌∙◌, ◌<◌, ℕ, zero, suc, Option, Some, None, Ok, List, ap, arith, get_or, length, map, refl, slice_get, slice_index_or, subst, sym, take}
+use Rattle.std.proofs.Common.{◌≡◌, ◌≢◌, ◌++◌, ◌∷◌, [], ◌∙◌, ◌<◌, ℕ, zero, suc, Option, Some, None, Ok, List, ap, arith, get_or, length, map}
+use Rattle.std.proofs.Common.{refl, slice_get, slice_index_or, subst, sym, take}
 use Rattle.std.specs.declared.vec.Vec.{Vec}
 use Rattle.std.specs.declared.alloc.Global.{Global}
 use Rattle.dimacs_col.specs.Lines.{Line}
@@ -67,7 +68,8 @@ says-there net ok rows numbers refused told stops is =
     (subst (λ l. IsReplay colouring net l is.reached) before is.is_replay) stops.is_replay in
     is.says ∙ ap (λ s. words_text net s is.row refused) state ∙ ap (λ r. words_text net stops.reached r refused) row
 
-refusal : (net : Net) → IsNetwork net → (lines : List Line) (read : Transcript Payload) (refused : ReplayRefused) (told : ReplayFault) → transcript_in lines ≡ Ok read →
+refusal : (net : Net) → IsNetwork net → (lines : List Line) (read : Transcript Payload) (refused : ReplayRefused) (told : ReplayFault)
+    → transcript_in lines ≡ Ok read →
     Stops colouring net read.1 refused → IsToldAs net read.1 (entry_lines lines) refused told → IsRefusal net lines told
 refusal net ok lines read refused told e stops so =
     let is = so.is_told in

@@ -43,7 +43,8 @@ fn begins(line: &[u8], words: &[&[u8]]) -> bool
 pub fn text_start(input: &[u8], words: &[&[u8]]) -> Option<TextStart>
     ensures within { IfSome result (λ start. start.bytes ≤ length input.now) }
     ensures short { IfSome result (λ start. start.lines ≤ start.bytes) }
-    ensures lines { IfSome result (λ start. start.lines ≡ length (lines_before (words_in words.now) (lines_of input.now))) }
+    ensures lines { IfSome result
+        (λ start. start.lines ≡ length (lines_before (words_in words.now) (lines_of input.now))) }
     ensures none { IfNone result (lines_before (words_in words.now) (lines_of input.now) ≡ lines_of input.now) }
     ensures no_text { IfNone result (lines_from (words_in words.now) (lines_of input.now) ≡ []) }
     ensures before { IfSome result (λ start. lines_of (take start.bytes input.now)

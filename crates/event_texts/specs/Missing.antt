@@ -1,4 +1,4 @@
--- What an event lacks that isn't possible, and what one that is possible writes down: the words behind a refusal's line.
+-- What an event that isn't possible lacks, and what one that is possible writes down: the words behind a refusal's line
 use Rattle.std.specs.Prelude.{ℕ, suc, ◌+◌, Bool, not, nat_eq, if◌then◌else◌, Option, Some, None}
 use Rattle.std.specs.Prelude.{List, [], ◌∷◌, ◌++◌, codes, flat_map, length, slice_get, slice_index_or}
 use Rattle.std.specs.List.{range_with_len}
@@ -15,7 +15,7 @@ use Rattle.event_texts.specs.declared.missing.Lack.{Lack}
 use Rattle.event_texts.specs.declared.missing.Lack.TheVariants.{Ack, Safe}
 use Rattle.wire_texts.specs.WireText.{numbered}
 
--- a port at which a wire of the node's pulse is still to come: the acknowledgement of its payload, or the neighbour's safe
+-- a port at which a wire of the node's pulse is still to come: its payload's acknowledgement, or the neighbour's safe
 abbrev pub lacks : {M : Type 0} → Lack → Port M → Bool
 lacks Ack port = port.waits
 lacks Safe port = not port.safe
@@ -60,7 +60,7 @@ pulse_text net last v view =
     else (lack_text (codes ": ack ") view.pulse (lacking net v view Ack)
     ++ lack_text (safe_words (lacking net v view Ack)) view.pulse (lacking net v view Safe))
 
--- The words behind the refusal of an event in a state: what is missing. If there is no such vertex or port there are none.
+-- The words behind an event's refusal in a state: what is missing. If there is no such vertex or port there are none.
 abbrev pub missing_text : {S M E : Type 0} → Program S M E → Net → State S M → Event → List ℕ
 missing_text program net state (Pulse v) =
     if is_vertex net v then pulse_text net (last_pulse_on program net) v (node_of program net state v).view else []
@@ -77,7 +77,8 @@ expected_wire (Some wire) = codes ": expected" ++ colour_wire_text wire
 -- The words behind an entry of another pulse or wire: the pulse or wire that its event comes to.
 abbrev pub expected_text : Net → ColourState → Event → List ℕ
 expected_text net state (Pulse v) =
-    if is_vertex net v then numbered (codes ": expected pulse ") ((node_of colouring net state v).view.pulse + 1) else []
+    if is_vertex net v then numbered (codes ": expected pulse ") ((node_of colouring net state v).view.pulse + 1)
+    else []
 expected_text net state (Put v i) =
     if has_port net v i then expected_wire (slice_get (port_at (node_of colouring net state v).view i).out 0) else []
 expected_text net state (Take v i) =

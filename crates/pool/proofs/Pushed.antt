@@ -10,7 +10,8 @@ use Rattle.pool.proofs.Rule.{map_snoc, total_snoc, weigh-append}
 pub both_pushed : {A B C : Type 0} (f : A → C) (g : B → C) (xs new : List A) (ys new' : List B) (x : A) (y : B) → new ≡ xs ++ x ∷ [] → new' ≡ ys ++ y ∷ []
     → f x ≡ g y → map f xs ≡ map g ys → map f new ≡ map g new'
 both_pushed f g xs new ys new' x y e e' same all =
-    ap (map f) e ∙ map-append f xs (x ∷ []) ∙ ap (λ l. l ++ f x ∷ []) all ∙ ap (λ c. map g ys ++ c ∷ []) same ∙ sym (map-append g ys (y ∷ [])) ∙ ap (map g) (sym e')
+    ap (map f) e ∙ map-append f xs (x ∷ []) ∙ ap (λ l. l ++ f x ∷ []) all ∙ ap (λ c. map g ys ++ c ∷ []) same
+    ∙ sym (map-append g ys (y ∷ [])) ∙ ap (map g) (sym e')
 
 -- a node that was taken is one more of those that are kept
 pub popped_more : {A : Type 0} (f : A → ℕ) (v w : Ledger) (shares : ℕ) (pushed : List ℕ) (x : A) (old new : List A)
@@ -27,7 +28,8 @@ pub total_more : {A : Type 0} (f : Ledger → ℕ) (see : A → Ledger) (xs : Li
 total_more f see xs x = ap (total f) (map-append see xs (x ∷ [])) ∙ total_snoc f (map see xs) (see x)
 
 -- the sums of rows, with one row more
-pub in_rows_more : {A : Type 0} (f : List Ledger → ℕ) (see : A → List Ledger) (xs : List A) (x : A) → in_rows f (map see (xs ++ x ∷ [])) ≡ in_rows f (map see xs) + f (see x)
+pub in_rows_more : {A : Type 0} (f : List Ledger → ℕ) (see : A → List Ledger) (xs : List A) (x : A)
+    → in_rows f (map see (xs ++ x ∷ [])) ≡ in_rows f (map see xs) + f (see x)
 in_rows_more f see [] x = omega arith
 in_rows_more f see (y ∷ ys) x = let r = in_rows_more f see ys x in omega arith
 

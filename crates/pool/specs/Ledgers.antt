@@ -38,7 +38,8 @@ taken_by h views = total (λ v. weigh h v.taken) views
 
 -- a pass without a share has pushed and taken nothing
 abbrev pub IdleIsEmpty : List Ledger → Type 0
-IdleIsEmpty views = (pass : ℕ) (v : Ledger) → get_elem? views pass ≡ option.some v → v.shares ≡ 0 → (v.pushed ≡ []) × (v.taken ≡ [])
+IdleIsEmpty views =
+    (pass : ℕ) (v : Ledger) → get_elem? views pass ≡ option.some v → v.shares ≡ 0 → (v.pushed ≡ []) × (v.taken ≡ [])
 
 -- Between any two steps: the vertices that all passes pushed are those that they took and those in the deque.
 pub record Balanced (items : List ℕ) (views : List Ledger) : Type 0 where

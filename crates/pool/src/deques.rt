@@ -1,7 +1,8 @@
 //! The deques of a run, before its workers begin.
 
 ghost use Rattle.std.specs.Prelude.{◌≡◌, ◌<◌, ◌≤◌, ◌+◌, ◌-◌, ◌%◌, ℕ, [], All, IfOk, map, vec_len};
-ghost use Rattle.crossbeam_deque.specs.Handles.{stealer_deque, view, worker_capacity, worker_deque, worker_index, worker_view};
+ghost use Rattle.crossbeam_deque.specs.Handles.{stealer_deque, view, worker_capacity, worker_deque, worker_index};
+ghost use Rattle.crossbeam_deque.specs.Handles.{worker_view};
 ghost use Rattle.pool.specs.Ledgers.{AreDealt, CanSplit, all_shares, ledger, shares_of};
 ghost use Rattle.pool.specs.Deques.{deque_of};
 
@@ -74,7 +75,8 @@ pub fn cut<J: Wiring, P: NodeProgram, M: Split<Ledger>>(
     ensures owns { IfOk result (λ r. map worker_deque r.0.items ≡ map worker_deque owns.items) }
     ensures left { IfOk result (λ r. map worker_view r.0.items ≡ map (λ o. M.left (worker_view o)) owns.items) }
     ensures guests { IfOk result (λ r. map (λ g. deque_of g.pass) r.1.items ≡ map worker_deque owns.items) }
-    ensures right { IfOk result (λ r. map (λ g. view g.pass) r.1.items ≡ map (λ o. M.right (worker_view o)) owns.items) }
+    ensures right { IfOk result
+        (λ r. map (λ g. view g.pass) r.1.items ≡ map (λ o. M.right (worker_view o)) owns.items) }
 {
     let mut lefts = Vec::new(alloc);
     let mut guests = Vec::new(alloc);

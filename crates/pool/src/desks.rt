@@ -21,7 +21,8 @@ fn hire<J: Wiring, P: NodeProgram>(
     requires few { vec_len owns ≤ MAX_WORKERS }
     requires new { All (λ o. worker_view o ≡ ledger (all_shares - 1) [] []) owns.items }
     ensures owns { IfOk result (λ r. map worker_deque r.0.items ≡ map worker_deque owns.items) }
-    ensures left { IfOk result (λ r. All (λ o. worker_view o ≡ ledger (all_shares - 1 - vec_len owns) [] []) r.0.items) }
+    ensures left { IfOk result
+        (λ r. All (λ o. worker_view o ≡ ledger (all_shares - 1 - vec_len owns) [] []) r.0.items) }
     ensures rows { IfOk result (λ r. vec_len r.1 ≡ vec_len owns) }
     ensures guests { IfOk result
         (λ r. All (λ row. map (λ g. deque_of g.pass) row.items ≡ map worker_deque owns.items) r.1.items) }

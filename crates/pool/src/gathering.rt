@@ -3,7 +3,8 @@
 ghost use Rattle.std.specs.Prelude.{◌≡◌, ◌<◌, ◌≤◌, ◌+◌, ◌++◌, ℕ, [], All, IfErr, IfOk, map, vec_len};
 ghost use Rattle.actor.specs.interference.Net.{vertices};
 ghost use Rattle.crossbeam_deque.specs.Handles.{view, worker_deque, worker_view};
-ghost use Rattle.pool.specs.Ledgers.{AreDealt, AreSame, all_shares, in_hand, in_rows, pushed_by, shares_of, taken_by, weigh};
+ghost use Rattle.pool.specs.Ledgers.{AreDealt, AreSame, all_shares, in_hand, in_rows, pushed_by, shares_of, taken_by};
+ghost use Rattle.pool.specs.Ledgers.{weigh};
 ghost use Rattle.pool.specs.Deques.{deque_of};
 ghost use Rattle.run_options.specs.declared.TheConstants.{MAX_WORKERS};
 

@@ -8,8 +8,8 @@ use actor::{Node, NodeProgram, Wiring};
 use crossbeam_deque::protocol::{Join, Outcome, Protocol, Split};
 use std::collections::LinkedList;
 
-/// What a pass of a deque knows: its shares of the right to know the whole, and the vertices of the nodes that it pushed
-/// and took, each as often as it did. Contracts speak of it; no value of it is made.
+/// What a pass of a deque knows: its shares of the right to know the whole, and the vertices of the nodes that it
+/// pushed and took, each as often as it did. Contracts speak of it; no value of it is made.
 pub struct Ledger {
     pub shares: u64,
     pub pushed: LinkedList<u32>,

@@ -1,4 +1,5 @@
-//! All byte functions with memory refused: tests/refused_memory.py runs these tests with each allocation refused in turn.
+//! All byte functions with memory refused: tests/refused_memory.py runs these tests with each allocation refused in
+//! turn.
 
 use byte_functions::{
     OpenGate, Options, PlanFault, check_bytes, events_bytes, fault_report, forest_bytes,

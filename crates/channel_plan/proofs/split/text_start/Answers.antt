@@ -35,7 +35,8 @@ cut c =
 abbrev before : In-Some → List Line
 before c = map (λ x. line_of x.now) c.loop-line.yielded
 
-lines : (c : In-Some) → begins (words_in c.args.words.now) (line_of c.in-Some.line.now) ≡ true → (lines_before (words_in c.args.words.now) (lines_of c.args.input.now) ≡ before c) ×
+lines : (c : In-Some) → begins (words_in c.args.words.now) (line_of c.in-Some.line.now) ≡ true
+    → (lines_before (words_in c.args.words.now) (lines_of c.args.input.now) ≡ before c) ×
     (lines_from (words_in c.args.words.now) (lines_of c.args.input.now) ≡ line_of c.in-Some.line.now ∷ map line_of (after c))
 unfolding lines_of
 lines c begins =

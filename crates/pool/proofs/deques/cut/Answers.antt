@@ -9,7 +9,8 @@ pub another-requires : goal.another-requires
 another-requires g c =
     let turn = YieldsList-turn (YieldsList-from_vec {s = c.into_iter-own-iterator.result} c.args.owns.items (search rules) (search rules))
     c.loop-own.yielded c.loop-own.own-iterator c.loop-own.yielded_by c.next.result c.next.new.self _ c.in-Some.is c.next.ensures.steps in
-    λ items views. c.requires.rule.forks _ _ (subst (λ o. 1 < shares_of (worker_view o)) (sym turn.1) (c.requires.shares _ _ turn.0)) (map (λ b. b.value.vertex) items) views
+    λ items views. c.requires.rule.forks _ _ (subst (λ o. 1 < shares_of (worker_view o)) (sym turn.1) (c.requires.shares _ _ turn.0))
+    (map (λ b. b.value.vertex) items) views
 
 pub returns-clause-right : goal.returns-clause-right
 returns-clause-right g c =

@@ -16,7 +16,8 @@ pop_as-requires-clause-empty g c = emptied {A = ℕ} (λ n. n) _ _
 pub loop-preserved : goal.loop-preserved
 loop-preserved g c =
     let is = c.in-Some-pop_as.ensures.rule in
-    let f = popped_more (λ b. b.value.vertex) (worker_view c.loop.own) (worker_view c.pop_as.new.self) _ _ _ c.loop.nodes.items c.push_reserved.new.self.items is (c.push_reserved.ensures.items ∙ ap (λ l. l ++ c.in-Some-pop_as.node ∷ []) c.reserve.ensures.items) in
+    let f = popped_more (λ b. b.value.vertex) (worker_view c.loop.own) (worker_view c.pop_as.new.self) _ _ _ c.loop.nodes.items
+    c.push_reserved.new.self.items is (c.push_reserved.ensures.items ∙ ap (λ l. l ++ c.in-Some-pop_as.node ∷ []) c.reserve.ensures.items) in
     record {
       shares = ap (λ v. v.shares) is ∙ c.loop.invariant.shares;
       pushed = ap (λ v. v.pushed) is ∙ c.loop.invariant.pushed;

@@ -32,7 +32,8 @@ overflow_add-worker g c =
 pub loop-desk-preserved : goal.loop-desk-preserved
 loop-desk-preserved g c = record {
   worker = let w = c.loop-desk.invariant.worker in omega (arith, length_push c.loop-desk.yielded c.in-Some.desk);
-  desks = image_pushed (λ h. h.promise.0.value) c.loop-desk.children.items _ c.loop-desk.yielded _ c.in-Some.desk (c.push_reserved.ensures.items ∙ ap (λ l. l ++ c.in_ok-start.field-0 ∷ []) c.reserve.ensures.items)
+  desks = image_pushed (λ h. h.promise.0.value) c.loop-desk.children.items _ c.loop-desk.yielded _ c.in-Some.desk
+      (c.push_reserved.ensures.items ∙ ap (λ l. l ++ c.in_ok-start.field-0 ∷ []) c.reserve.ensures.items)
       c.in_ok-start.ensures.desk c.loop-desk.invariant.desks;
 }
 
