@@ -70,8 +70,8 @@ fn leaves<R: Threads + Wait + Sync>(
     Ok(true)
 }
 
-// The worker looks at nodes 1, 2, 3 in turn. A node at which it looks takes what its links hold, and puts what it has to
-// put, port by port, as far as the links hold it. So node 3 has done nothing.
+// The worker looks at nodes 1, 2, 3 in turn. A node at which it looks takes what its links hold, and puts what it has
+// to put, port by port, as far as the links hold it. So node 3 has done nothing.
 #[test]
 fn the_first_looks_leave_a_run_that_is_not_whole(rt: HostRuntime) -> Result<(), Fail> {
     let alloc: Global = rt.alloc();
