@@ -5,7 +5,7 @@ An answer is (status, standard output, standard error)."""
 import functools
 import re
 
-from alpha_definition import NetState, Refused, make
+from alpha_definition import NetState, Refused, entry_words, make
 from check_transcript import Wrong, read
 from events import answer_of, state_text
 from plain_definition import Network, forests_text, network_of, plan_text
@@ -203,7 +203,7 @@ def replay(rows):
         try:
             make(state, entry)
         except Refused as refused:
-            raise Fault(f"{refused} line {entry.line + len(before)}") from None
+            raise Fault(f"{refused} line {entry.line + len(before)}{entry_words(state, entry, refused)}") from None
         if entry.kind == "Take":
             taken[entry.neighbour, state.port_to[entry.neighbour, entry.vertex]] += 1
     return state_text(net, state, taken)
