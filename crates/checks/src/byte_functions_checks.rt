@@ -83,9 +83,9 @@ fn reports_each_fault_of_a_network(rt: HostRuntime) -> Result<(), Fail> {
     Ok(())
 }
 
-// The faults of runs, plans and events, likewise.
+// The faults of runs and plans, likewise.
 #[test]
-fn reports_each_fault_of_a_run_a_plan_or_events(rt: HostRuntime) -> Result<(), Fail> {
+fn reports_each_fault_of_a_run_or_a_plan(rt: HostRuntime) -> Result<(), Fail> {
     let alloc = rt.alloc();
     for (fault, line, status) in [
         (PlanFault::Pool(PoolFault::Memory), "memory", 4),
@@ -103,6 +103,18 @@ fn reports_each_fault_of_a_run_a_plan_or_events(rt: HostRuntime) -> Result<(), F
         (PlanFault::Check(CheckFault::TooHigh(3)), "C5 vertex 3", 1),
         (PlanFault::Check(CheckFault::Syntax(4)), "C6 line 4", 1),
         (PlanFault::Check(CheckFault::Memory), "memory", 4),
+        (PlanFault::Memory, "memory", 4),
+    ] {
+        reports(&rt, alloc, fault, line, status)?;
+    }
+    Ok(())
+}
+
+// The faults of events, likewise, with their words.
+#[test]
+fn reports_each_fault_of_an_event(rt: HostRuntime) -> Result<(), Fail> {
+    let alloc = rt.alloc();
+    for (fault, line, status) in [
         (
             PlanFault::Event(EventFault::NoEvent(5)),
             "NoEvent line 5",
@@ -134,7 +146,6 @@ fn reports_each_fault_of_a_run_a_plan_or_events(rt: HostRuntime) -> Result<(), F
         ),
         (PlanFault::Event(EventFault::NoSuch(9)), "NoSuch line 9", 1),
         (PlanFault::Event(EventFault::Memory), "memory", 4),
-        (PlanFault::Memory, "memory", 4),
     ] {
         reports(&rt, alloc, fault, line, status)?;
     }
