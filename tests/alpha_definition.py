@@ -248,13 +248,29 @@ def missing_words(state, kind, v, port=None):
     return ": " + "; ".join(f"{word} {node.pulse_number} of {named(names)}" for word, names in lacks if names)
 
 
+def event_of(state, entry):
+    """The event of an entry of a transcript."""
+    if entry.kind == "Pulse":
+        return entry.kind, entry.vertex
+    if (entry.vertex, entry.neighbour) not in state.port_to:
+        raise Refused("NoSuch")
+    return entry.kind, entry.vertex, state.port_to[entry.vertex, entry.neighbour]
+
+
+def entry_words(state, entry, refused):
+    """What stands behind the line of a refused entry: what its event lacks, or the pulse or wire to which its event comes."""
+    if str(refused) == "NoSuch":
+        return ""
+    event = event_of(state, entry)
+    if str(refused) != "WrongWire":
+        return missing_words(state, *event)
+    due = state.carried(*event)
+    return f": expected pulse {due}" if entry.kind == "Pulse" else f": expected {wire_words(due)}"
+
+
 def make(state, entry):
     """The event of an entry of a transcript, if it is possible with what the entry says; otherwise nothing is changed."""
-    event = entry.kind, entry.vertex
-    if entry.kind != "Pulse":
-        if (entry.vertex, entry.neighbour) not in state.port_to:
-            raise Refused("NoSuch")
-        event += state.port_to[entry.vertex, entry.neighbour],
+    event = event_of(state, entry)
     if state.carried(*event) != entry.what:
         raise Refused("WrongWire")
     state.step(*event)
