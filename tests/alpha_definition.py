@@ -228,13 +228,49 @@ class NetState:
                 yield "Take", v, port
 
 
+def named(names):
+    """`2`, `2 and 3`, `2, 3 and 5`."""
+    return ", ".join(map(str, names[:-1])) + " and " * (len(names) > 1) + str(names[-1])
+
+
+def missing_words(state, kind, v, port=None):
+    """What stands behind the line of an event that isn't possible: the wires of the pulse that are still to come, or the out-list
+    or the link that is empty."""
+    if v not in state.nodes or port is not None and port >= len(state.nodes[v].ports):
+        return ""
+    node, neighbours = state.nodes[v], state.neighbours[v]
+    if kind != "Pulse":
+        return f": list of {v} for {neighbours[port]}" if kind == "Put" else f": link from {neighbours[port]} to {v}"
+    if node.pulse_number == node.last:
+        return f": pulse {node.last} is the last"
+    lacks = [("ack", [w for w, port in zip(neighbours, node.ports) if port.waits]),
+             ("safe", [w for w, port in zip(neighbours, node.ports) if not port.safe])]
+    return ": " + "; ".join(f"{word} {node.pulse_number} of {named(names)}" for word, names in lacks if names)
+
+
+def event_of(state, entry):
+    """The event of an entry of a transcript."""
+    if entry.kind == "Pulse":
+        return entry.kind, entry.vertex
+    if (entry.vertex, entry.neighbour) not in state.port_to:
+        raise Refused("NoSuch")
+    return entry.kind, entry.vertex, state.port_to[entry.vertex, entry.neighbour]
+
+
+def entry_words(state, entry, refused):
+    """What stands behind the line of a refused entry: what its event lacks, or the pulse or wire to which its event comes."""
+    if str(refused) == "NoSuch":
+        return ""
+    event = event_of(state, entry)
+    if str(refused) != "WrongWire":
+        return missing_words(state, *event)
+    due = state.carried(*event)
+    return f": expected pulse {due}" if entry.kind == "Pulse" else f": expected {wire_words(due)}"
+
+
 def make(state, entry):
     """The event of an entry of a transcript, if it is possible with what the entry says; otherwise nothing is changed."""
-    event = entry.kind, entry.vertex
-    if entry.kind != "Pulse":
-        if (entry.vertex, entry.neighbour) not in state.port_to:
-            raise Refused("NoSuch")
-        event += state.port_to[entry.vertex, entry.neighbour],
+    event = event_of(state, entry)
     if state.carried(*event) != entry.what:
         raise Refused("WrongWire")
     state.step(*event)

@@ -15,7 +15,7 @@ import subprocess
 import sys
 import tempfile
 
-from alpha_definition import NetState, Refused, last_pulse, ports_of, wire_words
+from alpha_definition import NetState, Refused, last_pulse, missing_words, ports_of, wire_words
 from plain_definition import colours, network_of
 from refused_memory import build_front, sweep
 
@@ -98,9 +98,15 @@ REFUSED = [
     (EDGE + "pulse 3|", "NoSuch line 3"), (EDGE + "pulse 0|", "NoSuch line 3"), (EDGE + "put 1 1|", "NoSuch line 3"),
     (EDGE + "take 3 0|", "NoSuch line 3"), (EDGE + "pulse 4294967297|", "NoSuch line 3"),
     (EDGE + "put 1 18446744073709551616|", "NoSuch line 3"), ("p edge 1 0|take 1 0|", "NoSuch line 2"),
-    (EDGE + "pulse 1|", "NotReady line 3"), (EDGE + "take 1 0|", "LinkEmpty line 3"), (EDGE + "put 1 0|put 1 0|", "NothingToPut line 4"),
-    (EDGE + "c|put 1 0||take 2 0|take 2 0|take 2 0|", "LinkEmpty line 7"), ("p edge 1 0|" + 13 * "pulse 1|", "NotReady line 14"),
-    (TRIANGLE + 2 * (ALL_PUT + ALL_TAKE) + ALL_PUT + "take 1 0|pulse 1|", "NotReady line 36"),
+    (EDGE + "pulse 1|", "NotReady line 3: ack 0 of 2; safe 0 of 2"), (EDGE + "take 1 0|", "LinkEmpty line 3: link from 2 to 1"),
+    (EDGE + "put 1 0|put 1 0|", "NothingToPut line 4: list of 1 for 2"),
+    (EDGE + "c|put 1 0||take 2 0|take 2 0|take 2 0|", "LinkEmpty line 7: link from 1 to 2"),
+    (EDGE + "put 1 0|take 2 0|put 2 0|put 2 0|take 1 0|take 1 0|pulse 1|", "NotReady line 9: safe 0 of 2"),
+    ("p edge 1 0|" + 13 * "pulse 1|", "NotReady line 14: pulse 12 is the last"),
+    ("p edge 4 3|e 1 2|e 1 3|e 1 4|pulse 1|", "NotReady line 5: ack 0 of 2, 3 and 4; safe 0 of 2, 3 and 4"),
+    (TRIANGLE + "pulse 2|", "NotReady line 5: ack 0 of 1 and 3; safe 0 of 1 and 3"),
+    (TRIANGLE + 2 * (ALL_PUT + ALL_TAKE) + ALL_PUT + "pulse 1|", "NotReady line 35: safe 0 of 2 and 3"),
+    (TRIANGLE + 2 * (ALL_PUT + ALL_TAKE) + ALL_PUT + "take 1 0|pulse 1|", "NotReady line 36: safe 0 of 3"),
 ]
 
 # the same of `replay`: (name, what stands behind the edge's lines, output)
@@ -123,16 +129,23 @@ NOT_REPLAYED = [
     (EDGE + "transcript 1 2|1 pulse|", "X1 line 4"), (EDGE + "transcript 1 2||1 pulse 1 1|", "X1 line 5"),
     (EDGE + "transcript 1 2|c|", "X1 line 4"), (EDGE + "transcript 1 2|1 take 2 close|1 pulse|", "X1 line 5"),
     (EDGE + "transcript 1 2|1 put 2 payload 0 best 1|", "X1 line 4"), (EDGE + "transcript 1 2|4294967296 pulse 1|", "X1 line 4"),
-    (EDGE + "transcript 1 2|1 take 2 close|", "LinkEmpty line 4"), (EDGE + "transcript 1 2|1 put 2 safe 0|", "WrongWire line 4"),
-    (EDGE + "transcript 1 2|1 put 3 close|", "NoSuch line 4"), (EDGE + "transcript 1 2|1 pulse 1|", "NotReady line 4"),
+    (EDGE + "transcript 1 2|1 take 2 close|", "LinkEmpty line 4: link from 2 to 1"),
+    (EDGE + "transcript 1 2|1 put 2 safe 0|", "WrongWire line 4: expected payload 0 hello 1"),
+    (EDGE + "transcript 1 2|1 put 3 close|", "NoSuch line 4"),
+    (EDGE + "transcript 1 2|1 pulse 1|", "NotReady line 4: ack 0 of 2; safe 0 of 2"),
     (EDGE + "transcript 1 2|0 pulse 1|", "NoSuch line 4"), (EDGE + "transcript 1 2|3 pulse 1|", "NoSuch line 4"),
-    (EDGE + "transcript 1 2|1 put 1 close|", "NoSuch line 4"), (EDGE + "transcript 1 2|1 put 2 payload 0 hello 2|", "WrongWire line 4"),
-    (EDGE + "transcript 1 2||" + GREETING + "|1 put 2 ack 0|", "NothingToPut line 7"),
-    (EDGE + "transcript 1 2|" + GREETING + "2 take 1 payload 0 hello 2|", "WrongWire line 5"),
+    (EDGE + "transcript 1 2|1 put 1 close|", "NoSuch line 4"),
+    (EDGE + "transcript 1 2|1 put 2 payload 0 hello 2|", "WrongWire line 4: expected payload 0 hello 1"),
+    (EDGE + "transcript 1 2||" + GREETING + "|1 put 2 ack 0|", "NothingToPut line 7: list of 1 for 2"),
+    (EDGE + "transcript 1 2|" + GREETING + "2 take 1 payload 0 hello 2|", "WrongWire line 5: expected payload 0 hello 1"),
+    (EDGE + "transcript 1 2|" + GREETING + "2 take 1 payload 0 hello 1|2 put 1 payload 0 hello 2|2 put 1 safe 0|",
+     "WrongWire line 7: expected ack 0"),
     # the greatest number of each kind of payload, which is read and isn't the wire that is due, and one more
-    *((EDGE + f"transcript 1 2|1 put 2 payload 0 {kind} {most + more}|", ("X1" if more else "WrongWire") + " line 4")
+    *((EDGE + f"transcript 1 2|1 put 2 payload 0 {kind} {most + more}|",
+       "X1 line 4" if more else "WrongWire line 4: expected payload 0 hello 1")
       for kind, most in [("hello", 2**64 - 1), ("label", 2**16 - 1), ("colour", 2**64 - 1), ("chosen", 2**16 - 1)] for more in (0, 1)),
-    ("p edge 1 0|transcript 1 1|1 pulse 2|", "WrongWire line 3"), ("p edge 1 0|transcript 1 1|1 pulse 1|1 pulse 1|", "WrongWire line 4"),
+    ("p edge 1 0|transcript 1 1|1 pulse 2|", "WrongWire line 3: expected pulse 1"),
+    ("p edge 1 0|transcript 1 1|1 pulse 1|1 pulse 1|", "WrongWire line 4: expected pulse 2"),
 ]
 
 
@@ -168,7 +181,7 @@ def answer_of(net, events):
         try:
             state.step(kind, v, port)
         except Refused as refused:
-            return refusal(f"{refused} line {line}")
+            return refusal(f"{refused} line {line}{missing_words(state, kind, v, port)}")
         if kind == "Take":
             w = ports_of(net, v)[port]
             taken[w, ports_of(net, w).index(v)] += 1
@@ -296,12 +309,13 @@ def memory_rows(program):
         if failure is not None:
             return
         name, data, output = next(row for row in WORKED if row[0] == "the triangle after 47 events")
-        for data, wanted in [(data, (0, text(output), b"")), (EDGE + "put 1 0|put 1 0|", refusal("NothingToPut line 4")),
+        for data, wanted in [(data, (0, text(output), b"")), (EDGE + "put 1 0|put 1 0|", refusal("NothingToPut line 4: list of 1 for 2")),
                              (EDGE + "put 1|", refusal("NoEvent line 3")), ("p edge 2 1|e 1 1|", refusal("F6 line 2"))]:
             row = sweep(program, front, ["events"], text(data), wanted, "forestplay")
             note(f"{row[0]} of {data[-30:]!r}", row[1], row[2])
         name, behind, output = REPLAYED[1]
-        for data, wanted in [(EDGE + behind, (0, text(output), b"")), (EDGE + "transcript 1 2|1 put 2 safe 0|", refusal("WrongWire line 4"))]:
+        for data, wanted in [(EDGE + behind, (0, text(output), b"")),
+                             (EDGE + "transcript 1 2|1 put 2 safe 0|", refusal("WrongWire line 4: expected payload 0 hello 1"))]:
             row = sweep(program, front, ["replay"], text(data), wanted, "forestplay")
             note(f"replay: {row[0]} of {data[-30:]!r}", row[1], row[2])
 

@@ -23,7 +23,7 @@ from falling_limits import falling_limit_rows
 from hostile_texts import NUMBERS, texts_of
 from refused_memory import build_front
 from run_each import Running
-from slow_reader import PROGRAM_OF, answer_to, without_reason
+from slow_reader import PROGRAM_OF, answer_to
 
 TOP = os.path.dirname(os.path.dirname(os.path.abspath(__file__)))
 PART, BATCH = 100_000, 5_000
@@ -76,7 +76,7 @@ class Programs:
             running = Running(self.front, [self.paths[PROGRAM_OF[command]]] + WORDS.get(command, [command]), batch)
             answers = [answer_to(command, data) for data in batch]
             for data, wanted, got in zip(batch, answers, running.answers()):
-                if without_reason(got) != wanted:
+                if got != wanted:
                     return count, good, (data[:3000], len(data), wanted, got)
                 count, good = count + 1, good + (wanted[0] != 1)
         return count, good, None

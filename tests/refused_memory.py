@@ -18,8 +18,9 @@ TESTS = tests_of("node_checks")
 TRIED_AGAIN = ("net_core_checks::refused_growths::a_state_goes_on_after_a_refused_growth",
                "net_core_checks::refused_growths::a_list_runs_again_after_a_refused_growth",
                "link_queue_checks::a_link_meets_again_after_a_refused_growth")
-# A test whose calls return the same bytes or that memory ran out.
-BYTES_OR_MEMORY = "memory_checks::each_function_returns_its_bytes_or_runs_out_of_memory"
+# Tests whose calls return the same bytes or that memory ran out.
+BYTES_OR_MEMORY = ("memory_checks::each_function_returns_its_bytes_or_runs_out_of_memory",
+                   "memory_checks::a_transcript_is_whole_or_runs_out_of_memory")
 MOST = 5000
 
 
@@ -49,7 +50,7 @@ def refused_memory_rows(program, network, answer):
         for crate in ("node_checks", "worker_checks"):
             if not os.path.isfile(tests_of(crate)):
                 return rows + [(f"the tests of crates/{crate} are built", False, f"no file {tests_of(crate)}")]
-        rows.append(bytes_or_memory(front, folder, tests_of("worker_checks"), BYTES_OR_MEMORY))
+        rows += [bytes_or_memory(front, folder, tests_of("worker_checks"), name) for name in BYTES_OR_MEMORY]
         return rows + [tried_again(front, folder, name) for name in TRIED_AGAIN]
 
 

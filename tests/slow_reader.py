@@ -3,9 +3,8 @@ byte; what is written of a text that has no fault comes from the other definitio
 
 An answer is (status, standard output, standard error)."""
 import functools
-import re
 
-from alpha_definition import NetState, Refused, make
+from alpha_definition import NetState, Refused, entry_words, make
 from check_transcript import Wrong, read
 from events import answer_of, state_text
 from plain_definition import Network, forests_text, network_of, plan_text
@@ -17,7 +16,6 @@ MOST_VERTEX = 2**32 - 1
 FORMATS, EVENTS = (b"edge", b"edges", b"col"), (b"pulse", b"put", b"take")
 PROGRAM_OF = (dict.fromkeys(("forests", "plain", "plan", "transcript", "check"), "forestplan")
               | dict.fromkeys(("events", "replay", "rounds"), "forestplay"))
-WITH_A_REASON = re.compile(rb"(forestplay: \w+ line \d+): [ -~]+\n")
 
 
 class Fault(Exception):
@@ -35,13 +33,6 @@ def answer_to(command, data):
         return 1, b"", f"{PROGRAM_OF[command]}: {fault}\n".encode()
     except Stopped:
         return 3, b"", f"{PROGRAM_OF[command]}: stopped\n".encode()
-
-
-def without_reason(answer):
-    """Behind the line of what `events` or `replay` refuses there may be words that say why; this reader doesn't know them."""
-    status, output, errors = answer
-    line = WITH_A_REASON.fullmatch(errors)
-    return (status, output, line.group(1) + b"\n") if line else answer
 
 
 def rows_of(data):
@@ -203,7 +194,7 @@ def replay(rows):
         try:
             make(state, entry)
         except Refused as refused:
-            raise Fault(f"{refused} line {entry.line + len(before)}") from None
+            raise Fault(f"{refused} line {entry.line + len(before)}{entry_words(state, entry, refused)}") from None
         if entry.kind == "Take":
             taken[entry.neighbour, state.port_to[entry.neighbour, entry.vertex]] += 1
     return state_text(net, state, taken)

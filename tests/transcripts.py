@@ -221,7 +221,7 @@ def replayed_by(play, network, net, data):
     """The same by `PLAY replay`: this function alone knows how its answer is read. With status 0 it writes the state; that is
     of a whole run if all nodes are at the last pulse, all closing marks were put, and no link holds a wire."""
     done = subprocess.run([play, "replay"], input=network + data, capture_output=True, timeout=LIMIT)
-    if done.returncode == 1 and done.stdout == b"" and (fault := re.fullmatch(rb"forestplay: (\w+) line \d+\n", done.stderr)):
+    if done.returncode == 1 and done.stdout == b"" and (fault := re.fullmatch(rb"forestplay: (\w+) line \d+(: [ -~]+)?\n", done.stderr)):
         return fault.group(1).decode()
     if (done.returncode, done.stderr) != (0, b""):
         return f"status {done.returncode}, {done.stdout[:200]!r}, {done.stderr[:200]!r}"

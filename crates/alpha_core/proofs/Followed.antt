@@ -2,15 +2,16 @@
 use Rattle.std.proofs.Common.{◌≡◌, ℕ, suc, zero, ◌<◌, ◌≤◌, ◌+◌, Bool, true, false, Option, Some, None, List, [], ◌∷◌, ◌++◌, map, length, get_or, set}
 use Rattle.std.proofs.Common.{refl, sym, ap, ◌∙◌, arith}
 use Rattle.std.proofs.Common.{drop, subst, replicate}
-use Rattle.std.specs.Prelude.{⊤, nat_eq, nat_lt, ◌&&◌, if◌then◌else◌}
+use Rattle.std.specs.Prelude.{nat_eq, nat_lt, ◌&&◌, if◌then◌else◌}
 use Rattle.std.proofs.lemmas.Bool.{and_parts, leb-true}
+use Rattle.std.proofs.lemmas.List.{length-set}
 use Rattle.alpha_core.specs.declared.wire.Wire.{Wire}
 use Rattle.alpha_core.specs.declared.wire.Wire.TheVariants.{Payload, Ack, Safe, Close}
 use Rattle.alpha_core.specs.OutLists.{PayloadFits, payload_of, payloads_out, safes_out}
 use Rattle.alpha_core.specs.Followed.{unsaid, AreFollowed, AllFollowed, AllFew}
 use Rattle.alpha_core.specs.Streams.{payload_wire}
 use Rattle.alpha_core.specs.View.{Port, View, new_port, all_out_within, none_waits}
-use Rattle.alpha_core.specs.Alpha.{emit, advances, enter_all, entering, settles}
+use Rattle.alpha_core.specs.Alpha.{emit, advances, enter_all, entering}
 
 module _ {M : Type 0} where
   pub no-payload-fits : (w : Wire M) (n : ℕ) → payload_of w ≡ [] → PayloadFits w n
@@ -67,13 +68,13 @@ module _ {M : Type 0} where
   few (v ∷ out) le f = omega (arith, f.0, both-fit (v ∷ out), le)
 
   -- All ports.
-  pub followed-at : (more : ℕ) (ports : List (Port M)) (i : ℕ) (d : Port M) → i < length ports → AllFollowed more ports →
+  followed-at : (more : ℕ) (ports : List (Port M)) (i : ℕ) (d : Port M) → i < length ports → AllFollowed more ports →
       AreFollowed more (get_or ports i d).out
   followed-at more [] i d lt f = absurd (omega arith)
   followed-at more (p ∷ ports) zero d lt f = f.0
   followed-at more (p ∷ ports) (suc i) d lt f = followed-at more ports i d (omega arith) f.1
 
-  pub followed-set : (more : ℕ) (ports : List (Port M)) (i : ℕ) (p : Port M) → AreFollowed more p.out → AllFollowed more ports →
+  followed-set : (more : ℕ) (ports : List (Port M)) (i : ℕ) (p : Port M) → AreFollowed more p.out → AllFollowed more ports →
       AllFollowed more (set ports i p)
   followed-set more [] i p g f = tt
   followed-set more (q ∷ ports) zero p g f = (g, f.1)
@@ -136,10 +137,15 @@ module _ {M : Type 0} where
       subst (λ b. AllFollowed (unsaid b) new) (sym is-said)
       (subst (λ l. AllFollowed (unsaid (entering last q sent ports).said) l) (sym is-new) (followed-entering last q sent ports f))
 
-  -- one port is changed
-  pub followed-put : (more : ℕ) (ports : List (Port M)) (i : ℕ) (p : Port M) (new : List (Port M)) → new ≡ set ports i p →
-      AreFollowed more p.out → AllFollowed more ports → AllFollowed more new
-  followed-put more ports i p new is g f = subst (λ l. AllFollowed more l) (sym is) (followed-set more ports i p g f)
+  -- one port is changed: what a node keeps of its ports, two counts of theirs, a fact beside them, and that their out-lists are followed
+  pub kept-set : (count size more : ℕ) (beside : Type 0) (ports : List (Port M)) (i : ℕ) (p : Port M) (new : List (Port M)) → new ≡ set ports i p →
+      i < length ports → (AreFollowed more (get_or ports i new_port).out → AreFollowed more p.out) →
+      (count ≡ length ports) × (size ≡ length ports) × beside × AllFollowed more ports →
+      (count ≡ length new) × (size ≡ length new) × beside × AllFollowed more new
+  kept-set count size more beside ports i p new is below step kept =
+      let same : length new ≡ length ports = ap length is ∙ length-set ports i p in
+      let followed = followed-set more ports i p (step (followed-at more ports i new_port below kept.3)) kept.3 in
+      (kept.0 ∙ sym same, kept.1 ∙ sym same, kept.2, subst (λ l. AllFollowed more l) (sym is) followed)
 
 pub followed-new : (M : Type 0) (more n : ℕ) → AllFollowed {M = M} more (replicate n new_port)
 followed-new M more zero = tt

@@ -38,6 +38,11 @@ module _ {X M : Type 0} (items : X → List BareWire) where
   pub outs-length : (ws : List X) (ps : List (List M)) → length ps ≡ length ws → length (outs_of items ws ps) ≡ length ws
   outs-length ws ps same = length-map (zip ws ps) (out_of items) ∙ zip-length ws ps same
 
+  -- a port of the lists has its place among the wires
+  pub port-below : (ws : List X) (ps : List (List M)) → length ps ≡ length ws → (outs : List (List (Wire M))) → outs_of items ws ps ≡ outs →
+      (i : ℕ) → i < length outs → i < length ws
+  port-below ws ps same outs is i below = omega (arith, below, ap length is, outs-length ws ps same)
+
   pub full-fits : (ws : List X) (ps : List (List M)) → length ps ≡ length ws →
       count_by (λ p. is_full (out_of {M = M} items p)) (zip ws ps) ≤ length ws
   full-fits ws ps same = omega (arith, count_by-le-length (λ p. is_full (out_of {M = M} items p)) (zip ws ps), zip-length ws ps same)

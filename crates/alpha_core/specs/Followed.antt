@@ -1,4 +1,4 @@
--- Out-lists in which each payload is followed by a safe of its own, but for one payload of a node that hasn't said safe.
+-- Out-lists in which each payload is followed by a safe of its own, but for one payload if the node hasn't said safe.
 use Rattle.std.specs.Prelude.{⊤, ◌≤◌, ℕ, ◌+◌, Bool, true, false, List, [], ◌∷◌}
 use Rattle.alpha_core.specs.declared.wire.Wire.{Wire}
 use Rattle.alpha_core.specs.OutLists.{payloads_out, safes_out}

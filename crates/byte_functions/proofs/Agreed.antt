@@ -11,7 +11,7 @@ use Rattle.alpha_core.specs.interference.NetFault.TheVariants as net_fault
 use Rattle.channel_plan.specs.Checked.{IsFaultOfPlan, IsProper, fault_of, greatest_channel}
 use Rattle.channel_plan.specs.PlanText.{rows_from}
 use Rattle.channel_plan.specs.Reading.{IsFaultOfReading, Row, reading_of, rows_of}
-use Rattle.channel_plan.specs.Split.{network_lines, plan_lines}
+use Rattle.channel_plan.specs.Split.{network_lines, plan_lines, plan_word}
 use Rattle.channel_plan.specs.declared.plan.CheckFault.{CheckFault}
 use Rattle.channel_plan.specs.declared.plan.CheckFault.TheVariants as check
 use Rattle.channel_plan.proofs.Blank.{graph-front}
@@ -48,7 +48,7 @@ agreed input answer (nodes, edges, graph, (ok, is, plan)) =
     let plan_is : lines_of answer ≡ (codes "plan" ∷ []) ∷ lines_of (rows_from 1 colours) = ap lines_of plan.rows ∙ plan-lines colours in
     let both : lines_of ((input ++ 10 ∷ []) ++ answer) ≡ lines ++ (codes "plan" ∷ []) ∷ lines_of (rows_from 1 colours) = lines-of-both input answer ∙
     ap (λ ls. lines ++ ls) plan_is in
-    let cut = before-text (codes "plan") lines (codes "plan" ∷ []) (lines_of (rows_from 1 colours)) refl (good-before lines front.good) in
+    let cut = before-text plan_word lines (codes "plan" ∷ []) (lines_of (rows_from 1 colours)) refl (good-before lines front.good) in
     let channels : AreChannels net plan.colour = record { differ = plan.differ; within = plan.within } in
     record {
       nodes = nodes;

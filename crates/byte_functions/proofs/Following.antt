@@ -1,17 +1,18 @@
 -- A network text that ends in a line feed, and a plan text behind it: their lines.
 -- The lines of both are the network's and then the plan's. A good line never begins with `plan`, which is
 -- no kind of line, so the plan text begins where the plan does.
-use Rattle.std.proofs.Common.{◌≡◌, ◌++◌, ◌∷◌, [], ◌==◌, ◌∙◌, ℕ, Bool, true, false, Some, None, List, append_assoc, ap, codes, map, refl, sym}
+use Rattle.std.proofs.Common.{◌≡◌, ◌++◌, ◌∷◌, [], ◌==◌, ◌∙◌, ◌||◌, ℕ, Bool, true, false, Some, None, List, append_assoc, ap, codes, map, refl, sym}
 use Rattle.std.proofs.lemmas.List.{map-append}
 use Rattle.std.proofs.lemmas.Slice.Eq.{bytes_eq-Decides}
 use Rattle.std.specs.List.{slice_split}
+use Rattle.std.specs.Str.{bytes_eq}
 use Rattle.dimacs_col.specs.Kinds.{kind_of, kind_of_word}
 use Rattle.dimacs_col.specs.Lines.{Line, line_of, lines_of}
 use Rattle.dimacs_col.specs.Reading.{AllGood, number_after, verdict}
 use Rattle.dimacs_col.specs.declared.fault.ColFault.TheVariants.{UnknownLine}
 use Rattle.dimacs_col.specs.declared.kind.Kind.TheVariants.{Unknown}
 use Rattle.dimacs_col.proofs.Verdicts.{verdict-unknown}
-use Rattle.channel_plan.specs.Split.{begins_plan}
+use Rattle.channel_plan.specs.Split.{begins_plan, plan_word}
 use Rattle.channel_plan.proofs.Splitting.{AreBefore, before-cons, before-none}
 
 abbrev is_feed : ℕ → Bool
@@ -49,9 +50,14 @@ plan-kind : kind_of_word (codes "plan") ≡ Unknown
 unfolding kind_of_word
 plan-kind = refl
 
+or-false : (b : Bool) → (b || false) ≡ true → b ≡ true
+or-false true e = refl
+or-false false e = e
+
 line-kind : (line : Line) → begins_plan line ≡ true → kind_of line ≡ Unknown
 line-kind [] e = absurd cc
-line-kind (word ∷ words) e = let is : word ≡ codes "plan" = (bytes_eq-Decides word (codes "plan")).0 e in ap kind_of_word is ∙ plan-kind
+line-kind (word ∷ words) e = let is : word ≡ codes "plan" = (bytes_eq-Decides word (codes "plan")).0 (or-false (bytes_eq word (codes "plan")) e) in
+    ap kind_of_word is ∙ plan-kind
 
 good-line : (before : List Line) (line : Line) → verdict before line ≡ None → begins_plan line ≡ false
 good-line before line good = good-by (begins_plan line) refl
@@ -60,11 +66,11 @@ good-line before line good = good-by (begins_plan line) refl
     good-by true e = let wrong : Some (UnknownLine (number_after before)) ≡ None = sym (verdict-unknown before line (line-kind line e)) ∙ good in absurd cc
     good-by false e = e
 
-good-rest : (lines before rest : List Line) → AllGood lines → lines ≡ before ++ rest → AreBefore (codes "plan") rest
-good-rest lines before [] good e = before-none (codes "plan")
+good-rest : (lines before rest : List Line) → AllGood lines → lines ≡ before ++ rest → AreBefore plan_word rest
+good-rest lines before [] good e = before-none plan_word
 good-rest lines before (line ∷ rest) good e =
-    before-cons (codes "plan") line rest (good-line before line (good before line rest e)) (good-rest lines (before ++ line ∷ []) rest good (e ∙
+    before-cons plan_word line rest (good-line before line (good before line rest e)) (good-rest lines (before ++ line ∷ []) rest good (e ∙
     sym (append_assoc before (line ∷ []) rest)))
 
-pub good-before : (lines : List Line) → AllGood lines → AreBefore (codes "plan") lines
+pub good-before : (lines : List Line) → AllGood lines → AreBefore plan_word lines
 good-before lines good = good-rest lines [] lines good refl

@@ -1,10 +1,10 @@
 -- From what is known of a network text and of the plan text behind it to what `check` may answer.
-use Rattle.std.proofs.Common.{◌≡◌, ◌∙◌, codes, inl, inr, ℕ, Ok, List, subst, sym}
+use Rattle.std.proofs.Common.{◌≡◌, ◌∙◌, inl, inr, ℕ, Ok, List, subst, sym}
 use Rattle.dimacs_col.specs.Lines.{Line, lines_of}
 use Rattle.alpha_core.specs.interference.Net.{IsNetwork, Net}
 use Rattle.channel_plan.specs.Checked.{IsFaultOfPlan, IsProper, greatest_channel}
 use Rattle.channel_plan.specs.Reading.{IsFaultOfReading, Row, reading_of}
-use Rattle.channel_plan.specs.Split.{AreNetworkLines, plan_lines}
+use Rattle.channel_plan.specs.Split.{AreNetworkLines, plan_lines, plan_word}
 use Rattle.channel_plan.specs.declared.plan.CheckFault.{CheckFault}
 use Rattle.channel_plan.specs.declared.plan.CheckFault.TheVariants as check
 use Rattle.channel_plan.proofs.Blank.{fault-of, graph-of}
@@ -21,8 +21,8 @@ pub record AreParts (input front behind : List ℕ) : Type 0 where
 -- ---- the network text
 pub fault-text : (input network : List ℕ) (fault : PlanFault) → AreNetworkLines (lines_of input) (lines_of network) → IsFaultOfText network fault →
     IsFaultOfCheck input fault
-fault-text input network (plan.Col fault) are is = fault-of (codes "plan") (lines_of input) (lines_of network) fault are is
-fault-text input network (plan.Net fault) are (n, es, graph, is) = (n, es, graph-of (codes "plan") (lines_of input) (lines_of network) n es are graph, is)
+fault-text input network (plan.Col fault) are is = fault-of plan_word (lines_of input) (lines_of network) fault are is
+fault-text input network (plan.Net fault) are (n, es, graph, is) = (n, es, graph-of plan_word (lines_of input) (lines_of network) n es are graph, is)
 fault-text input network (plan.Check fault) are is = absurd is
 fault-text input network (plan.Pool fault) are is = absurd is
 fault-text input network (plan.Event fault) are is = absurd is
@@ -46,7 +46,7 @@ pub fault-reading : (input network behind : List ℕ) (net : Net) (fault : Check
 fault-reading input network behind net fault are (n, es, graph, (ok, same)) is = (
   n,
   es,
-  graph-of (codes "plan") (lines_of input) (lines_of network) n es are.network graph,
+  graph-of plan_word (lines_of input) (lines_of network) n es are.network graph,
   (ok, inl (same-reading (lines_of behind) (plan_lines (lines_of input)) fault are.plan is)),
 )
 
@@ -56,7 +56,7 @@ pub fault-rows : (input network behind : List ℕ) (net : Net) (rows : List Row)
 fault-rows input network behind net rows fault are (n, es, graph, (ok, same)) read is = (
   n,
   es,
-  graph-of (codes "plan") (lines_of input) (lines_of network) n es are.network graph,
+  graph-of plan_word (lines_of input) (lines_of network) n es are.network graph,
   (ok, inr (rows, sym are.plan ∙ read, subst (λ known. IsFaultOfPlan known rows fault) same is)),
 )
 
@@ -66,6 +66,6 @@ pub proper-rows : (input network behind text : List ℕ) (net : Net) (rows : Lis
 proper-rows input network behind text net rows are (n, es, graph, (ok, same)) read is told = (
   n,
   es,
-  graph-of (codes "plan") (lines_of input) (lines_of network) n es are.network graph,
+  graph-of plan_word (lines_of input) (lines_of network) n es are.network graph,
   (ok, (rows, (sym are.plan ∙ read, subst (λ known. IsProper known rows) same is), told)),
 )

@@ -5,9 +5,9 @@ use Rattle.dimacs_col.specs.Reading.{IsFault, IsGraph}
 use Rattle.dimacs_col.specs.declared.fault.ColFault.{ColFault}
 use Rattle.alpha_core.specs.interference.Net.{IsNetwork, Net}
 use Rattle.net_core.specs.Step.{run}
-use Rattle.channel_plan.proofs.Blank.{fault-front, graph-front}
+use Rattle.channel_plan.proofs.Blank.{fault-of, graph-of}
 use Rattle.colour_program.specs.colour_rules.Program.{colouring}
-use Rattle.event_texts.specs.EventLines.{AreNetworkLines, network_lines}
+use Rattle.event_texts.specs.EventLines.{AreNetworkLines, event_words}
 use Rattle.event_texts.specs.Played.{IsFaultOfRun, events_in}
 use Rattle.event_texts.specs.Reader.{IsFaultOfReading}
 use Rattle.event_texts.specs.Reading.{Script, script_of}
@@ -18,23 +18,14 @@ use Rattle.byte_functions.specs.EventAnswers.{IsEventsAnswer, IsFaultOfEvents, I
 use Rattle.byte_functions.specs.declared.fault.PlanFault.{PlanFault}
 use Rattle.byte_functions.specs.declared.fault.PlanFault.TheVariants as plan
 
-graph-of : (lines network : List Line) (nodes : ℕ) (edges : List (ℕ × ℕ)) → AreNetworkLines lines network → IsGraph network nodes edges →
-    IsGraph (network_lines lines) nodes edges
-graph-of lines network nodes edges (inl same) is = subst (λ ls. IsGraph ls nodes edges) same is
-graph-of lines network nodes edges (inr more) is = graph-front (network_lines lines) nodes edges (subst (λ ls. IsGraph ls nodes edges) more is)
-
-fault-of : (lines network : List Line) (fault : ColFault) → AreNetworkLines lines network → IsFault network fault → IsFault (network_lines lines) fault
-fault-of lines network fault (inl same) is = subst (λ ls. IsFault ls fault) same is
-fault-of lines network fault (inr more) is = fault-front (network_lines lines) fault (subst (λ ls. IsFault ls fault) more is)
-
 -- what is known of the network of a text
 abbrev Reads : List ℕ → Net → Type 0
 Reads network net = ReadsAs network (λ read. IsNetwork read × (net ≡ read))
 
 pub fault-network : (input network : List ℕ) (fault : PlanFault) → AreNetworkLines (lines_of input) (lines_of network) → IsFaultOfText network fault →
     IsFaultOfEvents input fault
-fault-network input network (plan.Col fault) are is = fault-of (lines_of input) (lines_of network) fault are is
-fault-network input network (plan.Net fault) are (n, es, graph, is) = (n, es, graph-of (lines_of input) (lines_of network) n es are graph, is)
+fault-network input network (plan.Col fault) are is = fault-of event_words (lines_of input) (lines_of network) fault are is
+fault-network input network (plan.Net fault) are (n, es, graph, is) = (n, es, graph-of event_words (lines_of input) (lines_of network) n es are graph, is)
 fault-network input network (plan.Check fault) are is = absurd is
 fault-network input network (plan.Pool fault) are is = absurd is
 fault-network input network (plan.Event fault) are is = absurd is
@@ -45,14 +36,14 @@ fault-network input network plan.Memory are is = tt
 pub fault-reading : (input network : List ℕ) (net : Net) (fault : EventFault) → AreNetworkLines (lines_of input) (lines_of network) →
     Reads network net → IsFaultOfReading (lines_of input) fault → IsFaultOfEvents input (plan.Event fault)
 fault-reading input network net fault are (n, es, graph, (ok, same)) is =
-    (n, es, graph-of (lines_of input) (lines_of network) n es are graph, (ok, inl is))
+    (n, es, graph-of event_words (lines_of input) (lines_of network) n es are graph, (ok, inl is))
 
 pub fault-run : (input network : List ℕ) (net : Net) (script : Script) (fault : EventFault) → AreNetworkLines (lines_of input) (lines_of network) →
     Reads network net → script_of (lines_of input) ≡ Ok script → IsFaultOfRun colouring net script fault → IsFaultOfEvents input (plan.Event fault)
 fault-run input network net script fault are (n, es, graph, (ok, same)) read is = (
   n,
   es,
-  graph-of (lines_of input) (lines_of network) n es are graph,
+  graph-of event_words (lines_of input) (lines_of network) n es are graph,
   (ok, inr (script, read, subst (λ known. IsFaultOfRun colouring known script fault) same is)),
 )
 
@@ -62,6 +53,6 @@ pub reached : (input network text : List ℕ) (net : Net) (script : Script) (sta
 reached input network text net script state are (n, es, graph, (ok, same)) read ran is = (
   n,
   es,
-  graph-of (lines_of input) (lines_of network) n es are graph,
+  graph-of event_words (lines_of input) (lines_of network) n es are graph,
   (ok, subst (λ known. IsStateReached known (lines_of input) text) same (script, state, read, ran, is)),
 )

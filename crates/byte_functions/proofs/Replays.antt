@@ -1,10 +1,10 @@
 -- From what is known of a network text and of the transcript behind it to what `replay` may answer.
-use Rattle.std.proofs.Common.{◌≡◌, codes, ℕ, List, subst}
+use Rattle.std.proofs.Common.{◌≡◌, ℕ, List, subst}
 use Rattle.dimacs_col.specs.Lines.{lines_of}
 use Rattle.alpha_core.specs.interference.Net.{IsNetwork, Net}
 use Rattle.channel_plan.proofs.Blank.{fault-of, graph-of}
 use Rattle.event_texts.specs.StateText.{ColourState, state_text}
-use Rattle.transcripts.specs.Behind.{AreNetworkLines}
+use Rattle.transcripts.specs.Behind.{AreNetworkLines, transcript_word}
 use Rattle.byte_functions.specs.Answers.{IsFaultOfText, ReadsAs}
 use Rattle.byte_functions.specs.ReplayAnswers.{IsFaultOfReplay, IsFaultOfTranscript, IsReplayAnswer, IsReplayed}
 use Rattle.byte_functions.specs.declared.fault.PlanFault.{PlanFault}
@@ -16,9 +16,9 @@ Reads network net = ReadsAs network (λ read. IsNetwork read × (net ≡ read))
 
 pub fault-network : (input network : List ℕ) (fault : PlanFault) → AreNetworkLines (lines_of input) (lines_of network) → IsFaultOfText network fault →
     IsFaultOfReplay input fault
-fault-network input network (plan.Col fault) are is = fault-of (codes "transcript") (lines_of input) (lines_of network) fault are is
+fault-network input network (plan.Col fault) are is = fault-of transcript_word (lines_of input) (lines_of network) fault are is
 fault-network input network (plan.Net fault) are (n, es, graph, is) =
-    (n, es, graph-of (codes "transcript") (lines_of input) (lines_of network) n es are graph, is)
+    (n, es, graph-of transcript_word (lines_of input) (lines_of network) n es are graph, is)
 fault-network input network (plan.Check fault) are is = absurd is
 fault-network input network (plan.Pool fault) are is = absurd is
 fault-network input network (plan.Event fault) are is = absurd is
@@ -31,7 +31,7 @@ pub fault-transcript : (input network : List ℕ) (net : Net) (fault : ReplayFau
 fault-transcript input network net fault are (n, es, graph, (ok, same)) is = (
   n,
   es,
-  graph-of (codes "transcript") (lines_of input) (lines_of network) n es are graph,
+  graph-of transcript_word (lines_of input) (lines_of network) n es are graph,
   (ok, subst (λ known. IsFaultOfTranscript known (lines_of input) fault) same is),
 )
 
@@ -40,6 +40,6 @@ pub reached : (input network text : List ℕ) (net : Net) (state : ColourState) 
 reached input network text net state are (n, es, graph, (ok, same)) played is = (
   n,
   es,
-  graph-of (codes "transcript") (lines_of input) (lines_of network) n es are graph,
+  graph-of transcript_word (lines_of input) (lines_of network) n es are graph,
   (ok, (state, subst (λ known. IsReplayed known (lines_of input) state) same played, subst (λ known. text ≡ state_text known state) same is)),
 )

@@ -12,7 +12,7 @@ use event_texts::EventFault;
 use node_pool::PoolFault;
 
 /// Why a text has no answer.
-#[derive(Clone, Copy, Debug, PartialEq, Eq)]
+#[derive(Debug, PartialEq, Eq, Drop)]
 pub enum PlanFault {
     /// The text is no graph.
     Col(ColFault),

@@ -3,34 +3,36 @@
 ghost use Rattle.std.specs.Prelude.{◌≡◌, IfOk, IfErr};
 ghost use Rattle.dimacs_col.specs.Lines.{lines_of};
 ghost use Rattle.byte_functions.specs.ReplayAnswers.{IsFaultOfReplay, IsFaultOfTranscript, IsReplayAnswer, IsReplayed};
-ghost use Rattle.byte_functions.specs.ReplayAnswers.{fault_at, fault_of_text, line_at};
+ghost use Rattle.byte_functions.specs.ReplayAnswers.{IsTold, fault_at, fault_of_text, index_of, line_at, words_text};
 
 use crate::answer::network_of_text;
 use crate::fault::PlanFault;
 use alpha_core::Network;
 use colour_program::{Colouring, Payload};
-use event_texts::text_of_state;
+use entries::Entry;
+use event_texts::{expected_words, missing_words, text_of_state};
 use net_core::{NetState, RunRefused};
-use replay::{ReplayRefused, replay};
+use replay::{ReplayRefused, event_of, replay};
 use std::alloc::{AllocError, Global};
 use transcripts::{TextFault, entry_lines, network_text, read_behind_network};
 
 /// Why a transcript isn't replayed: its first line that is none, or its first entry that isn't possible or has another
-/// pulse or wire, with the number of its line.
-#[derive(Clone, Copy, Debug, PartialEq, Eq)]
+/// pulse or wire, with the number of its line. Behind it are words for what its event lacks or comes to, as
+/// `missing_words` and `expected_words` of `event_texts` have them.
+#[derive(Debug, PartialEq, Eq, Drop)]
 pub enum ReplayFault {
     /// The line is none of a transcript.
     Syntax(usize),
     /// The node can't make its next pulse yet.
-    NotReady(usize),
+    NotReady(usize, Vec<u8>),
     /// The out-list is empty.
-    NothingToPut(usize),
+    NothingToPut(usize, Vec<u8>),
     /// No wire of the neighbour waits.
-    LinkEmpty(usize),
+    LinkEmpty(usize, Vec<u8>),
     /// There is no such vertex, or the neighbour is none.
     NoSuch(usize),
     /// The event has another pulse or wire.
-    WrongWire(usize),
+    WrongWire(usize, Vec<u8>),
     /// Memory ran out.
     Memory,
 }
@@ -66,19 +68,78 @@ fn line_at(lines: &[usize], index: usize) -> usize
     }
 }
 
-// The refusal of a replay, with the line of its entry.
-fn fault_at(lines: &[usize], refused: ReplayRefused) -> ReplayFault
-    ensures { result ≡ fault_at lines.now refused }
+// The refusal of a replay, with the line of its entry and words behind it.
+fn fault_at(lines: &[usize], words: Vec<u8>, refused: ReplayRefused) -> ReplayFault
+    ensures { result ≡ fault_at lines.now words refused }
 {
     match refused {
-        ReplayRefused::Run(RunRefused::NotReady(k)) => ReplayFault::NotReady(line_at(lines, k)),
-        ReplayRefused::Run(RunRefused::NothingToPut(k)) => {
-            ReplayFault::NothingToPut(line_at(lines, k))
+        ReplayRefused::Run(RunRefused::NotReady(k)) => {
+            ReplayFault::NotReady(line_at(lines, k), words)
         }
-        ReplayRefused::Run(RunRefused::LinkEmpty(k)) => ReplayFault::LinkEmpty(line_at(lines, k)),
+        ReplayRefused::Run(RunRefused::NothingToPut(k)) => {
+            ReplayFault::NothingToPut(line_at(lines, k), words)
+        }
+        ReplayRefused::Run(RunRefused::LinkEmpty(k)) => {
+            ReplayFault::LinkEmpty(line_at(lines, k), words)
+        }
         ReplayRefused::Run(RunRefused::NoSuch(k)) => ReplayFault::NoSuch(line_at(lines, k)),
         ReplayRefused::Run(RunRefused::Memory) => ReplayFault::Memory,
-        ReplayRefused::WrongWire(k) => ReplayFault::WrongWire(line_at(lines, k)),
+        ReplayRefused::WrongWire(k) => ReplayFault::WrongWire(line_at(lines, k), words),
+    }
+}
+
+// The index of the entry that is refused.
+fn index_of(refused: ReplayRefused) -> Option<usize>
+    ensures { result ≡ index_of refused }
+{
+    match refused {
+        ReplayRefused::Run(RunRefused::NotReady(k)) => Some(k),
+        ReplayRefused::Run(RunRefused::NothingToPut(k)) => Some(k),
+        ReplayRefused::Run(RunRefused::LinkEmpty(k)) => Some(k),
+        ReplayRefused::Run(RunRefused::NoSuch(k)) => Some(k),
+        ReplayRefused::Run(RunRefused::Memory) => None,
+        ReplayRefused::WrongWire(k) => Some(k),
+    }
+}
+
+// The words behind the refusal of an entry in a state.
+fn words_of(
+    alloc: Global,
+    state: &NetState<Colouring>,
+    row: &(u32, Entry<Payload>),
+    refused: ReplayRefused,
+) -> Result<Vec<u8>, AllocError>
+    ensures { IfOk result (λ words. words.items ≡ words_text state.now.net state.now.state row.now refused) }
+{
+    match (event_of(state.network(), row), refused) {
+        (None, _) => Ok(Vec::new(alloc)),
+        (Some(event), ReplayRefused::Run(_)) => missing_words(alloc, state, event),
+        (Some(event), ReplayRefused::WrongWire(_)) => expected_words(alloc, state, event),
+    }
+}
+
+// The refusal of entries, with its line, and words for the state that the entries before it lead to.
+fn told(
+    alloc: Global,
+    network: &Network,
+    rows: &[(u32, Entry<Payload>)],
+    lines: &[usize],
+    refused: ReplayRefused,
+) -> ReplayFault
+    ensures { IsTold network.now rows.now lines.now refused result }
+{
+    let Some(index) = index_of(refused) else {
+        return ReplayFault::Memory;
+    };
+    let Some(row) = rows.get(index) else {
+        return ReplayFault::Memory;
+    };
+    let Ok(state) = replay::<Colouring>(alloc, network, &rows[..index]) else {
+        return ReplayFault::Memory;
+    };
+    match words_of(alloc, &state, row, refused) {
+        Ok(words) => fault_at(lines, words, refused),
+        Err(_) => ReplayFault::Memory,
     }
 }
 
@@ -92,12 +153,13 @@ fn replayed(
     ensures ok { IfOk result (λ view. IsReplayed network.now (lines_of input.now) view.state) }
     ensures fault { IfErr result (IsFaultOfTranscript network.now (lines_of input.now)) }
 {
+    network.is_network();
     let (_, rows) = read_behind_network::<Payload>(alloc, input)?;
     match replay::<Colouring>(alloc, network, rows.as_slice()) {
         Ok(state) => Ok(state),
         Err(refused) => {
             let lines = entry_lines(alloc, input)?;
-            Err(fault_at(lines.as_slice(), refused))
+            Err(told(alloc, network, rows.as_slice(), lines.as_slice(), refused))
         }
     }
 }

@@ -1,6 +1,6 @@
 //! The line that reports a fault, and the status that goes with it.
 
-ghost use Rattle.std.specs.Prelude.{◌≡◌, IfOk, codes, string_bytes};
+ghost use Rattle.std.specs.Prelude.{◌≡◌, ◌++◌, IfOk, codes, string_bytes};
 ghost use Rattle.byte_functions.specs.Faults.{at_line, at_vertex, at_vertices, fault_line, fault_status, line_with};
 ghost use Rattle.byte_functions.specs.declared.fault.PlanFault.TheVariants.{Check, Col, Event, Net, Pool, Replay};
 
@@ -30,17 +30,17 @@ const NOT_DONE: u8 = 4;
 #[derive(Drop)]
 pub struct FaultReport {
     /// The line on standard error, its line feed included.
-    pub line: String,
+    pub line: Vec<u8>,
     /// The status of the program.
     pub status: u8,
 }
 
 fn refusal(line: String) -> FaultReport
-    ensures line { string_bytes result.line ≡ string_bytes line }
+    ensures line { result.line.items ≡ string_bytes line }
     ensures status { result.status ≡ 1 }
 {
     FaultReport {
-        line,
+        line: line.into_bytes(),
         status: REFUSED,
     }
 }
@@ -52,10 +52,31 @@ fn refusal_at_line(
     code: &str,
     number: usize,
 ) -> Result<FaultReport, AllocError>
-    ensures line { IfOk result (λ report. string_bytes report.line ≡ line_with name.now (at_line code.now number)) }
+    ensures line { IfOk result (λ report. report.line.items ≡ line_with name.now (at_line code.now number)) }
     ensures status { IfOk result (λ report. report.status ≡ 1) }
 {
     Ok(refusal(format!(in alloc; "{name}: {code} line {number}\n")?))
+}
+
+// `NAME: CODE line N`, and words behind it.
+fn refusal_in_words(
+    alloc: Global,
+    name: &str,
+    code: &str,
+    number: usize,
+    words: &[u8],
+) -> Result<FaultReport, AllocError>
+    ensures line { IfOk result (λ report.
+        report.line.items ≡ line_with name.now (at_line code.now number ++ words.now)) }
+    ensures status { IfOk result (λ report. report.status ≡ 1) }
+{
+    let mut line = format!(in alloc; "{name}: {code} line {number}")?.into_bytes();
+    line.extend_from_slice(words)?;
+    line.push(b'\n')?;
+    Ok(FaultReport {
+        line,
+        status: REFUSED,
+    })
 }
 
 // `NAME: CODE vertex V`.
@@ -65,7 +86,7 @@ fn refusal_at_vertex(
     code: &str,
     v: u32,
 ) -> Result<FaultReport, AllocError>
-    ensures line { IfOk result (λ report. string_bytes report.line ≡ line_with name.now (at_vertex code.now v)) }
+    ensures line { IfOk result (λ report. report.line.items ≡ line_with name.now (at_vertex code.now v)) }
     ensures status { IfOk result (λ report. report.status ≡ 1) }
 {
     Ok(refusal(format!(in alloc; "{name}: {code} vertex {v}\n")?))
@@ -79,7 +100,7 @@ fn refusal_at_vertices(
     v: u32,
     w: u32,
 ) -> Result<FaultReport, AllocError>
-    ensures line { IfOk result (λ report. string_bytes report.line ≡ line_with name.now (at_vertices code.now v w)) }
+    ensures line { IfOk result (λ report. report.line.items ≡ line_with name.now (at_vertices code.now v w)) }
     ensures status { IfOk result (λ report. report.status ≡ 1) }
 {
     Ok(refusal(format!(in alloc; "{name}: {code} vertices {v} {w}\n")?))
@@ -87,22 +108,22 @@ fn refusal_at_vertices(
 
 // `NAME: TEXT`.
 fn report_with(alloc: Global, name: &str, text: &str, status: u8) -> Result<FaultReport, AllocError>
-    ensures line { IfOk result (λ report. string_bytes report.line ≡ line_with name.now text.now) }
+    ensures line { IfOk result (λ report. report.line.items ≡ line_with name.now text.now) }
     ensures status { IfOk result (λ report. report.status ≡ status) }
 {
-    let line = format!(in alloc; "{name}: {text}\n")?;
+    let line = format!(in alloc; "{name}: {text}\n")?.into_bytes();
     Ok(FaultReport { line, status })
 }
 
 fn memory_report(alloc: Global, name: &str) -> Result<FaultReport, AllocError>
-    ensures line { IfOk result (λ report. string_bytes report.line ≡ line_with name.now (codes "memory")) }
+    ensures line { IfOk result (λ report. report.line.items ≡ line_with name.now (codes "memory")) }
     ensures status { IfOk result (λ report. report.status ≡ 4) }
 {
     report_with(alloc, name, "memory", NOT_DONE)
 }
 
 fn report_of_reading(alloc: Global, name: &str, fault: ColFault) -> Result<FaultReport, AllocError>
-    ensures line { IfOk result (λ report. string_bytes report.line ≡ fault_line name.now (Col fault)) }
+    ensures line { IfOk result (λ report. report.line.items ≡ fault_line name.now (Col fault)) }
     ensures status { IfOk result (λ report. report.status ≡ fault_status (Col fault)) }
 {
     match fault {
@@ -119,7 +140,7 @@ fn report_of_reading(alloc: Global, name: &str, fault: ColFault) -> Result<Fault
 }
 
 fn report_of_network(alloc: Global, name: &str, fault: NetFault) -> Result<FaultReport, AllocError>
-    ensures line { IfOk result (λ report. string_bytes report.line ≡ fault_line name.now (Net fault)) }
+    ensures line { IfOk result (λ report. report.line.items ≡ fault_line name.now (Net fault)) }
     ensures status { IfOk result (λ report. report.status ≡ fault_status (Net fault)) }
 {
     match fault {
@@ -130,7 +151,7 @@ fn report_of_network(alloc: Global, name: &str, fault: NetFault) -> Result<Fault
 }
 
 fn report_of_pool(alloc: Global, name: &str, fault: PoolFault) -> Result<FaultReport, AllocError>
-    ensures line { IfOk result (λ report. string_bytes report.line ≡ fault_line name.now (Pool fault)) }
+    ensures line { IfOk result (λ report. report.line.items ≡ fault_line name.now (Pool fault)) }
     ensures status { IfOk result (λ report. report.status ≡ fault_status (Pool fault)) }
 {
     match fault {
@@ -141,7 +162,7 @@ fn report_of_pool(alloc: Global, name: &str, fault: PoolFault) -> Result<FaultRe
 }
 
 fn report_of_check(alloc: Global, name: &str, fault: CheckFault) -> Result<FaultReport, AllocError>
-    ensures line { IfOk result (λ report. string_bytes report.line ≡ fault_line name.now (Check fault)) }
+    ensures line { IfOk result (λ report. report.line.items ≡ fault_line name.now (Check fault)) }
     ensures status { IfOk result (λ report. report.status ≡ fault_status (Check fault)) }
 {
     match fault {
@@ -156,14 +177,20 @@ fn report_of_check(alloc: Global, name: &str, fault: CheckFault) -> Result<Fault
 }
 
 fn report_of_events(alloc: Global, name: &str, fault: EventFault) -> Result<FaultReport, AllocError>
-    ensures line { IfOk result (λ report. string_bytes report.line ≡ fault_line name.now (Event fault)) }
+    ensures line { IfOk result (λ report. report.line.items ≡ fault_line name.now (Event fault)) }
     ensures status { IfOk result (λ report. report.status ≡ fault_status (Event fault)) }
 {
     match fault {
         EventFault::NoEvent(n) => refusal_at_line(alloc, name, "NoEvent", n),
-        EventFault::NotReady(n) => refusal_at_line(alloc, name, "NotReady", n),
-        EventFault::NothingToPut(n) => refusal_at_line(alloc, name, "NothingToPut", n),
-        EventFault::LinkEmpty(n) => refusal_at_line(alloc, name, "LinkEmpty", n),
+        EventFault::NotReady(n, words) => {
+            refusal_in_words(alloc, name, "NotReady", n, words.as_slice())
+        }
+        EventFault::NothingToPut(n, words) => {
+            refusal_in_words(alloc, name, "NothingToPut", n, words.as_slice())
+        }
+        EventFault::LinkEmpty(n, words) => {
+            refusal_in_words(alloc, name, "LinkEmpty", n, words.as_slice())
+        }
         EventFault::NoSuch(n) => refusal_at_line(alloc, name, "NoSuch", n),
         EventFault::Memory => memory_report(alloc, name),
     }
@@ -174,16 +201,24 @@ fn report_of_replay(
     name: &str,
     fault: ReplayFault,
 ) -> Result<FaultReport, AllocError>
-    ensures line { IfOk result (λ report. string_bytes report.line ≡ fault_line name.now (Replay fault)) }
+    ensures line { IfOk result (λ report. report.line.items ≡ fault_line name.now (Replay fault)) }
     ensures status { IfOk result (λ report. report.status ≡ fault_status (Replay fault)) }
 {
     match fault {
         ReplayFault::Syntax(n) => refusal_at_line(alloc, name, "X1", n),
-        ReplayFault::NotReady(n) => refusal_at_line(alloc, name, "NotReady", n),
-        ReplayFault::NothingToPut(n) => refusal_at_line(alloc, name, "NothingToPut", n),
-        ReplayFault::LinkEmpty(n) => refusal_at_line(alloc, name, "LinkEmpty", n),
+        ReplayFault::NotReady(n, words) => {
+            refusal_in_words(alloc, name, "NotReady", n, words.as_slice())
+        }
+        ReplayFault::NothingToPut(n, words) => {
+            refusal_in_words(alloc, name, "NothingToPut", n, words.as_slice())
+        }
+        ReplayFault::LinkEmpty(n, words) => {
+            refusal_in_words(alloc, name, "LinkEmpty", n, words.as_slice())
+        }
         ReplayFault::NoSuch(n) => refusal_at_line(alloc, name, "NoSuch", n),
-        ReplayFault::WrongWire(n) => refusal_at_line(alloc, name, "WrongWire", n),
+        ReplayFault::WrongWire(n, words) => {
+            refusal_in_words(alloc, name, "WrongWire", n, words.as_slice())
+        }
         ReplayFault::Memory => memory_report(alloc, name),
     }
 }
@@ -193,7 +228,7 @@ fn report_of_replay(
 /// # Errors
 /// If there is no memory for the line.
 pub fn fault_report(alloc: Global, name: &str, fault: PlanFault) -> Result<FaultReport, AllocError>
-    ensures line { IfOk result (λ report. string_bytes report.line ≡ fault_line name.now fault) }
+    ensures line { IfOk result (λ report. report.line.items ≡ fault_line name.now fault) }
     ensures status { IfOk result (λ report. report.status ≡ fault_status fault) }
 {
     match fault {

@@ -50,13 +50,13 @@ fault-front lines (SelfLoop n) is = first-front lines (SelfLoop n) is
 fault-front lines (TooLarge n) is = first-front lines (TooLarge n) is
 fault-front lines (UnknownLine n) is = first-front lines (UnknownLine n) is
 
--- the same of the lines before a text that begins with a word
-pub graph-of : (word : List ℕ) (lines network : List Line) (nodes : ℕ) (edges : List (ℕ × ℕ)) → AreLinesBefore word lines network →
-    IsGraph network nodes edges → IsGraph (lines_before word lines) nodes edges
-graph-of word lines network nodes edges (inl same) is = subst (λ ls. IsGraph ls nodes edges) same is
-graph-of word lines network nodes edges (inr more) is = graph-front (lines_before word lines) nodes edges (subst (λ ls. IsGraph ls nodes edges) more is)
+-- the same of the lines before a text that begins with one of some words
+pub graph-of : (words : List (List ℕ)) (lines network : List Line) (nodes : ℕ) (edges : List (ℕ × ℕ)) → AreLinesBefore words lines network →
+    IsGraph network nodes edges → IsGraph (lines_before words lines) nodes edges
+graph-of words lines network nodes edges (inl same) is = subst (λ ls. IsGraph ls nodes edges) same is
+graph-of words lines network nodes edges (inr more) is = graph-front (lines_before words lines) nodes edges (subst (λ ls. IsGraph ls nodes edges) more is)
 
-pub fault-of : (word : List ℕ) (lines network : List Line) (fault : ColFault) → AreLinesBefore word lines network → IsFault network fault →
-    IsFault (lines_before word lines) fault
-fault-of word lines network fault (inl same) is = subst (λ ls. IsFault ls fault) same is
-fault-of word lines network fault (inr more) is = fault-front (lines_before word lines) fault (subst (λ ls. IsFault ls fault) more is)
+pub fault-of : (words : List (List ℕ)) (lines network : List Line) (fault : ColFault) → AreLinesBefore words lines network → IsFault network fault →
+    IsFault (lines_before words lines) fault
+fault-of words lines network fault (inl same) is = subst (λ ls. IsFault ls fault) same is
+fault-of words lines network fault (inr more) is = fault-front (lines_before words lines) fault (subst (λ ls. IsFault ls fault) more is)

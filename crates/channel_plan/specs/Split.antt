@@ -1,52 +1,64 @@
 -- The lines of a network text and of the text that follows it, which begins with a word.
-use Rattle.std.specs.Prelude.{◌≡◌, ◌⊎◌, ℕ, Bool, true, false, List, [], ◌∷◌, ◌++◌, codes, if◌then◌else◌}
-use Rattle.std.specs.List.{All}
+use Rattle.std.specs.Prelude.{◌≡◌, ◌⊎◌, ℕ, Bool, true, false, List, [], ◌∷◌, ◌++◌, codes, if◌then◌else◌, map}
+use Rattle.std.specs.List.{All, list_any}
+use Rattle.std.specs.Borrow.{Bor}
 use Rattle.std.specs.Str.{bytes_eq}
 use Rattle.dimacs_col.specs.Lines.{Line, lines_of}
 
--- whether the first field of a line is a word
-abbrev pub begins : List ℕ → Line → Bool
-begins word [] = false
-begins word (first ∷ others) = bytes_eq first word
+-- the bytes of some words
+abbrev pub words_in : List (Bor (List ℕ)) → List (List ℕ)
+words_in words = map (λ word. word.now) words
 
--- the lines before the first one whose first field is a word
-unfoldable pub lines_before : List ℕ → List Line → List Line
-lines_before word [] = []
-lines_before word (line ∷ lines) = if begins word line then [] else line ∷ lines_before word lines
+-- whether a field is one of some words
+abbrev pub is_one_of : List ℕ → List (List ℕ) → Bool
+is_one_of field words = list_any (λ word. bytes_eq field word) words
+
+-- whether the first field of a line is one of some words
+abbrev pub begins : List (List ℕ) → Line → Bool
+begins words [] = false
+begins words (first ∷ others) = is_one_of first words
+
+-- the lines before the first one whose first field is one of some words
+unfoldable pub lines_before : List (List ℕ) → List Line → List Line
+lines_before words [] = []
+lines_before words (line ∷ lines) = if begins words line then [] else line ∷ lines_before words lines
 
 -- the lines from that one on
-unfoldable pub lines_from : List ℕ → List Line → List Line
-lines_from word [] = []
-lines_from word (line ∷ lines) = if begins word line then line ∷ lines else lines_from word lines
+unfoldable pub lines_from : List (List ℕ) → List Line → List Line
+lines_from words [] = []
+lines_from words (line ∷ lines) = if begins words line then line ∷ lines else lines_from words lines
 
 -- a text is empty or ends with a line feed
 abbrev pub EndsLine : List ℕ → Type 0
 EndsLine text = (text ≡ []) ⊎ ((before : List ℕ) × (text ≡ before ++ 10 ∷ []))
 
--- the first line of a text has a word as its first field
-abbrev pub Starts : List ℕ → List ℕ → Type 0
-Starts word text = (line : Line) × (lines : List Line) × (lines_of text ≡ line ∷ lines) × (begins word line ≡ true)
+-- the first line of a text has one of some words as its first field
+abbrev pub Starts : List (List ℕ) → List ℕ → Type 0
+Starts words text = (line : Line) × (lines : List Line) × (lines_of text ≡ line ∷ lines) × (begins words line ≡ true)
 
--- A text is cut where the text of a word begins: behind a line feed, at the first line whose first field is the word.
--- If there is no such line, nothing is behind the cut.
-pub record IsSplit (word text front behind : List ℕ) : Type 0 where
+-- A text is cut where the text of a word begins: behind a line feed, at the first line whose first field is one of some
+-- words. If there is no such line, nothing is behind the cut.
+pub record IsSplit (words : List (List ℕ)) (text front behind : List ℕ) : Type 0 where
   pub whole : front ++ behind ≡ text
-  pub before : All (λ line. begins word line ≡ false) (lines_of front)
-  pub from : (behind ≡ []) ⊎ (EndsLine front × Starts word behind)
+  pub before : All (λ line. begins words line ≡ false) (lines_of front)
+  pub from : (behind ≡ []) ⊎ (EndsLine front × Starts words behind)
 
 -- the lines before the cut, perhaps with an empty line behind them, as after a last line feed
-abbrev pub AreLinesBefore : List ℕ → List Line → List Line → Type 0
-AreLinesBefore word lines front = (front ≡ lines_before word lines) ⊎ (front ≡ lines_before word lines ++ [] ∷ [])
+abbrev pub AreLinesBefore : List (List ℕ) → List Line → List Line → Type 0
+AreLinesBefore words lines front = (front ≡ lines_before words lines) ⊎ (front ≡ lines_before words lines ++ [] ∷ [])
 
 -- the lines of a network text, and of the plan text that follows it
+abbrev pub plan_word : List (List ℕ)
+plan_word = codes "plan" ∷ []
+
 abbrev pub begins_plan : Line → Bool
-begins_plan line = begins (codes "plan") line
+begins_plan line = begins plan_word line
 
 abbrev pub network_lines : List Line → List Line
-network_lines lines = lines_before (codes "plan") lines
+network_lines lines = lines_before plan_word lines
 
 abbrev pub plan_lines : List Line → List Line
-plan_lines lines = lines_from (codes "plan") lines
+plan_lines lines = lines_from plan_word lines
 
 abbrev pub AreNetworkLines : List Line → List Line → Type 0
-AreNetworkLines lines network = AreLinesBefore (codes "plan") lines network
+AreNetworkLines lines network = AreLinesBefore plan_word lines network

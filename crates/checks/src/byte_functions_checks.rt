@@ -48,7 +48,7 @@ fn reports(
 ) -> Result<(), Fail> {
     let report = fault_report(alloc, "name", fault)?;
     let wanted = format!(in alloc; "name: {line}\n")?;
-    assert!(rt; report.line.as_bytes() == wanted.as_bytes(), "{line}");
+    assert!(rt; report.line.as_slice() == wanted.as_bytes(), "{line}");
     assert_eq!(rt; report.status, status, "{line}");
     Ok(())
 }
@@ -83,9 +83,10 @@ fn reports_each_fault_of_a_network(rt: HostRuntime) -> Result<(), Fail> {
     Ok(())
 }
 
-// The faults of runs, plans and events, likewise.
+// The faults of runs and plans, likewise.
 #[test]
-fn reports_each_fault_of_a_run_a_plan_or_events(rt: HostRuntime) -> Result<(), Fail> {
+fn reports_each_fault_of_a_run_or_a_plan(rt: HostRuntime) -> Result<(), Fail> {
+    let alloc = rt.alloc();
     for (fault, line, status) in [
         (PlanFault::Pool(PoolFault::Memory), "memory", 4),
         (PlanFault::Pool(PoolFault::Spawn), "threads", 4),
@@ -102,31 +103,51 @@ fn reports_each_fault_of_a_run_a_plan_or_events(rt: HostRuntime) -> Result<(), F
         (PlanFault::Check(CheckFault::TooHigh(3)), "C5 vertex 3", 1),
         (PlanFault::Check(CheckFault::Syntax(4)), "C6 line 4", 1),
         (PlanFault::Check(CheckFault::Memory), "memory", 4),
+        (PlanFault::Memory, "memory", 4),
+    ] {
+        reports(&rt, alloc, fault, line, status)?;
+    }
+    Ok(())
+}
+
+// The faults of events, likewise, with their words.
+#[test]
+fn reports_each_fault_of_an_event(rt: HostRuntime) -> Result<(), Fail> {
+    let alloc = rt.alloc();
+    for (fault, line, status) in [
         (
             PlanFault::Event(EventFault::NoEvent(5)),
             "NoEvent line 5",
             1,
         ),
         (
-            PlanFault::Event(EventFault::NotReady(6)),
-            "NotReady line 6",
+            PlanFault::Event(EventFault::NotReady(
+                6,
+                Vec::from_slice(alloc, b": safe 0 of 2 and 3")?,
+            )),
+            "NotReady line 6: safe 0 of 2 and 3",
             1,
         ),
         (
-            PlanFault::Event(EventFault::NothingToPut(7)),
-            "NothingToPut line 7",
+            PlanFault::Event(EventFault::NothingToPut(
+                7,
+                Vec::from_slice(alloc, b": list of 1 for 2")?,
+            )),
+            "NothingToPut line 7: list of 1 for 2",
             1,
         ),
         (
-            PlanFault::Event(EventFault::LinkEmpty(8)),
-            "LinkEmpty line 8",
+            PlanFault::Event(EventFault::LinkEmpty(
+                8,
+                Vec::from_slice(alloc, b": link from 2 to 1")?,
+            )),
+            "LinkEmpty line 8: link from 2 to 1",
             1,
         ),
         (PlanFault::Event(EventFault::NoSuch(9)), "NoSuch line 9", 1),
         (PlanFault::Event(EventFault::Memory), "memory", 4),
-        (PlanFault::Memory, "memory", 4),
     ] {
-        reports(&rt, rt.alloc(), fault, line, status)?;
+        reports(&rt, alloc, fault, line, status)?;
     }
     Ok(())
 }
@@ -173,6 +194,8 @@ fn plays_events(rt: HostRuntime) -> Result<(), Fail> {
     let answer = events_bytes(alloc, text)?;
     assert!(rt; answer.as_slice() == wanted.as_bytes());
     let fault = events_bytes(alloc, b"p edge 2 1\ne 1 2\nc\ntake 2 0\n");
-    assert!(rt; fault.is_err_and(|fault| fault == PlanFault::Event(EventFault::LinkEmpty(4))));
+    let words = Vec::from_slice(alloc, b": link from 1 to 2")?;
+    let wanted = PlanFault::Event(EventFault::LinkEmpty(4, words));
+    assert!(rt; fault.is_err_and(|fault| fault == wanted));
     Ok(())
 }

@@ -13,7 +13,8 @@ abbrev pub blank : InForest
 blank = record { colour = 0; before = 0 }
 
 -- The forests before i have turned, the others not yet.
-pub record Turned (reduction : Reduction) (id : ℕ) (is_seeded : Bool) (old : List InForest) (above : List (Option ℕ)) (i : ℕ) (new : List InForest) : Type 0 where
+pub record Turned (reduction : Reduction) (id : ℕ) (is_seeded : Bool) (old : List InForest) (above : List (Option ℕ)) (i : ℕ)
+    (new : List InForest) : Type 0 where
   pub size : length new ≡ length old
   pub colours : (f : ℕ) → f < i → (get_or new f blank).colour
       ≡ turned reduction (colour_by id is_seeded (get_or old f blank)) (get_or old f blank).before (slice_index_or above f None)

@@ -41,6 +41,8 @@ Status, and what standard error then holds:
   4  a thread could not be started  forestplan: threads
      memory ran out                 forestplan: memory
      a read or a write failed       forestplan: stream
+`stream` also comes if the reader of the output leaves before its end, as `| head`
+does: then nothing is wrong.
 
 Example: three transmitters, each in reach of the other two
   printf 'p edge 3 3\\ne 1 2\\ne 1 3\\ne 2 3\\n' | forestplan plain",
@@ -129,6 +131,7 @@ plain and plan make
   R = 12 + 3 U (D + 1)
 rounds, and plan sends for P messages on E edges in all
   2 P + 2 E (R + 1)
+wires. On the complete graph of 100 nodes R is 29712, and that is 296 million
 wires.
 
 Example: the triangle
@@ -178,6 +181,7 @@ each node a line for each pulse. With D as the greatest number of neighbours of
 a vertex, and U as that of neighbours above it, N nodes and P messages on E edges
 make behind the first line
   2 (2 P + 2 E (R + 1)) + N R    lines, where R = 12 + 3 U (D + 1)
+On the complete graph of 100 nodes that is 594 million lines, of 13 GB.
 A run that is cut off by --turns prints none: it reports `forestplan: stopped`
 (status 3).
 
@@ -246,7 +250,9 @@ output holds a beginning of the answer.",
 `forestplay: F6 line 2`: see `forestplan --help`.
 
 Status: 0 done, 1 input refused, 2 command line refused, 4 memory ran out, or
-the input could not be read or the output not written.
+the input could not be read or the output not written (`forestplay: stream`). The
+last also comes if the reader of the output leaves before its end, as `| head`
+does: then nothing is wrong.
 
 Example: node 1 of two greets the other
   printf 'p edge 2 1\\ne 1 2\\nput 1 0\\n' | forestplay events",
@@ -281,12 +287,14 @@ Output, for each node V, ascending, a line each:
     close                    the last wire
 
 Faults of the events, reported once the graph has none, each as
-`forestplay: NotReady line 5`, where lines count from the first of the graph:
+`forestplay: NotReady line 5: safe 0 of 2 and 3`, where lines count from the first
+of the graph. Behind the line is what is missing:
   NoEvent       the line is no event, and not skipped
   NoSuch        there is no such node or port
-  NotReady      the node cannot make its next pulse yet
-  NothingToPut  the out-list is empty
-  LinkEmpty     no wire waits at the port
+  NotReady      the node cannot make its next pulse yet: the wires that are still
+                to come for it, and from whom; or it has made the last pulse
+  NothingToPut  the out-list is empty: whose, and for whom
+  LinkEmpty     no wire waits at the port: from whom, and to whom
 The first line that is no event is looked for first. If there is none, the first
 event that is not possible is reported.
 
@@ -320,12 +328,15 @@ compared with the graph.
 
 The transcripts of forestplan list all entries of node 1, then those of node 2, and
 so on. If two nodes are neighbours that is no order in which they are possible;
-tests/check_transcript.py --order puts them into one.
+`./replay NETWORK TRANSCRIPT`, a script beside this program, puts them into one and
+replays them.
 
 Output: the state, as `forestplay events` prints it.
 
 Faults of the transcript, reported once the graph has none, each as
-`forestplay: LinkEmpty line 5`, where lines count from the first of the graph:
+`forestplay: LinkEmpty line 5: link from 2 to 1`, where lines count from the first
+of the graph. Behind the line is what is missing, as `forestplay events --help`
+says, or what was expected:
   X1            the line is none of a transcript, or, as line 1, there is none
   NoSuch        there is no such node, or the other is no neighbour
   NotReady      the node cannot make its next pulse yet

@@ -1,5 +1,4 @@
 mod Numbers
-mod Splitting
 mod Readings
-mod Within
+mod Plays
 mod Scripts

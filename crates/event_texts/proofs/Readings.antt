@@ -58,7 +58,7 @@ pub fault-line : (lines : List Line) (n : ℕ) (wrong : Type 0) (fault : EventFa
     IsFaultOfReading lines fault
 fault-line lines n wrong Memory told is = tt
 fault-line lines n wrong (NoEvent m) told is = told is.0 ∙ ap Err (sym is.1)
-fault-line lines n wrong (NotReady m) told is = absurd is
-fault-line lines n wrong (NothingToPut m) told is = absurd is
-fault-line lines n wrong (LinkEmpty m) told is = absurd is
+fault-line lines n wrong (NotReady m words) told is = absurd is
+fault-line lines n wrong (NothingToPut m words) told is = absurd is
+fault-line lines n wrong (LinkEmpty m words) told is = absurd is
 fault-line lines n wrong (NoSuch m) told is = absurd is

@@ -17,7 +17,7 @@ no-comment : (word other : List ℕ) → bytes_eq word other ≡ true → is_com
 no-comment word other e is = ap is_comment ((bytes_eq-Decides word other).0 e) ∙ is
 
 word-by : (word : List ℕ) (a b c : Bool) → bytes_eq word (codes "pulse") ≡ a → bytes_eq word (codes "put") ≡ b → bytes_eq word (codes "take") ≡ c →
-    (a || b || c) ≡ true → is_comment word ≡ false
+    (a || (b || (c || false))) ≡ true → is_comment word ≡ false
 word-by word true b c p q r e = no-comment word (codes "pulse") p refl
 word-by word false true c p q r e = no-comment word (codes "put") q refl
 word-by word false false true p q r e = no-comment word (codes "take") r refl

@@ -1,29 +1,31 @@
 -- Which lines of a text are a network's, and which event a line is.
-use Rattle.std.specs.Prelude.{◌≡◌, ◌⊎◌, ℕ, Bool, false, ◌||◌, if◌then◌else◌, Option, Some, None, option_map}
-use Rattle.std.specs.Prelude.{List, [], ◌∷◌, ◌++◌, codes}
+use Rattle.std.specs.Prelude.{ℕ, Bool, if◌then◌else◌, Option, Some, None, option_map}
+use Rattle.std.specs.Prelude.{List, [], ◌∷◌, codes}
 use Rattle.std.specs.Str.{bytes_eq}
 use Rattle.dimacs_col.specs.Lines.{Line}
 use Rattle.dimacs_col.specs.State.{kept_number}
+use Rattle.channel_plan.specs.Split.{AreLinesBefore, begins, is_one_of, lines_before}
 use Rattle.net_core.specs.declared.event.Event.{Event}
 use Rattle.net_core.specs.declared.event.Event.TheVariants.{Pulse, Put, Take}
 
 -- the words of events
+abbrev pub event_words : List (List ℕ)
+event_words = codes "pulse" ∷ codes "put" ∷ codes "take" ∷ []
+
 abbrev pub is_event_word : List ℕ → Bool
-is_event_word word = bytes_eq word (codes "pulse") || bytes_eq word (codes "put") || bytes_eq word (codes "take")
+is_event_word word = is_one_of word event_words
 
 -- whether the first field of a line is one of them
 abbrev pub begins_event : Line → Bool
-begins_event [] = false
-begins_event (word ∷ words) = is_event_word word
+begins_event line = begins event_words line
 
 -- the lines before the first one whose first field is an event's word
-unfoldable pub network_lines : List Line → List Line
-network_lines [] = []
-network_lines (line ∷ lines) = if begins_event line then [] else line ∷ network_lines lines
+abbrev pub network_lines : List Line → List Line
+network_lines lines = lines_before event_words lines
 
 -- these lines, perhaps with an empty line behind them, as after a last line feed
 abbrev pub AreNetworkLines : List Line → List Line → Type 0
-AreNetworkLines lines network = (network ≡ network_lines lines) ⊎ (network ≡ network_lines lines ++ [] ∷ [])
+AreNetworkLines lines network = AreLinesBefore event_words lines network
 
 -- the number of the only field; a number above 2^32 - 1 counts as that, which no vertex and no port has
 abbrev pub one_number : Line → Option ℕ

@@ -1,5 +1,6 @@
 pub mod EventLines
 pub mod Reading
 pub mod Reader
-pub mod Played
 pub mod StateText
+pub mod Missing
+pub mod Played

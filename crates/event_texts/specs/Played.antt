@@ -1,11 +1,15 @@
 -- What playing the events of a text comes to.
-use Rattle.std.specs.Prelude.{◌≡◌, ◌<◌, ℕ, List, length, map, Err, slice_index_or}
+use Rattle.std.specs.Prelude.{◌≡◌, ℕ, Ok, Err, List, ◌∷◌, ◌++◌, map}
+use Rattle.std.specs.declared.vec.Vec.{Vec}
+use Rattle.std.specs.declared.alloc.Global.{Global}
 use Rattle.alpha_core.specs.interference.Net.{Net}
 use Rattle.alpha_core.specs.node_api.Program.{Program}
 use Rattle.net_core.specs.declared.event.Event.{Event}
-use Rattle.net_core.specs.declared.refused.RunRefused.{RunRefused}
-use Rattle.net_core.specs.declared.refused.RunRefused.TheVariants as run_refused
-use Rattle.net_core.specs.Step.{run}
+use Rattle.net_core.specs.declared.refused.StepRefused.{StepRefused}
+use Rattle.net_core.specs.declared.refused.StepRefused.TheVariants as step_refused
+use Rattle.net_core.specs.State.{State}
+use Rattle.net_core.specs.Step.{run, step}
+use Rattle.event_texts.specs.Missing.{missing_text}
 use Rattle.event_texts.specs.Reading.{Script}
 use Rattle.event_texts.specs.declared.fault.EventFault.{EventFault}
 use Rattle.event_texts.specs.declared.fault.EventFault.TheVariants.{Memory, NotReady, NothingToPut, LinkEmpty, NoSuch}
@@ -13,33 +17,43 @@ use Rattle.event_texts.specs.declared.fault.EventFault.TheVariants.{Memory, NotR
 abbrev pub events_in : Script → List Event
 events_in script = map (λ row. row.1) script
 
--- the number of the line of the event at an index
-abbrev pub line_at : Script → ℕ → ℕ
-line_at script index = slice_index_or (map (λ row. row.0) script) index 0
+-- the refusal of an event, with its line, and words behind it
+abbrev pub fault_with : ℕ → Vec ℕ Global → StepRefused → EventFault
+fault_with line words step_refused.NotReady = NotReady line words
+fault_with line words step_refused.NothingToPut = NothingToPut line words
+fault_with line words step_refused.LinkEmpty = LinkEmpty line words
+fault_with line words step_refused.NoSuch = NoSuch line
+fault_with line words step_refused.Memory = Memory
 
--- the refusal of a run, with the line of its event in place of the index
-abbrev pub fault_at : Script → RunRefused → EventFault
-fault_at script (run_refused.NotReady k) = NotReady (line_at script k)
-fault_at script (run_refused.NothingToPut k) = NothingToPut (line_at script k)
-fault_at script (run_refused.LinkEmpty k) = LinkEmpty (line_at script k)
-fault_at script (run_refused.NoSuch k) = NoSuch (line_at script k)
-fault_at script run_refused.Memory = Memory
+-- the same, with the words for what the event lacks in a state
+pub record IsFaultOfStep {S M E : Type 0} (program : Program S M E) (net : Net) (state : State S M) (line : ℕ)
+    (event : Event) (reason : StepRefused) (fault : EventFault) : Type 0 where
+  pub words : Vec ℕ Global
+  pub says : words.items ≡ missing_text program net state event
+  pub is_fault : fault ≡ fault_with line words reason
+
+-- The events before one of them are a run, and that one isn't possible in the state that they reach: the fault has the
+-- number of its line, why it isn't possible, and what it lacks.
+pub record IsRefusal {S M E : Type 0} (program : Program S M E) (net : Net) (script : Script) (fault : EventFault)
+    : Type 0 where
+  pub before : Script
+  pub line : ℕ
+  pub event : Event
+  pub after : Script
+  pub splits : script ≡ before ++ ((line, event) ∷ after)
+  pub reached : State S M
+  pub is_run : run program net (events_in before) ≡ Ok reached
+  pub reason : StepRefused
+  pub refuses : step program net reached event ≡ Err reason
+  pub is_fault : IsFaultOfStep program net reached line event reason fault
 
 -- the fault of events that aren't all possible: that of the first which isn't; that memory ran out says nothing
 abbrev pub IsFaultOfRun : {S M E : Type 0} → Program S M E → Net → Script → EventFault → Type 0
 IsFaultOfRun program net script Memory = Unit {0}
-IsFaultOfRun program net script fault = (refused : RunRefused)
-    × (run program net (events_in script) ≡ Err refused) × (fault ≡ fault_at script refused)
+IsFaultOfRun program net script fault = IsRefusal program net script fault
 
--- the index of a refusal is below this
-abbrev pub IsIndexBelow : ℕ → RunRefused → Type 0
-IsIndexBelow n (run_refused.NotReady k) = k < n
-IsIndexBelow n (run_refused.NothingToPut k) = k < n
-IsIndexBelow n (run_refused.LinkEmpty k) = k < n
-IsIndexBelow n (run_refused.NoSuch k) = k < n
-IsIndexBelow n run_refused.Memory = Unit {0}
-
--- a run of the events of a script is refused at one of them
-abbrev pub RefusalsHaveAnEvent : {S M E : Type 0} → Program S M E → Net → Type 0
-RefusalsHaveAnEvent program net = (script : Script) (refused : RunRefused)
-    → run program net (events_in script) ≡ Err refused → IsIndexBelow (length script) refused
+-- the same of one event, in a state
+abbrev pub IsToldOfStep : {S M E : Type 0} → Program S M E → Net → State S M → ℕ → Event → StepRefused → EventFault →
+    Type 0
+IsToldOfStep program net state line event reason Memory = Unit {0}
+IsToldOfStep program net state line event reason fault = IsFaultOfStep program net state line event reason fault

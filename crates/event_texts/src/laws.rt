@@ -2,18 +2,10 @@
 
 ghost use Rattle.std.specs.Prelude.{◌≡◌, ◌↔◌, List, Ok};
 ghost use Rattle.dimacs_col.specs.Lines.{Line};
-ghost use Rattle.alpha_core.specs.interference.Net.{Net};
-ghost use Rattle.alpha_core.specs.node_api.Program.{Program};
-ghost use Rattle.event_texts.specs.Played.{RefusalsHaveAnEvent};
 ghost use Rattle.event_texts.specs.Reading.{IsScript, Script, script_of};
 
 /// A text is read as events exactly if its event lines are these events: the lines from the first one on that
 /// begins an event, without empty ones and comments.
 pub fn scripts_are_the_event_lines()
     ensures law { (lines : List Line) (script : Script) → (script_of lines ≡ Ok script) ↔ IsScript lines script }
-{}
-
-/// A refused run names an event of its script, so the line of the refusal is the line of that event.
-pub fn refusals_have_an_event<S, M, E>()
-    ensures law { (program : Program S M E) (net : Net) → RefusalsHaveAnEvent program net }
 {}

@@ -2,7 +2,7 @@
 //!
 //! A text of events has a line for each: `pulse V`, `put V PORT` or `take V PORT`. The command `events` of
 //! `byte_functions` cuts its input by `network_text`, and calls `read_events`, `play` and
-//! `text_of_state`.
+//! `text_of_state`. An event that isn't possible is refused with words for what it lacks (`specs/Missing.antt`).
 //!
 //! ```
 //! let input = b"p edge 2 1\ne 1 2\nput 1 0\n";
@@ -15,15 +15,19 @@
 #![tactic(auto)]
 
 mod event_line;
+mod expected;
 mod fault;
 pub mod laws;
+mod missing;
 mod playing;
 mod reading;
 mod split;
 mod state_text;
 mod wire_text;
 
+pub use expected::expected_words;
 pub use fault::EventFault;
+pub use missing::missing_words;
 pub use playing::play;
 pub use reading::read_events;
 pub use split::network_text;

@@ -1,45 +1,35 @@
 //! Events that were read, played.
 
 ghost use Rattle.std.specs.Prelude.{◌≡◌, IfOk, IfErr, Ok};
-ghost use Rattle.event_texts.specs.Played.{IsFaultOfRun, events_in, fault_at, line_at};
+ghost use Rattle.event_texts.specs.Played.{IsFaultOfRun, IsToldOfStep, events_in};
 ghost use Rattle.net_core.specs.Step.{run};
 
 use crate::fault::EventFault;
+use crate::missing::missing_words;
 use alpha_core::{Network, NodeProgram};
-use net_core::{Event, NetState, RunRefused, run};
-use std::alloc::{AllocError, Global};
+use net_core::{Event, NetState, StepRefused};
+use std::alloc::Global;
 
-// The events without their lines.
-fn events_in(alloc: Global, script: &[(usize, Event)]) -> Result<Vec<Event>, AllocError>
-    ensures { IfOk result (λ events. events.items ≡ events_in script.now) }
+// The refusal of an event in a state, with its line and what it lacks.
+fn fault_of<P: NodeProgram>(
+    alloc: Global,
+    state: &NetState<P>,
+    line: usize,
+    event: Event,
+    refused: StepRefused,
+) -> EventFault
+    ensures { IsToldOfStep P.program state.now.net state.now.state line event refused result }
 {
-    let mut events = Vec::new(alloc);
-    for row in script {
-        events.push(row.1)?;
-    }
-    Ok(events)
-}
-
-// The line of the event at an index.
-fn line_at(script: &[(usize, Event)], index: usize) -> usize
-    ensures { result ≡ line_at script.now index }
-{
-    match script.get(index) {
-        Some(row) => row.0,
-        None => 0,
-    }
-}
-
-// The refusal of a run, with the line of its event.
-fn fault_at(script: &[(usize, Event)], refused: RunRefused) -> EventFault
-    ensures { result ≡ fault_at script.now refused }
-{
+    let words = match missing_words(alloc, state, event) {
+        Ok(words) => words,
+        Err(_) => return EventFault::Memory,
+    };
     match refused {
-        RunRefused::NotReady(k) => EventFault::NotReady(line_at(script, k)),
-        RunRefused::NothingToPut(k) => EventFault::NothingToPut(line_at(script, k)),
-        RunRefused::LinkEmpty(k) => EventFault::LinkEmpty(line_at(script, k)),
-        RunRefused::NoSuch(k) => EventFault::NoSuch(line_at(script, k)),
-        RunRefused::Memory => EventFault::Memory,
+        StepRefused::NotReady => EventFault::NotReady(line, words),
+        StepRefused::NothingToPut => EventFault::NothingToPut(line, words),
+        StepRefused::LinkEmpty => EventFault::LinkEmpty(line, words),
+        StepRefused::NoSuch => EventFault::NoSuch(line),
+        StepRefused::Memory => EventFault::Memory,
     }
 }
 
@@ -47,7 +37,7 @@ fn fault_at(script: &[(usize, Event)], refused: RunRefused) -> EventFault
 ///
 /// # Errors
 ///
-/// The refusal of the first event that isn't possible, with its line; `Memory` if memory is refused.
+/// The refusal of the first event that isn't possible, with its line and what it lacks; `Memory` if memory is refused.
 pub fn play<P: NodeProgram>(
     alloc: Global,
     net: &Network,
@@ -57,9 +47,12 @@ pub fn play<P: NodeProgram>(
     ensures ok { IfOk result (λ view. run P.program net.now (events_in script.now) ≡ Ok view.state) }
     ensures fault { IfErr result (IsFaultOfRun P.program net.now script.now) }
 {
-    let events = events_in(alloc, script)?;
-    match run(alloc, net, events.as_slice()) {
-        Ok(state) => Ok(state),
-        Err(refused) => Err(fault_at(script, refused)),
+    let mut state = NetState::start(alloc, net)?;
+    for row in script {
+        match state.step(row.1) {
+            Ok(()) => {}
+            Err(refused) => return Err(fault_of(alloc, &state, row.0, row.1, refused)),
+        }
     }
+    Ok(state)
 }

@@ -1,18 +1,18 @@
 //! What a worker does.
 
-ghost use Rattle.std.specs.Prelude.{◌≡◌, ◌≤◌, [], length, map, vec_capacity};
-ghost use Rattle.actor.specs.interference.Net.{vertices};
-ghost use Rattle.crossbeam_queue.specs.Passes.{IsPassOf, ruled_capacity, view};
-ghost use Rattle.pool.specs.Hands.{hand};
+ghost use Rattle.std.specs.Prelude.{◌≡◌, ◌<◌, map, vec_len};
+ghost use Rattle.crossbeam_deque.specs.Handles.{stealer_deque, worker_deque};
+ghost use Rattle.pool.specs.Deques.{deque_of};
 
-use crate::hand::{Gets, Gives};
-use crate::pass::{Places, Pool, PoolPass, Worked};
+use crate::desk::Desk;
+use crate::guest::Thief;
+use crate::ledger::Gives;
 use crate::signals::Signals;
 use actor::{Gate, Links, Memory, Node, NodeProgram, Wiring};
 use std::sync::Wait;
 use std::thread;
 
-/// What all workers share besides the pool.
+/// What all workers share besides the deques.
 #[derive(Drop)]
 pub struct Crew<'a, J: Wiring, P: NodeProgram, G: Gate> {
     pub links: &'a Links<J, P>,
@@ -21,82 +21,109 @@ pub struct Crew<'a, J: Wiring, P: NodeProgram, G: Gate> {
     pub nodes: u64,
 }
 
-// What a worker hands back.
-fn worked<J: Wiring, P: NodeProgram>(
-    pass: PoolPass<J, P>,
-    kept: Vec<Box<Node<J, P>>>,
-    written: Result<(), Memory>,
-) -> Worked<J, P>
-    requires pass { (pass.me.1 ≡ []) × ((view pass).parts ≡ 1) }
-    requires out { (view pass).out ≡ map (λ b. b.value.vertex) kept.items }
-    ensures pass { result.pass ≡ pass }
+/// What a worker hands back: what it has, and whether all entries were written down.
+#[derive(Drop)]
+pub struct Worked<J: Wiring, P: NodeProgram> {
+    pub desk: Desk<J, P>,
+    pub written: Result<(), Memory>,
+}
+
+// The node goes to the finished places, if nothing is left for it to do, or else to the worker's own deque. If that
+// refuses it, it stays in hand.
+fn put_back<J: Wiring, P: NodeProgram>(signals: &Signals, desk: &mut Desk<J, P>)
+    ensures own { worker_deque desk.new.own ≡ worker_deque desk.old.own }
+    ensures guests { desk.new.guests ≡ desk.old.guests }
 {
-    Worked {
-        pass,
-        kept,
-        written,
+    let Some(node) = desk.node.take() else {
+        return;
+    };
+    if node.alpha.drained() && desk.finished.len() < desk.finished.capacity() {
+        signals.finish();
+        desk.finished.push_reserved(node);
+        return;
+    }
+    match desk.own.push_as::<Gives>(node) {
+        Ok(()) => {}
+        Err(node) => desk.node = Some(node),
     }
 }
 
-// One look. A node that is found makes a turn, and goes back to the pool, or, if it is drained, to the finished
-// places. Returns whether a node was found and did something, or that memory for an entry of it was refused.
-fn look<J: Wiring, P: NodeProgram, R: Wait, G: Gate>(
+// A turn of a node. Returns whether the node did something.
+fn turn<J: Wiring, P: NodeProgram, R: Wait, G: Gate>(
     rt: &R,
     crew: &Crew<J, P, G>,
-    pool: &Pool<J, P>,
     worker: u32,
-    pass: &mut PoolPass<J, P>,
-    kept: &mut Vec<Box<Node<J, P>>>,
+    node: &mut Box<Node<J, P>>,
 ) -> Result<bool, Memory>
-    requires pass { IsPassOf pool.now pass.old × ((view pass.old).parts ≡ 1) }
-    requires out { (view pass.old).out ≡ map (λ b. b.value.vertex) kept.old.items }
-    requires room { length (vertices J.net) ≤ ruled_capacity pool.now }
-    requires places { length (vertices J.net) ≤ vec_capacity kept.old }
-    ensures pass { IsPassOf pool.now pass.new × ((view pass.new).parts ≡ 1) }
-    ensures out { (view pass.new).out ≡ map (λ b. b.value.vertex) kept.new.items }
-    ensures places { length (vertices J.net) ≤ vec_capacity kept.new }
+    ensures vertex { node.new.value.vertex ≡ node.old.value.vertex }
 {
-    let Some(mut node) = pool.pop_as::<Gets<J>, R>(rt, pass) else {
-        return Ok(false);
-    };
     crew.gate.enter(rt, worker, node.vertex);
     let turned = node.turn(rt, crew.links, crew.gate, worker);
     crew.gate.leave(rt, worker, node.vertex);
     if turned.is_err() || node.aside.is_some() {
         crew.signals.fail();
     }
-    if node.alpha.drained() {
-        crew.signals.finish();
-        kept.push_reserved(node);
-        return turned;
+    turned
+}
+
+// A turn of the node in hand, if there is one.
+fn turn_in_hand<J: Wiring, P: NodeProgram, R: Wait, G: Gate>(
+    rt: &R,
+    crew: &Crew<J, P, G>,
+    worker: u32,
+    desk: &mut Desk<J, P>,
+) -> Result<bool, Memory>
+    ensures own { desk.new.own ≡ desk.old.own }
+    ensures guests { desk.new.guests ≡ desk.old.guests }
+{
+    match &mut desk.node {
+        Some(node) => turn(rt, crew, worker, node),
+        None => Ok(false),
     }
-    match pool.push_as::<Gives<J>, R>(rt, pass, node) {
-        Ok(()) => turned,
-        Err(_) => unreachable!(),
+}
+
+// One look. A node that is found makes a turn and is put back. Returns whether a node was found and did something, or
+// that memory for an entry of it was refused.
+fn look<J: Wiring, P: NodeProgram, R: Wait, G: Gate>(
+    rt: &R,
+    crew: &Crew<J, P, G>,
+    thieves: &Vec<Thief<J, P>>,
+    worker: u32,
+    desk: &mut Desk<J, P>,
+) -> Result<bool, Memory>
+    requires worker { worker < vec_len thieves.now }
+    requires deques { map (λ g. deque_of g.pass) desk.old.guests.items ≡ map stealer_deque thieves.now.items }
+    ensures own { worker_deque desk.new.own ≡ worker_deque desk.old.own }
+    ensures deques { map (λ g. deque_of g.pass) desk.new.guests.items ≡ map stealer_deque thieves.now.items }
+{
+    if !desk.find(thieves, worker) {
+        return Ok(false);
     }
+    let turned = turn_in_hand(rt, crew, worker, desk);
+    put_back(crew.signals, desk);
+    turned
 }
 
 /// At most so many looks, and none after memory for an entry was refused.
 pub fn work<J: Wiring, P: NodeProgram, R: Wait, G: Gate>(
     rt: &R,
     crew: &Crew<J, P, G>,
-    pool: &Pool<J, P>,
+    thieves: &Vec<Thief<J, P>>,
     worker: u32,
-    mut pass: PoolPass<J, P>,
-    places: Places<J, P>,
+    mut desk: Desk<J, P>,
     turns: u64,
 ) -> Worked<J, P>
-    requires pass { IsPassOf pool.now pass × (view pass ≡ hand 1 []) }
-    requires room { length (vertices J.net) ≤ ruled_capacity pool.now }
-    ensures pool { result.pass.table_id ≡ pool.now.table.shared.table_id }
+    requires worker { worker < vec_len thieves.now }
+    requires deques { map (λ g. deque_of g.pass) desk.guests.items ≡ map stealer_deque thieves.now.items }
+    ensures own { worker_deque result.desk.own ≡ worker_deque desk.own }
+    ensures deques { map (λ g. deque_of g.pass) result.desk.guests.items ≡ map stealer_deque thieves.now.items }
 {
-    let mut kept = places.nodes;
     let mut written = Ok(());
     for _ in 0..turns {
         if crew.signals.is_over(crew.nodes) {
             break;
         }
-        match look(rt, crew, pool, worker, &mut pass, &mut kept) {
+        match look(rt, crew, thieves, worker, &mut desk) {
             Ok(true) => {}
             Ok(false) => thread::yield_now(),
             Err(memory) => {
@@ -105,5 +132,5 @@ pub fn work<J: Wiring, P: NodeProgram, R: Wait, G: Gate>(
             }
         }
     }
-    worked(pass, kept, written)
+    Worked { desk, written }
 }

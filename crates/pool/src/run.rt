@@ -1,189 +1,58 @@
-//! A run of workers over the pool.
+//! A run of workers over their deques.
 
-ghost use Rattle.std.specs.Prelude.{◌≡◌, ◌≢◌, ◌<◌, ◌≤◌, ◌+◌, [], All, map, reverse, vec_len, length, IfOk, IfErr};
+ghost use Rattle.std.specs.Prelude.{◌≡◌, ◌≢◌, ◌<◌, ◌≤◌, All, map, reverse, vec_len, IfOk, IfErr};
 ghost use Rattle.actor.specs.interference.Net.{vertices};
-ghost use Rattle.crossbeam_queue.specs.Passes.{IsPassOf, ruled_capacity, view};
-ghost use Rattle.pool.specs.Hands.{AreSame, all_parts, hand};
+ghost use Rattle.crossbeam_deque.specs.Handles.{stealer_deque, worker_deque};
+ghost use Rattle.pool.specs.Ledgers.{AreSame};
+ghost use Rattle.pool.specs.Deques.{deque_of};
 ghost use Rattle.pool.specs.declared.fault.PoolFault.TheVariants.{BadOptions, Spawn};
 
-use crate::chief::{Chief, OfPool};
+use crate::deques::{cut, deal, make_deques};
+use crate::desk::Desk;
+use crate::desks::desks;
 use crate::fault::PoolFault;
-use crate::hand::{Gets, Gives, Parts};
-use crate::looks::{Crew, work};
-use crate::pass::{Places, Pool, PoolPass, Worked};
+use crate::gathering::gather;
+use crate::guest::Thief;
+use crate::ledger::Dealt;
+use crate::looks::{Crew, Worked, work};
+use crate::promise::SameDeques;
 use crate::signals::Signals;
-use actor::{Gate, Links, Memory, Node, NodeProgram, Wiring};
+use actor::{Gate, Links, Node, NodeProgram, Wiring};
 use run_options::MAX_WORKERS;
-use std::alloc::{AllocError, Global};
+use std::alloc::Global;
+use std::snapshot::Snapshot;
 use std::sync::Wait;
 use std::thread;
 use std::thread::{PromisedHandle, Scope, Threads};
 
-// The pass of who starts the workers.
-fn chief_of<J: Wiring, P: NodeProgram>(
-    pass: PoolPass<J, P>,
-    kept: Vec<Box<Node<J, P>>>,
-) -> Chief<J, P>
-    requires pass { pass.me.1 ≡ [] }
-    requires out { (view pass).out ≡ map (λ b. b.value.vertex) kept.items }
-    ensures pass { result.pass ≡ pass }
-    ensures kept { result.kept ≡ kept }
-{
-    Chief { pass, kept }
-}
-
-// A pass for one more worker.
-fn hire<J: Wiring, P: NodeProgram>(pool: &Pool<J, P>, chief: &mut Chief<J, P>) -> PoolPass<J, P>
-    requires pool { chief.old.pass.table_id ≡ pool.now.table.shared.table_id }
-    requires parts { 1 < (view chief.old.pass).parts }
-    ensures theirs { IsPassOf pool.now result × (view result ≡ hand 1 []) }
-    ensures pool { chief.new.pass.table_id ≡ pool.now.table.shared.table_id }
-    ensures parts { (view chief.new.pass).parts + 1 ≡ (view chief.old.pass).parts }
-{
-    pool.another::<Parts>(&mut chief.pass)
-}
-
-// A worker's pass and nodes come back, unless it was refused memory.
-fn settle<J: Wiring, P: NodeProgram>(
-    pool: &Pool<J, P>,
-    chief: Chief<J, P>,
-    done: Worked<J, P>,
-) -> Result<Chief<J, P>, Memory>
-    requires pool { chief.pass.table_id ≡ pool.now.table.shared.table_id }
-    requires parts { 0 < (view chief.pass).parts }
-    requires theirs { done.pass.table_id ≡ pool.now.table.shared.table_id }
-    ensures pool { IfOk result (λ c. c.pass.table_id ≡ pool.now.table.shared.table_id) }
-    ensures parts { IfOk result (λ c. (view c.pass).parts ≡ (view chief.pass).parts + 1) }
-    ensures memory { IfErr done.written (λ _. IfOk result (λ _. ⊥)) }
-{
-    let Chief { mut pass, mut kept } = chief;
-    let Worked {
-        pass: other,
-        kept: mut more,
-        written,
-    } = done;
-    written?;
-    kept.append(&mut more)?;
-    pool.absorb::<Parts>(&mut pass, other);
-    Ok(chief_of(pass, kept))
-}
-
-// Every part is here, and the pool is emptied.
-fn drain<J: Wiring, P: NodeProgram, R: Wait>(
-    rt: &R,
-    pool: &Pool<J, P>,
-    chief: Chief<J, P>,
-) -> Result<Vec<Box<Node<J, P>>>, AllocError>
-    requires pool { chief.pass.table_id ≡ pool.now.table.shared.table_id }
-    requires parts { (view chief.pass).parts ≡ all_parts }
-    ensures once { IfOk result (λ all. AreSame (map (λ b. b.value.vertex) all.items) (vertices J.net)) }
-{
-    let Chief { mut pass, mut kept } = chief;
-    for _ in rt.forever() {
-        kept.reserve(1)?;
-        match pool.pop_as::<Gets<J>, R>(rt, &mut pass) {
-            Some(node) => kept.push_reserved(node),
-            None => return Ok(kept),
-        }
-    }
-    unreachable!()
-}
-
-// The last node that is out goes to the pool, if there is one.
-fn give_one<J: Wiring, P: NodeProgram, R: Wait>(
-    rt: &R,
-    pool: &Pool<J, P>,
-    pass: &mut PoolPass<J, P>,
-    kept: &mut Vec<Box<Node<J, P>>>,
-) -> bool
-    requires pass { IsPassOf pool.now pass.old × ((view pass.old).parts ≡ all_parts) }
-    requires out { (view pass.old).out ≡ map (λ b. b.value.vertex) kept.old.items }
-    requires room { length (vertices J.net) ≤ ruled_capacity pool.now }
-    ensures pass { IsPassOf pool.now pass.new × ((view pass.new).parts ≡ all_parts) }
-    ensures out { (view pass.new).out ≡ map (λ b. b.value.vertex) kept.new.items }
-{
-    let Some(node) = kept.pop() else {
-        return false;
-    };
-    match pool.push_as::<Gives<J>, R>(rt, pass, node) {
-        Ok(()) => true,
-        Err(_) => unreachable!(),
-    }
-}
-
-// All nodes go to the pool, the first vertex first.
-fn fill<J: Wiring, P: NodeProgram, R: Wait>(
-    rt: &R,
-    pool: &Pool<J, P>,
-    mut pass: PoolPass<J, P>,
-    mut kept: Vec<Box<Node<J, P>>>,
-) -> Chief<J, P>
-    requires pass { IsPassOf pool.now pass × ((view pass).parts ≡ all_parts) }
-    requires out { (view pass).out ≡ map (λ b. b.value.vertex) kept.items }
-    requires room { length (vertices J.net) ≤ ruled_capacity pool.now }
-    ensures pool { result.pass.table_id ≡ pool.now.table.shared.table_id }
-    ensures parts { (view result.pass).parts ≡ all_parts }
-{
-    for _ in 0..kept.len() {
-        if !give_one(rt, pool, &mut pass, &mut kept) {
-            break;
-        }
-    }
-    chief_of(pass, kept)
-}
-
-// The finished places of one worker.
-fn places<J: Wiring, P: NodeProgram>(
-    alloc: Global,
-    count: usize,
-) -> Result<Places<J, P>, AllocError>
-    requires count { count ≡ length (vertices J.net) }
-{
-    let mut nodes = Vec::new(alloc);
-    nodes.reserve_exact(count)?;
-    Ok(Places { nodes })
-}
-
-// The finished places of all workers.
-fn all_places<J: Wiring, P: NodeProgram>(
-    alloc: Global,
-    count: usize,
-    workers: u32,
-) -> Result<Vec<Places<J, P>>, AllocError>
-    requires count { count ≡ length (vertices J.net) }
-    ensures workers { IfOk result (λ all. vec_len all ≡ workers) }
-{
-    let mut all = Vec::new(alloc);
-    for _ in 0..workers {
-        all.push(places::<J, P>(alloc, count)?)?;
-    }
-    Ok(all)
-}
+// A worker in a thread of its own, which can be joined.
+type Child<J: Wiring, P: NodeProgram> = PromisedHandle<Worked<J, P>, SameDeques<J, P>>;
 
 // Starts a worker in a thread of the scope.
 fn start<'s, E, J: Wiring + Send + Sync, P: NodeProgram, G: Gate + Sync, R: Threads + Wait + Sync>(
     scope: &Scope<'s, E>,
     rt: &'s R,
     crew: &'s Crew<'s, J, P, G>,
-    pool: &'s Pool<J, P>,
+    thieves: &'s Vec<Thief<J, P>>,
     worker: u32,
-    pass: PoolPass<J, P>,
-    places: Places<J, P>,
+    desk: Desk<J, P>,
     turns: u64,
-) -> Result<PromisedHandle<Worked<J, P>, OfPool<'s, J, P>>, PoolFault>
-    requires pass { IsPassOf pool.now pass × (view pass ≡ hand 1 []) }
-    requires room { length (vertices J.net) ≤ ruled_capacity pool.now }
-    ensures of { IfOk result (λ h. h.promise.0.now.table.shared.table_id ≡ pool.entry.now.table.shared.table_id) }
+) -> Result<Child<J, P>, PoolFault>
+    requires worker { worker < vec_len thieves.now }
+    requires deques { map (λ g. deque_of g.pass) desk.guests.items ≡ map stealer_deque thieves.now.items }
+    ensures desk { IfOk result (λ h. h.promise.0.value ≡ desk) }
     ensures fault { IfErr result (λ fault. fault ≢ BadOptions) }
     ensures spawn { IfErr result (λ fault. fault ≡ Spawn) }
 {
     let started = scope.spawn_with(
-        OfPool(pool),
+        SameDeques(Snapshot::of(&desk)),
         move || -> Worked<J, P>
-            requires { IsPassOf pool.now pass × (view pass ≡ hand 1 [])
-                × (length (vertices J.net) ≤ ruled_capacity pool.now) }
-            ensures { result.pass.table_id ≡ pool.entry.now.table.shared.table_id }
-        { work(rt, crew, pool, worker, pass, places, turns) },
+            requires { (worker < vec_len thieves.now)
+                × (map (λ g. deque_of g.pass) desk.guests.items ≡ map stealer_deque thieves.now.items) }
+            ensures { (worker_deque result.desk.own ≡ worker_deque desk.own)
+                × (map (λ g. deque_of g.pass) result.desk.guests.items
+                ≡ map (λ g. deque_of g.pass) desk.guests.items) }
+        { work(rt, crew, thieves, worker, desk, turns) },
     );
     match started {
         Ok(child) => Ok(child),
@@ -194,36 +63,62 @@ fn start<'s, E, J: Wiring + Send + Sync, P: NodeProgram, G: Gate + Sync, R: Thre
     }
 }
 
-// All workers come back, each with its pass and its nodes.
-fn join_all<'s, J: Wiring, P: NodeProgram, R: Threads + Wait>(
-    rt: &R,
-    pool: &'s Pool<J, P>,
-    signals: &Signals,
-    mut chief: Chief<J, P>,
-    mut children: Vec<PromisedHandle<Worked<J, P>, OfPool<'s, J, P>>>,
-) -> Result<Chief<J, P>, PoolFault>
-    requires pool { chief.pass.table_id ≡ pool.now.table.shared.table_id }
-    requires parts { (view chief.pass).parts + vec_len children ≡ all_parts }
-    requires some { 0 < (view chief.pass).parts }
-    requires theirs { All (λ h. h.promise.0.now.table.shared.table_id ≡ pool.now.table.shared.table_id) children.items }
-    ensures pool { IfOk result (λ c. c.pass.table_id ≡ pool.entry.now.table.shared.table_id) }
-    ensures parts { IfOk result (λ c. (view c.pass).parts ≡ all_parts) }
+// Starts a worker for each desk, in threads of the scope.
+fn start_all<
+    's,
+    E,
+    J: Wiring + Send + Sync,
+    P: NodeProgram,
+    G: Gate + Sync,
+    R: Threads + Wait + Sync,
+>(
+    scope: &Scope<'s, E>,
+    rt: &'s R,
+    alloc: Global,
+    crew: &'s Crew<'s, J, P, G>,
+    thieves: &'s Vec<Thief<J, P>>,
+    desks: Vec<Desk<J, P>>,
+    turns: u64,
+) -> Result<Vec<Child<J, P>>, PoolFault>
+    requires few { vec_len desks ≤ MAX_WORKERS }
+    requires workers { vec_len desks ≡ vec_len thieves.now }
+    requires deques { All (λ d. map (λ g. deque_of g.pass) d.guests.items
+        ≡ map stealer_deque thieves.now.items) desks.items }
+    ensures desks { IfOk result (λ hs. map (λ h. h.promise.0.value) hs.items ≡ desks.items) }
     ensures fault { IfErr result (λ fault. fault ≢ BadOptions) }
+{
+    let mut children = Vec::new(alloc);
+    let mut worker = 0;
+    for desk in desks {
+        if children.reserve(1).is_err() {
+            crew.signals.fail();
+            return Err(PoolFault::Memory);
+        }
+        children.push_reserved(start(scope, rt, crew, thieves, worker, desk, turns)?);
+        worker += 1;
+    }
+    Ok(children)
+}
+
+// All workers come back.
+fn join_all<J: Wiring, P: NodeProgram, R: Threads + Wait>(
+    rt: &R,
+    signals: &Signals,
+    children: Vec<Child<J, P>>,
+) -> Result<Vec<Worked<J, P>>, PoolFault>
+    ensures owns { IfOk result (λ done. map (λ w. worker_deque w.desk.own) done.items
+        ≡ map (λ d. worker_deque d.own) (map (λ h. h.promise.0.value) children.items)) }
+    ensures guests { IfOk result (λ done. map (λ w. map (λ g. deque_of g.pass) w.desk.guests.items) done.items
+        ≡ map (λ d. map (λ g. deque_of g.pass) d.guests.items) (map (λ h. h.promise.0.value) children.items)) }
     ensures memory { IfErr result (λ fault. fault ≡ PoolFault.Memory) }
 {
-    for _ in 0..children.len() {
-        let Some(child) = children.pop() else {
-            unreachable!();
-        };
-        chief = match settle(pool, chief, child.join(rt)) {
-            Ok(joined) => joined,
-            Err(_) => {
-                signals.fail();
-                return Err(PoolFault::Memory);
-            }
-        };
+    match thread::join_promised(rt, children) {
+        Ok(done) => Ok(done),
+        Err(_) => {
+            signals.fail();
+            Err(PoolFault::Memory)
+        }
     }
-    Ok(chief)
 }
 
 /// Runs the nodes, given from the last vertex down, by so many workers, which make at most so many looks each, and
@@ -243,49 +138,39 @@ pub fn run_nodes<J: Wiring + Send + Sync, P: NodeProgram, G: Gate + Sync, R: Thr
     turns: u64,
 ) -> Result<Vec<Box<Node<J, P>>>, PoolFault>
     requires nodes { map (λ b. b.value.vertex) nodes.items ≡ reverse (vertices J.net) }
-    requires workers { workers ≤ MAX_WORKERS }
+    requires workers { (1 ≤ workers) × (workers ≤ MAX_WORKERS) }
     ensures once { IfOk result (λ all. AreSame (map (λ b. b.value.vertex) all.items) (vertices J.net)) }
     ensures fault { IfErr result (λ fault. fault ≢ BadOptions) }
 {
     let count = nodes.len();
-    let (pool, pass) = Pool::<J, P>::ruled(alloc, count.max(1))?;
-    let places = all_places::<J, P>(alloc, count, workers)?;
-    let first = fill(rt, &pool, pass, nodes);
+    let (owns, thieves) = make_deques::<J, P>(alloc, count, workers)?;
+    let owns = deal(owns, nodes);
+    let (owns, dealt) = cut::<J, P, Dealt>(alloc, owns)?;
+    let desks = desks(alloc, count, owns)?;
     let signals = Signals::new();
-    let crew = Crew {
+    let shared = Crew {
         links,
         gate,
         signals: &signals,
         nodes: count as u64,
     };
-    let (team, all) = (&crew, &pool);
-    let last = thread::scope(
+    let (crew, thieves) = (&shared, &thieves);
+    let done = thread::scope(
         thread::scope_env(),
         rt,
-        move |scope| -> Result<Chief<J, P>, PoolFault>
-            requires { (first.pass.table_id ≡ all.now.table.shared.table_id)
-                × ((view first.pass).parts ≡ all_parts) × (workers ≤ MAX_WORKERS)
-                × (length (vertices J.net) ≤ ruled_capacity all.now) × (vec_len places ≡ workers) }
-            ensures pass { IfOk result (λ c. (c.pass.table_id ≡ all.entry.now.table.shared.table_id)
-                × ((view c.pass).parts ≡ all_parts)) }
+        move |scope| -> Result<Vec<Worked<J, P>>, PoolFault>
+            requires { (vec_len desks ≤ MAX_WORKERS) × (vec_len desks ≡ vec_len thieves.now)
+                × All (λ d. map (λ g. deque_of g.pass) d.guests.items
+                ≡ map stealer_deque thieves.now.items) desks.items }
+            ensures owns { IfOk result (λ done. map (λ w. worker_deque w.desk.own) done.items
+                ≡ map (λ d. worker_deque d.own) desks.items) }
+            ensures guests { IfOk result (λ done. map (λ w. map (λ g. deque_of g.pass) w.desk.guests.items) done.items
+                ≡ map (λ d. map (λ g. deque_of g.pass) d.guests.items) desks.items) }
             ensures fault { IfErr result (λ fault. fault ≢ BadOptions) }
         {
-            let mut chief = first;
-            let mut children = Vec::new(alloc);
-            let mut places = places;
-            for worker in 0..workers {
-                let Some(mine) = places.pop() else {
-                    unreachable!();
-                };
-                if children.reserve(1).is_err() {
-                    team.signals.fail();
-                    return Err(PoolFault::Memory);
-                }
-                let theirs = hire(all, &mut chief);
-                children.push_reserved(start(scope, rt, team, all, worker, theirs, mine, turns)?);
-            }
-            join_all(rt, all, team.signals, chief, children)
+            let children = start_all(scope, rt, alloc, crew, thieves, desks, turns)?;
+            join_all(rt, crew.signals, children)
         },
     )?;
-    Ok(drain(rt, &pool, last)?)
+    Ok(gather(rt, alloc, dealt, done)?)
 }

@@ -1,5 +1,5 @@
 -- Which event an entry is of, and what an event writes down.
-use Rattle.std.specs.Prelude.{ℕ, ◌+◌, Option, Some, option_map, Result, Ok, Err, List, [], ◌∷◌, slice_get}
+use Rattle.std.specs.Prelude.{ℕ, ◌+◌, Bool, Option, Some, option_map, Result, Ok, Err, List, [], ◌∷◌, slice_get}
 use Rattle.alpha_laws.specs.interference.Net.{Net, neighbour_of, port_to}
 use Rattle.alpha_laws.specs.node_api.Program.{Program}
 use Rattle.alpha_laws.specs.alpha_core.View.{port_at}
@@ -8,7 +8,7 @@ use Rattle.entries.specs.declared.entry.Entry.TheVariants as entry
 use Rattle.net_core.specs.declared.event.Event.{Event}
 use Rattle.net_core.specs.declared.event.Event.TheVariants.{Pulse, Put, Take}
 use Rattle.net_core.specs.State.{State, link_to, node_of, start}
-use Rattle.net_core.specs.Step.{step}
+use Rattle.net_core.specs.Step.{has_port, is_vertex, step}
 
 -- an entry, behind the vertex of its node
 abbrev pub Row : Type 0 → Type 0
@@ -22,6 +22,12 @@ event_with net v (entry.Take w wire) = Take v (port_to net v w)
 
 abbrev pub event_of : {M : Type 0} → Net → Row M → Event
 event_of net row = event_with net row.0 row.1
+
+-- there are the vertex and the port of an event
+abbrev pub has_place : Net → Event → Bool
+has_place net (Pulse v) = is_vertex net v
+has_place net (Put v i) = has_port net v i
+has_place net (Take v i) = has_port net v i
 
 -- what an event that is possible in a state writes down: its new pulse, or the neighbour and the wire
 abbrev pub row_of : {S M E : Type 0} → Program S M E → Net → State S M → Event → Option (Row M)

@@ -1,9 +1,10 @@
 //! One entry, made by the event that it is of.
 
-ghost use Rattle.std.specs.Prelude.{◌≡◌, ◌<◌, ◌≤◌, IfErr, IfNone, IfOk, IfSome};
+ghost use Rattle.std.specs.Prelude.{◌≡◌, ◌<◌, ◌≤◌, false, IfErr, IfNone, IfOk, IfSome};
 ghost use Rattle.alpha_laws.specs.interference.Net.{IsVertex, degree_of, port_to};
 ghost use Rattle.entries.specs.declared.entry.Entry.TheVariants.{Pulse, Put, Take};
 ghost use Rattle.replay.specs.Replays.{IsMade, IsRefusedEntry};
+ghost use Rattle.replay.specs.Rows.{event_of, has_place};
 
 use crate::refused::EntryRefused;
 use crate::same_wire::carries;
@@ -21,6 +22,22 @@ fn port_to(net: &Network, v: u32, w: u32) -> Option<u32>
     match net.neighbours(v).binary_search(&w) {
         Ok(port) => Some(port as u32),
         Err(_) => None,
+    }
+}
+
+/// The event that an entry of a vertex is of; `None` if there is no such vertex, or the other is no neighbour.
+pub fn event_of<T: Copy>(net: &Network, row: &(u32, Entry<T>)) -> Option<Event>
+    ensures event { IfSome result (λ event. event ≡ event_of net.now row.now) }
+    ensures none { IfNone result (has_place net.now (event_of net.now row.now) ≡ false) }
+{
+    let (v, entry) = *row;
+    if v == 0 || net.nodes() < v {
+        return None;
+    }
+    match entry {
+        Entry::Pulse(_) => Some(Event::Pulse(v)),
+        Entry::Put(w, _) => Some(Event::Put(v, port_to(net, v, w)?)),
+        Entry::Take(w, _) => Some(Event::Take(v, port_to(net, v, w)?)),
     }
 }
 

@@ -21,5 +21,6 @@ mod refused;
 mod replaying;
 mod same_wire;
 
+pub use entry_event::event_of;
 pub use refused::ReplayRefused;
 pub use replaying::replay;

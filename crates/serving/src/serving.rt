@@ -70,7 +70,7 @@ fn refuse_fault<E: Sink>(alloc: Global, program: Program, errors: &mut E, fault:
         ⊎ (IsReported (writing E.contents E.faults errors.old errors.new) (memory_line program) × (result ≡ 4)) }
 {
     match fault_report(alloc, program.name(), fault) {
-        Ok(report) => refuse(errors, report.line.as_bytes(), report.status),
+        Ok(report) => refuse(errors, report.line.as_slice(), report.status),
         Err(_) => refuse_memory(program, errors),
     }
 }

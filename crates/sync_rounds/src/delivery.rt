@@ -1,10 +1,11 @@
 //! From the outboxes of a pulse to the inboxes of the next one.
 
-ghost use Rattle.std.specs.Prelude.{◌≡◌, ◌<◌, ◌-◌, ◌+◌, ℕ, List, Option, [], length, slice_index_or, slice_set};
+ghost use Rattle.std.specs.Prelude.{◌≡◌, ◌<◌, ◌-◌, ◌+◌, ◌++◌, ◌∷◌, ℕ, List, Option, [], length};
+ghost use Rattle.std.specs.Prelude.{slice_index_or, slice_set};
 ghost use Rattle.node_api.specs.interference.Net.{Net, IsNetwork, IsVertex, count_of, degree_of};
 ghost use Rattle.node_api.specs.Boxes.{Mail, nothing, unread, FilledPorts};
 ghost use Rattle.sync_rounds.specs.Lists.{Lists, empty_inbox, empty_outbox, received};
-ghost use Rattle.sync_rounds.specs.Delivery.{Broadcasts, Delivered, Sends};
+ghost use Rattle.sync_rounds.specs.Delivery.{Broadcasts, Delivered, IsNext, Sends};
 ghost use Rattle.sync_rounds.specs.Senders.{Senders};
 
 use node_api::{Inbox, Network, Outbox, Sent};
@@ -70,9 +71,7 @@ fn deliver_everywhere<T: Copy>(net: &Network, w: u32, payload: T, inboxes: &mut 
 {
     net.is_network();
     for port in 0..net.degree(w) {
-        let v = net.neighbour(w, port);
-        let inbox = &mut inboxes[(v - 1) as usize];
-        inbox.put(net.back_port(w, port), payload);
+        deliver_one(net, w, port, payload, inboxes);
     }
 }
 
@@ -93,11 +92,26 @@ fn deliver_at<T: Copy>(
 {
     net.is_network();
     for &port in ports {
-        let v = net.neighbour(w, port);
-        let inbox = &mut inboxes[(v - 1) as usize];
         match out.get(port) {
-            Some(payload) => inbox.put(net.back_port(w, port), payload),
+            Some(payload) => deliver_one(net, w, port, payload, inboxes),
             None => unreachable!(),
         }
     }
+}
+
+// Puts the payload that a vertex sent at this port into the neighbour's inbox, at the port that leads back.
+#[inline]
+fn deliver_one<T: Copy>(net: &Network, w: u32, port: u32, payload: T, inboxes: &mut [Inbox<T>])
+    requires vertex { IsVertex net.now w }
+    requires port { port < degree_of net.now w }
+    requires next { (outs : List (List (Option T))) × (of_w : List ℕ)
+        × IsNext net.now outs w of_w port payload inboxes.old }
+    ensures after { (outs : List (List (Option T))) → (of_w : List ℕ)
+        → IsNext net.now outs w of_w port payload inboxes.old
+        → Delivered net.now outs w (of_w ++ port ∷ []) inboxes.new }
+{
+    net.is_network();
+    let v = net.neighbour(w, port);
+    let inbox = &mut inboxes[(v - 1) as usize];
+    inbox.put(net.back_port(w, port), payload);
 }

@@ -1,7 +1,7 @@
 -- The numbers of the lines of entries. They increase (numbers-increase), each line is its entry (rows-numbered), and so behind
 -- a network text, whose lines and the transcript's are all lines (lines-parted).
 use Rattle.std.proofs.Common.{◌≡◌, ◌<◌, ◌+◌, ◌++◌, ◌∷◌, [], ◌∙◌, ℕ, zero, suc, Bool, true, false, Option, Some, Ok, List, All, ap, append_assoc, arith}
-use Rattle.std.proofs.Common.{codes, drop, if◌then◌else◌, length, map, option_and_then, refl, slice_get, subst, sym}
+use Rattle.std.proofs.Common.{drop, if◌then◌else◌, length, map, option_and_then, refl, slice_get, subst, sym}
 use Rattle.std.proofs.lemmas.List.{length-append}
 use Rattle.std.proofs.lemmas.List.Elements.{All-cons, All-nil}
 use Rattle.std.specs.List.{filter}
@@ -9,7 +9,7 @@ use Rattle.std.specs.List.Sorted.{IsStrictlyIncreasing}
 use Rattle.dimacs_col.specs.Lines.{Line}
 use Rattle.channel_plan.specs.Reading.{has_fields}
 use Rattle.channel_plan.specs.Split.{begins, lines_before, lines_from}
-use Rattle.transcripts.specs.Behind.{AreEntryLines, entry_lines, entry_on, network_lines, numbers_from, reading_behind, transcript_lines}
+use Rattle.transcripts.specs.Behind.{AreEntryLines, entry_lines, entry_on, network_lines, numbers_from, reading_behind, transcript_lines, transcript_word}
 use Rattle.transcripts.specs.EntryLines.{row_of}
 use Rattle.transcripts.specs.Reading.{IsTranscriptText, Transcript}
 use Rattle.transcripts.proofs.Texts.{texts-are-read-from}
@@ -33,14 +33,14 @@ numbers-increase n ((word ∷ words) ∷ lines) =
     increase-cons n (numbers_from (n + 1) lines) (numbers-above n (n + 1) lines (omega arith)) (numbers-increase (n + 1) lines)
 
 -- ---- the lines before a word's first one, and those from it on
-module _ (word : List ℕ) where
-  lines-parted : (lines : List Line) → lines_before word lines ++ lines_from word lines ≡ lines
+module _ (words : List (List ℕ)) where
+  lines-parted : (lines : List Line) → lines_before words lines ++ lines_from words lines ≡ lines
   unfolding lines_before lines_from
   lines-parted [] = refl
-  lines-parted (line ∷ lines) = part-by (begins word line) (lines-parted lines)
+  lines-parted (line ∷ lines) = part-by (begins words line) (lines-parted lines)
     where
-      part-by : (b : Bool) → lines_before word lines ++ lines_from word lines ≡ lines →
-          (if b then [] else line ∷ lines_before word lines) ++ (if b then line ∷ lines else lines_from word lines) ≡ line ∷ lines
+      part-by : (b : Bool) → lines_before words lines ++ lines_from words lines ≡ lines →
+          (if b then [] else line ∷ lines_before words lines) ++ (if b then line ∷ lines else lines_from words lines) ≡ line ∷ lines
       part-by true e = refl
       part-by false e = ap (λ ls. line ∷ ls) e
 
@@ -50,13 +50,13 @@ module _ (word : List ℕ) where
   HasHead ([] ∷ lines) = ⊥
   HasHead ((first ∷ others) ∷ lines) = Unit {0}
 
-  from-head : (lines : List Line) → HasHead (lines_from word lines)
+  from-head : (lines : List Line) → HasHead (lines_from words lines)
   unfolding lines_from
   from-head [] = tt
   from-head ([] ∷ lines) = from-head lines
-  from-head ((first ∷ others) ∷ lines) = head-by (begins word (first ∷ others)) (from-head lines)
+  from-head ((first ∷ others) ∷ lines) = head-by (begins words (first ∷ others)) (from-head lines)
     where
-      head-by : (b : Bool) → HasHead (lines_from word lines) → HasHead (if b then (first ∷ others) ∷ lines else lines_from word lines)
+      head-by : (b : Bool) → HasHead (lines_from words lines) → HasHead (if b then (first ∷ others) ∷ lines else lines_from words lines)
       head-by true h = tt
       head-by false h = h
 
@@ -88,7 +88,7 @@ module _ {M : Type 0} (payload_of : List ℕ → ℕ → Option M) where
           rw e (rw e at (ap (λ o. o ∷ map (entry_on payload_of (before ++ line ∷ lines)) (numbers_from (n + 1) lines)) here
           ∙ ap (λ os. row_of payload_of line ∷ os) (later more)))
 
-  rows-behind : (network lines : List Line) (read : Transcript M) → HasHead (codes "transcript") lines → IsTranscriptText payload_of lines read →
+  rows-behind : (network lines : List Line) (read : Transcript M) → HasHead transcript_word lines → IsTranscriptText payload_of lines read →
       map (entry_on payload_of (network ++ lines)) (numbers_from (length network + 2) (drop 1 lines)) ≡ map (λ row. Some row) read.1
   rows-behind network [] read h is = let wrong : [] ≡ is.first ∷ is.body = is.lines_are in absurd cc
   rows-behind network ([] ∷ lines) read h is = absurd h
@@ -103,12 +103,11 @@ module _ {M : Type 0} (payload_of : List ℕ → ℕ → Option M) where
   pub entries-have-lines : (lines : List Line) (read : Transcript M) → reading_behind payload_of lines ≡ Ok read →
       AreEntryLines payload_of lines read.1 (entry_lines lines)
   entries-have-lines lines read e =
-      let word = codes "transcript" in
       let n = length (network_lines lines) in
       let behind = drop 1 (transcript_lines lines) in
       let is = (texts-are-read-from payload_of (n + 1) (transcript_lines lines) read).0 e in record {
         increase = numbers-increase (n + 2) behind;
         behind = numbers-above (n + 1) (n + 2) behind (omega arith);
-        rows_are = subst (λ ls. map (entry_on payload_of ls) (entry_lines lines) ≡ map (λ row. Some row) read.1) (lines-parted word lines)
-            (rows-behind (network_lines lines) (transcript_lines lines) read (from-head word lines) is);
+        rows_are = subst (λ ls. map (entry_on payload_of ls) (entry_lines lines) ≡ map (λ row. Some row) read.1) (lines-parted transcript_word lines)
+            (rows-behind (network_lines lines) (transcript_lines lines) read (from-head transcript_word lines) is);
       }

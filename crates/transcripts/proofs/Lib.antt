@@ -1,10 +1,10 @@
 pub mod Digits
 pub mod FieldNumbers
-pub mod LineLists
 pub mod Payloads
 pub mod Readings
 pub mod Spaced
 pub mod Written
 pub mod Texts
-pub mod Numbered
+pub mod LinesBehind
 pub mod EntryNumbers
+pub mod LineEnds

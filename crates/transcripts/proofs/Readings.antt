@@ -1,5 +1,5 @@
 -- What is known after one more line of a transcript.
-use Rattle.std.proofs.Common.{◌≡◌, ◌+◌, ◌++◌, ◌∷◌, [], ◌∙◌, ℕ, IfErr, Option, Some, None, Result, Ok, Err, List, ap, append_assoc, append-nil, refl, sym}
+use Rattle.std.proofs.Common.{◌≡◌, ◌+◌, ◌++◌, ◌∷◌, [], ◌∙◌, ℕ, IfErr, Option, Some, None, Result, Ok, Err, List, ap, refl, sym}
 use Rattle.dimacs_col.specs.Lines.{Line}
 use Rattle.transcripts.specs.EntryLines.{header_of, row_of}
 use Rattle.transcripts.specs.Reader.{IsSyntaxFault}
@@ -44,23 +44,11 @@ module _ {M : Type 0} (payload_of : List ℕ → ℕ → Option M) where
   unfolding read_from
   read-one n known line lines = refl
 
-  -- reading from a line on, and what is known after the lines before
-  abbrev pub LeadsTo : ℕ → List Line → ℕ → Option (Transcript M) → Type 0
-  LeadsTo start before n known = (rest : List Line) → read_from payload_of start None (before ++ rest) ≡ read_from payload_of n known rest
-
-  pub read-more : (start : ℕ) (before : List Line) (n : ℕ) (known next : Option (Transcript M)) (line : Line) → LeadsTo start before n known →
-      known_after payload_of known line ≡ Some next → LeadsTo start (before ++ line ∷ []) (n + 1) next
-  read-more start before n known next line h e rest =
-      ap (read_from payload_of start None) (append_assoc before (line ∷ []) rest) ∙ h (line ∷ rest) ∙ read-one n known line rest ∙ ap (then_read n rest) e
-
-  pub read-wrong : (start : ℕ) (before : List Line) (n : ℕ) (known : Option (Transcript M)) (line : Line) → LeadsTo start before n known →
-      known_after payload_of known line ≡ None → (rest : List Line) → read_from payload_of start None (before ++ line ∷ rest) ≡ Err n
-  read-wrong start before n known line h e rest = h (line ∷ rest) ∙ read-one n known line rest ∙ ap (then_read n rest) e
-
-  pub read-end : (start : ℕ) (lines before : List Line) (n : ℕ) (known : Option (Transcript M)) → before ≡ lines → LeadsTo start before n known →
-      read_from payload_of start None lines ≡ read_at_end payload_of known
+  -- at the end no line is left
+  pub read-end : (start : ℕ) (lines : List Line) (n : ℕ) (known : Option (Transcript M)) (left : List Line) → left ≡ [] →
+      read_from payload_of start None lines ≡ read_from payload_of n known left → read_from payload_of start None lines ≡ read_at_end payload_of known
   unfolding read_from
-  read-end start lines before n known same h = ap (read_from payload_of start None) (sym same ∙ sym (append-nil before)) ∙ h []
+  read-end start lines n known left none e = e ∙ ap (read_from payload_of n known) none
 
   -- ---- faults
   pub fault-line : (reading : Result (Transcript M) ℕ) (n : ℕ) (wrong : Type 0) (fault : TextFault) → (wrong → reading ≡ Err n) →

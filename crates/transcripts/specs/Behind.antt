@@ -10,17 +10,21 @@ use Rattle.transcripts.specs.EntryLines.{row_of}
 use Rattle.transcripts.specs.Reading.{Transcript, read_from}
 use Rattle.transcripts.specs.TranscriptText.{Row}
 
+-- the word that a transcript begins with
+abbrev pub transcript_word : List (List ℕ)
+transcript_word = codes "transcript" ∷ []
+
 -- the lines of the network text: those before the first one whose first field is `transcript`
 abbrev pub network_lines : List Line → List Line
-network_lines lines = lines_before (codes "transcript") lines
+network_lines lines = lines_before transcript_word lines
 
 -- these lines, perhaps with an empty line behind them, as after a last line feed
 abbrev pub AreNetworkLines : List Line → List Line → Type 0
-AreNetworkLines lines network = AreLinesBefore (codes "transcript") lines network
+AreNetworkLines lines network = AreLinesBefore transcript_word lines network
 
 -- the lines of the transcript: from that one on
 abbrev pub transcript_lines : List Line → List Line
-transcript_lines lines = lines_from (codes "transcript") lines
+transcript_lines lines = lines_from transcript_word lines
 
 -- the transcript that follows a network text, or the number of its first wrong line; line 1 if there is none
 abbrev pub reading_behind : {M : Type 0} → (List ℕ → ℕ → Option M) → List Line → Result (Transcript M) ℕ

@@ -1,16 +1,16 @@
 //! A transcript behind a network text.
 
-ghost use Rattle.std.specs.Prelude.{◌≡◌, ◌≤◌, ◌<◌, ◌+◌, ◌^◌, ◌++◌, IfOk, IfErr, Ok, drop, length, map};
+ghost use Rattle.std.specs.Prelude.{◌≡◌, ◌<◌, ◌+◌, ◌^◌, ◌++◌, IfOk, IfErr, Ok, drop, length};
 ghost use Rattle.dimacs_col.specs.Lines.{line_of, lines_of};
 ghost use Rattle.channel_plan.specs.Reading.{has_fields};
-ghost use Rattle.transcripts.specs.Behind.{AreNetworkLines, entry_lines, network_lines, numbers_from, reading_behind};
-ghost use Rattle.transcripts.specs.Behind.{transcript_lines};
+ghost use Rattle.transcripts.specs.Behind.{AreNetworkLines, entry_lines, numbers_from, reading_behind};
 ghost use Rattle.transcripts.specs.Reading.{IsFaultOf};
 
 use crate::fault::TextFault;
-use crate::reading::{read_lines, split_lines};
+use crate::lines::first_line;
+use crate::reading::read_lines;
 use alpha_core::PayloadText;
-use channel_plan::{begins, text_start};
+use channel_plan::{text_before, text_start};
 use dimacs_col::{Fields, without_carriage_return};
 use entries::Entry;
 use std::alloc::{AllocError, Global};
@@ -19,25 +19,7 @@ use std::alloc::{AllocError, Global};
 pub fn network_text(input: &[u8]) -> &[u8]
     ensures network { AreNetworkLines (lines_of input.now) (lines_of result.now) }
 {
-    match text_start(input, b"transcript") {
-        Some(start) => &input[..start],
-        None => input,
-    }
-}
-
-// How many lines stand before the first one whose first field is `transcript`.
-fn transcript_start(lines: &[&[u8]]) -> usize
-    ensures within { result ≤ length lines.now }
-    ensures before { result ≡ length (network_lines (map (λ line. line_of line.now) lines.now)) }
-    ensures from { map (λ line. line_of line.now) (drop result lines.now)
-        ≡ transcript_lines (map (λ line. line_of line.now) lines.now) }
-{
-    for (index, line) in lines.iter().enumerate() {
-        if begins(line, b"transcript") {
-            return index;
-        }
-    }
-    lines.len()
+    text_before(input, &[b"transcript"])
 }
 
 /// The transcript that follows a network text, as `read_transcript` reads it. It begins at the first line whose first
@@ -54,10 +36,10 @@ pub fn read_behind_network<T: PayloadText>(
     ensures ok { IfOk result (λ read. reading_behind T.payload_of (lines_of input.now) ≡ Ok (read.0, read.1.items)) }
     ensures fault { IfErr result (IsFaultOf (reading_behind T.payload_of (lines_of input.now))) }
 {
-    let lines = split_lines(alloc, input)?;
-    let lines = lines.as_slice();
-    let start = transcript_start(lines);
-    read_lines(alloc, start, &lines[start..])
+    match text_start(input, &[b"transcript"]) {
+        Some(start) => read_lines(alloc, start.lines, &input[start.bytes..]),
+        None => Err(TextFault::Syntax(1)),
+    }
 }
 
 fn has_fields(line: &[u8]) -> bool
@@ -66,16 +48,21 @@ fn has_fields(line: &[u8]) -> bool
     Fields::of(without_carriage_return(line)).next().is_some()
 }
 
-// The numbers of those lines that have fields, from a number on.
-fn push_numbers(numbers: &mut Vec<usize>, first: usize, lines: &[&[u8]]) -> Result<(), AllocError>
-    requires room { first + length lines.now < 2 ^ 64 }
+// The numbers of those lines that have fields, but the first line; so many lines stand before it.
+fn push_numbers(numbers: &mut Vec<usize>, before: usize, text: &[u8]) -> Result<(), AllocError>
+    requires room { before + length text.now + 1 < 2 ^ 64 }
     ensures { IfOk result (λ _. numbers.new.items
-        ≡ numbers.old.items ++ numbers_from first (map (λ line. line_of line.now) lines.now)) }
+        ≡ numbers.old.items ++ numbers_from (before + 2) (drop 1 (lines_of text.now))) }
 {
-    for (index, line) in lines.iter().enumerate() {
+    let (_, mut rest) = first_line(text);
+    let mut number = before + 1;
+    'each: while let Some(left) = rest {
+        let (line, behind) = first_line(left);
+        number += 1;
         if has_fields(line) {
-            numbers.push(first + index)?;
+            numbers.push(number)?;
         }
+        rest = behind;
     }
     Ok(())
 }
@@ -88,12 +75,9 @@ fn push_numbers(numbers: &mut Vec<usize>, first: usize, lines: &[&[u8]]) -> Resu
 pub fn entry_lines(alloc: Global, input: &[u8]) -> Result<Vec<usize>, AllocError>
     ensures { IfOk result (λ numbers. numbers.items ≡ entry_lines (lines_of input.now)) }
 {
-    let lines = split_lines(alloc, input)?;
-    let lines = lines.as_slice();
-    let start = transcript_start(lines);
     let mut numbers = Vec::new(alloc);
-    if start < lines.len() {
-        push_numbers(&mut numbers, start + 2, &lines[start + 1..])?;
+    if let Some(start) = text_start(input, &[b"transcript"]) {
+        push_numbers(&mut numbers, start.lines, &input[start.bytes..])?;
     }
     Ok(numbers)
 }

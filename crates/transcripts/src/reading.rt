@@ -1,17 +1,17 @@
 //! The reading of a transcript.
 
-ghost use Rattle.std.specs.Prelude.{◌≡◌, ◌==◌, ◌+◌, ◌<◌, ◌^◌, IfOk, IfErr, None, Ok, Err, Some, length, map};
-ghost use Rattle.std.specs.List.{slice_split};
-ghost use Rattle.dimacs_col.specs.Lines.{line_of, lines_of};
+ghost use Rattle.std.specs.Prelude.{◌≡◌, ◌+◌, ◌<◌, ◌^◌, IfOk, IfErr, None, Ok, Err, Some, length};
+ghost use Rattle.dimacs_col.specs.Lines.{lines_of};
 ghost use Rattle.transcripts.specs.Reading.{IsFaultOf, known_after, read_at_end, read_from, reading_of};
 ghost use Rattle.transcripts.specs.Reader.{IsSyntaxFault};
 
 use crate::entry_line::{header_of, row_of};
 use crate::fault::TextFault;
+use crate::lines::first_line;
 use alpha_core::PayloadText;
 use dimacs_col::{Fields, without_carriage_return};
 use entries::Entry;
-use std::alloc::{AllocError, Global};
+use std::alloc::Global;
 use std::marker::Model;
 
 // What the lines so far say: how many nodes there are, and the entries.
@@ -88,33 +88,23 @@ impl<T: PayloadText> Reader<T> {
     }
 }
 
-/// The lines of a text, without their line feeds.
-pub(crate) fn split_lines(alloc: Global, text: &[u8]) -> Result<Vec<&[u8]>, AllocError>
-    ensures { IfOk result (λ lines. map (λ line. line.now) lines.items ≡ slice_split (λ byte. byte == 10) text.now) }
-{
-    let mut lines = Vec::new(alloc);
-    for line in text.split(|byte| *byte == b'\n') {
-        lines.push(line)?;
-    }
-    Ok(lines)
-}
-
-/// The transcript that lines are, which so many others stand before.
+/// The transcript that a text is, which so many other lines stand before.
 pub(crate) fn read_lines<T: PayloadText>(
     alloc: Global,
     before: usize,
-    lines: &[&[u8]],
+    text: &[u8],
 ) -> Result<(u32, Vec<(u32, Entry<T>)>), TextFault>
-    requires room { before + length lines.now < 2 ^ 64 }
-    ensures ok { IfOk result (λ read.
-        read_from T.payload_of (before + 1) None (map (λ line. line_of line.now) lines.now)
+    requires room { before + length text.now + 1 < 2 ^ 64 }
+    ensures ok { IfOk result (λ read. read_from T.payload_of (before + 1) None (lines_of text.now)
         ≡ Ok (read.0, read.1.items)) }
-    ensures fault { IfErr result
-        (IsFaultOf (read_from T.payload_of (before + 1) None (map (λ line. line_of line.now) lines.now))) }
+    ensures fault { IfErr result (IsFaultOf (read_from T.payload_of (before + 1) None (lines_of text.now))) }
 {
     let mut reader = Reader::behind(before);
-    for line in lines {
+    let mut rest = Some(text);
+    'each: while let Some(left) = rest {
+        let (line, behind) = first_line(left);
         reader.step(alloc, Fields::of(without_carriage_return(line)))?;
+        rest = behind;
     }
     reader.finish()
 }
@@ -133,6 +123,5 @@ pub fn read_transcript<T: PayloadText>(
     ensures ok { IfOk result (λ read. reading_of T.payload_of (lines_of text.now) ≡ Ok (read.0, read.1.items)) }
     ensures fault { IfErr result (IsFaultOf (reading_of T.payload_of (lines_of text.now))) }
 {
-    let lines = split_lines(alloc, text)?;
-    read_lines(alloc, 0, lines.as_slice())
+    read_lines(alloc, 0, text)
 }

@@ -17,6 +17,8 @@ mod replay_checks;
 #[cfg(test)]
 mod runs;
 #[cfg(test)]
+mod stealing;
+#[cfg(test)]
 mod stopped_checks;
 #[cfg(test)]
 mod transcript_checks;

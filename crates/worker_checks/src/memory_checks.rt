@@ -1,9 +1,11 @@
-//! All byte functions with memory refused: tests/refused_memory.py runs this test with each allocation refused in turn.
+//! All byte functions with memory refused: tests/refused_memory.py runs these tests with each allocation refused in
+//! turn.
 
 use byte_functions::{
-    OpenGate, Options, check_bytes, events_bytes, fault_report, forest_bytes, plain_bytes,
-    plan_bytes, replay_bytes, rounds_bytes, transcript_bytes,
+    OpenGate, Options, PlanFault, check_bytes, events_bytes, fault_report, forest_bytes,
+    plain_bytes, plan_bytes, replay_bytes, rounds_bytes, transcript_bytes,
 };
+use std::alloc::Global;
 use std::test::Fail;
 
 const TRIANGLE: &[u8] = b"p edge 3 3\ne 1 2\ne 1 3\ne 2 3\n";
@@ -30,16 +32,49 @@ const ONE_NODE_TRANSCRIPT: &[u8] = b"transcript 1 1\n\
 
 const TRIANGLE_PLAN: &[u8] = b"plan\n1 2\n2 3\n3 1\n";
 
+const BY_ONE: Options = Options {
+    workers: 1,
+    capacity: 4,
+    turns: 1_000_000,
+    transcript: false,
+};
+
+// The bytes of the triangle's transcript by one worker, as tests/one_worker.py writes it.
+const TRIANGLE_TRANSCRIPT: usize = 11_134;
+
+fn is_of_the_triangle(transcript: &[u8]) -> bool {
+    transcript.len() == TRIANGLE_TRANSCRIPT && transcript.starts_with(b"transcript 1 3\n")
+}
+
+// Whether a fault is reported as memory; or as a thread, which takes memory to start.
+fn is_memory(alloc: Global, fault: PlanFault) -> Result<bool, Fail> {
+    let report = fault_report(alloc, "name", fault)?;
+    let line = report.line.as_slice();
+    Ok(line == b"name: memory\n".as_slice() || line == b"name: threads\n".as_slice())
+}
+
+// One worker writes the same each time. Of two calls memory is refused to one at most, and that returns no bytes.
+#[test]
+fn a_transcript_is_whole_or_runs_out_of_memory(rt: HostRuntime) -> Result<(), Fail> {
+    let alloc = rt.alloc();
+    let first = transcript_bytes(&rt, alloc, TRIANGLE, BY_ONE, &OpenGate);
+    let second = transcript_bytes(&rt, alloc, TRIANGLE, BY_ONE, &OpenGate);
+    match (first, second) {
+        (Ok(one), Ok(other)) => {
+            assert!(rt; is_of_the_triangle(one.as_slice()) && one.as_slice() == other.as_slice())
+        }
+        (Ok(whole), Err(fault)) | (Err(fault), Ok(whole)) => {
+            assert!(rt; is_of_the_triangle(whole.as_slice()) && is_memory(alloc, fault)?)
+        }
+        (Err(_), Err(_)) => assert!(rt; false),
+    }
+    Ok(())
+}
+
 // Each returns the right bytes, or a fault that is reported as memory; or as a thread, which takes memory to start.
 #[test]
 fn each_function_returns_its_bytes_or_runs_out_of_memory(rt: HostRuntime) -> Result<(), Fail> {
     let alloc = rt.alloc();
-    let options = Options {
-        workers: 1,
-        capacity: 4,
-        turns: 1_000_000,
-        transcript: false,
-    };
     let answers = [
         (
             forest_bytes(alloc, TRIANGLE),
@@ -47,11 +82,11 @@ fn each_function_returns_its_bytes_or_runs_out_of_memory(rt: HostRuntime) -> Res
         ),
         (plain_bytes(alloc, TRIANGLE), TRIANGLE_PLAN),
         (
-            plan_bytes(&rt, alloc, TRIANGLE, options, &OpenGate),
+            plan_bytes(&rt, alloc, TRIANGLE, BY_ONE, &OpenGate),
             TRIANGLE_PLAN,
         ),
         (
-            transcript_bytes(&rt, alloc, ONE_NODE, options, &OpenGate),
+            transcript_bytes(&rt, alloc, ONE_NODE, BY_ONE, &OpenGate),
             ONE_NODE_TRANSCRIPT,
         ),
         (
@@ -65,13 +100,7 @@ fn each_function_returns_its_bytes_or_runs_out_of_memory(rt: HostRuntime) -> Res
     for (answer, wanted) in answers {
         match answer {
             Ok(bytes) => assert!(rt; bytes.as_slice() == wanted),
-            Err(fault) => {
-                let report = fault_report(alloc, "name", fault)?;
-                let line = report.line.as_bytes();
-                assert!(rt;
-                    line == b"name: memory\n".as_slice() || line == b"name: threads\n".as_slice()
-                );
-            }
+            Err(fault) => assert!(rt; is_memory(alloc, fault)?),
         }
     }
     Ok(())

@@ -1,7 +1,8 @@
 //! Runs of nodes on worker threads.
 
 use crate::meeting::Meeting;
-use crate::runs::{greatest, path, small, triangle};
+use crate::runs::{apart, greatest, path, small, triangle};
+use crate::stealing::Stealing;
 use alpha_core::Network;
 use byte_functions::{Colouring, OpenGate, Options, PoolFault, run_workers};
 use std::alloc::Global;
@@ -26,6 +27,25 @@ fn two_workers_are_in_turns_at_once(rt: HostRuntime) -> Result<(), Fail> {
     };
     let outcome = run_workers::<Colouring, Meeting, _>(&rt, alloc, &net, options, &gate)?;
     assert!(rt; gate.saw_two_at_once(PULSES));
+    assert!(rt; outcome.is_whole());
+    Ok(())
+}
+
+// Two workers, the first of which has nodes 1 and 3: while one is held at node 1, the other has to steal node 3, or to
+// have stolen node 1.
+#[test]
+fn a_worker_steals(rt: HostRuntime) -> Result<(), Fail> {
+    let alloc: Global = rt.alloc();
+    let net = apart(alloc)?;
+    let gate = Stealing::new();
+    let options = Options {
+        workers: 2,
+        capacity: 4,
+        turns: 1_000_000_000,
+        transcript: false,
+    };
+    let outcome = run_workers::<Colouring, Stealing, _>(&rt, alloc, &net, options, &gate)?;
+    assert!(rt; gate.saw_a_steal());
     assert!(rt; outcome.is_whole());
     Ok(())
 }

@@ -16,6 +16,11 @@ pub fn path(alloc: Global) -> Result<Network, Fail> {
     Ok(Network::try_new(alloc, &[1, 2, 3], &[(1, 2), (2, 3)])?)
 }
 
+/// Three nodes without edges.
+pub fn apart(alloc: Global) -> Result<Network, Fail> {
+    Ok(Network::try_new(alloc, &[1, 2, 3], &[])?)
+}
+
 pub fn triangle(alloc: Global) -> Result<Network, Fail> {
     Ok(Network::try_new(alloc, &[1, 2, 3], &[(1, 2), (1, 3), (2, 3)])?)
 }

@@ -1,44 +1,103 @@
-//! Runs of one worker that stop: what one look leaves, and that each look only adds to what the ones before it
+//! Runs of one worker that stop: what its first looks leave, and that each look only adds to what the ones before it
 //! did.
 
 use crate::runs::{holds, run_of_one, triangle};
-use alpha_core::Wire;
+use alpha_core::{Network, Wire};
 use byte_functions::{Colouring, OpenGate, Options, Payload, run_workers};
 use entries::{Entries, Entry};
 use std::alloc::Global;
+use std::sync::Wait;
 use std::test::Fail;
+use std::thread::Threads;
 
-#[test]
-fn one_look_leaves_a_run_that_is_not_whole(rt: HostRuntime) -> Result<(), Fail> {
-    let alloc: Global = rt.alloc();
-    let net = triangle(alloc)?;
-    let options = Options {
-        workers: 1,
-        capacity: 4,
-        turns: 1,
-        transcript: true,
-    };
-    let outcome = run_workers::<Colouring, OpenGate, _>(&rt, alloc, &net, options, &OpenGate)?;
-    assert!(rt; !outcome.is_whole());
-    let hello = Wire::Payload(0, Payload::Hello(1));
-    let puts = [Entry::Put(2, hello), Entry::Put(3, hello)];
-    let mut vertices = 0u32;
-    for actor in outcome.actors() {
-        vertices = vertices.wrapping_add(1);
-        assert_eq!(rt; actor.node(), vertices);
-        assert_eq!(rt; actor.alpha().pulse_number(), 0);
-        let entries = if vertices == 1 { 2 } else { 0 };
-        assert_eq!(rt; actor.entries().len(), entries);
-        for (entry, put) in actor.entries().iter().zip(puts) {
-            assert!(rt; entry == put);
+const FROM_1: Wire<Payload> = Wire::Payload(0, Payload::Hello(1));
+
+const FROM_2: Wire<Payload> = Wire::Payload(0, Payload::Hello(2));
+
+// What nodes 1 and 2 of the triangle did by the first and by the second look, and node 2 over links that hold one wire.
+static FIRST: [Entry<Payload>; 2] = [Entry::Put(2, FROM_1), Entry::Put(3, FROM_1)];
+
+static SECOND: [Entry<Payload>; 4] = [
+    Entry::Take(1, FROM_1),
+    Entry::Put(1, FROM_2),
+    Entry::Put(1, Wire::Ack(0)),
+    Entry::Put(3, FROM_2),
+];
+
+static SECOND_OF_ONE: [Entry<Payload>; 3] = [
+    Entry::Take(1, FROM_1),
+    Entry::Put(1, FROM_2),
+    Entry::Put(3, FROM_2),
+];
+
+// Whether these are the entries of a node.
+fn are(entries: &Entries<Payload>, wanted: &[Entry<Payload>]) -> bool {
+    entries.len() == wanted.len()
+        && entries
+            .iter()
+            .zip(wanted.iter())
+            .all(|(entry, other)| entry == *other)
+}
+
+// Whether a run of so many looks isn't whole and leaves these entries by node, and by node and port these wires in the
+// links.
+fn leaves<R: Threads + Wait + Sync>(
+    rt: &R,
+    alloc: Global,
+    net: &Network,
+    options: Options,
+    entries: &[&[Entry<Payload>]],
+    links: &[[&[Wire<Payload>]; 2]],
+) -> Result<bool, Fail> {
+    let outcome = run_workers::<Colouring, OpenGate, R>(rt, alloc, net, options, &OpenGate)?;
+    if outcome.is_whole() || outcome.actors().len() != entries.len() {
+        return Ok(false);
+    }
+    let mut vertex = 0u32;
+    for (actor, wanted) in outcome.actors().iter().zip(entries.iter()) {
+        vertex = vertex.wrapping_add(1);
+        let is_at_start = actor.node() == vertex && actor.alpha().pulse_number() == 0;
+        if !is_at_start || !are(actor.entries(), *wanted) {
+            return Ok(false);
         }
     }
-    assert_eq!(rt; vertices, 3);
-    let greeting = [hello];
     for v in 1..net.nodes() + 1 {
-        let put = if v == 1 { 1 } else { 0 };
-        let wires = &greeting[..put];
-        assert!(rt; holds(&net, &outcome, v, &[wires, wires]));
+        match links.get((v - 1) as usize) {
+            Some(by_port) if holds(net, &outcome, v, by_port.as_slice()) => (),
+            _ => return Ok(false),
+        }
+    }
+    Ok(true)
+}
+
+// The worker looks at nodes 1, 2, 3 in turn. A node at which it looks takes what its links hold, and puts what it has
+// to put, port by port, as far as the links hold it. So node 3 has done nothing.
+#[test]
+fn the_first_looks_leave_a_run_that_is_not_whole(rt: HostRuntime) -> Result<(), Fail> {
+    let alloc: Global = rt.alloc();
+    let net = triangle(alloc)?;
+    let (first, second): (&[Entry<Payload>], &[Entry<Payload>]) = (&FIRST, &SECOND);
+    let (second_of_one, idle): (&[Entry<Payload>], &[Entry<Payload>]) = (&SECOND_OF_ONE, &[]);
+    let (one, two): (&[Wire<Payload>], &[Wire<Payload>]) = (&[FROM_1], &[FROM_2]);
+    let (both, empty): (&[Wire<Payload>], &[Wire<Payload>]) = (&[FROM_2, Wire::Ack(0)], &[]);
+    for (turns, capacity, of_1, of_2, from_1, from_2) in [
+        (0, 4, idle, idle, [empty, empty], [empty, empty]),
+        (1, 4, first, idle, [one, one], [empty, empty]),
+        (2, 4, first, second, [empty, one], [both, two]),
+        (2, 1, first, second_of_one, [empty, one], [two, two]),
+    ] {
+        let options = Options {
+            workers: 1,
+            capacity,
+            turns,
+            transcript: true,
+        };
+        let entries = [of_1, of_2, idle];
+        let links = [from_1, from_2, [empty, empty]];
+        assert!(rt;
+            leaves(&rt, alloc, &net, options, &entries, &links)?,
+            "{turns} {capacity}"
+        );
     }
     Ok(())
 }

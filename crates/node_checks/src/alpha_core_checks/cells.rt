@@ -54,78 +54,79 @@ enum Cell {
 // After how many acts of the run a wire comes, the wire, and what its cell says.
 type Row = (usize, Wire<Best>, Cell);
 
-const WRONG: Cell = Cell::Refused(AlphaRefused::WrongPulse);
+// The codes of DEFINITIONS.
+const A1: Cell = Cell::Refused(AlphaRefused::WrongPulse);
 
-const PAID: Cell = Cell::Refused(AlphaRefused::DoublePayload);
+const A2: Cell = Cell::Refused(AlphaRefused::DoublePayload);
 
-const STRAY: Cell = Cell::Refused(AlphaRefused::StrayAck);
+const A3: Cell = Cell::Refused(AlphaRefused::StrayAck);
 
-const SAFE: Cell = Cell::Refused(AlphaRefused::DoubleSafe);
+const A4: Cell = Cell::Refused(AlphaRefused::DoubleSafe);
 
-const AFTER: Cell = Cell::Refused(AlphaRefused::AfterClose);
+const A5: Cell = Cell::Refused(AlphaRefused::AfterClose);
 
 // A row for each cell that calls reach: after how many acts of the run, its wire, and what it says. A port is fresh at
 // pulse 1 (after 4 acts; after 11, where close is due), paid at pulse 1 (after 5), or closed at pulse 2 (after 12). The
 // pulse that can come is 1, or 3 at a port that is closed, and the wire's is below it, equal to it, above it.
 static TABLE: [Row; 31] = [
     // Payload: below, equal, above, each at a port that is fresh, paid, closed.
-    (4, Wire::Payload(0, Best(5)), WRONG),
-    (5, Wire::Payload(0, Best(5)), WRONG),
-    (12, Wire::Payload(2, Best(5)), AFTER),
+    (4, Wire::Payload(0, Best(5)), A1),
+    (5, Wire::Payload(0, Best(5)), A1),
+    (12, Wire::Payload(2, Best(5)), A5),
     (4, Wire::Payload(1, Best(5)), Cell::Acknowledged),
-    (5, Wire::Payload(1, Best(5)), PAID),
-    (12, Wire::Payload(3, Best(5)), AFTER),
-    (4, Wire::Payload(2, Best(5)), WRONG),
-    (5, Wire::Payload(2, Best(5)), WRONG),
-    (12, Wire::Payload(4, Best(5)), AFTER),
+    (5, Wire::Payload(1, Best(5)), A2),
+    (12, Wire::Payload(3, Best(5)), A5),
+    (4, Wire::Payload(2, Best(5)), A1),
+    (5, Wire::Payload(2, Best(5)), A1),
+    (12, Wire::Payload(4, Best(5)), A5),
     // Ack. The pulse that can come is the node's own, 1 or 2.
-    (4, Wire::Ack(0), STRAY),
-    (5, Wire::Ack(0), STRAY),
-    (12, Wire::Ack(1), AFTER),
+    (4, Wire::Ack(0), A3),
+    (5, Wire::Ack(0), A3),
+    (12, Wire::Ack(1), A5),
     (4, Wire::Ack(1), Cell::Settled),
     (5, Wire::Ack(1), Cell::Settled),
-    (12, Wire::Ack(2), AFTER),
-    (4, Wire::Ack(2), STRAY),
-    (5, Wire::Ack(2), STRAY),
-    (12, Wire::Ack(3), AFTER),
+    (12, Wire::Ack(2), A5),
+    (4, Wire::Ack(2), A3),
+    (5, Wire::Ack(2), A3),
+    (12, Wire::Ack(3), A5),
     // Safe.
-    (4, Wire::Safe(0), SAFE),
-    (5, Wire::Safe(0), SAFE),
-    (12, Wire::Safe(2), AFTER),
+    (4, Wire::Safe(0), A4),
+    (5, Wire::Safe(0), A4),
+    (12, Wire::Safe(2), A5),
     (4, Wire::Safe(1), Cell::Taken),
     (5, Wire::Safe(1), Cell::Taken),
-    (12, Wire::Safe(3), AFTER),
-    (4, Wire::Safe(2), WRONG),
-    (5, Wire::Safe(2), WRONG),
-    (12, Wire::Safe(4), AFTER),
+    (12, Wire::Safe(3), A5),
+    (4, Wire::Safe(2), A1),
+    (5, Wire::Safe(2), A1),
+    (12, Wire::Safe(4), A5),
     // Close, which is due behind the last safe: no calls lead to the cells below, to a paid port where it is due, or to
     // a closed one above.
     (11, Wire::Close, Cell::Taken),
-    (12, Wire::Close, AFTER),
-    (4, Wire::Close, WRONG),
-    (5, Wire::Close, WRONG),
+    (12, Wire::Close, A5),
+    (4, Wire::Close, A1),
+    (5, Wire::Close, A1),
 ];
 
 // What else decides a cell that is due.
 static CONDITIONS: [Row; 8] = [
     // At pulse 0 before safe is said nothing of pulse 1 comes; then it does.
-    (2, Wire::Payload(1, Best(5)), WRONG),
-    (2, Wire::Safe(1), WRONG),
+    (2, Wire::Payload(1, Best(5)), A1),
+    (2, Wire::Safe(1), A1),
     (3, Wire::Payload(1, Best(5)), Cell::Acknowledged),
     (3, Wire::Safe(1), Cell::Taken),
     // The payload of pulse 0 is acknowledged.
-    (3, Wire::Ack(0), STRAY),
+    (3, Wire::Ack(0), A3),
     // At the pulse before the last no close comes before safe is said.
-    (10, Wire::Close, WRONG),
+    (10, Wire::Close, A1),
     // The last pulse has neither payload nor safe.
-    (11, Wire::Payload(3, Best(5)), WRONG),
-    (11, Wire::Safe(3), WRONG),
+    (11, Wire::Payload(3, Best(5)), A1),
+    (11, Wire::Safe(3), A1),
 ];
 
 // What came of a run into which another wire was fed: what the node returned to that wire and emitted then, what came
 // of the acts of the run, whether it was drained at the end, and the greatest identifier that it knew.
 #[derive(Drop)]
-struct Outcome {
+struct Fed {
     answer: Option<Result<(), AlphaRefused>>,
     emitted: Option<Wire<Best>>,
     played: Played<Best>,
@@ -140,7 +141,7 @@ fn run_with(
     first: &[Act<Best>],
     wire: Option<Wire<Best>>,
     rest: &[Act<Best>],
-) -> Result<Outcome, Memory>
+) -> Result<Fed, Memory>
     requires vertex { IsVertex net.now 1 }
     requires one { degree_of net.now 1 ≡ 1 }
 {
@@ -149,7 +150,7 @@ fn run_with(
     play(&mut node, first, &mut played)?;
     let (answer, emitted) = feed(&mut node, wire);
     play(&mut node, rest, &mut played)?;
-    Ok(Outcome {
+    Ok(Fed {
         answer,
         emitted,
         played,
@@ -173,7 +174,7 @@ fn feed(
 }
 
 // Whether two runs ended with the same answers and wires.
-fn alike(one: &Outcome, other: &Outcome) -> bool {
+fn alike(one: &Fed, other: &Fed) -> bool {
     one.played.answers == other.played.answers
         && one.played.put == other.played.put
         && one.best == other.best
@@ -181,7 +182,7 @@ fn alike(one: &Outcome, other: &Outcome) -> bool {
 
 // Whether a wire had the answer of its cell. If it was refused, the run went on as that of the twin, which wasn't fed
 // it; if it was taken, the run ended all the same.
-fn is_told(cell: Cell, node: &Outcome, twin: &Outcome) -> bool {
+fn is_told(cell: Cell, node: &Fed, twin: &Fed) -> bool {
     if !node.drained {
         return false;
     }

@@ -1,7 +1,7 @@
-use Rattle.std.proofs.Common.{◌≡◌, ◌∙◌, false, All, ap, append-nil, codes, inl, inr, refl, subst, sym}
+use Rattle.std.proofs.Common.{◌≡◌, ◌∙◌, false, All, ap, append-nil, inl, inr, refl, subst, sym}
 use Rattle.dimacs_col.specs.Lines.{lines_of}
 use Rattle.channel_plan.specs.Reading.{reading_of}
-use Rattle.channel_plan.specs.Split.{begins}
+use Rattle.channel_plan.specs.Split.{begins, plan_word}
 use Rattle.channel_plan.proofs.Splitting.{front-all, last-line, read-empty}
 use Rattle.channel_plan.proofs.split.split_plan.Goals as goal
 
@@ -20,6 +20,6 @@ returns-in-None-clause-plan c = ap reading_of last-line ∙ read-empty ∙ ap re
 pub returns-in-None-clause-text : goal.returns-in-None-clause-text
 returns-in-None-clause-text c = record {
   whole = append-nil c.args.input.now;
-  before = subst (All (λ line. begins (codes "plan") line ≡ false)) c.in-None.ensures.none (front-all (codes "plan") (lines_of c.args.input.now));
+  before = subst (All (λ line. begins plan_word line ≡ false)) c.in-None.ensures.none (front-all plan_word (lines_of c.args.input.now));
   from = inl refl;
 }

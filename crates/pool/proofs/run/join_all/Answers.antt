@@ -1,13 +1,16 @@
-use Rattle.std.proofs.Common.{◌≡◌, arith}
-use Rattle.std.proofs.lemmas.List.Elements.{All-pop}
+use Rattle.std.proofs.Common.{map, arith}
+use Rattle.crossbeam_deque.specs.Handles.{worker_deque}
+use Rattle.pool.specs.Deques.{deque_of}
+use Rattle.pool.proofs.Joined.{kept_images}
 use Rattle.pool.proofs.run.join_all.Goals as goal
 
-pub loop-preserved : goal.loop-preserved
-loop-preserved g c = record {
-  of = c.in-Ok.ensures.pool;
-  parts = omega (arith, c.in-Ok.ensures.parts, c.in-Some.ensures.len);
-  some = omega (arith, c.in-Ok.ensures.parts);
-  count = omega (arith, c.in-Some.ensures.len);
-  theirs = (All-pop (λ h. h.promise.0.now.table.shared.table_id ≡ c.args.pool.now.table.shared.table_id) _ _ _ c.pop.ensures.items
-      c.loop.invariant.theirs).0;
-}
+pub returns-in-Ok-clause-owns : goal.returns-in-Ok-clause-owns
+returns-in-Ok-clause-owns g c =
+    kept_images c.args.children.items _ _ _ (λ p. p.0.value) (λ w. worker_deque w.desk.own) (λ d. worker_deque d.own) (λ p r k. k.0)
+    (omega (arith, c.args.children.ok.0)) (omega (arith, c.args.children.ok.0, c.in-Ok.done.ok.0, c.in-Ok.ensures.len)) c.in-Ok.ensures.each
+
+pub returns-in-Ok-clause-guests : goal.returns-in-Ok-clause-guests
+returns-in-Ok-clause-guests g c =
+    kept_images c.args.children.items _ _ _ (λ p. p.0.value) (λ w. map (λ g'. deque_of g'.pass) w.desk.guests.items)
+    (λ d. map (λ g'. deque_of g'.pass) d.guests.items) (λ p r k. k.1)
+    (omega (arith, c.args.children.ok.0)) (omega (arith, c.args.children.ok.0, c.in-Ok.done.ok.0, c.in-Ok.ensures.len)) c.in-Ok.ensures.each

@@ -7,6 +7,6 @@ use Rattle.serving.proofs.serving.refuse_fault.Goals as goal
 pub returns-in-Ok : goal.returns-in-Ok
 returns-in-Ok g c = inl (
   subst (λ text. IsReported (writing g.E.Write.contents g.E.Sink.faults c.args.errors.now c.refuse.new.errors) text)
-      (c.as_bytes.ensures.value ∙ c.in-Ok.ensures.line ∙ ap (λ name. fault_line name c.args.fault) c.name.ensures) c.refuse.ensures.reported,
+      (c.as_slice.ensures.value ∙ c.in-Ok.ensures.line ∙ ap (λ name. fault_line name c.args.fault) c.name.ensures) c.refuse.ensures.reported,
   c.refuse.ensures.status ∙ c.in-Ok.ensures.status,
 )

@@ -1,10 +1,16 @@
-use Rattle.std.proofs.Common.{◌≡◌, ◌++◌, map, take}
-use Rattle.dimacs_col.specs.Lines.{line_of}
+use Rattle.std.proofs.Common.{◌≡◌, ◌+◌, ◌++◌, drop, length}
+use Rattle.dimacs_col.specs.Lines.{lines_of}
 use Rattle.transcripts.specs.Behind.{numbers_from}
+use Rattle.transcripts.specs.Reader.{lines_in}
 use Rattle.transcripts.proofs.behind.push_numbers.Given as goal
 
--- the numbers of the lines so far
-abbrev pub invariant-loop-index : goal.invariant-loop-index
-invariant-loop-index l = record {
-  numbers : l.numbers.items ≡ l.fn.numbers.items ++ numbers_from l.first (map (λ x. line_of x.now) (take l.index l.lines));
+-- all numbers are those so far, and those of the lines that are left
+abbrev pub invariant-each : goal.invariant-each
+invariant-each l = record {
+  number : l.number + length (lines_in l.rest) ≡ l.before + length (lines_of l.text);
+  numbers : l.fn.numbers.items ++ numbers_from (l.before + 2) (drop 1 (lines_of l.text))
+      ≡ l.numbers.items ++ numbers_from (l.number + 1) (lines_in l.rest);
 }
+
+abbrev pub decreases-each : goal.decreases-each
+decreases-each l = length (lines_in l.rest)

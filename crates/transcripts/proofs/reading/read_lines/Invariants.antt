@@ -1,13 +1,17 @@
-use Rattle.std.proofs.Common.{◌≡◌, ◌+◌, map, take}
-use Rattle.dimacs_col.specs.Lines.{line_of}
-use Rattle.transcripts.proofs.Readings.{LeadsTo}
+use Rattle.std.proofs.Common.{◌≡◌, ◌+◌, None, length}
+use Rattle.dimacs_col.specs.Lines.{lines_of}
+use Rattle.transcripts.specs.Reader.{lines_in}
+use Rattle.transcripts.specs.Reading.{read_from}
 use Rattle.transcripts.proofs.reading.read_lines.Given as goal
 
--- whatever lines follow those so far, what the reader knows leads to the reading of them all
-abbrev pub invariant-loop-line : goal.invariant-loop-line
-invariant-loop-line g l =
+-- the reading of all lines is that of the lines that are left, from what the reader knows
+abbrev pub invariant-each : goal.invariant-each
+invariant-each g l =
     let m = g.T.PayloadText in
     record {
-      knows : LeadsTo m.payload_of (l.before + 1) (map (λ x. line_of x.now) (take l.line-index l.lines)) (l.reader.line + 1) l.reader.known;
-      line : l.reader.line ≡ l.before + l.line-index;
+      knows : read_from m.payload_of (l.before + 1) None (lines_of l.text) ≡ read_from m.payload_of (l.reader.line + 1) l.reader.known (lines_in l.rest);
+      line : l.reader.line + length (lines_in l.rest) ≡ l.before + length (lines_of l.text);
     }
+
+abbrev pub decreases-each : goal.decreases-each
+decreases-each g l = length (lines_in l.rest)

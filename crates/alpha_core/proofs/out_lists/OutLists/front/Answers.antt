@@ -1,31 +1,28 @@
-use Rattle.std.proofs.Common.{◌<◌, length, ap, ◌∙◌, arith}
+use Rattle.std.proofs.Common.{ap, ◌∙◌, arith}
 use Rattle.std.specs.Prelude.{slice_get}
 use Rattle.alpha_core.specs.Rows.{out_at}
-use Rattle.alpha_core.proofs.KeptOuts.{out-is, outs-length, whole-at}
+use Rattle.alpha_core.proofs.KeptOuts.{out-is, port-below, whole-at}
 use Rattle.alpha_core.proofs.out_lists.OutLists.front.Goals as goal
 
 pub index-requires : goal.index-requires
 index-requires g c =
     let a = c.self.inside in
     let same = c.self.invariant.0 in
-    let below : c.args.port < length a.wires.items =
-    omega (arith, c.requires.port, ap length c.self.view_is, outs-length (λ v. v.items) a.wires.items a.payloads.items same) in
+    let below = port-below (λ v. v.items) a.wires.items a.payloads.items same c.args.self.now c.self.view_is c.args.port c.requires.port in
     omega (arith, below)
 
 pub index-requires-2 : goal.index-requires-2
 index-requires-2 g c =
     let a = c.self.inside in
     let same = c.self.invariant.0 in
-    let below : c.args.port < length a.wires.items =
-    omega (arith, c.requires.port, ap length c.self.view_is, outs-length (λ v. v.items) a.wires.items a.payloads.items same) in
+    let below = port-below (λ v. v.items) a.wires.items a.payloads.items same c.args.self.now c.self.view_is c.args.port c.requires.port in
     omega (arith, below, same)
 
 pub first_wire-requires : goal.first_wire-requires
 first_wire-requires g c =
     let a = c.self.inside in
     let same = c.self.invariant.0 in
-    let below : c.args.port < length a.wires.items =
-    omega (arith, c.requires.port, ap length c.self.view_is, outs-length (λ v. v.items) a.wires.items a.payloads.items same) in
+    let below = port-below (λ v. v.items) a.wires.items a.payloads.items same c.args.self.now c.self.view_is c.args.port c.requires.port in
     let w = c.index.result.now in
     let p = c.index-2.result.now in
     let second = c.index-2.ensures in
@@ -38,8 +35,7 @@ pub returns : goal.returns
 returns g c =
     let a = c.self.inside in
     let same = c.self.invariant.0 in
-    let below : c.args.port < length a.wires.items =
-    omega (arith, c.requires.port, ap length c.self.view_is, outs-length (λ v. v.items) a.wires.items a.payloads.items same) in
+    let below = port-below (λ v. v.items) a.wires.items a.payloads.items same c.args.self.now c.self.view_is c.args.port c.requires.port in
     let w = c.index.result.now in
     let p = c.index-2.result.now in
     let second = c.index-2.ensures in

@@ -60,72 +60,66 @@ loop-rest-preserved c =
     (c.index-rest.ensures ∙ get_or_default a.words.items (l.word + 1) _ 0 inside) (omega arith) inside
     (omega (arith, l.invariant.past))
 
--- something is left of the word: its lowest place is the one
-some_left : (n : ℕ) → (n ≡ 0 → ⊥) → 0 < n
-some_left n e = omega (arith, e)
-
--- the place that is found is no later than the one that there is
-no_later : (words : List ℕ) (from word rest place : ℕ) (r : IsRest words from word rest) (some : 0 < rest) → from ≤ place → has_bit words place ≡ true →
-    word * 64 + trailing_zeros w64 rest ≤ place
-no_later words from word rest place r some later marked =
-    elim (dec_lt place (word * 64 + trailing_zeros w64 rest)) [
-      | yes low ↦ absurd (let wrong : false ≡ true = sym (found-first words from word rest r some place later low) ∙ marked in cc)
-      | no other ↦ omega arith
-    ]
+-- something is left of the word: its lowest place is no later than the one that there is, and so it is one of the places
+found-below : (n : ℕ) (words : List ℕ) (marks : List Bool) (from word rest : ℕ) → IsRest words from word rest → (rest ≡ 0 → ⊥) →
+    marks_in n words ≡ marks → (place : ℕ) × (from ≤ place) × (place < length marks) × (is_marked marks place ≡ true) →
+    (0 < rest) × (word * 64 + trailing_zeros w64 rest < n)
+found-below n words marks from word rest r left is there =
+    let (place, later, below, marked) = some_bit n words marks from is there in
+    let some : 0 < rest = omega (arith, left) in (
+      some,
+      elim (dec_lt place (word * 64 + trailing_zeros w64 rest)) [
+        | yes low ↦ absurd (let wrong : false ≡ true = sym (found-first words from word rest r some place later low) ∙ marked in cc)
+        | no other ↦ omega (arith, below)
+      ],
+    )
 
 pub overflow_mul-result : goal.overflow_mul-result
 overflow_mul-result c =
     let a = c.self.inside in
     let l = c.loop-rest in
-    let (place, later, below, marked) = some_bit a.places a.words.items c.args.self.now c.args.from c.self.view_is c.requires.some in
-    let some : 0 < l.rest = some_left l.rest c.loop-rest-test.false in
-    let near = no_later a.words.items c.args.from l.word l.rest place l.invariant some later marked in
-    omega (arith, near, below, c.self.invariant.2)
+    let (some, low) =
+    found-below a.places a.words.items c.args.self.now c.args.from l.word l.rest l.invariant c.loop-rest-test.false c.self.view_is c.requires.some in
+    omega (arith, low, c.self.invariant.2)
 
 pub overflow_cast-result : goal.overflow_cast-result
 overflow_cast-result c =
     let a = c.self.inside in
     let l = c.loop-rest in
-    let (place, later, below, marked) = some_bit a.places a.words.items c.args.self.now c.args.from c.self.view_is c.requires.some in
-    let some : 0 < l.rest = some_left l.rest c.loop-rest-test.false in
-    let near = no_later a.words.items c.args.from l.word l.rest place l.invariant some later marked in
-    omega (arith, near, below, c.self.invariant.2)
+    let (some, low) =
+    found-below a.places a.words.items c.args.self.now c.args.from l.word l.rest l.invariant c.loop-rest-test.false c.self.view_is c.requires.some in
+    omega (arith, low, c.self.invariant.2)
 
 pub overflow_add-result : goal.overflow_add-result
 overflow_add-result c =
     let a = c.self.inside in
     let l = c.loop-rest in
-    let (place, later, below, marked) = some_bit a.places a.words.items c.args.self.now c.args.from c.self.view_is c.requires.some in
-    let some : 0 < l.rest = some_left l.rest c.loop-rest-test.false in
-    let near = no_later a.words.items c.args.from l.word l.rest place l.invariant some later marked in
-    omega (arith, near, below, c.self.invariant.2)
+    let (some, low) =
+    found-below a.places a.words.items c.args.self.now c.args.from l.word l.rest l.invariant c.loop-rest-test.false c.self.view_is c.requires.some in
+    omega (arith, low, c.self.invariant.2)
 
 pub returns-clause-later : goal.returns-clause-later
 returns-clause-later c =
     let a = c.self.inside in
     let l = c.loop-rest in
-    let (place, later, below, marked) = some_bit a.places a.words.items c.args.self.now c.args.from c.self.view_is c.requires.some in
-    let some : 0 < l.rest = some_left l.rest c.loop-rest-test.false in
-    let near = no_later a.words.items c.args.from l.word l.rest place l.invariant some later marked in
+    let (some, low) =
+    found-below a.places a.words.items c.args.self.now c.args.from l.word l.rest l.invariant c.loop-rest-test.false c.self.view_is c.requires.some in
     found-later a.words.items c.args.from l.word l.rest l.invariant some
 
 pub returns-clause-within : goal.returns-clause-within
 returns-clause-within c =
     let a = c.self.inside in
     let l = c.loop-rest in
-    let (place, later, below, marked) = some_bit a.places a.words.items c.args.self.now c.args.from c.self.view_is c.requires.some in
-    let some : 0 < l.rest = some_left l.rest c.loop-rest-test.false in
-    let near = no_later a.words.items c.args.from l.word l.rest place l.invariant some later marked in
-    omega (arith, near, below, ap length c.self.view_is, length-marks_in a.places a.words.items)
+    let (some, low) =
+    found-below a.places a.words.items c.args.self.now c.args.from l.word l.rest l.invariant c.loop-rest-test.false c.self.view_is c.requires.some in
+    omega (arith, low, ap length c.self.view_is, length-marks_in a.places a.words.items)
 
 pub returns-clause-marked : goal.returns-clause-marked
 returns-clause-marked c =
     let a = c.self.inside in
     let l = c.loop-rest in
-    let (place, later, below, marked) = some_bit a.places a.words.items c.args.self.now c.args.from c.self.view_is c.requires.some in
-    let some : 0 < l.rest = some_left l.rest c.loop-rest-test.false in
-    let near = no_later a.words.items c.args.from l.word l.rest place l.invariant some later marked in
-    let low : l.word * 64 + trailing_zeros w64 l.rest < a.places = omega (arith, near, below) in
+    let (some, low) =
+    found-below a.places a.words.items c.args.self.now c.args.from l.word l.rest l.invariant c.loop-rest-test.false c.self.view_is c.requires.some in
     ap (λ m. is_marked m (l.word * 64 + trailing_zeros w64 l.rest)) (sym c.self.view_is)
     ∙ (marks_in-at a.places a.words.items (l.word * 64 + trailing_zeros w64 l.rest) false low
     ∙ found-marked a.words.items c.args.from l.word l.rest l.invariant some)
@@ -134,11 +128,10 @@ pub returns-clause-first : goal.returns-clause-first
 returns-clause-first c =
     let a = c.self.inside in
     let l = c.loop-rest in
-    let (place, later, below, marked) = some_bit a.places a.words.items c.args.self.now c.args.from c.self.view_is c.requires.some in
-    let some : 0 < l.rest = some_left l.rest c.loop-rest-test.false in
-    let near = no_later a.words.items c.args.from l.word l.rest place l.invariant some later marked in
+    let (some, low) =
+    found-below a.places a.words.items c.args.self.now c.args.from l.word l.rest l.invariant c.loop-rest-test.false c.self.view_is c.requires.some in
     λ q after before.
-    (let low : q < a.places = omega (arith, near, below, before) in
+    (let below : q < a.places = omega (arith, low, before) in
     ap (λ m. is_marked m q) (sym c.self.view_is)
-    ∙ (marks_in-at a.places a.words.items q false low
+    ∙ (marks_in-at a.places a.words.items q false below
     ∙ found-first a.words.items c.args.from l.word l.rest l.invariant some q after before))

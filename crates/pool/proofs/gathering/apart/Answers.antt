@@ -1,0 +1,44 @@
+use Rattle.std.proofs.Common.{map, map-id, refl, sym, ap, subst, ◌∙◌, arith, rules}
+use Rattle.std.specs.Prelude.{IfErr}
+use Rattle.std.proofs.lemmas.Iterator.Adapters.{YieldsList-from_vec}
+use Rattle.std.proofs.lemmas.Iterator.Consumers.{YieldsList-end}
+use Rattle.std.proofs.lemmas.List.Elements.{All-push}
+use Rattle.crossbeam_deque.specs.Handles.{view, worker_deque, worker_view}
+use Rattle.pool.specs.Deques.{deque_of}
+use Rattle.pool.specs.Ledgers.{in_rows, pushed_by, shares_of, taken_by, weigh}
+use Rattle.pool.proofs.Pushed.{both_pushed, in_rows_more, total_more}
+use Rattle.pool.proofs.gathering.apart.Goals as goal
+
+pub loop-worked-preserved : goal.loop-worked-preserved
+loop-worked-preserved g c =
+    let inv = c.loop-worked.invariant in
+    let worked = c.in-Some.worked in
+    let owns = c.in_ok-push.ensures.items in
+    let rows = c.in_ok-push-2.ensures.items in
+    record {
+      owns = both_pushed worker_deque (λ w. worker_deque w.desk.own) _ _ c.loop-worked.yielded _ _ worked owns refl refl inv.owns;
+      rows = both_pushed (λ row. map (λ g'. deque_of g'.pass) row.items) (λ w. map (λ g'. deque_of g'.pass) w.desk.guests.items) _ _
+          c.loop-worked.yielded _ _ worked rows refl refl inv.rows;
+      shares = both_pushed (λ o. shares_of (worker_view o)) (λ w. shares_of (worker_view w.desk.own)) _ _ c.loop-worked.yielded _ _ worked owns refl refl
+          inv.shares;
+      out = λ h.
+          let before = inv.out h in
+          let nodes = c.in_ok-nodes.ensures.nodes h in
+          let out = worked.desk.out h in
+          let t = ap (λ os. taken_by h (map worker_view os)) owns ∙ total_more (λ v. weigh h v.taken) worker_view c.loop-worked.owns.items worked.desk.own in
+          let p = ap (λ os. pushed_by h (map worker_view os)) owns ∙ total_more (λ v. weigh h v.pushed) worker_view c.loop-worked.owns.items worked.desk.own in
+          let rt = ap (λ rs. in_rows (taken_by h) (map (λ row. map (λ g'. view g'.pass) row.items) rs)) rows
+          ∙ in_rows_more (taken_by h) (λ row. map (λ g'. view g'.pass) row.items) c.loop-worked.rows.items worked.desk.guests in
+          let rp = ap (λ rs. in_rows (pushed_by h) (map (λ row. map (λ g'. view g'.pass) row.items) rs)) rows
+          ∙ in_rows_more (pushed_by h) (λ row. map (λ g'. view g'.pass) row.items) c.loop-worked.rows.items worked.desk.guests in
+          omega arith;
+      memory = All-push (λ w. IfErr w.written (λ _. ⊥)) c.loop-worked.yielded worked inv.memory
+          (subst (λ w. IfErr w (λ _. ⊥)) (sym c.in_ok-written.was) (search rules));
+    }
+
+-- at the end every worker's deque is there
+pub returns-clause-shares : goal.returns-clause-shares
+returns-clause-shares g c =
+    let end = YieldsList-end (YieldsList-from_vec {s = c.into_iter-worked-iterator.result} c.args.done.items (search rules) (search rules))
+    c.loop-worked.yielded c.loop-worked.worked-iterator c.loop-worked.yielded_by c.next.result c.next.new.self c.in-None.is c.next.ensures.steps in
+    c.loop-worked.invariant.shares ∙ ap (map (λ w. shares_of (worker_view w.desk.own))) (sym (map-id c.loop-worked.yielded) ∙ end.0)

@@ -1,0 +1,8 @@
+use Rattle.std.proofs.Common.{◌≡◌, length, map}
+use Rattle.pool.proofs.run.start_all.Given as goal
+
+abbrev pub invariant-loop-desk : goal.invariant-loop-desk
+invariant-loop-desk g l = record {
+  worker : l.worker ≡ length l.yielded;
+  desks : map (λ h. h.promise.0.value) l.children.items ≡ l.yielded;
+}
