@@ -106,7 +106,7 @@ def refused_pushes(program, folder, enough=16, seconds=3 * LIMIT):
     """Runs of several workers that are refused all memory they ask for, until `enough` of them were refused some. A worker asks for
     none but in a push, and in this only if a thief that has claimed a place of the deque is stopped before it gives it free, while
     the owner comes round to the place again: so the workers are stopped all the time, and the networks are small. With one worker
-    there is no thief. A node that a refused push lost would leave the run without an end."""
+    there is no thief. If a refused push dropped its node, the run wouldn't end, or the nodes couldn't be gathered."""
     front, failure = build_front(folder, "refuse_in_threads")
     if failure is not None:
         return "the library that refuses what workers ask for builds", False, failure
@@ -131,7 +131,8 @@ def refused_in_threads(program, front, folder, workers, data, stop):
         done = subprocess.run([program, "plan", "--workers", str(workers)], input=data, capture_output=True, timeout=LIMIT, env=given)
     except subprocess.TimeoutExpired:
         return "no end", 0
-    return (done.returncode, done.stdout, done.stderr), numbers_in(name)[0]
+    # A run that a signal ends writes no count.
+    return (done.returncode, done.stdout, done.stderr), numbers_in(name)[0] if os.path.isfile(name) else 0
 
 
 def is_right(command, answer):
