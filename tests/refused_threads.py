@@ -102,7 +102,7 @@ def growths_of_workers(counted, command):
 STOPPED = [(ONE_EDGE, 4, 5), (TRIANGLE, 4, 5), (TRIANGLE, 4, 20), (ONE_EDGE, 3, 200), (TRIANGLE, 8, 20), (TRIANGLE, 1, 5)]
 
 
-def refused_pushes(program, folder, enough=16, seconds=3 * LIMIT):
+def refused_pushes(program, folder, enough=8, seconds=3 * LIMIT):
     """Runs of several workers that are refused all memory they ask for, until `enough` of them were refused some. A worker asks for
     none but in a push, and in this only if a thief that has claimed a place of the deque is stopped before it gives it free, while
     the owner comes round to the place again: so the workers are stopped all the time, and the networks are small. With one worker
