@@ -54,7 +54,9 @@ fn push_numbers(numbers: &mut Vec<usize>, before: usize, text: &[u8]) -> Result<
         ≡ numbers.old.items ++ numbers_from (before + 2) (drop 1 (lines_of text.now))) }
 {
     let mut lines = Lines::behind(before, text);
-    lines.next();
+    let Some(_) = lines.next() else {
+        return Ok(());
+    };
     'each: while let Some((number, fields)) = lines.next() {
         if has_fields(fields) {
             numbers.push(number)?;
