@@ -84,6 +84,7 @@ fn the_first_looks_leave_a_run_that_is_not_whole(rt: HostRuntime) -> Result<(), 
         (0, 4, idle, idle, [empty, empty], [empty, empty]),
         (0, 1, idle, idle, [empty, empty], [empty, empty]),
         (1, 4, first, idle, [one, one], [empty, empty]),
+        (1, 1, first, idle, [one, one], [empty, empty]),
         (2, 4, first, second, [empty, one], [both, two]),
         (2, 1, first, second_of_one, [empty, one], [two, two]),
     ] {
