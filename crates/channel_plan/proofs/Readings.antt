@@ -1,9 +1,8 @@
 -- What is known after one more line of a plan text.
 use Rattle.std.proofs.Common.{◌≡◌, ◌+◌, ◌++◌, ◌∷◌, [], ◌∙◌, ℕ, IfErr, Option, Some, None, Result, Ok, Err, List}
-use Rattle.std.proofs.Common.{false, true, ap, append_assoc, drop, refl, sym}
+use Rattle.std.proofs.Common.{false, true, ap, drop, refl, sym}
 use Rattle.std.specs.List.{slice_get}
 use Rattle.dimacs_col.specs.Lines.{Line}
-use Rattle.std.proofs.lemmas.List.{append-nil}
 use Rattle.channel_plan.specs.Reader.{IsSyntaxFault}
 use Rattle.channel_plan.specs.Reading.{IsFaultOfReading, Row, is_header, known_after, read_at_end, read_from, row_of}
 use Rattle.channel_plan.specs.declared.plan.CheckFault.{CheckFault}

@@ -74,6 +74,7 @@ impl<'a> Lines<'a> {
         ensures number { IfSome result (λ next. next.0 ≡ self.old.0 + 1) }
         ensures before { IfSome result (λ next. self.new.0 ≡ next.0) }
         ensures none { IfNone result (self.old.1 ≡ []) }
+        ensures unchanged { IfNone result (self.new ≡ self.old) }
     {
         let (line, rest) = first_line(self.rest?);
         self.rest = rest;
