@@ -1,12 +1,12 @@
 """Counts allocations: running a node program takes memory for the nodes, and none for its pulses; nor does a node under
-the synchroniser, but as it starts, nor a worker that runs such nodes.
+the synchroniser, but as it starts, nor a worker that runs such nodes. And links take memory for their capacity.
 
 No contract says that: a list in working space can grow without an allocator in its call's hands. So the counts of two
-runs that differ in their pulses alone are compared."""
+runs that differ in their pulses alone are compared; and the bytes of runs that differ in their capacity alone."""
 import os
 import tempfile
 
-from refused_memory import TESTS, build_front, count
+from refused_memory import TESTS, build_front, count, count_and_bytes
 
 # Both have six nodes, six edges and no node alone. `plain` has 30 rounds on the first, which has two forests and
 # degrees up to 2, and 102 on the second, with five forests and degrees up to 5.
@@ -19,6 +19,11 @@ STAR_AT_6 = b"p edge 6 5\ne 1 6\ne 2 6\ne 3 6\ne 4 6\ne 5 6\n"
 STAR_AT_1 = b"p edge 6 5\ne 1 2\ne 1 3\ne 1 4\ne 1 5\ne 1 6\n"
 PLAN_WORDS = ["plan", "--workers", "1"]
 
+# Two directions of a link, and six.
+EDGE = b"p edge 2 1\ne 1 2\n"
+TRIANGLE = b"p edge 3 3\ne 1 2\ne 1 3\ne 2 3\n"
+CAPACITIES = (1, 2, 3, 4, 32, 63, 64)
+
 
 def allocation_rows(program):
     """Rows (name, good, what)."""
@@ -29,7 +34,8 @@ def allocation_rows(program):
         rounds = [count(front, folder, [program, "plain"], network) for network in (HEXAGON, STAR_AND_EDGE)]
         plans = [count(front, folder, [program] + PLAN_WORDS, network) for network in (STAR_AT_6, STAR_AT_1)]
         rows = [row("plain allocates as often in 102 rounds as in 30", rounds),
-                row("plan with one worker allocates as often in 102 rounds as in 30", plans)]
+                row("plan with one worker allocates as often in 102 rounds as in 30", plans),
+                capacity_row(program, front, folder)]
         if not os.path.isfile(TESTS):
             return rows + [("the tests of crates/node_checks are built", False, f"no file {TESTS}")]
         links = [f"sync_rounds_checks::greatest_within_{links}" for links in ("1_link", "50_links")]
@@ -39,6 +45,19 @@ def allocation_rows(program):
             row("a node under the synchroniser allocates as often in 50 pulses as in 1",
                 [count(front, folder, [TESTS, name]) for name in pulses]),
         ]
+
+
+def capacity_row(program, front, folder):
+    """Whether each direction of a link takes the same memory for each wire of the capacity. No node is looked at."""
+    name, places = "each wire of the capacity takes the same memory in each direction of a link", {}
+    for directions, network in ((2, EDGE), (6, TRIANGLE)):
+        asked = [count_and_bytes(front, folder, [program] + PLAN_WORDS + ["--turns", "0", "--capacity", str(capacity)], network, status=3)
+                 for capacity in CAPACITIES]
+        if None in asked or len({calls for calls, _ in asked}) != 1:
+            return name, False, asked
+        places[directions] = {(asked[at][1] - asked[0][1], directions * (capacity - 1)) for at, capacity in enumerate(CAPACITIES)}
+    sizes = {more / wires for rows in places.values() for more, wires in rows if wires}
+    return name, len(sizes) == 1 and min(sizes) > 0, places
 
 
 def row(name, counts):

@@ -2,11 +2,12 @@
 """Feeds the built programs texts that nobody would write, and compares each answer with that of a slow reader written from
 docs/FORMATS.md (slow_reader.py). The last line is 'N passed, M failed'.
 
-  hostile.py [--texts N] [--seed SEED] [--first K] [--program PROGRAM] [--play PLAY]
+  hostile.py [--texts N] [--seed SEED] [--first K] [--only COMMAND ..] [--program PROGRAM] [--play PLAY]
       N         how many random texts, over all commands; default 60000
       SEED      of the random texts; default 2026
       K         the first part of the random texts, which come in parts of 100,000, each from SEED and its number; default 1. From 2 on
                 there is nothing but random texts: so a long run goes on after an interruption
+      COMMAND   only the rows of these commands, with the same texts as beside the others; so a long run is split over processes
       PROGRAM   default: the built forestplan
       PLAY      default: the built forestplay
 
@@ -136,6 +137,7 @@ def main():
     words.add_argument("--texts", type=int, default=60_000)
     words.add_argument("--seed", default="2026")
     words.add_argument("--first", type=int, default=1)
+    words.add_argument("--only", nargs="+", choices=list(SMALL), default=list(SMALL))
     for name, program in (("--program", "forestplan"), ("--play", "forestplay")):
         words.add_argument(name, default=os.path.join(TOP, "crates", program, "out", program))
     given = words.parse_args()
@@ -144,18 +146,19 @@ def main():
         note("the library that runs a program on many texts builds", failure is None, failure)
         programs = Programs({"forestplan": os.path.abspath(given.program), "forestplay": os.path.abspath(given.play)}, front)
         if failure is None and given.first == 1:
-            all_rows(programs)
+            all_rows(programs, given.only)
             for row in falling_limit_rows(programs.paths):
                 note(*row)
         if failure is None:
-            random_rows(programs, given.texts, given.seed, given.first)
+            random_rows(programs, given)
     print(f"{TALLY['passed']} passed, {TALLY['failed']} failed")
     return 1 if TALLY["failed"] else 0
 
 
-def all_rows(programs):
-    """All but the random texts."""
-    for command, small in SMALL.items():
+def all_rows(programs, only):
+    """All but the random texts, of some commands."""
+    for command in only:
+        small = SMALL[command]
         data = text(small)
         programs.row("each beginning", command, beginnings(text(WHOLE.get(command, small))))
         programs.row("each mark at each place", command, each_mark(data))
@@ -168,13 +171,13 @@ def all_rows(programs):
     print(f"{programs.texts} texts that aren't random")
 
 
-def random_rows(programs, count, seed, first):
-    """In parts, each of which is the same whatever the others are."""
-    before = programs.texts
-    for part in range(first, first + -(-count // PART)):
-        size = min(PART, count - PART * (part - first))
-        for command, share in SHARES.items():
-            texts = islice(texts_of(command, f"{seed} {part}"), size * share // 100)
+def random_rows(programs, given):
+    """In parts, each of which is the same whatever the others are, and whatever commands are left out."""
+    before, seed, first = programs.texts, given.seed, given.first
+    for part in range(first, first + -(-given.texts // PART)):
+        size = min(PART, given.texts - PART * (part - first))
+        for command in given.only:
+            texts = islice(texts_of(command, f"{seed} {part}"), size * SHARES[command] // 100)
             made, good = programs.row(f"random texts, seed {seed}, part {part}", command, texts)
             note(f"some of the texts are good, and most are not, {command}", made < 100 or made // 10 < good < made // 2, (made, good))
         print(f"seed {seed}, parts {first} to {part}: {programs.texts - before} random texts", flush=True)

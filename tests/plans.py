@@ -27,7 +27,8 @@ GREETED = ["1 put 2 payload 0 hello 1", "1 put 3 payload 0 hello 1"]
 TAKEN = ["2 take 1 payload 0 hello 1", "2 put 1 payload 0 hello 2"]
 FIRST_LOOKS = [
     (4, 0, [], {}),
-    (4, 1, GREETED, {(1, 0): ["payload 0 hello 1"], (1, 1): ["payload 0 hello 1"]}),
+    (1, 0, [], {}),
+    *((capacity, 1, GREETED, {(1, 0): ["payload 0 hello 1"], (1, 1): ["payload 0 hello 1"]}) for capacity in (4, 1)),
     (4, 2, GREETED + TAKEN + ["2 put 1 ack 0", "2 put 3 payload 0 hello 2"],
      {(1, 1): ["payload 0 hello 1"], (2, 0): ["payload 0 hello 2", "ack 0"], (2, 1): ["payload 0 hello 2"]}),
     (1, 2, GREETED + TAKEN + ["2 put 3 payload 0 hello 2"],

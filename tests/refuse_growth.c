@@ -1,5 +1,6 @@
 /* An allocator's front that refuses the call of number REFUSE (from 1), gives all others on, and at the end writes
-   how many calls there were to the file COUNT. Both are words of the environment. For LD_PRELOAD. */
+   to the file COUNT how many calls there were and how many bytes they asked for. Both are words of the environment.
+   For LD_PRELOAD. */
 #define _GNU_SOURCE
 #include <dlfcn.h>
 #include <fcntl.h>
@@ -9,9 +10,10 @@
 #include <stdlib.h>
 #include <unistd.h>
 
-static atomic_long calls, refused = -1;
+static atomic_long calls, bytes, refused = -1;
 
-static int is_refused(void) {
+static int is_refused(size_t size) {
+    bytes += size;
     if (refused < 0) {
         const char *word = getenv("REFUSE");
         refused = word ? atol(word) : 0;
@@ -21,10 +23,10 @@ static int is_refused(void) {
 
 __attribute__((destructor)) static void write_count(void) {
     const char *name = getenv("COUNT");
-    long made = calls;
+    long made = calls, asked = bytes;
     int file = name ? open(name, O_WRONLY | O_CREAT | O_TRUNC, 0644) : -1;
     if (file >= 0) {
-        dprintf(file, "%ld\n", made);
+        dprintf(file, "%ld %ld\n", made, asked);
         close(file);
     }
 }
@@ -40,23 +42,23 @@ __attribute__((noreturn)) void _exit(int status) {
 void *malloc(size_t size) {
     static void *(*real)(size_t);
     if (!real) real = dlsym(RTLD_NEXT, "malloc");
-    return is_refused() ? NULL : real(size);
+    return is_refused(size) ? NULL : real(size);
 }
 
 void *realloc(void *old, size_t size) {
     static void *(*real)(void *, size_t);
     if (!real) real = dlsym(RTLD_NEXT, "realloc");
-    return is_refused() ? NULL : real(old, size);
+    return is_refused(size) ? NULL : real(old, size);
 }
 
 void *aligned_alloc(size_t place, size_t size) {
     static void *(*real)(size_t, size_t);
     if (!real) real = dlsym(RTLD_NEXT, "aligned_alloc");
-    return is_refused() ? NULL : real(place, size);
+    return is_refused(size) ? NULL : real(place, size);
 }
 
 int posix_memalign(void **to, size_t place, size_t size) {
     static int (*real)(void **, size_t, size_t);
     if (!real) real = dlsym(RTLD_NEXT, "posix_memalign");
-    return is_refused() ? 12 : real(to, place, size);
+    return is_refused(size) ? 12 : real(to, place, size);
 }

@@ -74,12 +74,18 @@ def tried_again(front, folder, name):
 
 def count(front, folder, words, data=b"", refused=0):
     """How often a run asks for memory, or None if it fails. The growth of number `refused` is, unless that is 0."""
+    asked = count_and_bytes(front, folder, words, data, refused)
+    return None if asked is None else asked[0]
+
+
+def count_and_bytes(front, folder, words, data=b"", refused=0, status=0):
+    """How often a run asks for memory, and for how many bytes in all, or None if it ends with another status."""
     name = os.path.join(folder, "count")
     done = run(front, words, data, REFUSE=str(refused), COUNT=name)
-    if done.returncode != 0:
+    if done.returncode != status:
         return None
     with open(name, encoding="ascii") as file:
-        return int(file.read())
+        return tuple(map(int, file.read().split()))
 
 
 def sweep(program, front, words, data, wanted, own_name="forestplan", or_else=None):

@@ -1,8 +1,9 @@
 """`plan` and `transcript` if a thread is refused, or memory while threads run: they end in one line or in the right answer, and
-each thread that was started comes to its end."""
+each thread that was started comes to its end. A push to a deque that is refused changes nothing in the answer."""
 import os
 import subprocess
 import tempfile
+import time
 
 from check_transcript import Wrong, whole_run
 from plain_definition import network_of, plan_text
@@ -11,6 +12,7 @@ from refused_memory import build_front, sweep
 LIMIT = 60
 MOST_WORKERS = 64
 TRIANGLE = b"p edge 3 3\ne 1 2\ne 1 3\ne 2 3\n"
+ONE_EDGE = b"p edge 2 1\ne 1 2\n"
 THREADS, MEMORY = (4, b"", b"forestplan: threads\n"), (4, b"", b"forestplan: memory\n")
 
 
@@ -23,7 +25,8 @@ def refused_thread_rows(program, queens):
             return [("the libraries that refuse growths and threads build", False, failure or thread_failure)]
         counted = Counted(program, [growths, threads], folder)
         return [each_thread(counted, "triangle", TRIANGLE, range(1, MOST_WORKERS + 1)), each_thread(counted, "queen5_5", queens, (4,)),
-                *growths_of_one_worker(program, growths), growths_of_workers(counted, "plan"), growths_of_workers(counted, "transcript")]
+                *growths_of_one_worker(program, growths), growths_of_workers(counted, "plan"), growths_of_workers(counted, "transcript"),
+                refused_pushes(program, folder)]
 
 
 class Counted:
@@ -93,6 +96,44 @@ def growths_of_workers(counted, command):
     late_enough = late > 0 or command == "plan"
     return (f"each growth refused in turn: {command} with 2, 4 and 16 workers, {late} of them once all threads were started",
             not wrong and whole > 0 and late_enough, wrong[:3] or (late, whole))
+
+
+# Network, workers, and how many microseconds a worker is stopped at a time.
+STOPPED = [(ONE_EDGE, 4, 5), (TRIANGLE, 4, 5), (TRIANGLE, 4, 20), (ONE_EDGE, 3, 200), (TRIANGLE, 8, 20), (TRIANGLE, 1, 5)]
+
+
+def refused_pushes(program, folder, enough=8, patience=5 * LIMIT):
+    """Runs of several workers that are refused all memory they ask for, until `enough` of them were refused some; on a busy machine few
+    are, so after LIMIT seconds one is enough, and the row fails if none was after `patience` seconds. A worker asks for none but in a
+    push, and in this only if a thief that has claimed a place of the deque is stopped before it gives it free, while the owner comes
+    round to the place again: so the workers are stopped all the time, and the networks are small. With one worker there is no thief. If
+    a refused push dropped its node, the run wouldn't end, or the nodes couldn't be gathered."""
+    front, failure = build_front(folder, "refuse_in_threads")
+    if failure is not None:
+        return "the library that refuses what workers ask for builds", False, failure
+    wrong, runs, refused, begin = [], [0, 0], 0, time.monotonic()
+    while runs[1] < enough and not wrong and time.monotonic() - begin < (LIMIT if runs[1] else patience):
+        for data, workers, stop in STOPPED:
+            answer, count = refused_in_threads(program, front, folder, workers, data, stop)
+            runs[0] += 1
+            runs[1] += count > 0
+            refused += count
+            if answer != (0, plan_text(data), b"") or (workers == 1 and count > 0):
+                wrong.append((data, workers, stop, answer, count))
+    return (f"pushes refused in the middle of a run: in {runs[1]} of {runs[0]} runs of plan with up to 8 workers, {refused} refusals",
+            not wrong and runs[1] > 0, wrong[:3] or f"no run in {patience} seconds was refused memory")
+
+
+def refused_in_threads(program, front, folder, workers, data, stop):
+    """The answer of a run whose workers are refused all memory, and how often they asked."""
+    name = os.path.join(folder, "refused")
+    given = {"PATH": os.environ.get("PATH", ""), "LD_PRELOAD": front, "STOP": str(stop), "COUNT": name}
+    try:
+        done = subprocess.run([program, "plan", "--workers", str(workers)], input=data, capture_output=True, timeout=LIMIT, env=given)
+    except subprocess.TimeoutExpired:
+        return "no end", 0
+    # A run that a signal ends writes no count.
+    return (done.returncode, done.stdout, done.stderr), numbers_in(name)[0] if os.path.isfile(name) else 0
 
 
 def is_right(command, answer):

@@ -2,10 +2,11 @@
 """Runs `forestplan transcript` over and over on small networks while processors are taken away from its threads, and checks each
 transcript. It is no part of the gate. The last line is 'N passed, M failed', over the runs.
 
-  stress.py [--runs N] [--first K] [--minutes M] [--seed SEED] [--jobs J] [--program PROGRAM] [--play PLAY]
+  stress.py [--runs N] [--first K] [--minutes M] [--limit S] [--seed SEED] [--jobs J] [--program PROGRAM] [--play PLAY]
       N         how many runs; default 1000
       K         the number of the first run; default 1. What is printed on the way says how to go on after an interruption
       M         stop after so many minutes, if N runs take longer
+      S         how many seconds a run may take; default 300. A run that takes longer is killed, and has failed
       SEED      of networks and options, with the number of the run; default 2026. Which thread does what, and when, is another
                 thing in each run
       J         how many runs there are side by side; default: the number of processors
@@ -33,7 +34,7 @@ from plain_networks import cycle, path, star, text_of, tree
 from transcripts import is_counted, replayed_by
 
 TOP = os.path.dirname(os.path.dirname(os.path.abspath(__file__)))
-LIMIT, BATCH = 300, 100
+BATCH = 100
 PROCESSORS = sorted(os.sched_getaffinity(0))
 # As long as the process is there that started it.
 BUSY = 'while kill -0 "$0" 2>/dev/null; do :; done'
@@ -56,7 +57,7 @@ def number_up_to_64(source):
     return source.choice((1, 2, 3, 4, source.randint(1, 64), 64))
 
 
-def disturbed(source, words, data):
+def disturbed(source, words, data, limit):
     """The answer to a text, and how often threads were moved."""
     with contextlib.ExitStack() as beside:
         for _ in range(source.choice((0, 0, 0, 1, len(PROCESSORS)))):
@@ -66,7 +67,7 @@ def disturbed(source, words, data):
                                    preexec_fn=lambda: os.nice(source.choice((0, 0, 5))))
         mover = beside.enter_context(Mover(source, started.pid))
         try:
-            output, errors = started.communicate(data, timeout=LIMIT)
+            output, errors = started.communicate(data, timeout=limit)
         except subprocess.TimeoutExpired:
             started.kill()
             output, errors = started.communicate()
@@ -122,7 +123,7 @@ def one_run(given, number):
     source = random.Random(f"{given.seed} {number}")
     data, workers, capacity = network(source), number_up_to_64(source), number_up_to_64(source)
     words = [given.program, "transcript", "--workers", str(workers), "--capacity", str(capacity)]
-    answer, moves = disturbed(source, words, data)
+    answer, moves = disturbed(source, words, data, given.limit)
     fault = fault_in(given.play, data, answer)
     if fault is not None:
         fault = f"FAILED run {number}, {workers} workers, capacity {capacity}: {fault}; network {data!r}"
@@ -151,6 +152,7 @@ def main():
     words.add_argument("--runs", type=int, default=1000)
     words.add_argument("--first", type=int, default=1)
     words.add_argument("--minutes", type=float, default=None)
+    words.add_argument("--limit", type=float, default=300)
     words.add_argument("--seed", default="2026")
     words.add_argument("--jobs", type=int, default=len(PROCESSORS))
     for name, program in (("--program", "forestplan"), ("--play", "forestplay")):

@@ -29,6 +29,9 @@ TOP = os.path.dirname(os.path.dirname(os.path.abspath(__file__)))
 LOGS = os.path.join(TOP, "out", "build")
 ROOM = 4 << 30
 
+# How many steps of the system's priority a crate that nothing long waits for gives way.
+WAY = 10
+
 
 def with_below(crates, below):
     """The given crates and all below them, lower ones first."""
@@ -140,18 +143,23 @@ class Build:
             self.left.remove(name)
             # The crate that the most waits for gets all processors beside the others, since the whole waits for it; another
             # one gets those that would idle.
-            share = 1 if self.is_first(name) else min(self.jobs, len(ready) + len(self.running))
+            is_first = self.is_first(name)
+            share = 1 if is_first else min(self.jobs, len(ready) + len(self.running))
             threads = max(1, min(4, processors() // share))
-            self.running[name] = threading.Thread(target=self.work, args=(name, threads), daemon=True)
+            self.running[name] = threading.Thread(target=self.work, args=(name, threads, is_first), daemon=True)
             self.running[name].start()
 
     def is_first(self, name):
         """Whether no crate that is left or runs has a longer chain behind it."""
         return self.behind[name] >= max(self.behind[other] for other in [name, *self.left, *self.running])
 
-    def work(self, name, threads):
+    def work(self, name, threads, is_first):
         """Builds one crate, in a thread of its own."""
         crate, flags = self.crates[name], ["--jobs", str(threads)]
+        if not is_first:
+            # What this thread starts gives way to the crate that the most waits for.
+            thread = threading.get_native_id()
+            os.setpriority(os.PRIO_PROCESS, thread, min(19, os.getpriority(os.PRIO_PROCESS, thread) + WAY))
         status = 2
         with open(os.path.join(LOGS, f"{name}.log"), "w", encoding="utf-8") as log:
             with contextlib.suppress(SystemExit):

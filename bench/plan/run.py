@@ -22,7 +22,7 @@ sys.path.insert(0, os.path.dirname(os.path.dirname(os.path.abspath(__file__))))
 import graphs
 from by_turns import agree, build_peak, mark, networks, numbers, programs_of, run_once, timed, times, words_of_command
 
-FEW = [(workers, 4) for workers in (1, 2, 4)]
+FEW = [(workers, 4) for workers in (1, 2, 4, 8)]
 MANY = [(workers, capacity) for capacity in (4, 2, 1) for workers in (1, 2, 4, 8, 64)]
 CASES = {"queen8_8": MANY, "myciel5": FEW, "random200": FEW, "disk500": MANY, "tree2000": FEW, "complete32": FEW}
 

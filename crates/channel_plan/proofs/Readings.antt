@@ -1,9 +1,8 @@
 -- What is known after one more line of a plan text.
 use Rattle.std.proofs.Common.{◌≡◌, ◌+◌, ◌++◌, ◌∷◌, [], ◌∙◌, ℕ, IfErr, Option, Some, None, Result, Ok, Err, List}
-use Rattle.std.proofs.Common.{false, true, ap, append_assoc, drop, refl, sym}
+use Rattle.std.proofs.Common.{false, true, ap, drop, refl, sym}
 use Rattle.std.specs.List.{slice_get}
 use Rattle.dimacs_col.specs.Lines.{Line}
-use Rattle.std.proofs.lemmas.List.{append-nil}
 use Rattle.channel_plan.specs.Reader.{IsSyntaxFault}
 use Rattle.channel_plan.specs.Reading.{IsFaultOfReading, Row, is_header, known_after, read_at_end, read_from, row_of}
 use Rattle.channel_plan.specs.declared.plan.CheckFault.{CheckFault}
@@ -53,21 +52,11 @@ pub read-one : (n : ℕ) (known : Option (List Row)) (line : Line) (lines : List
 unfolding read_from
 read-one n known line lines = refl
 
-pub read-more : (before : List Line) (n : ℕ) (known next : Option (List Row)) (line : Line) →
-    ((rest : List Line) → read_from 1 None (before ++ rest) ≡ read_from n known rest) → known_after known line ≡ Some next → (rest : List Line) →
-    read_from 1 None ((before ++ line ∷ []) ++ rest) ≡ read_from (n + 1) next rest
-read-more before n known next line h e rest = ap (read_from 1 None) (append_assoc before (line ∷ []) rest) ∙ h (line ∷ rest) ∙ read-one n known line rest ∙
-    ap (then_read n rest) e
-
-pub read-wrong : (before : List Line) (n : ℕ) (known : Option (List Row)) (line : Line) →
-    ((rest : List Line) → read_from 1 None (before ++ rest) ≡ read_from n known rest) → known_after known line ≡ None → (rest : List Line) →
-    read_from 1 None (before ++ line ∷ rest) ≡ Err n
-read-wrong before n known line h e rest = h (line ∷ rest) ∙ read-one n known line rest ∙ ap (then_read n rest) e
-
-pub read-end : (lines before : List Line) (n : ℕ) (known : Option (List Row)) → before ≡ lines →
-    ((rest : List Line) → read_from 1 None (before ++ rest) ≡ read_from n known rest) → read_from 1 None lines ≡ read_at_end known
+-- at the end no line is left
+pub read-end : (lines : List Line) (n : ℕ) (known : Option (List Row)) (left : List Line) → left ≡ [] →
+    read_from 1 None lines ≡ read_from n known left → read_from 1 None lines ≡ read_at_end known
 unfolding read_from
-read-end lines before n known same h = ap (read_from 1 None) (sym same ∙ sym (append-nil before)) ∙ h []
+read-end lines n known left none e = e ∙ ap (read_from n known) none
 
 -- ---- faults
 -- the fault of a line that is wrong where it stands

@@ -1,56 +1,47 @@
 //! The reading of a plan text.
 
-ghost use Rattle.std.specs.Prelude.{◌≡◌, ◌+◌, ◌<◌, ◌^◌, IfOk, IfErr, None, Ok, Err, Some};
+ghost use Rattle.std.specs.Prelude.{◌≡◌, IfOk, IfErr, None, Ok, Err, Some};
 ghost use Rattle.dimacs_col.specs.Lines.{lines_of};
 ghost use Rattle.channel_plan.specs.Reading.{IsFaultOfReading, known_after, read_at_end, reading_of};
 ghost use Rattle.channel_plan.specs.Reader.{IsSyntaxFault, known};
 
 use crate::fields::{is_header, row};
 use crate::plan::{CheckFault, Plan};
-use dimacs_col::{Fields, without_carriage_return};
+use dimacs_col::{Fields, Lines};
 use std::alloc::Global;
 
 #[derive(Drop)]
 struct Reader {
-    // The number of the last line, from 1.
-    line: usize,
     // The rows so far, once the line `plan` came.
     rows: Option<Vec<(u32, u32)>>,
 }
 
 impl Reader {
     fn new() -> Reader
-        ensures line { result.line ≡ 0 }
-        ensures known { known result ≡ None }
+        ensures { known result ≡ None }
     {
-        Reader {
-            line: 0,
-            rows: None,
-        }
+        Reader { rows: None }
     }
 
-    /// Takes the fields of the next line.
-    fn step(&mut self, alloc: Global, mut fields: Fields) -> Result<(), CheckFault>
-        requires { self.old.line + 1 < 2 ^ 64 }
-        ensures line { self.new.line ≡ self.old.line + 1 }
+    /// Takes the fields of the next line, whose number this is.
+    fn step(&mut self, alloc: Global, number: usize, mut fields: Fields) -> Result<(), CheckFault>
         ensures ok { IfOk result (λ _. known_after (known self.old) fields.entry ≡ Some (known self.new)) }
         ensures fault { IfErr result (IsSyntaxFault (known_after (known self.old) fields.entry ≡ None)
-            (self.old.line + 1)) }
+            number) }
     {
-        self.line += 1;
         let Some(first) = fields.next() else {
             return Ok(());
         };
         match &mut self.rows {
             Some(rows) => {
                 let Some(row) = row(first, fields) else {
-                    return Err(CheckFault::Syntax(self.line));
+                    return Err(CheckFault::Syntax(number));
                 };
                 rows.push(row)?;
             }
             None => {
                 if !is_header(first, fields) {
-                    return Err(CheckFault::Syntax(self.line));
+                    return Err(CheckFault::Syntax(number));
                 }
                 self.rows = Some(Vec::new(alloc));
             }
@@ -81,8 +72,9 @@ pub fn read_plan(alloc: Global, text: &[u8]) -> Result<Plan, CheckFault>
     ensures fault { IfErr result (IsFaultOfReading (lines_of text.now)) }
 {
     let mut reader = Reader::new();
-    for line in text.split(|byte| *byte == b'\n') {
-        reader.step(alloc, Fields::of(without_carriage_return(line)))?;
+    let mut lines = Lines::behind(0, text);
+    'each: while let Some((number, fields)) = lines.next() {
+        reader.step(alloc, number, fields)?;
     }
     reader.finish()
 }

@@ -6,6 +6,8 @@
 #[cfg(test)]
 mod byte_functions_checks;
 #[cfg(test)]
+mod channel_plan_checks;
+#[cfg(test)]
 mod cole_vishkin_checks;
 #[cfg(test)]
 mod command_line_checks;

@@ -7,3 +7,4 @@ pub mod Knowing
 pub mod Edges
 pub mod Whole
 pub mod Unique
+pub mod LineEnds

@@ -4,3 +4,4 @@ pub mod Bag
 pub mod Kinds
 pub mod Reading
 pub mod State
+pub mod LinesLeft

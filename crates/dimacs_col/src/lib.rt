@@ -23,10 +23,12 @@ mod fields;
 mod kind;
 mod laws;
 mod limits;
+mod lines;
 mod reader;
 
 pub use fault::ColFault;
 pub use fields::Fields;
 pub use laws::reading_is_one;
 pub use limits::{MAX_EDGES, MAX_NODES};
+pub use lines::Lines;
 pub use reader::{ColFile, read, without_carriage_return};

@@ -37,21 +37,11 @@ pub read-one : (n : ℕ) (known : Script) (line : Line) (lines : List Line) → 
 unfolding read_from
 read-one n known line lines = refl
 
-pub read-more : (before : List Line) (n : ℕ) (known next : Script) (line : Line) →
-    ((rest : List Line) → read_from 1 [] (before ++ rest) ≡ read_from n known rest) → known_after n known line ≡ Some next → (rest : List Line) →
-    read_from 1 [] ((before ++ line ∷ []) ++ rest) ≡ read_from (n + 1) next rest
-read-more before n known next line h e rest = ap (read_from 1 []) (append_assoc before (line ∷ []) rest) ∙ h (line ∷ rest) ∙ read-one n known line rest ∙
-    ap (then_read n rest) e
-
-pub read-wrong : (before : List Line) (n : ℕ) (known : Script) (line : Line) →
-    ((rest : List Line) → read_from 1 [] (before ++ rest) ≡ read_from n known rest) → known_after n known line ≡ None → (rest : List Line) →
-    read_from 1 [] (before ++ line ∷ rest) ≡ Err n
-read-wrong before n known line h e rest = h (line ∷ rest) ∙ read-one n known line rest ∙ ap (then_read n rest) e
-
-pub read-end : (lines before : List Line) (n : ℕ) (known : Script) → before ≡ lines →
-    ((rest : List Line) → read_from 1 [] (before ++ rest) ≡ read_from n known rest) → read_from 1 [] lines ≡ Ok known
+-- at the end no line is left
+pub read-end : (lines : List Line) (n : ℕ) (known : Script) (left : List Line) → left ≡ [] → read_from 1 [] lines ≡ read_from n known left →
+    read_from 1 [] lines ≡ Ok known
 unfolding read_from
-read-end lines before n known same h = ap (read_from 1 []) (sym same ∙ sym (append-nil before)) ∙ h []
+read-end lines n known left none e = e ∙ ap (read_from n known) none
 
 -- the fault of a line that is wrong where it stands
 pub fault-line : (lines : List Line) (n : ℕ) (wrong : Type 0) (fault : EventFault) → (wrong → read_from 1 [] lines ≡ Err n) → IsLineFault wrong n fault →

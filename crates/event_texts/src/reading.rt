@@ -1,31 +1,27 @@
 //! The reading of the events of a text.
 
-ghost use Rattle.std.specs.Prelude.{◌≡◌, ◌+◌, ◌<◌, ◌^◌, [], IfOk, IfErr, None, Ok, Some};
+ghost use Rattle.std.specs.Prelude.{◌≡◌, [], IfOk, IfErr, None, Ok, Some};
 ghost use Rattle.dimacs_col.specs.Lines.{lines_of};
 ghost use Rattle.event_texts.specs.Reader.{IsFaultOfReading, IsLineFault};
 ghost use Rattle.event_texts.specs.Reading.{is_passed_word, known_after, script_of};
 
 use crate::event_line::{event_with, is_event_word};
 use crate::fault::EventFault;
-use dimacs_col::{Fields, without_carriage_return};
+use dimacs_col::{Fields, Lines};
 use net_core::Event;
 use std::alloc::Global;
 
 #[derive(Drop)]
 struct Reader {
-    // The number of the last line, from 1.
-    line: usize,
     // The events so far, each behind the number of its line.
     script: Vec<(usize, Event)>,
 }
 
 impl Reader {
     fn new(alloc: Global) -> Reader
-        ensures line { result.line ≡ 0 }
-        ensures known { result.script.items ≡ [] }
+        ensures { result.script.items ≡ [] }
     {
         Reader {
-            line: 0,
             script: Vec::new(alloc),
         }
     }
@@ -41,16 +37,13 @@ impl Reader {
         }
     }
 
-    /// Takes the fields of the next line.
-    fn step(&mut self, mut fields: Fields) -> Result<(), EventFault>
-        requires { self.old.line + 1 < 2 ^ 64 }
-        ensures line { self.new.line ≡ self.old.line + 1 }
+    /// Takes the fields of the next line, whose number this is.
+    fn step(&mut self, number: usize, mut fields: Fields) -> Result<(), EventFault>
         ensures ok { IfOk result (λ _.
-            known_after (self.old.line + 1) self.old.script.items fields.entry ≡ Some self.new.script.items) }
+            known_after number self.old.script.items fields.entry ≡ Some self.new.script.items) }
         ensures fault { IfErr result (IsLineFault
-            (known_after (self.old.line + 1) self.old.script.items fields.entry ≡ None) (self.old.line + 1)) }
+            (known_after number self.old.script.items fields.entry ≡ None) number) }
     {
-        self.line += 1;
         let Some(word) = fields.next() else {
             return Ok(());
         };
@@ -58,9 +51,9 @@ impl Reader {
             return Ok(());
         }
         let Some(event) = event_with(word, fields) else {
-            return Err(EventFault::NoEvent(self.line));
+            return Err(EventFault::NoEvent(number));
         };
-        self.script.push((self.line, event))?;
+        self.script.push((number, event))?;
         Ok(())
     }
 }
@@ -77,8 +70,9 @@ pub fn read_events(alloc: Global, text: &[u8]) -> Result<Vec<(usize, Event)>, Ev
     ensures fault { IfErr result (IsFaultOfReading (lines_of text.now)) }
 {
     let mut reader = Reader::new(alloc);
-    for line in text.split(|byte| *byte == b'\n') {
-        reader.step(Fields::of(without_carriage_return(line)))?;
+    let mut lines = Lines::behind(0, text);
+    'each: while let Some((number, fields)) = lines.next() {
+        reader.step(number, fields)?;
     }
     Ok(reader.script)
 }

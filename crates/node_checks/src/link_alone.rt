@@ -53,8 +53,8 @@ pub fn one_after_another<R: Wait>(rt: &R, alloc: Global, network: &Network) -> R
     })
 }
 
-/// The one wire that a link holds when its ends meet after a put. If memory is refused to the meeting, the ends meet
-/// again.
+/// The one wire that a link holds when its ends meet after a put, a take and a put. If memory is refused to the meeting,
+/// the ends meet again.
 pub fn met_again<R: Wait>(
     rt: &R,
     alloc: Global,
@@ -62,11 +62,15 @@ pub fn met_again<R: Wait>(
 ) -> Result<Option<Wire<Payload>>, Memory>
     requires network { network.now ≡ pair_net }
 {
-    let (link, mut put_end, take_end) = Link::<Colouring>::new(alloc, network, 1, 0, 1)?;
-    if link
-        .put(rt, &mut put_end, Wire::Payload(0, Payload::Hello(1)))
-        .is_err()
-    {
+    let (link, mut put_end, mut take_end) = Link::<Colouring>::new(alloc, network, 1, 0, 1)?;
+    match link.put(rt, &mut put_end, Wire::Payload(0, Payload::Hello(1))) {
+        Ok(()) => (),
+        Err(_) => return Ok(None),
+    }
+    if link.take(rt, &mut take_end).is_none() {
+        return Ok(None);
+    }
+    if link.put(rt, &mut put_end, Wire::Safe(0)).is_err() {
         return Ok(None);
     }
     let met = match link.meet(rt, alloc, put_end, take_end) {

@@ -52,7 +52,7 @@ fn a_link_meets_again_after_a_refused_growth(rt: HostRuntime) -> Result<(), Fail
         Ok(held) => held,
         Err(_) => met_again(&rt, alloc, &network)?,
     };
-    assert!(rt; held == Some(Wire::Payload(0, Payload::Hello(1))));
+    assert!(rt; held == Some(Wire::Safe(0)));
     Ok(())
 }
 

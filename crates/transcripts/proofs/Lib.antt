@@ -7,4 +7,3 @@ pub mod Written
 pub mod Texts
 pub mod LinesBehind
 pub mod EntryNumbers
-pub mod LineEnds

@@ -1,7 +1,5 @@
--- What a reader of a transcript has still to read, and what it refuses.
-use Rattle.std.specs.Prelude.{◌≡◌, ℕ, Option, Some, None, List, []}
-use Rattle.std.specs.Borrow.{Bor}
-use Rattle.dimacs_col.specs.Lines.{Line, lines_of}
+-- What a reader of a transcript refuses.
+use Rattle.std.specs.Prelude.{◌≡◌, ℕ}
 use Rattle.transcripts.specs.declared.fault.TextFault.{TextFault}
 use Rattle.transcripts.specs.declared.fault.TextFault.TheVariants.{Syntax, Memory}
 
@@ -9,8 +7,3 @@ use Rattle.transcripts.specs.declared.fault.TextFault.TheVariants.{Syntax, Memor
 abbrev pub IsSyntaxFault : Type 0 → ℕ → TextFault → Type 0
 IsSyntaxFault wrong line Memory = Unit {0}
 IsSyntaxFault wrong line (Syntax n) = wrong × (n ≡ line)
-
--- the lines of what is left of a text; none behind the last line
-abbrev pub lines_in : Option (Bor (List ℕ)) → List Line
-lines_in None = []
-lines_in (Some text) = lines_of text.now

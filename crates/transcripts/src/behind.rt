@@ -1,17 +1,16 @@
 //! A transcript behind a network text.
 
 ghost use Rattle.std.specs.Prelude.{◌≡◌, ◌<◌, ◌+◌, ◌^◌, ◌++◌, IfOk, IfErr, Ok, drop, length};
-ghost use Rattle.dimacs_col.specs.Lines.{line_of, lines_of};
+ghost use Rattle.dimacs_col.specs.Lines.{lines_of};
 ghost use Rattle.channel_plan.specs.Reading.{has_fields};
 ghost use Rattle.transcripts.specs.Behind.{AreNetworkLines, entry_lines, numbers_from, reading_behind};
 ghost use Rattle.transcripts.specs.Reading.{IsFaultOf};
 
 use crate::fault::TextFault;
-use crate::lines::first_line;
 use crate::reading::read_lines;
 use alpha_core::PayloadText;
 use channel_plan::{text_before, text_start};
-use dimacs_col::{Fields, without_carriage_return};
+use dimacs_col::{Fields, Lines};
 use entries::Entry;
 use std::alloc::{AllocError, Global};
 
@@ -42,10 +41,10 @@ pub fn read_behind_network<T: PayloadText>(
     }
 }
 
-fn has_fields(line: &[u8]) -> bool
-    ensures { result ≡ has_fields (line_of line.now) }
+fn has_fields(mut fields: Fields) -> bool
+    ensures { result ≡ has_fields fields.entry }
 {
-    Fields::of(without_carriage_return(line)).next().is_some()
+    fields.next().is_some()
 }
 
 // The numbers of those lines that have fields, but the first line; so many lines stand before it.
@@ -54,15 +53,14 @@ fn push_numbers(numbers: &mut Vec<usize>, before: usize, text: &[u8]) -> Result<
     ensures { IfOk result (λ _. numbers.new.items
         ≡ numbers.old.items ++ numbers_from (before + 2) (drop 1 (lines_of text.now))) }
 {
-    let (_, mut rest) = first_line(text);
-    let mut number = before + 1;
-    'each: while let Some(left) = rest {
-        let (line, behind) = first_line(left);
-        number += 1;
-        if has_fields(line) {
+    let mut lines = Lines::behind(before, text);
+    let Some(_) = lines.next() else {
+        return Ok(());
+    };
+    'each: while let Some((number, fields)) = lines.next() {
+        if has_fields(fields) {
             numbers.push(number)?;
         }
-        rest = behind;
     }
     Ok(())
 }

@@ -23,7 +23,6 @@ mod entry_line;
 mod fault;
 pub mod laws;
 mod line_end;
-mod lines;
 mod node_lines;
 mod numbers;
 mod reading;

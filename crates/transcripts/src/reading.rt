@@ -7,9 +7,8 @@ ghost use Rattle.transcripts.specs.Reader.{IsSyntaxFault};
 
 use crate::entry_line::{header_of, row_of};
 use crate::fault::TextFault;
-use crate::lines::first_line;
 use alpha_core::PayloadText;
-use dimacs_col::{Fields, without_carriage_return};
+use dimacs_col::{Fields, Lines};
 use entries::Entry;
 use std::alloc::Global;
 use std::marker::Model;
@@ -31,42 +30,36 @@ impl<T> Model for Beginning<T> {
 
 #[derive(Drop)]
 struct Reader<T> {
-    // The number of the last line, from 1.
-    line: usize,
     // What the lines so far say, once the first one came.
     known: Option<Beginning<T>>,
 }
 
 impl<T: PayloadText> Reader<T> {
-    fn behind(line: usize) -> Reader<T>
-        ensures line { result.line ≡ line }
-        ensures known { result.known ≡ None }
+    fn new() -> Reader<T>
+        ensures { result.known ≡ None }
     {
-        Reader { line, known: None }
+        Reader { known: None }
     }
 
-    /// Takes the fields of the next line.
-    fn step(&mut self, alloc: Global, mut fields: Fields) -> Result<(), TextFault>
-        requires { self.old.line + 1 < 2 ^ 64 }
-        ensures line { self.new.line ≡ self.old.line + 1 }
+    /// Takes the fields of the next line, whose number this is.
+    fn step(&mut self, alloc: Global, number: usize, mut fields: Fields) -> Result<(), TextFault>
         ensures ok { IfOk result (λ _. known_after T.payload_of self.old.known fields.entry ≡ Some self.new.known) }
         ensures fault { IfErr result (IsSyntaxFault (known_after T.payload_of self.old.known fields.entry ≡ None)
-            (self.old.line + 1)) }
+            number) }
     {
-        self.line += 1;
         let Some(first) = fields.next() else {
             return Ok(());
         };
         match &mut self.known {
             Some(known) => {
                 let Some(row) = row_of(first, fields) else {
-                    return Err(TextFault::Syntax(self.line));
+                    return Err(TextFault::Syntax(number));
                 };
                 known.rows.push(row)?;
             }
             None => {
                 let Some(nodes) = header_of(first, fields) else {
-                    return Err(TextFault::Syntax(self.line));
+                    return Err(TextFault::Syntax(number));
                 };
                 self.known = Some(Beginning {
                     nodes,
@@ -99,12 +92,10 @@ pub(crate) fn read_lines<T: PayloadText>(
         ≡ Ok (read.0, read.1.items)) }
     ensures fault { IfErr result (IsFaultOf (read_from T.payload_of (before + 1) None (lines_of text.now))) }
 {
-    let mut reader = Reader::behind(before);
-    let mut rest = Some(text);
-    'each: while let Some(left) = rest {
-        let (line, behind) = first_line(left);
-        reader.step(alloc, Fields::of(without_carriage_return(line)))?;
-        rest = behind;
+    let mut reader = Reader::new();
+    let mut lines = Lines::behind(before, text);
+    'each: while let Some((number, fields)) = lines.next() {
+        reader.step(alloc, number, fields)?;
     }
     reader.finish()
 }

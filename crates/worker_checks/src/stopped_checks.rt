@@ -82,7 +82,9 @@ fn the_first_looks_leave_a_run_that_is_not_whole(rt: HostRuntime) -> Result<(), 
     let (both, empty): (&[Wire<Payload>], &[Wire<Payload>]) = (&[FROM_2, Wire::Ack(0)], &[]);
     for (turns, capacity, of_1, of_2, from_1, from_2) in [
         (0, 4, idle, idle, [empty, empty], [empty, empty]),
+        (0, 1, idle, idle, [empty, empty], [empty, empty]),
         (1, 4, first, idle, [one, one], [empty, empty]),
+        (1, 1, first, idle, [one, one], [empty, empty]),
         (2, 4, first, second, [empty, one], [both, two]),
         (2, 1, first, second_of_one, [empty, one], [two, two]),
     ] {

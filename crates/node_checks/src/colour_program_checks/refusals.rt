@@ -147,14 +147,61 @@ fn node_after(
     Ok(node)
 }
 
+// What a node shows of a pulse.
+#[derive(Clone, Copy, Debug, PartialEq, Eq)]
+struct Shown {
+    answer: Result<(), Refused>,
+    is_quiet: bool,
+    colour: u16,
+    first_colour: Option<u64>,
+    second_colour: Option<u64>,
+}
+
+fn show(alloc: Global, node: &mut Colouring, came: Came) -> Result<Shown, Memory>
+    requires ports { ports node.old ≡ 2 }
+    ensures ports { ports node.new ≡ 2 }
+{
+    let (answer, out) = deliver(alloc, node, came)?;
+    let shown = node.node();
+    let forests = shown.forests();
+    Ok(Shown {
+        answer,
+        is_quiet: out.is_quiet(),
+        colour: node.colour(),
+        first_colour: (forests > 0).then(|| shown.forest_colour(0)),
+        second_colour: (forests > 1).then(|| shown.forest_colour(1)),
+    })
+}
+
+// Whether two nodes show the same of all that comes to their vertex, from the first pulse on.
+fn show_the_same(
+    alloc: Global,
+    one: &mut Colouring,
+    other: &mut Colouring,
+    v: u32,
+) -> Result<bool, Memory>
+    requires ports { (ports one.old ≡ 2) × (ports other.old ≡ 2) }
+{
+    for turn in 0..3 {
+        let came = came_before(v, turn);
+        if show(alloc, one, came)? != show(alloc, other, came)? {
+            return Ok(false);
+        }
+    }
+    Ok(true)
+}
+
+// Refused, and then the node goes on as its twin that wasn't fed what it refused.
 fn is_refused(rt: &impl Abort, alloc: Global, net: &Network, row: &Row) -> Result<(), Fail> {
     let (v, turns, came, rule, port) = *row;
     assert!(rt; 1 <= v && v <= net.nodes());
     let mut node = node_after(rt, alloc, net, v, turns)?;
+    let mut twin = node_after(rt, alloc, net, v, turns)?;
     let colour = node.colour();
-    let (answer, out) = deliver(alloc, &mut node, came)?;
-    assert!(rt; answer == Err(Refused { rule, port }), "{row:?}");
-    assert!(rt; out.is_quiet() && node.colour() == colour, "{row:?}");
+    let shown = show(alloc, &mut node, came)?;
+    assert!(rt; shown.answer == Err(Refused { rule, port }), "{row:?}");
+    assert!(rt; shown.is_quiet && shown.colour == colour, "{row:?}");
+    assert!(rt; show_the_same(alloc, &mut node, &mut twin, v)?, "{row:?}");
     Ok(())
 }
 

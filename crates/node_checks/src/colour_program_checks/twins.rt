@@ -110,7 +110,8 @@ fn came(v: u32, pulse: u32) -> Option<Payload> {
     *row.as_slice().get(pulse.wrapping_sub(1) as usize)?
 }
 
-/// Whether two nodes show the same at each pulse from one to the last, with what comes to a vertex of the edge.
+/// Whether two nodes show the same at each pulse from one to the last, with what comes to a vertex of the edge, and once
+/// more behind it, where nothing comes.
 pub fn go_on_alike(
     alloc: Global,
     one: &mut Colouring,
@@ -120,7 +121,7 @@ pub fn go_on_alike(
 ) -> Result<bool, Memory>
     requires ports { (ports one.old ≡ 1) × (ports other.old ≡ 1) }
 {
-    for pulse in from..19 {
+    for pulse in from..20 {
         let payload = came(v, pulse);
         if show(alloc, one, pulse, payload)? != show(alloc, other, pulse, payload)? {
             return Ok(false);
@@ -174,9 +175,22 @@ fn all_go_on(rt: &impl Abort, alloc: Global, net: &Network, rows: &[Row]) -> Res
     Ok(())
 }
 
+// A node that has halted takes a pulse at which nothing comes, and sends nothing.
+fn rests(rt: &impl Abort, alloc: Global, net: &Network, v: u32) -> Result<(), Fail> {
+    assert!(rt; 1 <= v && v <= net.nodes());
+    assert!(rt; net.degree(v) == 1);
+    let mut node = brought(alloc, net, v, 19)?;
+    let shown = show(alloc, &mut node, 19, None)?;
+    assert!(rt; shown.answer == Ok(()) && shown.is_quiet, "{v}");
+    assert!(rt; u32::from(shown.colour) == v - 1, "{v}");
+    Ok(())
+}
+
 #[test]
 fn a_node_goes_on_after_a_refusal_as_its_twin(rt: HostRuntime) -> Result<(), Fail> {
     let alloc = rt.alloc();
     let net = Network::try_new(alloc, &[1, 2], &[(1, 2)])?;
+    rests(&rt, alloc, &net, 1)?;
+    rests(&rt, alloc, &net, 2)?;
     all_go_on(&rt, alloc, &net, &REFUSALS)
 }

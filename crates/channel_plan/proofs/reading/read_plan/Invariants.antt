@@ -1,13 +1,14 @@
-use Rattle.std.proofs.Common.{◌≡◌, ◌+◌, ◌++◌, List, None, length, map}
-use Rattle.dimacs_col.specs.Lines.{Line, line_of}
+use Rattle.std.proofs.Common.{◌≡◌, ◌+◌, None, length}
+use Rattle.dimacs_col.specs.Lines.{lines_of}
 use Rattle.channel_plan.specs.Reader.{known}
 use Rattle.channel_plan.specs.Reading.{read_from}
 use Rattle.channel_plan.proofs.reading.read_plan.Given as goal
 
--- whatever lines follow those so far, what the reader knows leads to the reading of them all
-abbrev pub invariant-loop-line : goal.invariant-loop-line
-invariant-loop-line l = record {
-  steps : (goal.iterator-loop-line).can_next l.line-iterator × (goal.iterator-loop-line).is_finite l.line-iterator;
-  knows : (rest : List Line) → read_from 1 None (map (λ x. line_of x.now) l.yielded ++ rest) ≡ read_from (l.reader.line + 1) (known l.reader) rest;
-  line : l.reader.line ≡ length l.yielded;
+-- the reading of all lines is that of the lines that are left, from what the reader knows
+abbrev pub invariant-each : goal.invariant-each
+invariant-each l = record {
+  knows : read_from 1 None (lines_of l.text) ≡ read_from (l.lines.0 + 1) (known l.reader) l.lines.1;
 }
+
+abbrev pub decreases-each : goal.decreases-each
+decreases-each l = length l.lines.1

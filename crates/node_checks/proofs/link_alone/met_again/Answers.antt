@@ -10,3 +10,10 @@ put-requires-clause-legal g c κs within =
     let made = c.in_ok-link.ensures.put_end in
     colour_front (Payload 0 (Hello 1) ∷ []) (Safe 0 ∷ []) _ _ refl (ap (λ l. l ++ Payload 0 (Hello 1) ∷ []) made.put) (made.named ∙
     ap (λ n. Some (name_of n 1 0)) c.requires.network)
+
+pub put-requires-2-clause-legal : goal.put-requires-2-clause-legal
+put-requires-2-clause-legal g c κs within =
+    let made = c.in_ok-link.ensures.put_end in
+    let first = c.in-Ok.ensures.put ∙ ap (λ l. l ++ Payload 0 (Hello 1) ∷ []) made.put in
+    colour_front (Payload 0 (Hello 1) ∷ Safe 0 ∷ []) [] _ _ refl (ap (λ l. l ++ Safe 0 ∷ []) first)
+    (c.put.ensures.end.1 ∙ made.named ∙ ap (λ n. Some (name_of n 1 0)) c.requires.network)

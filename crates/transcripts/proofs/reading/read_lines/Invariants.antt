@@ -1,6 +1,5 @@
 use Rattle.std.proofs.Common.{◌≡◌, ◌+◌, None, length}
 use Rattle.dimacs_col.specs.Lines.{lines_of}
-use Rattle.transcripts.specs.Reader.{lines_in}
 use Rattle.transcripts.specs.Reading.{read_from}
 use Rattle.transcripts.proofs.reading.read_lines.Given as goal
 
@@ -9,9 +8,8 @@ abbrev pub invariant-each : goal.invariant-each
 invariant-each g l =
     let m = g.T.PayloadText in
     record {
-      knows : read_from m.payload_of (l.before + 1) None (lines_of l.text) ≡ read_from m.payload_of (l.reader.line + 1) l.reader.known (lines_in l.rest);
-      line : l.reader.line + length (lines_in l.rest) ≡ l.before + length (lines_of l.text);
+      knows : read_from m.payload_of (l.before + 1) None (lines_of l.text) ≡ read_from m.payload_of (l.lines.0 + 1) l.reader.known l.lines.1;
     }
 
 abbrev pub decreases-each : goal.decreases-each
-decreases-each g l = length (lines_in l.rest)
+decreases-each g l = length l.lines.1

@@ -1,8 +1,8 @@
 use Rattle.std.proofs.Common.{◌∷◌, ◌+◌, ◌∙◌, ap, drop, sym, take}
 use Rattle.std.proofs.lemmas.List.{take_rest}
 use Rattle.dimacs_col.specs.Lines.{line_of, lines_of}
-use Rattle.transcripts.proofs.LineEnds.{lines-here, lines-last}
-use Rattle.transcripts.proofs.lines.first_line.Goals as goal
+use Rattle.dimacs_col.proofs.LineEnds.{lines-here, lines-last}
+use Rattle.dimacs_col.proofs.lines.first_line.Goals as goal
 
 pub returns-in-Some : goal.returns-in-Some
 returns-in-Some c =

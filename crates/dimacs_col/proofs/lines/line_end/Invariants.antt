@@ -1,5 +1,5 @@
 use Rattle.std.proofs.Common.{◌≡◌, ◌==◌, All, false, take}
-use Rattle.transcripts.proofs.lines.line_end.Given as goal
+use Rattle.dimacs_col.proofs.lines.line_end.Given as goal
 
 -- no line feed so far
 abbrev pub invariant-loop-index : goal.invariant-loop-index

@@ -2,8 +2,8 @@ use Rattle.std.proofs.Common.{◌≡◌, ◌==◌, All, ap, false, get_or, subst
 use Rattle.std.proofs.lemmas.List.{take_all}
 use Rattle.std.proofs.lemmas.List.Elements.{All-more}
 use Rattle.std.proofs.lemmas.List.Splits.{slice_split_none}
-use Rattle.transcripts.proofs.LineEnds.{cut-here, no-feed}
-use Rattle.transcripts.proofs.lines.line_end.Goals as goal
+use Rattle.dimacs_col.proofs.LineEnds.{cut-here, no-feed}
+use Rattle.dimacs_col.proofs.lines.line_end.Goals as goal
 
 pub returns-then-byte-eq10-clause-found : goal.returns-then-byte-eq10-clause-found
 returns-then-byte-eq10-clause-found c =
