@@ -137,7 +137,7 @@ def fault_rows():
     rows = [
         ("", "F1"), ("c x|", "F1"), ("e 1 2|p edge 2 1|", "F3 line 1"), ("p edge 2 1|p x|", "F2 line 2"),
         ("p edge 3|", "F4 line 1"), ("p nothing 3 1|", "F4 line 1"), ("p edge 20001 0|", "F7 line 1"),
-        ("q 1|", "F8 line 1"), ("node 1|", "F8 line 1"), ("edge 1 2|", "F8 line 1"), ("x1|", "F8 line 1"), ("i 1 5|", "F8 line 1"), ("b 1 1|", "F8 line 1"), ("\xff|", "F8 line 1"),
+        ("q 1|", "F8 line 1"), ("node 1|", "F8 line 1"), ("edge 1 2|", "F8 line 1"), ("x1|", "F8 line 1"), ("id 1 5|", "F8 line 1"), ("b 1 1|", "F8 line 1"), ("\xff|", "F8 line 1"),
         ("p edge 99999999999999999999999999 x|", "F4 line 1"), ("p edge 99999999999999999999999999 1|", "F7 line 1"),
         (edge + "e 1 1|", "F6 line 2"), (edge + "e 0 1|", "F5 line 2"), (edge + "e 1 3|", "F5 line 2"),
         (edge + "e 5 5|", "F5 line 2"), (edge + "e 1|", "F4 line 2"), (edge + "e 1 x|", "F4 line 2"),
@@ -145,6 +145,11 @@ def fault_rows():
         (edge + "e 340282366920938463463374607431768211457 1|", "F5 line 2"),
         (edge + "e 4294967297 4294967297|", "F5 line 2"),
         (edge + "|c|e 1 1|e 0 0|", "F6 line 4"),
+        ("i 1 5|p edge 2 1|", "F10 line 1"), ("i x|p edge 2 1|", "F10 line 1"), (edge + "i 1|", "F4 line 2"), (edge + "i 3 x|", "F4 line 2"),
+        (edge + "i 3 5|", "F5 line 2"), (edge + "i 0 340282366920938463463374607431768211456|", "F5 line 2"),
+        (edge + "i 1 340282366920938463463374607431768211456|", "F11 line 2"), (edge + "i 1 5|i 1 5|", "F12 line 3"),
+        (edge + "i 1 5|i 1 340282366920938463463374607431768211456|", "F11 line 3"),
+        (edge + "i 1 2|e 1 2|", "N2 vertices 1 2"), (edge + "i 2 1|", "N2 vertices 1 2"),
         ("p edge 1025 1024|" + "".join(f"e 1 {v}|" for v in range(2, 1026)), "N1 vertex 1"),
     ]
     for network, fault in rows:

@@ -27,15 +27,17 @@ def fields_of(line):
 
 
 def network_of(text):
-    """The network of a text without a fault; vertex V has the identifier V."""
-    nodes, edges = 0, set()
+    """The network of a text without a fault; a vertex has the identifier that a line gives it, and else its number."""
+    nodes, given, edges = 0, {}, set()
     for line in text.split(b"\n"):
         fields = fields_of(line)
         if fields and fields[0] == b"p":
             nodes = int(fields[2])
         elif fields and fields[0] == b"e":
             edges.add((int(fields[1]), int(fields[2])))
-    return Network({v: v for v in range(1, nodes + 1)}, edges)
+        elif fields and fields[0] == b"i":
+            given[int(fields[1])] = int(fields[2])
+    return Network({v: given.get(v, v) for v in range(1, nodes + 1)}, edges)
 
 
 def text_of(lines):

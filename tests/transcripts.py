@@ -96,8 +96,8 @@ WORKED = [
 ] + [(EDGE, f"transcript 1 2||{entry}|1 pulse 1|", "line 3: X1") for entry in (
     "1", "1 pulse", "1 pulse 1 1", "1 pulse x", "1 pulse -1", "1 pulse 4294967296", "4294967296 pulse 1", "pulse 1", "c", "transcript 1 2",
     "1 put 2", "1 put close", "1 put 2 close 0", "1 Put 2 close", "1 put 2 ack", "1 put 2 ack 0 0", "1 take 2 safe 4294967296", "1 take x close",
-    "1 take 2 payload 0 hello", "1 take 2 payload 0 hello 18446744073709551616", "1 take 2 payload 0 best 1", "1 take 2 payload 0 Hello 1",
-    "1 put 2 payload 1 label 65536", "1 put 2 payload 13 chosen 65536", "1 put 2 payload 2 colour 18446744073709551616",
+    "1 take 2 payload 0 hello", "1 take 2 payload 0 hello 340282366920938463463374607431768211456", "1 take 2 payload 0 best 1", "1 take 2 payload 0 Hello 1",
+    "1 put 2 payload 1 label 65536", "1 put 2 payload 13 chosen 65536", "1 put 2 payload 2 colour 340282366920938463463374607431768211456",
     "1 put 2 payload 4294967296 hello 1", "1 put 2 payload 0 hello 1 1", "1 put 2 payload 0 hello \xb2", "1\x0bpulse 1", "1 pulse 1\r\r")] + [
     # the search
     (EDGE, "transcript 1 2|1 take 2 close|", "line 2: LinkEmpty"), (EDGE, "transcript 1 2|1 put 2 safe 0|", "line 2: WrongWire"),

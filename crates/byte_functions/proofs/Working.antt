@@ -62,8 +62,8 @@ without_transcript o transcript is =
 -- a network was read, and the fault of its run is that of the input
 pub workers-fault : (input : List ℕ) (net : Net) (o : Options) (fault : PlanFault) → ReadsAs input (λ read. IsNetwork read × (net ≡ read))
     → IsFaultOfRun o fault → IsFaultOfWorkers o input fault
-workers-fault input net o (plan.Pool fault) (nodes, edges, graph, (ok, e)) is = ((nodes, edges, graph, ok), is)
-workers-fault input net o plan.Stopped (nodes, edges, graph, (ok, e)) is = ((nodes, edges, graph, ok), is)
+workers-fault input net o (plan.Pool fault) (graph, reads, (ok, e)) is = ((graph, reads, ok), is)
+workers-fault input net o plan.Stopped (graph, reads, (ok, e)) is = ((graph, reads, ok), is)
 workers-fault input net o (plan.Col fault) read is = absurd is
 workers-fault input net o (plan.Net fault) read is = absurd is
 workers-fault input net o (plan.Check fault) read is = absurd is
@@ -73,7 +73,7 @@ workers-fault input net o plan.Memory read is = absurd is
 
 -- ---- the plan
 pub is-network : (input : List ℕ) (net : Net) → ReadsAs input (λ read. IsNetwork read × (net ≡ read)) → IsNetwork net
-is-network input net (nodes, edges, graph, (ok, e)) = subst (λ n. IsNetwork n) (sym e) ok
+is-network input net (graph, reads, (ok, e)) = subst (λ n. IsNetwork n) (sym e) ok
 
 abbrev Left : Type 0
 Left = Outcome colour.Node Payload
@@ -107,8 +107,8 @@ pub planned : (input text : List ℕ) (net : Net) (outcome : Left) → ReadsAs i
     → ((v : ℕ) → IsVertex net v → (node_in colouring net outcome v).state.merged ≡ colours net v)
     → ((v w : ℕ) → IsEdge net v w → colours net v ≢ colours net w) → ((v : ℕ) → colours net v ≤ greatest_degree_of net)
     → IsPlainAnswer input text
-planned input text net outcome (nodes, edges, graph, (ok, e)) told once exact proper within =
+planned input text net outcome (graph, reads, (ok, e)) told once exact proper within =
     let is : text ≡ colours_text net = told ∙ ap plan_of (colours-are net outcome once exact) in
     let plan : IsChannelPlan net text = record { colour = colours net; rows = is; differ = proper; within = λ v vertex. within v } in
     let there = subst (λ n. (text ≡ colours_text n) × IsChannelPlan n text) e (is, plan) in
-    (nodes, edges, graph, (ok, there.0, there.1))
+    (graph, reads, (ok, there.0, there.1))

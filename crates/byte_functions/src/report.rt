@@ -135,6 +135,9 @@ fn report_of_reading(alloc: Global, name: &str, fault: ColFault) -> Result<Fault
         ColFault::SelfLoop(n) => refusal_at_line(alloc, name, "F6", n),
         ColFault::TooLarge(n) => refusal_at_line(alloc, name, "F7", n),
         ColFault::UnknownLine(n) => refusal_at_line(alloc, name, "F8", n),
+        ColFault::EarlyLine(n) => refusal_at_line(alloc, name, "F10", n),
+        ColFault::NumberRange(n) => refusal_at_line(alloc, name, "F11", n),
+        ColFault::IdTwice(n) => refusal_at_line(alloc, name, "F12", n),
         ColFault::Memory => memory_report(alloc, name),
     }
 }

@@ -22,6 +22,21 @@ fn answers_texts(rt: HostRuntime) -> Result<(), Fail> {
         ),
         ("p col 2 0\n", "forests 2 0\n", "plan\n1 1\n2 1\n"),
         ("p edge 0 0\n", "forests 0 0\n", "plan\n"),
+        (
+            "p edge 2 1\ni 1 7\ne 1 2\n",
+            "forests 2 1\n0 2 1\n",
+            "plan\n1 1\n2 2\n",
+        ),
+        (
+            "p edge 2 1\ni 2 5\ne 1 2\n",
+            "forests 2 1\n0 1 2\n",
+            "plan\n1 2\n2 1\n",
+        ),
+        (
+            "p edge 2 1\ni 2 340282366920938463463374607431768211455\ne 1 2\n",
+            "forests 2 1\n0 1 2\n",
+            "plan\n1 2\n2 1\n",
+        ),
     ] {
         let bytes = text.as_bytes();
         assert!(rt;
@@ -35,6 +50,8 @@ fn answers_texts(rt: HostRuntime) -> Result<(), Fail> {
     }
     let fault = forest_bytes(alloc, b"p edge 2 1\ne 1 1\n");
     assert!(rt; fault.is_err_and(|fault| fault == PlanFault::Col(ColFault::SelfLoop(2))));
+    let fault = forest_bytes(alloc, b"p edge 2 1\ni 1 2\ne 1 2\n");
+    assert!(rt; fault.is_err_and(|fault| fault == PlanFault::Net(NetFault::SameId(1, 2))));
     Ok(())
 }
 
@@ -53,7 +70,7 @@ fn reports(
     Ok(())
 }
 
-// The faults of networks, in the order of their table; no text gives N2 or a fault of memory at will.
+// The faults of networks, in the order of their table; no text gives a fault of memory at will.
 #[test]
 fn reports_each_fault_of_a_network(rt: HostRuntime) -> Result<(), Fail> {
     for (fault, line, status) in [
@@ -73,6 +90,9 @@ fn reports_each_fault_of_a_network(rt: HostRuntime) -> Result<(), Fail> {
             1,
         ),
         (PlanFault::Col(ColFault::UnknownLine(8)), "F8 line 8", 1),
+        (PlanFault::Col(ColFault::EarlyLine(10)), "F10 line 10", 1),
+        (PlanFault::Col(ColFault::NumberRange(11)), "F11 line 11", 1),
+        (PlanFault::Col(ColFault::IdTwice(12)), "F12 line 12", 1),
         (PlanFault::Col(ColFault::Memory), "memory", 4),
         (PlanFault::Net(NetFault::Degree(1)), "N1 vertex 1", 1),
         (PlanFault::Net(NetFault::SameId(1, 2)), "N2 vertices 1 2", 1),

@@ -41,12 +41,75 @@ fn reads_graphs(rt: HostRuntime) -> Result<(), Fail> {
 }
 
 #[test]
+fn reads_identifiers(rt: HostRuntime) -> Result<(), Fail> {
+    let greatest = u128::MAX;
+    let wanted: [(&[u8], &[(u32, u128)]); 5] = [
+        (b"p edge 2 1\ne 1 2\n", &[]),
+        (b"p edge 2 1\ni 2 5\ne 1 2\n", &[(2, 5)]),
+        (
+            b"p edge 3 0\ni 3 340282366920938463463374607431768211455 x\r\n\ti 01  0007\n",
+            &[(1, 7), (3, greatest)],
+        ),
+        (
+            b"p edge 3 0\ni 2 1\ni 1 1\ni 3 0",
+            &[(1, 1), (2, 1), (3, 0)],
+        ),
+        (
+            b"p edge 1 0\ni 1 0000000000000000000000000000000000000000000000000000000000000000000000018446744073709551616",
+            &[(1, 18446744073709551616)],
+        ),
+    ];
+    for (text, ids) in wanted {
+        assert_eq!(rt; read(rt.alloc(), text)?.ids.as_slice(), ids);
+    }
+    Ok(())
+}
+
+#[test]
+fn reports_the_first_fault_of_an_identifier(rt: HostRuntime) {
+    use ColFault::{BadField, EarlyLine, IdTwice, NumberRange, UnknownLine, VertexRange};
+    let wanted: [(&[u8], ColFault); 16] = [
+        (b"i 1 5\np edge 2 1\n", EarlyLine(1)),
+        (b"i x\np edge 2 1\n", EarlyLine(1)),
+        (b"p edge 2 1\ni 1\n", BadField(2)),
+        (b"p edge 2 1\ni\n", BadField(2)),
+        (b"p edge 2 1\ni x 1\n", BadField(2)),
+        (b"p edge 2 1\ni 3 x\n", BadField(2)),
+        (b"p edge 2 1\ni 1 +1\n", BadField(2)),
+        (b"p edge 2 1\ni 3 5\n", VertexRange(2)),
+        (
+            b"p edge 2 1\ni 0 340282366920938463463374607431768211456\n",
+            VertexRange(2),
+        ),
+        (
+            b"p edge 2 1\ni 340282366920938463463374607431768211457 1\n",
+            VertexRange(2),
+        ),
+        (
+            b"p edge 2 1\ni 1 340282366920938463463374607431768211456\n",
+            NumberRange(2),
+        ),
+        (
+            b"p edge 2 1\ni 1 5\ni 1 99999999999999999999999999999999999999999\n",
+            NumberRange(3),
+        ),
+        (b"p edge 2 1\ni 1 5\ni 1 5\n", IdTwice(3)),
+        (b"p edge 2 1\ni 2 5\ni 1 5\ne 1 2\ni 2 6\n", IdTwice(5)),
+        (b"p edge 2 1\nid 1 5\n", UnknownLine(2)),
+        (b"p edge 2 1\nI 1 5\n", UnknownLine(2)),
+    ];
+    for (text, first) in wanted {
+        assert_eq!(rt; fault(rt.alloc(), text), Some(first));
+    }
+}
+
+#[test]
 fn reports_the_first_fault(rt: HostRuntime) {
     use ColFault::{
         BadField, EdgeBeforeProblem, NoProblem, SecondProblem, SelfLoop, TooLarge, UnknownLine,
         VertexRange,
     };
-    let wanted: [(&[u8], ColFault); 26] = [
+    let wanted: [(&[u8], ColFault); 25] = [
         (b"", NoProblem),
         (b"c x\n", NoProblem),
         (b"p edge 2 1\ne 1 1\n", SelfLoop(2)),
@@ -58,7 +121,6 @@ fn reports_the_first_fault(rt: HostRuntime) {
         (b"p edge 20001 0\n", TooLarge(1)),
         (b"p edge 20001 x\n", BadField(1)),
         (b"q 1\n", UnknownLine(1)),
-        (b"i 1 2\n", UnknownLine(1)),
         (b"b 1 2\n", UnknownLine(1)),
         (b"p edge 2 1\ne 0 1\n", VertexRange(2)),
         (b"p edge 2 1\ne 1 3\n", VertexRange(2)),
@@ -129,6 +191,18 @@ fn each_fault_has_its_text(rt: HostRuntime) -> Result<(), Fail> {
         (
             ColFault::UnknownLine(8),
             "F8 line 8: the first field is unknown",
+        ),
+        (
+            ColFault::EarlyLine(10),
+            "F10 line 10: an identifier before the problem line",
+        ),
+        (
+            ColFault::NumberRange(11),
+            "F11 line 11: an identifier of more than 128 binary digits",
+        ),
+        (
+            ColFault::IdTwice(12),
+            "F12 line 12: a second identifier of a vertex",
         ),
         (ColFault::Memory, "F9: out of memory"),
     ];

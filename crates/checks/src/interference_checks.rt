@@ -16,7 +16,7 @@ fn ports_of(alloc: Global, net: &Network) -> Result<Vec<(u32, u32, u32)>, Fail> 
 }
 
 // The identifiers of a network, and its neighbours in turn.
-fn lists_of(alloc: Global, net: &Network) -> Result<(Vec<u64>, Vec<u32>), Fail> {
+fn lists_of(alloc: Global, net: &Network) -> Result<(Vec<u128>, Vec<u32>), Fail> {
     let mut ids = Vec::new(alloc);
     let mut neighbours = Vec::new(alloc);
     for v in 1..net.nodes() + 1 {
@@ -29,7 +29,7 @@ fn lists_of(alloc: Global, net: &Network) -> Result<(Vec<u64>, Vec<u32>), Fail> 
 // A network and its worked reading.
 #[derive(Clone, Copy)]
 struct Row {
-    ids: &'static [u64],
+    ids: &'static [u128],
     edges: &'static [(u32, u32)],
     greatest_degree: u32,
     forest_count: u32,
@@ -109,20 +109,20 @@ fn networks_and_their_copies_read_as_worked(rt: HostRuntime) -> Result<(), Fail>
 }
 
 // Identifiers 1 to `nodes`, and the edges from vertex 1 to all others.
-fn star(alloc: Global, nodes: u32) -> Result<(Vec<u64>, Vec<(u32, u32)>), Fail> {
+fn star(alloc: Global, nodes: u32) -> Result<(Vec<u128>, Vec<(u32, u32)>), Fail> {
     let mut ids = Vec::new(alloc);
     let mut edges = Vec::new(alloc);
     for v in 1..nodes {
-        ids.push(u64::from(v))?;
+        ids.push(u128::from(v))?;
         edges.push((1, v + 1))?;
     }
-    ids.push(u64::from(nodes))?;
+    ids.push(u128::from(nodes))?;
     Ok((ids, edges))
 }
 
 #[test]
 fn networks_are_refused_for_their_first_fault(rt: HostRuntime) -> Result<(), Fail> {
-    let rows: [(&[u64], &[(u32, u32)], TryFault); 11] = [
+    let rows: [(&[u128], &[(u32, u32)], TryFault); 11] = [
         (&[1, 2, 3], &[(0, 1)], TryFault::Edges),
         (&[1, 2, 3], &[(1, 1)], TryFault::Edges),
         (&[1, 2, 3], &[(2, 1)], TryFault::Edges),

@@ -104,8 +104,8 @@ pub fn table_has_these_rows()
 pub fn work_has_these_phases_and_bounds()
     ensures phases { (sizes : Sizes) → map (phase_of sizes) (range_with_len 0 FIRST_MERGE) ≡ first_phases }
     ensures first_step { (c : ℕ) → is_above (Step 0) c ≡ false }
-    ensures second_step { (c : ℕ) → is_above (Step 1) c ≡ nat_lt 127 c }
-    ensures third_step { (c : ℕ) → is_above (Step 2) c ≡ nat_lt 13 c }
+    ensures second_step { (c : ℕ) → is_above (Step 1) c ≡ nat_lt 255 c }
+    ensures third_step { (c : ℕ) → is_above (Step 2) c ≡ nat_lt 15 c }
     ensures fourth_step { (c : ℕ) → is_above (Step 3) c ≡ nat_lt 7 c }
     ensures shift { (x c : ℕ) → is_above (Shift x) c ≡ nat_lt x c }
     ensures drop { (x c : ℕ) → is_above (Drop x) c ≡ nat_lt x c }

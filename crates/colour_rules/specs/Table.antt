@@ -60,7 +60,7 @@ is_due Halted role = false
 
 -- the greatest colour that may come into bit step k, which is not the first: what the steps before it leave
 abbrev pub step_bound : ℕ → ℕ
-step_bound k = if k == 1 then 127 else if k == 2 then 13 else 7
+step_bound k = if k == 1 then 255 else if k == 2 then 15 else 7
 
 -- whether a colour is too high: any may come into the first bit step, and a class is dropped as the greatest colour
 abbrev pub is_above : Reduction → ℕ → Bool

@@ -8,6 +8,7 @@ ghost use Rattle.colour_rules.specs.Node.{greet, made, ports};
 use crate::chosen::ChosenColours;
 use crate::colours::InForests;
 use crate::payload::Payload;
+use cole_vishkin::Identifier;
 use forests::Role;
 use node_api::{Memory, Network, Outbox};
 use std::alloc::Global;
@@ -16,7 +17,7 @@ use std::marker::Model;
 /// A node of the colouring. Contracts see the `Node` of `specs/Node.antt`.
 #[derive(Drop)]
 pub struct ColourNode {
-    pub(crate) id: u64,
+    pub(crate) id: Identifier,
     pub(crate) nodes: u32,
     pub(crate) greatest_degree: u16,
     pub(crate) forests: u16,

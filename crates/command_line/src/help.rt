@@ -23,6 +23,7 @@ standard output holds a beginning of the answer.",
     format: "Input: a graph in the DIMACS format, a line each
   p edge NODES EDGES   before any e line: the number of vertices; any number
   e V W                an edge between two different vertices from 1 to NODES
+  i V NUMBER           the identifier of vertex V, below 2^128; else it is V
 Skipped are empty lines and those whose first field begins with c, or is one of
 n, d, v and x.
 
@@ -31,7 +32,10 @@ Faults of the input, reported as `forestplan: F6 line 2`, F1 without a line:
   F2  a second p line              F6  an edge from a vertex to itself
   F3  an e line before the p line  F7  above 20000 vertices or 400000 edges
   F4  a field is missing or wrong  F8  a line of an unknown kind
-and as `forestplan: N1 vertex 1` a vertex with more than 1023 neighbours.
+  F10 an i line before the p line  F11 an identifier of 2^128 or more
+  F12 a second i line of a vertex
+as `forestplan: N1 vertex 1` a vertex with more than 1023 neighbours, and as
+`forestplan: N2 vertices 1 2` two vertices with one identifier.
 
 Status, and what standard error then holds:
   0  done, or help was asked for    nothing

@@ -16,6 +16,15 @@ abbrev pub FitsIn : Option ℕ → ℕ × ℕ → Type 0
 FitsIn None pair = ⊥
 FitsIn (Some nodes) pair = (0 < pair.0) × (pair.0 < pair.1) × (pair.1 ≤ nodes)
 
+-- a vertex is from 1 to the number of vertices
+abbrev pub IsVertexOf : Option ℕ → ℕ → Type 0
+IsVertexOf None v = ⊥
+IsVertexOf (Some nodes) v = (0 < v) × (v ≤ nodes)
+
+-- identifiers are of vertices
+abbrev pub AreVertices : ℕ → List (ℕ × ℕ) → Type 0
+AreVertices nodes ids = (pair : ℕ × ℕ) → Contains ids pair → IsVertexOf (Some nodes) pair.0
+
 -- a graph within the limits
 pub record IsWithinLimits (nodes : ℕ) (edges : List (ℕ × ℕ)) : Type 0 where
   pub nodes_fit : nodes ≤ MAX_NODES

@@ -26,6 +26,12 @@ pub enum ColFault {
     TooLarge(usize),
     #[error("F8 line {0}: the first field is unknown")]
     UnknownLine(usize),
+    #[error("F10 line {0}: an identifier before the problem line")]
+    EarlyLine(usize),
+    #[error("F11 line {0}: an identifier of more than 128 binary digits")]
+    NumberRange(usize),
+    #[error("F12 line {0}: a second identifier of a vertex")]
+    IdTwice(usize),
     #[error("F9: out of memory")]
     Memory,
 }

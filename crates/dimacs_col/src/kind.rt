@@ -9,6 +9,7 @@ pub enum Kind {
     Skipped,
     Problem,
     Edge,
+    Identifier,
     Unknown,
 }
 
@@ -22,6 +23,7 @@ impl Kind {
             [b'c', ..] | b"n" | b"d" | b"v" | b"x" => Kind::Skipped,
             b"p" => Kind::Problem,
             b"e" => Kind::Edge,
+            b"i" => Kind::Identifier,
             _ => Kind::Unknown,
         }
     }

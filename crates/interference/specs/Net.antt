@@ -2,7 +2,7 @@
 use Rattle.std.specs.Prelude.{◌≡◌, ◌≢◌, ℕ, zero, suc, ◌+◌, ◌-◌, ◌^◌, ◌<◌, ◌≤◌, ◌==◌, nat_lt, max, if◌then◌else◌}
 use Rattle.std.specs.Prelude.{List, [], ◌∷◌, length, slice_index, slice_index_or, count_by, Contains}
 use Rattle.std.specs.List.{range_with_len}
-use Rattle.dimacs_col.specs.declared.limits.TheConstants.{MAX_NODES}
+use Rattle.dimacs_col.specs.declared.limits.TheConstants.{IDENTIFIER_DIGITS, MAX_NODES}
 use Rattle.interference.specs.declared.limits.TheConstants.{MAX_DEGREE}
 
 -- The value of a network. Entry `v - 1` of each list is of vertex v.
@@ -75,7 +75,7 @@ forest_count_of net = greatest_from (higher_count net) 1 (count_of net)
 
 -- every identifier is below this
 abbrev pub id_bound : ℕ
-id_bound = 2 ^ 64
+id_bound = 2 ^ IDENTIFIER_DIGITS
 
 -- What every network keeps.
 pub record IsNetwork (net : Net) : Type 0 where

@@ -27,7 +27,7 @@ impl Network {
     pub fn new(
         alloc: Global,
         nodes: u32,
-        ids: &[u64],
+        ids: &[u128],
         edges: &[(u32, u32)],
     ) -> Result<Network, NetFault>
         requires ids { length ids.now ≡ nodes }
@@ -54,7 +54,7 @@ impl Network {
     ///
     /// `Edges` if there are more than `MAX_NODES` identifiers or `edges_fit` refuses the edges; else
     /// `Refused` with the fault that `new` returns.
-    pub fn try_new(alloc: Global, ids: &[u64], edges: &[(u32, u32)]) -> Result<Network, TryFault>
+    pub fn try_new(alloc: Global, ids: &[u128], edges: &[(u32, u32)]) -> Result<Network, TryFault>
         ensures made { IfOk result (λ net. net ≡ network_of ids.now edges.now) }
         ensures fit { IfOk result (λ net. EdgesFit (length ids.now) edges.now) }
         ensures uncrowded { IfOk result (λ net. (v : ℕ) → IsCrowded net v → ⊥) }
@@ -86,7 +86,7 @@ fn degrees_of(alloc: Global, nodes: u32, edges: &[(u32, u32)]) -> Result<Vec<u32
 fn packed(
     alloc: Global,
     nodes: u32,
-    ids: &[u64],
+    ids: &[u128],
     edges: &[(u32, u32)],
     degrees: Vec<u32>,
 ) -> Result<Network, Memory>

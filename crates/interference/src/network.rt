@@ -13,7 +13,7 @@ use std::marker::Model;
 /// A network. Contracts see its `Net`: identifiers and neighbours.
 #[derive(Drop)]
 pub struct Network {
-    ids: Vec<u64>,
+    ids: Vec<u128>,
     // Entry v - 1 is where the neighbours of v begin, entry v where they end.
     starts: Vec<u32>,
     ports: Vec<u32>,
@@ -41,7 +41,7 @@ impl Model for Network {
 impl Network {
     // A network of its packed parts.
     pub(crate) fn from_parts(
-        ids: Vec<u64>,
+        ids: Vec<u128>,
         starts: Vec<u32>,
         ports: Vec<u32>,
         backs: Vec<u32>,
@@ -94,7 +94,7 @@ impl Network {
     }
 
     /// The identifier of vertex `v`.
-    pub fn id(&self, v: u32) -> u64
+    pub fn id(&self, v: u32) -> u128
         requires { IsVertex self.now v }
         ensures { result ≡ id_of self.now v }
     {

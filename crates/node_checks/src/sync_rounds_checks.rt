@@ -6,7 +6,7 @@ use std::alloc::Global;
 use std::test::Fail;
 use sync_rounds::{Best, Greatest, run_rounds};
 
-fn bests<const D: u32>(alloc: Global, net: &Network) -> Result<Vec<u64>, Fail> {
+fn bests<const D: u32>(alloc: Global, net: &Network) -> Result<Vec<u128>, Fail> {
     let mut bests = Vec::new(alloc);
     for node in &run_rounds::<Greatest<D>>(alloc, net)? {
         bests.push(node.best())?;

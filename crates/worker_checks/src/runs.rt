@@ -40,7 +40,7 @@ pub fn small(alloc: Global, number: u32) -> Result<Network, Fail> {
     let mut ids = Vec::new(alloc);
     let mut edges = Vec::new(alloc);
     for v in 1..count + 1 {
-        ids.push(u64::from((v * 37 + number % 101) % 101))?;
+        ids.push(u128::from((v * 37 + number % 101) % 101))?;
         for w in v + 1..count + 1 {
             if are_joined(number, v, w) {
                 edges.push((v, w))?;
@@ -57,7 +57,7 @@ pub fn greatest<const D: u32, R: Threads + Wait + Sync>(
     net: &Network,
     workers: u32,
     capacity: u32,
-) -> Result<Option<Vec<u64>>, Fail> {
+) -> Result<Option<Vec<u128>>, Fail> {
     let options = Options {
         workers,
         capacity,

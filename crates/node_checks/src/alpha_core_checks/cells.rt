@@ -131,7 +131,7 @@ struct Fed {
     emitted: Option<Wire<Best>>,
     played: Played<Best>,
     drained: bool,
-    best: u64,
+    best: u128,
 }
 
 // Plays vertex 1, with another wire, if there is one, between two lists of acts.

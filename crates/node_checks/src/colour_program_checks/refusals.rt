@@ -20,7 +20,7 @@ type Came = (u32, [Option<Payload>; 2]);
 
 // A triangle with identifiers 1, 2 and 30: two forests, degree 2, last pulse 30. Vertex 1 has two
 // parents, vertex 2 a child and a parent, vertex 3 two children.
-static IDS: [u64; 3] = [1, 2, 30];
+static IDS: [u128; 3] = [1, 2, 30];
 
 static EDGES: [(u32, u32); 3] = [(1, 2), (1, 3), (2, 3)];
 

@@ -81,7 +81,7 @@ pub struct Shown {
     pub answer: Result<(), Refused>,
     is_quiet: bool,
     colour: u16,
-    forest_colour: Option<u64>,
+    forest_colour: Option<u128>,
 }
 
 /// Feeds a node at its one port.

@@ -1,18 +1,37 @@
-use Rattle.std.proofs.Common.{◌∙◌, sym, subst, ℕ}
+use Rattle.std.proofs.Common.{◌≡◌, ◌∙◌, Some, ap, sym, subst, ℕ}
+use Rattle.std.specs.BTreeMap.{is_at}
+use Rattle.std.specs.List.Sorted.{IsStrictlySortedBy}
+use Rattle.std.specs.Map.{keys_of, lookup}
+use Rattle.std.specs.Ordering.{nat_cmp}
+use Rattle.std.proofs.lemmas.Cmp.{eq_by_cmp_equiv, nat_cmp_total}
+use Rattle.std.proofs.lemmas.Map.Keys.{IsDistinct-from_sorted}
+use Rattle.std.proofs.lemmas.Map.Views.{lookup-from_Contains}
 use Rattle.dimacs_col.specs.Reading.{edges_of}
-use Rattle.dimacs_col.specs.Pairs.{FitsIn}
+use Rattle.dimacs_col.specs.Pairs.{FitsIn, IsVertexOf}
 use Rattle.dimacs_col.proofs.Lists.{edge_count-is}
 use Rattle.dimacs_col.proofs.Members.{same-members, member-from_Contains}
 use Rattle.dimacs_col.proofs.Edges.{small-nodes}
+use Rattle.dimacs_col.proofs.Identifiers.{id_in-at}
 use Rattle.dimacs_col.proofs.reader.Reader.finish.Goals as goal
 
 pub returns-clause-ok : goal.returns-clause-ok
 returns-clause-ok c = λ lines knows. record {
   good = knows.good;
   nodes_are = sym knows.nodes_are ∙ c.in-Some.is;
-  ascending = c.in_ok-into_ascending.ensures.ascending;
+  ids_ascend = rw c.in_ok-by_vertex.ensures.items c.by_vertex.ensures.ordered;
+  ids_are = λ v. id_in-at c.in_ok-by_vertex.field-0.items v ∙ ap (lookup (is_at (nat_cmp v))) c.in_ok-by_vertex.ensures.items ∙ knows.ids_are v;
+  edges_ascend = c.in_ok-into_ascending.ensures.ascending;
   edges_are = same-members c.in_ok-into_ascending.field-0.items (edges_of lines) (λ pair. c.in_ok-into_ascending.ensures.members pair ∙ knows.edges_are pair);
 }
+
+pub returns-clause-vertices : goal.returns-clause-vertices
+returns-clause-vertices c = λ lines knows pair h.
+    let ids = c.in_ok-by_vertex.field-0.items in
+    let ascend : IsStrictlySortedBy nat_cmp (keys_of ids) = rw c.in_ok-by_vertex.ensures.items c.by_vertex.ensures.ordered in
+    let found : lookup (is_at (nat_cmp pair.0)) ids ≡ Some pair.1 =
+        lookup-from_Contains (eq_by_cmp_equiv nat_cmp_total) pair.0 pair.1 ids (IsDistinct-from_sorted nat_cmp (keys_of ids) ascend) h in
+    subst (λ o. IsVertexOf o pair.0) c.in-Some.is (knows.ids_fit pair.0 pair.1 (sym (knows.ids_are pair.0) ∙
+    ap (lookup (is_at (nat_cmp pair.0))) (sym c.in_ok-by_vertex.ensures.items) ∙ found))
 
 pub returns-clause-limits : goal.returns-clause-limits
 returns-clause-limits c = λ lines knows.
