@@ -3,7 +3,7 @@
 ghost use Rattle.std.specs.Prelude.{◌≡◌, ◌≤◌, IfOk, OnErr, length};
 ghost use Rattle.interference.specs.Net.{Net, IsVertex};
 ghost use Rattle.node_api.specs.Boxes.{nothing};
-ghost use Rattle.node_api.specs.Program.{Program, Matches, last_pulse_on, own_of};
+ghost use Rattle.node_api.specs.Program.{Program, Matches, RestsUntil, last_pulse_on, own_of};
 ghost use Rattle.node_api.specs.Laws.{IsProgram};
 
 use crate::inbox::Inbox;
@@ -85,4 +85,14 @@ pub trait NodeProgram: Sized + Drop + Send {
     fn post_step(&mut self, pulse: u32)
         requires pulse { 1 ≤ pulse }
         ensures same { self.new ≡ self.old };
+
+    /// Before which pulse the node, which has made `pulse`, does nothing while nothing comes: until then an empty
+    /// inbox leaves its state, and nothing is sent. An engine may pass it over. A program that doesn't say is called
+    /// at every pulse.
+    fn rests_until(&self, pulse: u32) -> u32
+        ensures rests { RestsUntil program self.now pulse result }
+    {
+        let _ = pulse;
+        0
+    }
 }
