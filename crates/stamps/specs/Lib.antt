@@ -1,0 +1,5 @@
+pub mod Stamps
+pub mod Merged
+pub mod Gathered
+pub mod Keeps
+pub mod Laws
