@@ -70,6 +70,8 @@ def forests_rows():
         ("four-cycle", "p edge 4 4|e 1 2|e 2 3|e 3 4|e 1 4|", "forests 4 2|0 1 2|0 2 3|0 3 4|1 1 4|"),
         ("complete graph on four", "p edge 4 6|e 1 2|e 1 3|e 1 4|e 2 3|e 2 4|e 3 4|",
          "forests 4 3|0 1 2|0 2 3|0 3 4|1 1 3|1 2 4|2 1 4|"),
+        ("the lower vertex with the higher identifier", "p edge 2 1|i 1 7|e 1 2|", "forests 2 1|0 2 1|"),
+        ("identifiers changed about, behind the edges", "p edge 3 2|e 1 2|e 2 3|i 3 0 x|i 1 2|i 2 1|", "forests 3 1|0 2 1|0 3 2|"),
         ("no line feed at the end", "p edge 2 1|e 1 2", "forests 2 1|0 1 2|"),
         ("tabs and leading blanks", " \tp\tcol 2\t1|\t e 1  2|", "forests 2 1|0 1 2|"),
         ("comment of bytes that are no text", "c\xff|p edge 1 0|", "forests 1 0|"),
@@ -83,6 +85,8 @@ def forests_rows():
 def plain_rows():
     rows = [
         ("one edge", "p edge 2 1|e 1 2|", [1, 2]),
+        ("one edge and an identifier", "p edge 2 1|i 2 5|e 1 2|", [2, 1]),
+        ("one edge and the greatest identifier", f"p edge 2 1|i 2 {2**128 - 1}|e 1 2|", [2, 1]),
         ("triangle", TRIANGLE, [2, 3, 1]),
         ("path in an odd layout", "c path\r|p edges 3 99 extra\r|\r|n 1 2\r|e 1 2 7\r|e 2 1\r|e 3 2\r|e 2 3\r|", [1, 2, 1]),
         ("two nodes alone", "p col 2 0|", [1, 1]),
@@ -137,7 +141,8 @@ def fault_rows():
     rows = [
         ("", "F1"), ("c x|", "F1"), ("e 1 2|p edge 2 1|", "F3 line 1"), ("p edge 2 1|p x|", "F2 line 2"),
         ("p edge 3|", "F4 line 1"), ("p nothing 3 1|", "F4 line 1"), ("p edge 20001 0|", "F7 line 1"),
-        ("q 1|", "F8 line 1"), ("node 1|", "F8 line 1"), ("edge 1 2|", "F8 line 1"), ("x1|", "F8 line 1"), ("id 1 5|", "F8 line 1"), ("b 1 1|", "F8 line 1"), ("\xff|", "F8 line 1"),
+        ("q 1|", "F8 line 1"), ("node 1|", "F8 line 1"), ("edge 1 2|", "F8 line 1"), ("x1|", "F8 line 1"),
+        ("id 1 5|", "F8 line 1"), ("b 1 1|", "F8 line 1"), ("\xff|", "F8 line 1"),
         ("p edge 99999999999999999999999999 x|", "F4 line 1"), ("p edge 99999999999999999999999999 1|", "F7 line 1"),
         (edge + "e 1 1|", "F6 line 2"), (edge + "e 0 1|", "F5 line 2"), (edge + "e 1 3|", "F5 line 2"),
         (edge + "e 5 5|", "F5 line 2"), (edge + "e 1|", "F4 line 2"), (edge + "e 1 x|", "F4 line 2"),
@@ -150,6 +155,8 @@ def fault_rows():
         (edge + "i 1 340282366920938463463374607431768211456|", "F11 line 2"), (edge + "i 1 5|i 1 5|", "F12 line 3"),
         (edge + "i 1 5|i 1 340282366920938463463374607431768211456|", "F11 line 3"),
         (edge + "i 1 2|e 1 2|", "N2 vertices 1 2"), (edge + "i 2 1|", "N2 vertices 1 2"),
+        (edge + "i 1 9|i 2 009|", "N2 vertices 1 2"), (edge + "i 2 9|i 1 9|", "N2 vertices 1 2"),
+        ("p edge 4 0|i 4 2|i 3 1|", "N2 vertices 1 3"), ("p edge 4 0|i 3 1|i 4 2|", "N2 vertices 1 3"),
         ("p edge 1025 1024|" + "".join(f"e 1 {v}|" for v in range(2, 1026)), "N1 vertex 1"),
     ]
     for network, fault in rows:

@@ -32,14 +32,14 @@ TALLY = {"passed": 0, "failed": 0}
 
 # Of each command a small good text.
 SMALL = {
-    "forests": "p edge 3 3|e 1 2|e 1 3|e 2 3|",
-    "plain": "c|p col 2 1|e 1 2|",
+    "forests": "p edge 3 3|i 2 7|e 1 2|e 1 3|e 2 3|",
+    "plain": "c|p col 2 1|e 1 2|i 1 5|",
     "plan": "p edge 2 1|e 2 1|",
     "transcript": "p edges 2 1|e 1 2|",
     "check": EDGE + "plan|2 2|1 1|",
-    "events": EDGE + "put 1 0|take 2 0|",
+    "events": EDGE + "i 1 3|put 1 0|take 2 0|",
     "replay": EDGE + "transcript 1 2|1 put 2 payload 0 hello 1|",
-    "rounds": "p edge 1 0|n 1|",
+    "rounds": "p edge 1 0|n 1|i 1 9|",
 }
 # Texts of which each beginning is a text besides.
 WHOLE = {
@@ -122,7 +122,8 @@ def long_lines(data, length=2**20):
     """A line of a megabyte before the text, in the middle of it and behind it; and many blank lines."""
     for line in (b"c" * length, b" " * length, b"\t" * length, b"q" * length, b"e" * length, b"1" * length, b"\0" * length,
                  b"\xff" * length, b"\r" * length, b"c" + b"\r" * length, b"e 1 2 " + b"9 " * (length // 2),
-                 b"e 1 " + b"0" * length + b"2", b"e 1 " + b"9" * length, b" " * length + b"e 1 2", b"p edge " + b"1" * length + b" 1"):
+                 b"e 1 " + b"0" * length + b"2", b"e 1 " + b"9" * length, b"i 1 " + b"0" * length + b"5", b"i 1 " + b"9" * length,
+                 b" " * length + b"e 1 2", b"p edge " + b"1" * length + b" 1"):
         middle = data.index(b"\n") + 1
         yield line + b"\n" + data
         yield data[:middle] + line + b"\n" + data[middle:]
