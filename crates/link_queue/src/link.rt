@@ -109,8 +109,8 @@ impl<P: NodeProgram> Link<P> {
     /// What the end has put and then the wire has to begin a legal list of the link; so nothing is put after a close.
     ///
     /// # Errors
-    /// `Full` hands the same wire back, and the end's list is as it was. That the link was full at a moment of the call is
-    /// the queue's promise; the clause `full` says less.
+    /// `Full` hands the same wire back, and the end's list is as it was. That the link was full at a moment of the call
+    /// is the queue's promise; the clause `full` says less.
     pub fn put<R: Wait>(
         &self,
         rt: &R,
