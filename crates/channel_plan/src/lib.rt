@@ -22,6 +22,7 @@ mod split;
 mod writing;
 
 pub use checking::check;
+pub use fields::small_number;
 pub use plan::{CheckFault, Plan};
 pub use reading::read_plan;
 pub use split::{TextStart, split_plan, text_before, text_start};
