@@ -5,7 +5,7 @@ from wrong import Wrong, wrong_line
 
 
 def identifiers_of(lines, network, name):
-    """What the vertices call themselves: in their greetings; a vertex without neighbours by its first colour."""
+    """What the vertices call themselves: in their greetings; a vertex without neighbours by its first colour, or as its network says."""
     found = {}
     for line, raw in enumerate(lines, 1):
         fields = fields_of(raw)
@@ -19,7 +19,7 @@ def identifiers_of(lines, network, name):
             found.setdefault(vertex, number)
     taken = {}
     for v in network.vertices:
-        number = found.setdefault(v, v)
+        number = found.setdefault(v, network.identifiers[v])
         if number in taken:
             raise Wrong(f"{name}: vertices {taken[number]} and {v} have one identifier")
         taken[number] = v

@@ -15,8 +15,8 @@ from wrong import Wrong  # noqa: E402,F401
 
 
 def network_of(read):
-    """The definitions' network of one that was read: vertex V has the identifier V."""
-    return Network({v: v for v in read.vertices}, set(read.edges))
+    """The definitions' network of one that was read."""
+    return Network(dict(read.identifiers), set(read.edges))
 
 
 def network_at(path):

@@ -153,8 +153,8 @@ struct Shown {
     answer: Result<(), Refused>,
     is_quiet: bool,
     colour: u16,
-    first_colour: Option<u64>,
-    second_colour: Option<u64>,
+    first_colour: Option<u128>,
+    second_colour: Option<u128>,
 }
 
 fn show(alloc: Global, node: &mut Colouring, came: Came) -> Result<Shown, Memory>
@@ -213,9 +213,9 @@ fn are_refused(rt: &impl Abort, alloc: Global, net: &Network, rows: &[Row]) -> R
 }
 
 // The greatest colour that may come from a parent at each pulse from 4 on.
-static BOUNDS: [(u32, u64); 9] = [
-    (4, 127),
-    (5, 13),
+static BOUNDS: [(u32, u128); 9] = [
+    (4, 255),
+    (5, 15),
     (6, 7),
     (7, 5),
     (8, 5),
@@ -230,7 +230,7 @@ fn are_bounds(
     rt: &impl Abort,
     alloc: Global,
     net: &Network,
-    rows: &[(u32, u64)],
+    rows: &[(u32, u128)],
 ) -> Result<(), Fail> {
     for (pulse, bound) in rows {
         assert!(rt; net.nodes() == 3 && *bound < 1000);
