@@ -360,10 +360,26 @@ def steps_in_order(net):
     return rounds
 
 
+LONG_NAMES = b"p edge 4 4\ni 2 %d\ni 4 0\ne 1 2\ne 2 3\ne 1 4\ne 1 3\n" % (2**128 - 1)
+
+
+def identifier_rows():
+    """A line `i V NUMBER` goes with its vertex; two of one number are refused."""
+    for words in (["read", "-"], ["number", "-", "--by", "degree"], ["number", "-", "--by", "random", "--seed", 3]):
+        data = LONG_NAMES if words[0] == "read" else LONG_NAMES + b"i 1 1\ni 3 3\n"
+        net, made = network_of(LONG_NAMES), network_of(written(*words, data=data))
+        edges = [{frozenset(found.identifiers[v] for v in pair) for pair in found.number} for found in (net, made)]
+        note(f"{words}: who has which neighbours, by identifiers", edges[0] == edges[1] and len(edges[0]) == 4, edges)
+    for words, data in ((["read", "-"], b"p tw 2 1\n1 2\ni 1 2\n"), (["number", "-", "--by", "degree"], b"p edge 2 0\ni 2 9\ni 1 9\n")):
+        status, text, said = call(*words, data=data)
+        note(f"{words}: two of one identifier", (status, text) == (1, b"") and b"1 and 2 have one identifier" in said, said)
+
+
 def tell_rows():
     """Beside the definitions: the rounds' payloads, and the lines and bytes of a run's transcript."""
     networks = {name: example(f"{name}.col") for name in ("triangle", "petersen", "star", "four_cycle", "chain6")}
     networks |= {"a ring of 12": written("ring", 12), "a grid": written("grid", 3, 4), "one": written("path", 1)}
+    networks["long names"] = LONG_NAMES
     for name, data in networks.items():
         net = network_of(data)
         told, warned = told_of(data)
@@ -426,6 +442,11 @@ FAULTS = [
     ("1 2\n2 3\n", "F8 line 1", "`1` begins no line", True), ("\ufeffp edge 2 1\ne 1 2\n", "F8 line 1", "byte order mark", True),
     ("p edge 1025 1024\n" + "".join(f"e 1 {v}\n" for v in range(2, 1026)), "N1 vertex 1", "vertex 1 has 1024 neighbours", False),
     ("node 1\n", "F8 line 1", "`node`", True), ("p edge 2 1\n\x0b\n", "F8 line 2", "`\\x0b`", False), ("p\x0bedge 2 1\n", "F8 line 1", "`p\\x0bedge`", False),
+    ("i 1 5\np edge 2 1\n", "F10 line 1", "an identifier before", True), ("p edge 2 1\ni 1\n", "F4 line 2", "NUMBER is missing", False),
+    ("p edge 2 1\ni x 1\n", "F4 line 2", "`x` is no number", False), ("p edge 2 1\ni 3 5\n", "F5 line 2", "vertex 3 is none", False),
+    ("p edge 2 1\ni 0 %d\n" % 2**128, "F5 line 2", "count from 1", False), ("p edge 2 1\ni 1 %d\n" % 2**128, "F11 line 2", "2^128", False),
+    ("p edge 2 1\ni 1 5\ni 1 5\n", "F12 line 3", "second identifier of vertex 1", False),
+    ("p edge 2 1\ni 1 2\n", "N2 vertices 1 2", "vertices 1 and 2 have one identifier", False),
     ("p edge 99999999999999999999999999 x\n", "F4 line 1", "no number", False), ("p edge 2 1\ne 1 2 \t\r\ne 1 -2\n", "F4 line 3", "`-2`", False),
 ]
 
@@ -487,6 +508,7 @@ def main():
         number_rows()
         name_rows(folder)
         script_rows(folder)
+        identifier_rows()
         tell_rows()
         bound_rows()
         fault_rows(program)

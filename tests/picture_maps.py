@@ -5,7 +5,7 @@ from collections import Counter
 from alpha_definition import last_pulse
 from picture_base import note
 from picture_marks import SVG, centre, ends, gap, marks, nearest, number, numbered, parsed, texts, title, titles
-from plain_definition import Network, bit, colours, drop, merge, network_of, plan_text, shift, three
+from plain_definition import bit, colours, drop, merge, network_of, plan_text, shift, three
 from rounds_definition import rounds_text
 
 CHANNELS = ["#0072B2", "#E69F00", "#009E73", "#F0E442", "#CC79A7", "#56B4E9", "#D55E00", "#444444"]
@@ -251,12 +251,10 @@ def strip_mark(column, colour, is_in_forest):
     return "colour", f"#{level:02X}{level:02X}{level:02X}", str(colour) if colour < 1000 else f"{digits}d"
 
 
-def bits_rows(draw, name, network, v, text=None, identifiers=None):
+def bits_rows(draw, name, network, v):
     """Each forest in which v has a parent."""
     net = network_of(network)
-    if identifiers:
-        net = Network(identifiers, net.number)
-    text = text or rounds_text(net)
+    text = rounds_text(net)
     for f in range(net.forest_count):
         if net.parent(f, v):
             bits_of_forest(f"{name}, forest {f}", net, f, v, parsed(draw("bits", network, text, "--vertex", v, "--forest", f)))

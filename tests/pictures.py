@@ -264,12 +264,8 @@ def main():
         parts_rows(draw)
         large = circle_of(2000)
         matrix_rows(draw, "a ring of 2000", large)
-        for name, v in (("petersen", 6), ("queen5_5", 5), ("star", 1)):
+        for name, v in (("petersen", 6), ("queen5_5", 5), ("star", 1), ("long_names", 1)):
             bits_rows(draw, name, all_of[name], v)
-        with open(os.path.join(TOP, "docs", "pictures", "long_ids.rounds"), "rb") as file:
-            text = file.read()
-        names = {int(v): int(name) for v, name in re.findall(rb"^(\d+) put \d+ payload 0 hello (\d+)", text, re.M)}
-        bits_rows(draw, "long_ids", all_of["chain6"], 1, text, names)
         for name, network in (("triangle", all_of["triangle"]), ("petersen", all_of["petersen"]), ("all joined", ALL_JOINED),
                               ("one", ONE), ("three apart", b"p edge 3 0\n"), ("two", EDGE)):
             player_rows(draw, name, network)

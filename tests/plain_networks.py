@@ -1,7 +1,7 @@
-"""`plain` on 400 networks, beside the definition of the colours; and that definition on plans worked by hand.
+"""`plain` on 600 networks, beside the definition of the colours; and that definition on plans worked by hand.
 
 The networks are the same in every run. A difference is told with its number in the family and the text of the network.
-Vertex V has the identifier V, as in every text that there is today."""
+In 200 of them lines give identifiers of up to 128 binary digits; in the others vertex V has the identifier V."""
 import itertools
 import random
 import re
@@ -32,7 +32,8 @@ WORKED_PLANS = [
 
 def plain_network_rows(program):
     """Rows (name, good, what) of the definition, and of the program beside it."""
-    return worked_rows() + [row for family in FAMILIES for row in family_rows(program, family)]
+    return (worked_rows() + [row for family in FAMILIES for row in family_rows(program, family)]
+            + [row for family in NAMED for row in family_rows(program, family, long_names)])
 
 
 def worked_rows():
@@ -42,24 +43,24 @@ def worked_rows():
         got = plan_text(text.replace("|", "\n").encode())
         rows.append((f"the definition on {text[:50]!r}", got == wanted.encode(), got))
     triangle = Network({1: 1, 2: 2, 3: 3}, {(1, 2), (1, 3), (2, 3)})
-    highest_digit = Network({1: 2**63 - 1, 2: 2**64 - 1}, {(1, 2)})
+    highest_digit = Network({1: 2**127 - 1, 2: 2**128 - 1}, {(1, 2)})
     for name, got, wanted in [
         ("three colours of the triangle", [three(triangle, f) for f in (0, 1)], [{1: 0, 2: 1, 3: 0}, {1: 1, 2: 1, 3: 0}]),
         ("the triangle after one forest", merge(triangle, 0, {1: 0, 2: 0, 3: 0}), {1: 0, 2: 1, 3: 0}),
-        ("bit step of 64 digits", bit(highest_digit, 0, highest_digit.identifiers), {1: 126, 2: 1}),
-        ("identifiers of 64 digits", colours(highest_digit), {1: 1, 2: 0}),
+        ("bit step of 128 digits", bit(highest_digit, 0, highest_digit.identifiers), {1: 254, 2: 1}),
+        ("identifiers of 128 digits", colours(highest_digit), {1: 1, 2: 0}),
     ]:
         rows.append((f"the definition: {name}", got == wanted, got))
     return rows
 
 
-def family_rows(program, family):
+def family_rows(program, family, names_of=lambda _source, _nodes: {}):
     """One row for the bytes, and one that looks at neighbours and channels without the definition."""
     title, networks = family
     source = random.Random(f"{SEED} {title}")
     different, unfit, count = [], [], 0
     for count, (nodes, edges) in enumerate(networks(source), 1):
-        network = text_of(source, nodes, edges)
+        network = text_of(source, nodes, edges, names_of(source, nodes))
         done = subprocess.run([program, "plain"], input=network, capture_output=True, timeout=LIMIT)
         if (done.returncode, done.stdout, done.stderr) != (0, plan_text(network), b""):
             different.append((count, network, done))
@@ -82,12 +83,24 @@ def is_fit(nodes, edges, plan):
             and all(channels[v] != channels[w] for v, w in edges))
 
 
-def text_of(source, nodes, edges):
-    """A network text with the edges in any order and direction, some of them again from the other end."""
+def long_names(source, nodes):
+    """Identifiers of some vertices, great ones and small ones, no two the same."""
+    while True:
+        given = {v: source.choice((source.randrange(2**128), source.randrange(2 * nodes), 2**128 - 1 - source.randrange(2 * nodes)))
+                 for v in range(1, nodes + 1) if source.random() < 0.8}
+        if len({given.get(v, v) for v in range(1, nodes + 1)}) == nodes:
+            return given
+
+
+def text_of(source, nodes, edges, names=None):
+    """A network text with the edges in any order and direction, some of them again from the other end, and identifiers among them."""
     lines = [pair if source.random() < 0.5 else pair[::-1] for pair in sorted(edges)]
     lines += [pair[::-1] for pair in lines if source.random() < 0.1]
     source.shuffle(lines)
-    return f"p edge {nodes} {len(lines)}\n".encode() + b"".join(b"e %d %d\n" % pair for pair in lines)
+    rows = [b"e %d %d\n" % pair for pair in lines]
+    for pair in (names or {}).items():
+        rows.insert(source.randint(0, len(rows)), b"i %d %d\n" % pair)
+    return f"p edge {nodes} {len(lines)}\n".encode() + b"".join(rows)
 
 
 def pairs_of(nodes):
@@ -160,4 +173,9 @@ FAMILIES = [
     ("climbing on 40 nodes", climbing(45, 40)),
     ("climbing on 1,000 nodes", climbing(22, 1000)),
     ("climbing on 20,000 nodes", climbing(3, 20_000)),
+]
+# With identifiers of their own.
+NAMED = [
+    ("names on up to 12 nodes", random_of(150, 0, 12)),
+    ("names on 20 to 40 nodes", random_of(50, 20, 40)),
 ]

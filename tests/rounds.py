@@ -11,12 +11,11 @@ import argparse
 import glob
 import os
 import random
-import re
 import subprocess
 import sys
 import tempfile
 
-from plain_definition import Network, network_of
+from plain_definition import network_of
 from plain_networks import climbing, complete, cycle, path, random_of, star, text_of, tree, two_sided
 from refused_memory import build_front, sweep
 from rounds_definition import made_text, rounds_text
@@ -99,16 +98,6 @@ def text_rows(program, all_of):
         note(f"the rounds of {name}", (done.returncode, done.stdout, done.stderr) == (0, wanted, b""), (data, done))
 
 
-def stored_rows():
-    """The stored text of nodes with long names is what the definitions say of all its pulses, for those names."""
-    with open(os.path.join(TOP, "docs", "pictures", "long_ids.rounds"), "rb") as file:
-        stored = file.read()
-    names = {int(v): int(name) for v, name in re.findall(rb"^(\d+) put \d+ payload 0 hello (\d+)$", stored, re.M)}
-    net = Network(names, {(v, v + 1) for v in range(1, len(names))})
-    note("the stored text has long names", len(names) == 6 and all(60 <= name.bit_length() <= 64 for name in names.values()), names)
-    note("the stored text with long names", stored == rounds_text(net) == made_text(net), stored)
-
-
 def headline_rows(program, plan, all_of):
     """On each network, with each number of workers."""
     with tempfile.TemporaryDirectory() as folder:
@@ -154,7 +143,6 @@ def main():
     program, plan = os.path.abspath(given.program), os.path.abspath(given.plan)
     all_of = networks()
     text_rows(program, all_of)
-    stored_rows()
     headline_rows(program, plan, {name: data for name, data in all_of.items() if len(data) < MOST})
     fault_rows(program)
     memory_rows(program)
