@@ -16,12 +16,14 @@
 //! Limits: those of a `Network`, and a last pulse below 2³².
 #![tactic(auto)]
 
+mod boxes;
 mod delivery;
 mod engine;
 mod greatest;
 pub mod laws;
 mod rounds;
 mod senders;
+mod stepping;
 
 pub use engine::run_rounds;
 pub use greatest::{Best, Greatest};

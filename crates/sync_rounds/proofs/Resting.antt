@@ -1,0 +1,64 @@
+-- What every vertex sends as one list, and vertices that are passed over.
+use Rattle.std.proofs.Common.{◌≡◌, ℕ, suc, ◌+◌, ◌-◌, ◌<◌, ◌≤◌, List, [], length, get_or, set, refl, ap, sym, ◌∙◌, arith, subst}
+use Rattle.std.specs.Prelude.{Option, Ok, Result, IsSome, map}
+use Rattle.std.proofs.lemmas.List.{length-set}
+use Rattle.std.proofs.lemmas.List.FromFn.{length-map-range_with_len, get_or-map-range_with_len}
+use Rattle.node_api.specs.interference.Net.{Net, IsNetwork, IsVertex, count_of, degree_of, vertices}
+use Rattle.node_api.specs.Boxes.{Mail, nothing, unread, HasFrom}
+use Rattle.node_api.specs.Program.{Program, RestsUntil}
+use Rattle.node_api.specs.Run.{node_at, state_at, outbox_at, inbox_at, inbox_from, after}
+use Rattle.node_api.specs.Laws.{KeepsPorts}
+use Rattle.node_api.proofs.Runs.{length-inbox, node_at-ports, node_at-more}
+use Rattle.node_api.proofs.Reading.{all-none}
+use Rattle.sync_rounds.specs.Lists.{Lists}
+use Rattle.sync_rounds.specs.Rests.{HasOutboxes, sent_by}
+use Rattle.sync_rounds.proofs.Received.{set_cases}
+
+module _ {S M E : Type 0} (program : Program S M E) (net : Net) where
+  -- the entry of a vertex
+  pub sent_by-at : (p v : ℕ) → IsVertex net v → get_or (sent_by program net p) (v - 1) [] ≡ outbox_at program net p v
+  sent_by-at p v is_vertex = get_or-map-range_with_len (outbox_at program net p) 1 (count_of net) (v - 1) v [] (omega arith) (omega arith)
+
+  pub sent_by-lists : (p : ℕ) → Lists (count_of net) (outbox_at program net p) (sent_by program net p)
+  sent_by-lists p = record {
+    count = length-map-range_with_len (outbox_at program net p) 1 (count_of net);
+    entry = λ k d l. get_or-map-range_with_len (outbox_at program net p) 1 (count_of net) k (k + 1) d l (omega arith);
+  }
+
+  module _ (laws : KeepsPorts program) where
+    -- nothing comes, and the node rests: the next pulse leaves its state, and nothing is sent
+    pub rested : (p v until : ℕ) → RestsUntil program (state_at program net p v) p until → suc p < until →
+        inbox_at program net (suc p) v ≡ nothing (degree_of net v) → node_at program net (suc p) v ≡ (state_at program net p v, nothing (degree_of net v))
+    rested p v until rests early none =
+        let s = state_at program net p v in
+        let ports : program.ports s ≡ degree_of net v = (node_at-ports program net laws p v).0 in
+        let idle : program.next s (suc p) (nothing (degree_of net v)) ≡ Ok (s, nothing (degree_of net v)) =
+        subst (λ (n : ℕ). program.next s (suc p) (nothing n) ≡ Ok (s, nothing n)) ports (rests (suc p) (omega arith) early) in
+        node_at-more program net p v
+        ∙ (ap (λ (slots : List (Option M)). after s (degree_of net v) (program.next s (suc p) slots)) none
+        ∙ ap (λ (r : Result (S × List (Option M)) E). after s (degree_of net v) r) idle)
+
+    -- and it goes on resting
+    pub rests_on : (p v until : ℕ) → RestsUntil program (state_at program net p v) p until → state_at program net (suc p) v ≡ state_at program net p v →
+        RestsUntil program (state_at program net (suc p) v) (suc p) until
+    rests_on p v until rests same =
+        subst (λ (s : S). RestsUntil program s (suc p) until) (sym same) (λ q above below. rests q (omega arith) below)
+
+    -- what a vertex sends has a slot for each port
+    pub sent-length : (p v : ℕ) → length (outbox_at program net p v) ≡ degree_of net v
+    sent-length p v = (node_at-ports program net laws p v).1
+
+-- an outbox that is empty again leaves the others as they are
+pub outboxes_kept : {M : Type 0} (net : Net) (outs : List (List (Option M))) (v : ℕ) (out : List (Option M)) → IsVertex net v → HasOutboxes net outs →
+    out ≡ nothing (degree_of net v) → HasOutboxes net (set outs (degree_of net v) out)
+outboxes_kept net outs v out is_vertex has empty = record {
+  within = λ w is_w. omega (arith, has.within w is_w, length-set outs (degree_of net v) out);
+  empty = λ w d is_w. set_cases (λ (x : List (Option _)). x ≡ nothing (degree_of net w)) outs (degree_of net v) (degree_of net w) out d (has.within v is_vertex)
+      (λ same. empty ∙ ap (λ (n : ℕ). nothing n) (sym same)) (λ other. has.empty w d is_w);
+}
+
+-- an inbox of which nothing is to be read is empty
+pub nothing_came : {M : Type 0} (inbox : Mail M) (slots : List (Option M)) (n : ℕ) → inbox ≡ unread slots → length slots ≡ n → (HasFrom inbox.slots inbox.cursor → ⊥) →
+    slots ≡ nothing n
+nothing_came inbox slots n is size none =
+    all-none slots (subst (λ (mail : Mail _). HasFrom mail.slots mail.cursor → ⊥) is none) ∙ ap (λ (k : ℕ). nothing k) size
