@@ -4,17 +4,17 @@ use Rattle.std.proofs.Common.{arith, subst}
 use Rattle.std.specs.Prelude.{max, ◌⊎◌, if◌then◌else◌}
 use Rattle.std.proofs.lemmas.Bool.{cases_Bool, cases_eq, cases_lt, eq-eqb, ne_eqb}
 use Rattle.std.proofs.lemmas.List.{append-nil, get_or_append_left, get_or_past, get_or_push, length-append, length-map, map-append}
-use Rattle.interference.specs.Net.{Net, IsNetwork, IsVertex, degree_of, neighbour_of, neighbours, port_to}
-use Rattle.interference.proofs.Members.{place_of-is}
-use Rattle.interference.proofs.Neighbours.{port_to-is}
+use Rattle.alpha_core.specs.interference.Net.{Net, IsNetwork, IsVertex, degree_of, neighbour_of, neighbours, port_to}
+use Rattle.alpha_core.proofs.interference.Members.{place_of-is}
+use Rattle.alpha_core.proofs.interference.Neighbours.{port_to-is}
 use Rattle.alpha_core.specs.declared.stamped.Stamped.{Stamped}
 use Rattle.alpha_core.specs.declared.wire.Wire.{Wire}
 use Rattle.entries.specs.declared.entry.Entry.{Entry}
 use Rattle.entries.specs.declared.entry.Entry.TheVariants.{Pulse, Put, Take}
-use Rattle.stamps.specs.Stamps.{StampedEntry, AreStamped, counter_from, counter_of, next_stamp, put_in, stamped, stamps_of, taken_in}
+use Rattle.stamps.specs.Stamps.{StampedEntry, AreStamped, counter_of, next_stamp, put_in, stamped, stamps_of, taken_in}
 use Rattle.stamps.specs.Keeps.{HasTaken, KeepsStamps, OneMore, came_to}
 use Rattle.stamps.specs.Laws.{EventsKeepStamps}
-use Rattle.stamps.proofs.Local.{taken_more}
+use Rattle.stamps.proofs.Local.{counter_behind, taken_more}
 
 -- an entry of a list with one more at its end is the last, or is in the list
 pub split_push : {A : Type 0} (xs : List A) (e : A) (before : List A) (x : A) (after : List A) → xs ++ (e ∷ []) ≡ before ++ (x ∷ after)
@@ -31,10 +31,6 @@ split_push (y ∷ xs) e (b ∷ before) x after is =
     (split_push xs e before x after tail)
 
 module _ {M : Type 0} where
-  counter_push : (c : ℕ) (entries : List (StampedEntry M)) (e : StampedEntry M) → counter_from c (entries ++ (e ∷ [])) ≡ e.0
-  counter_push c [] e = refl
-  counter_push c (x ∷ entries) e = counter_push x.0 entries e
-
   put_more : (xs ys : List (StampedEntry M)) (w : ℕ) → put_in (xs ++ ys) w ≡ put_in xs w ++ put_in ys w
   put_more [] ys w = refl
   put_more ((s, Pulse p) ∷ xs) ys w = put_more xs ys w
@@ -123,7 +119,7 @@ module _ {M : Type 0} (net : Net) (ok : IsNetwork net) (v : ℕ) (vertex : IsVer
         let n = kept.counter_is in
         record {
           stamped = stamped_push (came_to net v takens) entries e kept.stamped (let is : counter + 1 ≡ suc (counter_of entries) = omega (arith, n) in is);
-          counter_is = counter_push 0 entries e;
+          counter_is = counter_behind 0 entries e;
           put_are = put_grown i (stamped (counter + 1) wire) puts puts' entries wire (counter + 1) lt refl more kept.put_are;
         };
     takes = λ i counter wire puts takens takens' entries lt kept has count none more.
@@ -140,7 +136,7 @@ module _ {M : Type 0} (net : Net) (ok : IsNetwork net) (v : ℕ) (vertex : IsVer
           stamped = stamped_push (came_to net v takens') entries e
               (stamped_more (came_to net v takens) (came_to net v takens') entries (came_same i wire takens takens' entries lt has more none) kept.stamped)
               (let is : s ≡ suc (max (counter_of entries) (get_or (came_to net v takens' w) (length (taken_in entries w)) 0)) = omega (arith, n, at) in is);
-          counter_is = counter_push 0 entries e;
+          counter_is = counter_behind 0 entries e;
           put_are = same_puts puts entries e (λ u. refl) kept.put_are;
         };
     asides = λ i counter wire puts takens takens' entries lt kept has none more. record {
@@ -153,7 +149,7 @@ module _ {M : Type 0} (net : Net) (ok : IsNetwork net) (v : ℕ) (vertex : IsVer
         let n = kept.counter_is in
         record {
           stamped = stamped_push (came_to net v takens) entries e kept.stamped (let is : counter + 1 ≡ suc (counter_of entries) = omega (arith, n) in is);
-          counter_is = counter_push 0 entries e;
+          counter_is = counter_behind 0 entries e;
           put_are = same_puts puts entries e (λ u. refl) kept.put_are;
         };
   }

@@ -1,4 +1,5 @@
 pub mod Lists
+pub mod Appends
 pub mod Local
 pub mod Keeps
 pub mod Props
@@ -6,3 +7,4 @@ pub mod Gathers
 pub mod Unique
 pub mod Sorts
 pub mod StepsUp
+pub mod Tables

@@ -7,8 +7,9 @@ use Rattle.alpha_core.specs.declared.stamped.Stamped.{Stamped}
 use Rattle.alpha_core.specs.declared.wire.Wire.{Wire}
 use Rattle.entries.specs.declared.entry.Entry.{Entry}
 use Rattle.entries.specs.declared.entry.Entry.TheVariants.{Pulse, Put, Take}
-use Rattle.stamps.specs.Stamps.{StampedEntry, put_in, stamped, taken_in}
-use Rattle.stamps.specs.Merged.{StampedRow, AreOrdered, Precedes, entries_at, puts_at, takes_at}
+use Rattle.stamps.specs.Stamps.{put_in, stamped, taken_in}
+use Rattle.stamps.specs.Merged.{StampedRow, Precedes, entries_at, puts_at, takes_at}
+use Rattle.stamps.proofs.Appends.{not_above}
 
 module _ {M : Type 0} where
   -- ---- by rows, and by the entries of a vertex
@@ -60,10 +61,6 @@ module _ {M : Type 0} where
       (λ same. let no = ne_eqb w k (λ e. apart same (sym e)) in let yes = eq-eqb v u (sym same) in rw yes (rw no refl))
       (λ ne. let no = ne_eqb v u (λ e. ne (sym e)) in rw no refl)
       (cases_eq u v)
-
-  -- ---- a row that comes before all others has no greater stamp than they have
-  not_above : (a b : StampedRow M) → Precedes a b → a.0 ≤ b.0
-  not_above a b before = ⊎_elim (λ less. omega (arith, less)) (λ same. let e = same.0 in omega (arith, e)) before
 
   -- the first put behind it has none that is less
   pub first_put : (row : StampedRow M) (rows : List (StampedRow M)) (v w : ℕ) (x : Stamped M) (more : List (Stamped M))

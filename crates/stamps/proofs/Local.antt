@@ -86,7 +86,7 @@ module _ {M : Type 0} where
   carried came w entries took held right is same = carries_from came w [] entries [] took held right is refl same
 
   -- ---- the stamps rise
-  counter_behind : (c : ℕ) (before : List (StampedEntry M)) (e : StampedEntry M) → counter_from c (before ++ (e ∷ [])) ≡ e.0
+  pub counter_behind : (c : ℕ) (before : List (StampedEntry M)) (e : StampedEntry M) → counter_from c (before ++ (e ∷ [])) ≡ e.0
   counter_behind c [] e = refl
   counter_behind c (x ∷ before) e = counter_behind x.0 before e
 

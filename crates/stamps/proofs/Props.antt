@@ -1,7 +1,7 @@
 -- What a node keeps of its stamps has at most one proof, as a fact of a type has to.
 use Rattle.std.specs.Prelude.{ℕ, List}
 use Rattle.std.proofs.Props.{props}
-use Rattle.interference.specs.Net.{Net}
+use Rattle.alpha_core.specs.interference.Net.{Net}
 use Rattle.alpha_core.specs.declared.stamped.Stamped.{Stamped}
 use Rattle.stamps.specs.Stamps.{StampedEntry}
 use Rattle.stamps.specs.Keeps.{KeepsStamps}

@@ -1,6 +1,6 @@
 -- What a node keeps of its stamps.
 use Rattle.std.specs.Prelude.{◌≡◌, ℕ, ◌<◌, ◌≤◌, List, [], ◌∷◌, ◌++◌, length}
-use Rattle.interference.specs.Net.{Net, degree_of, neighbour_of, port_to}
+use Rattle.alpha_core.specs.interference.Net.{Net, degree_of, neighbour_of, port_to}
 use Rattle.alpha_core.specs.declared.stamped.Stamped.{Stamped}
 use Rattle.stamps.specs.Stamps.{StampedEntry, AreStamped, counter_of, put_in, stamps_of, taken_in}
 

@@ -1,6 +1,6 @@
 -- The events of a node keep its stamps.
 use Rattle.std.specs.Prelude.{◌≡◌, ℕ, ◌+◌, ◌<◌, max, List, [], ◌∷◌, ◌++◌, length}
-use Rattle.interference.specs.Net.{Net, degree_of, neighbour_of}
+use Rattle.alpha_core.specs.interference.Net.{Net, degree_of, neighbour_of}
 use Rattle.alpha_core.specs.declared.stamped.Stamped.{Stamped}
 use Rattle.alpha_core.specs.declared.wire.Wire.{Wire}
 use Rattle.entries.specs.declared.entry.Entry.TheVariants.{Pulse, Put, Take}

@@ -18,6 +18,8 @@
 pub mod laws;
 mod ordering;
 mod rise;
+mod table;
 
 pub use ordering::order;
 pub use rise::rising;
+pub use table::StampTable;
