@@ -56,8 +56,9 @@ pub const FORESTS: Help = Help {
     about: "Prints the forests into which the edges are parted",
     long_about: "Prints the forests into which the edges are parted.
 
-Every vertex numbers its neighbours above it, ascending, from 0. The edges with
-number F are forest F, in which the higher end of an edge is the lower's parent.",
+Every vertex numbers its neighbours of higher identifier, ascending, from 0. The
+edges with number F are forest F, in which the end of higher identifier is the
+parent of the other.",
     format: "Input: a graph in the DIMACS format, as `p edge NODES EDGES` and then `e V W`.
 
 Output, a line each:
@@ -130,8 +131,8 @@ for each other use up their turns.
 
 More workers are not faster on a small network: there is too little to do at
 once, and they wait for each other. A run grows with its rounds. With D as the
-greatest number of neighbours of a vertex, and U as that of neighbours above it,
-plain and plan make
+greatest number of neighbours of a vertex, and U as that of its neighbours of
+higher identifier, plain and plan make
   R = 12 + 3 U (D + 1)
 rounds, and plan sends for P messages on E edges in all
   2 P + 2 E (R + 1)
@@ -182,8 +183,8 @@ the link, before its first pulse.
 
 Each wire has two lines, one where it was put and one where it was taken, and
 each node a line for each pulse. With D as the greatest number of neighbours of
-a vertex, and U as that of neighbours above it, N nodes and P messages on E edges
-make behind the first line
+a vertex, U as that of its neighbours of higher identifier, N nodes and P
+messages on E edges make behind the first line
   2 (2 P + 2 E (R + 1)) + N R    lines, where R = 12 + 3 U (D + 1)
 On the complete graph of 100 nodes that is 594 million lines, of 13 GB.
 A run that is cut off by --turns prints none: it reports `forestplan: stopped`
