@@ -1,6 +1,5 @@
-use Rattle.std.proofs.Common.{◌∙◌, ap, sym}
-use Rattle.dimacs_col.specs.Lines.{field_at, number_of}
-use Rattle.dimacs_col.proofs.FieldNumbers.{fitting-missing, fitting-none, fitting-some}
+use Rattle.std.proofs.Common.{◌∙◌, sym}
+use Rattle.dimacs_col.proofs.FieldNumbers.{fitting-missing}
 use Rattle.dimacs_col.proofs.fields.Fields.next_identifier.Goals as goal
 
 pub returns-in_err-field-clause-first : goal.returns-in_err-field-clause-first

@@ -29,7 +29,7 @@ returns-clause-vertices c = λ lines knows pair h.
     let ids = c.in_ok-by_vertex.field-0.items in
     let ascend : IsStrictlySortedBy nat_cmp (keys_of ids) = rw c.in_ok-by_vertex.ensures.items c.by_vertex.ensures.ordered in
     let found : lookup (is_at (nat_cmp pair.0)) ids ≡ Some pair.1 =
-        lookup-from_Contains (eq_by_cmp_equiv nat_cmp_total) pair.0 pair.1 ids (IsDistinct-from_sorted nat_cmp (keys_of ids) ascend) h in
+    lookup-from_Contains (eq_by_cmp_equiv nat_cmp_total) pair.0 pair.1 ids (IsDistinct-from_sorted nat_cmp (keys_of ids) ascend) h in
     subst (λ o. IsVertexOf o pair.0) c.in-Some.is (knows.ids_fit pair.0 pair.1 (sym (knows.ids_are pair.0) ∙
     ap (lookup (is_at (nat_cmp pair.0))) (sym c.in_ok-by_vertex.ensures.items) ∙ found))
 

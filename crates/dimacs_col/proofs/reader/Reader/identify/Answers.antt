@@ -6,7 +6,7 @@ use Rattle.std.specs.Option.{is_some, option_map}
 use Rattle.std.specs.Ordering.{nat_cmp}
 use Rattle.dimacs_col.specs.Kinds.{kind_of_word}
 use Rattle.dimacs_col.specs.Lines.{Line, field_at, fitting, number_of}
-use Rattle.dimacs_col.specs.State.{Knows, kept_number}
+use Rattle.dimacs_col.specs.State.{Knows}
 use Rattle.dimacs_col.specs.declared.fault.ColFault.TheVariants.{VertexRange, NumberRange, IdTwice}
 use Rattle.dimacs_col.specs.declared.kind.Kind.TheVariants.{Identifier}
 use Rattle.dimacs_col.proofs.Verdicts.{field_at-drop, none-from}
