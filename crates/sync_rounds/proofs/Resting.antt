@@ -9,7 +9,7 @@ use Rattle.node_api.specs.Program.{Program, RestsUntil}
 use Rattle.node_api.specs.Run.{node_at, state_at, outbox_at, inbox_at, inbox_from, after}
 use Rattle.node_api.specs.Laws.{KeepsPorts}
 use Rattle.node_api.proofs.Runs.{length-inbox, node_at-ports, node_at-more}
-use Rattle.node_api.proofs.Reading.{all-none}
+use Rattle.node_api.proofs.Reading.{nothing-came}
 use Rattle.sync_rounds.specs.Lists.{Lists}
 use Rattle.sync_rounds.specs.Rests.{HasOutboxes, sent_by}
 use Rattle.sync_rounds.proofs.Received.{set_cases}
@@ -61,4 +61,4 @@ outboxes_kept net outs v out is_vertex has empty = record {
 pub nothing_came : {M : Type 0} (inbox : Mail M) (slots : List (Option M)) (n : ℕ) → inbox ≡ unread slots → length slots ≡ n → (HasFrom inbox.slots inbox.cursor → ⊥) →
     slots ≡ nothing n
 nothing_came inbox slots n is size none =
-    all-none slots (subst (λ (mail : Mail _). HasFrom mail.slots mail.cursor → ⊥) is none) ∙ ap (λ (k : ℕ). nothing k) size
+    nothing-came slots (subst (λ (mail : Mail _). HasFrom mail.slots mail.cursor → ⊥) is none) ∙ ap (λ (k : ℕ). nothing k) size
