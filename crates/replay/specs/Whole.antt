@@ -1,5 +1,5 @@
 -- A replay of stamped entries that ends whole, and why a list of them isn't one.
-use Rattle.std.specs.Prelude.{◌≡◌, ℕ, ◌<◌, IsTrue, All, List, [], ◌∷◌, ◌++◌, length, Ok, Some}
+use Rattle.std.specs.Prelude.{◌≡◌, ℕ, ◌<◌, IsTrue, List, [], ◌∷◌, ◌++◌, length, Ok, Some}
 use Rattle.alpha_laws.specs.interference.Net.{Net, IsVertex, degree_of}
 use Rattle.alpha_laws.specs.node_api.Program.{Program, last_pulse_on}
 use Rattle.alpha_laws.specs.alpha_core.View.{is_drained}
@@ -11,7 +11,7 @@ use Rattle.replay.specs.declared.refused.WholeRefused.{WholeRefused}
 use Rattle.replay.specs.declared.refused.WholeRefused.TheVariants.{Replay, WrongStamp, NotWhole}
 use Rattle.replay.specs.Replays.{IsReplay, WhyNot, at_entry}
 use Rattle.replay.specs.Rows.{event_of, row_of}
-use Rattle.stamps.specs.Merged.{StampedRow, AreOrdered, AreStampedRows, Precedes, rows_in, stamp_behind}
+use Rattle.stamps.specs.Merged.{StampedRow, AreOrdered, AreStampedRows, IsInPlace, rows_in}
 
 -- no link out of v holds a wire
 abbrev pub HoldsNothing : {S M : Type 0} → Net → State S M → ℕ → Type 0
@@ -36,10 +36,6 @@ pub record IsWholeReplay {S M E : Type 0} (program : Program S M E) (net : Net) 
     (last : State S M) : Type 0 where
   pub replay : IsStampedReplay program net rows last
   pub whole : IsWhole program net last
-
--- A row has the stamp of its node's counter behind these rows, and none of them comes after it in the order.
-abbrev pub IsInPlace : {M : Type 0} → List (StampedRow M) → StampedRow M → Type 0
-IsInPlace before row = All (λ r. Precedes r row) before × (row.0 ≡ stamp_behind before row)
 
 -- the rows before one of them are a stamped replay
 pub record ReachesRow {S M E : Type 0} (program : Program S M E) (net : Net) (rows : List (StampedRow M)) : Type 0 where

@@ -1,13 +1,11 @@
 //! Lists of stamped entries.
 
-ghost use Rattle.std.specs.Prelude.{◌≡◌, ◌≢◌, IfErr, IfOk, MatchBool};
-ghost use Rattle.entries.specs.declared.entry.Entry.TheVariants.{Pulse};
+ghost use Rattle.std.specs.Prelude.{◌≡◌, ◌≢◌, IfErr, IfOk};
 ghost use Rattle.net_core.specs.declared.refused.RunRefused.TheVariants.{Memory};
 ghost use Rattle.net_core.specs.Simulation.{IsSimulation};
 ghost use Rattle.replay.specs.declared.refused.ReplayRefused.TheVariants.{Run};
 ghost use Rattle.replay.specs.declared.refused.WholeRefused.TheVariants.{Replay};
 ghost use Rattle.replay.specs.Whole.{IsWholeReplay, WhyNotWhole};
-ghost use Rattle.stamps.specs.Merged.{Precedes};
 
 use crate::entry_event::make_entry;
 use crate::refused::WholeRefused;
@@ -17,13 +15,6 @@ use entries::Entry;
 use net_core::NetState;
 use stamps::StampTable;
 use std::alloc::Global;
-
-// Whether a row comes behind every row that comes before this stamp and vertex, or is at them.
-fn comes_behind<T: Copy>(stamp: u64, vertex: u32, row: &(u64, u32, Entry<T>)) -> bool
-    ensures { MatchBool result (Precedes (stamp, vertex, Pulse 0) row.now) (Precedes (stamp, vertex, Pulse 0) row.now → ⊥) }
-{
-    stamp < row.0 || (stamp == row.0 && vertex <= row.1)
-}
 
 /// Plays stamped entries, each behind the vertex of its node, from the start, and returns the state that they lead to.
 /// They have to end whole: every node drained, and every link empty.
@@ -46,19 +37,15 @@ pub fn replay_whole<P: NodeProgram>(
 {
     let mut state = NetState::start(alloc, net)?;
     let mut table = StampTable::new(alloc);
-    let mut stamp = 0;
-    let mut vertex = 0;
     for (index, row) in rows.iter().enumerate() {
         match make_entry(&mut state, &(row.1, row.2)) {
             Ok(()) => {}
             Err(refused) => return Err(WholeRefused::Replay(refused.at(index))),
         }
-        if !comes_behind(stamp, vertex, row) || !table.is_next(row) {
+        if !table.is_in_place(row) {
             return Err(WholeRefused::WrongStamp(index));
         }
         table.add(alloc, row)?;
-        stamp = row.0;
-        vertex = row.1;
     }
     if !is_whole(&state) {
         return Err(WholeRefused::NotWhole);

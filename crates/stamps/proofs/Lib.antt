@@ -8,3 +8,4 @@ pub mod Unique
 pub mod Sorts
 pub mod StepsUp
 pub mod Tables
+pub mod Growing

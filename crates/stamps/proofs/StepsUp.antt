@@ -30,7 +30,9 @@ module _ {M : Type 0} where
   steps_of_rising [] rises k d lt = absurd (omega (arith, lt))
   steps_of_rising (x ∷ entries) rises zero d lt =
       All-get_or (λ (later : StampedEntry M). x.0 < later.0) entries 0 d (omega (arith, lt)) rises.0
-  steps_of_rising (x ∷ entries) rises (suc k) d lt = steps_of_rising entries rises.1 k d (omega (arith, lt))
+  steps_of_rising (x ∷ entries) rises (suc k) d lt =
+      let e : suc (k + 1) ≡ suc k + 1 = omega arith in
+      subst (λ j. (get_or entries k d).0 < (get_or (x ∷ entries) j d).0) e (steps_of_rising entries rises.1 k d (omega (arith, lt)))
 
   -- ---- one entry more
   pub next_up : (entries : List (StampedEntry M)) (i : ℕ) (x y : StampedEntry M) → 1 ≤ i → i < length entries → StepsUp entries i

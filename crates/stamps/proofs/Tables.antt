@@ -1,15 +1,19 @@
 -- The table of rows with one row more at their end.
-use Rattle.std.proofs.Common.{◌≡◌, ◌≢◌, ℕ, suc, ◌+◌, ◌==◌, List, [], ◌∷◌, ◌++◌, length, refl, sym, ap, ◌∙◌, ⊎_elim, arith}
-use Rattle.std.specs.Prelude.{◌&&◌, if◌then◌else◌}
-use Rattle.std.proofs.lemmas.Bool.{cases_eq, eq-eqb, ne_eqb}
-use Rattle.std.proofs.lemmas.List.{append-nil, length-append, map-append}
+use Rattle.std.proofs.Common.{◌≡◌, ◌≢◌, ℕ, suc, ◌+◌, ◌<◌, ◌≤◌, ◌==◌, List, [], ◌∷◌, ◌++◌, length, refl, sym, ap, ◌∙◌, ⊎_elim, inl, inr, arith, subst}
+use Rattle.std.specs.Prelude.{◌&&◌, if◌then◌else◌, All, nat_eq, Option, Some, None, false}
+use Rattle.std.specs.HashMap.{get, HashMap, Updates}
+use Rattle.std.specs.Option.{unwrap_or}
+use Rattle.std.specs.declared.vec.Vec.{Vec}
+use Rattle.std.proofs.lemmas.Bool.{cases_eq, cases_order, eq-eqb, ne_eqb}
+use Rattle.std.proofs.lemmas.List.{append-nil, get_or_at, length-append, map-append}
+use Rattle.std.proofs.lemmas.List.Elements.{All-get_or, All-push, All-weaker}
 use Rattle.alpha_core.specs.declared.stamped.Stamped.{Stamped}
 use Rattle.alpha_core.specs.declared.wire.Wire.{Wire}
 use Rattle.entries.specs.declared.entry.Entry.{Entry}
 use Rattle.entries.specs.declared.entry.Entry.TheVariants.{Pulse, Put, Take}
 use Rattle.stamps.specs.Stamps.{counter_of, stamped, stamps_of}
-use Rattle.stamps.specs.Merged.{StampedRow, entries_at, puts_at, takes_at}
-use Rattle.stamps.specs.Table.{IsCounted, IsPushed, IsTableOf, count_in, counter_in, list_in}
+use Rattle.stamps.specs.Merged.{StampedRow, IsInPlace, Precedes, entries_at, puts_at, takes_at}
+use Rattle.stamps.specs.Table.{IsCounted, IsPushed, IsTableOf, count_in, counter_in, items_of, list_in, same_link}
 use Rattle.stamps.specs.declared.table.StampTable.{StampTable}
 use Rattle.stamps.proofs.Appends.{puts_append, takes_append}
 use Rattle.stamps.proofs.Lists.{entry_here, entry_other, put_here, put_other, take_here, take_other}
@@ -17,7 +21,7 @@ use Rattle.stamps.proofs.Local.{counter_behind}
 use Rattle.stamps.proofs.Unique.{entries_append}
 
 -- the two numbers of a pair
-pair_apart : (v w a b : ℕ) → (v ≡ a → w ≡ b → ⊥) → (v, w) ≡ (a, b) → ⊥
+pair_apart : (v w a b : ℕ) → (v ≡ a → w ≡ b → ⊥) → ◌≡◌ {A = ℕ × ℕ} (v, w) (a, b) → ⊥
 pair_apart v w a b apart same = apart (ap (λ p. p.0) same) (ap (λ p. p.1) same)
 
 module _ {M : Type 0} (rows : List (StampedRow M)) where
@@ -44,7 +48,7 @@ module _ {M : Type 0} (rows : List (StampedRow M)) where
       ap (λ l. length l) (sym (takes_append rows (row ∷ []) a b ∙ ap (λ l. takes_at rows a b ++ l) none ∙ append-nil (takes_at rows a b)))
 
   puts_grown : (s v w : ℕ) (x : Wire M) (a b : ℕ) (l l' : List ℕ) → l ≡ stamps_of (puts_at rows a b)
-      → ((a, b) ≡ (v, w) → l' ≡ l ++ (s ∷ [])) → ((a, b) ≢ (v, w) → l' ≡ l)
+      → (◌≡◌ {A = ℕ × ℕ} (a, b) (v, w) → l' ≡ l ++ (s ∷ [])) → ((◌≡◌ {A = ℕ × ℕ} (a, b) (v, w) → ⊥) → l' ≡ l)
       → l' ≡ stamps_of (puts_at (rows ++ ((s, v, Put w x) ∷ [])) a b)
   puts_grown s v w x a b l l' is here other =
       let row : StampedRow M = (s, v, Put w x) in
@@ -57,14 +61,14 @@ module _ {M : Type 0} (rows : List (StampedRow M)) where
       ap (λ k. puts_at (row ∷ []) k b) first ∙ ap (λ k. puts_at (row ∷ []) v k) second ∙ put_here s v w x [] in
       here (ap (λ k. (k, b)) first ∙ ap (λ k. (v, k)) second) ∙ ap (λ k. k ++ (s ∷ [])) is
       ∙ sym (ap (λ k. stamps_of k) (puts_append rows (row ∷ []) a b ∙ ap (λ k. puts_at rows a b ++ k) one)
-      ∙ map-append (λ (z : Stamped M). z.stamp) (puts_at rows a b) (stamped s x ∷ [])))
+      ∙ map-append (λ (z : Stamped M). z.stamp) (puts_at rows a b) (stamped s x ∷ []))
       (λ ne. apart (λ _ second. ne second))
       (cases_eq b w))
       (λ ne. apart (λ first _. ne first))
       (cases_eq a v)
 
   takes_grown : (s v w : ℕ) (x : Wire M) (a b n n' : ℕ) → n ≡ length (takes_at rows a b)
-      → ((a, b) ≡ (v, w) → n' ≡ suc n) → ((a, b) ≢ (v, w) → n' ≡ n)
+      → (◌≡◌ {A = ℕ × ℕ} (a, b) (v, w) → n' ≡ suc n) → ((◌≡◌ {A = ℕ × ℕ} (a, b) (v, w) → ⊥) → n' ≡ n)
       → n' ≡ length (takes_at (rows ++ ((s, v, Take w x) ∷ [])) a b)
   takes_grown s v w x a b n n' is here other =
       let row : StampedRow M = (s, v, Take w x) in
@@ -84,32 +88,109 @@ module _ {M : Type 0} (rows : List (StampedRow M)) where
       (λ ne. apart (λ first _. ne first))
       (cases_eq a v)
 
+-- What the table of rows becomes with a row that is in place.
 module _ {M : Type 0} (rows : List (StampedRow M)) (old new : StampTable) (s v : ℕ) (is : IsTableOf rows old)
+    (stamp : new.last_stamp ≡ s) (vertex : new.last_vertex ≡ v)
     (here : counter_in new.counters v ≡ s) (others : (q : ℕ) → q ≢ v → counter_in new.counters q ≡ counter_in old.counters q) where
   counters_with : (e : Entry M) (u : ℕ) → counter_in new.counters u ≡ counter_of (entries_at (rows ++ ((s, v, e) ∷ [])) u)
   counters_with e u =
       counter_grown rows s v e u (counter_in old.counters u) (counter_in new.counters u) (is.counters u)
       (λ same. ap (λ k. counter_in new.counters k) same ∙ here) (others u)
 
-  pub with_pulse : (p : ℕ) → new.puts ≡ old.puts → new.takes ≡ old.takes → IsTableOf (rows ++ ((s, v, Pulse p) ∷ [])) new
-  with_pulse p puts takes = record {
+  last_is : (row : StampedRow M) → Precedes (s, v, Pulse 0) row → Precedes (new.last_stamp, new.last_vertex, Pulse 0) row
+  last_is row precedes =
+      subst (λ k. Precedes (k, new.last_vertex, Pulse 0) row) (sym stamp) (subst (λ k. Precedes (s, k, Pulse 0) row) (sym vertex) precedes)
+
+  is_last : (row : StampedRow M) → Precedes row (s, v, Pulse 0) → Precedes row (new.last_stamp, new.last_vertex, Pulse 0)
+  is_last row precedes =
+      subst (λ k. Precedes row (k, new.last_vertex, Pulse 0)) (sym stamp) (subst (λ k. Precedes row (s, k, Pulse 0)) (sym vertex) precedes)
+
+  below_with : (e : Entry M) → All (λ r. Precedes r (s, v, e)) rows
+      → All (λ r. Precedes r (new.last_stamp, new.last_vertex, Pulse 0)) (rows ++ ((s, v, e) ∷ []))
+  below_with e place =
+      All-push (λ (r : StampedRow M). Precedes r (new.last_stamp, new.last_vertex, Pulse 0)) rows (s, v, e)
+      (All-weaker (λ (r : StampedRow M). Precedes r (s, v, e)) (λ (r : StampedRow M). Precedes r (new.last_stamp, new.last_vertex, Pulse 0))
+      (λ r before. is_last r before) rows place)
+      (is_last (s, v, e) (inr (refl, omega arith)))
+
+  least_with : (e : Entry M) (row : StampedRow M) → All (λ r. Precedes r row) (rows ++ ((s, v, e) ∷ []))
+      → Precedes (new.last_stamp, new.last_vertex, Pulse 0) row
+  least_with e row all =
+      let one : StampedRow M = (s, v, e) in
+      let within : length rows < length (rows ++ (one ∷ [])) = let n = length-append rows (one ∷ []) in omega (arith, n) in
+      last_is row (subst (λ (r : StampedRow M). Precedes r row) (get_or_at rows one [] one (length rows) refl)
+      (All-get_or (λ (r : StampedRow M). Precedes r row) (rows ++ (one ∷ [])) (length rows) one within all))
+
+  pub with_pulse : (p : ℕ) → new.puts ≡ old.puts → new.takes ≡ old.takes → IsInPlace rows (s, v, Pulse p) → IsTableOf (rows ++ ((s, v, Pulse p) ∷ [])) new
+  with_pulse p puts takes place = record {
     counters = counters_with (Pulse p);
     puts = λ a b. ap (λ m. list_in m (a, b)) puts ∙ is.puts a b ∙ puts_stay rows (s, v, Pulse p) a b refl;
     takes = λ a b. ap (λ m. count_in m (a, b)) takes ∙ is.takes a b ∙ takes_stay rows (s, v, Pulse p) a b refl;
+    below = below_with (Pulse p) place.0;
+    least = least_with (Pulse p);
   }
 
-  pub with_put : (w : ℕ) (x : Wire M) → IsPushed old.puts new.puts (v, w) s → new.takes ≡ old.takes → IsTableOf (rows ++ ((s, v, Put w x) ∷ [])) new
-  with_put w x pushed takes = record {
+  pub with_put : (w : ℕ) (x : Wire M) → IsPushed old.puts new.puts (v, w) s → new.takes ≡ old.takes → IsInPlace rows (s, v, Put w x)
+      → IsTableOf (rows ++ ((s, v, Put w x) ∷ [])) new
+  with_put w x pushed takes place = record {
     counters = counters_with (Put w x);
     puts = λ a b. puts_grown rows s v w x a b (list_in old.puts (a, b)) (list_in new.puts (a, b)) (is.puts a b)
         (λ same. ap (λ k. list_in new.puts k) same ∙ pushed.here ∙ ap (λ k. list_in old.puts k ++ (s ∷ [])) (sym same)) (pushed.others (a, b));
     takes = λ a b. ap (λ m. count_in m (a, b)) takes ∙ is.takes a b ∙ takes_stay rows (s, v, Put w x) a b refl;
+    below = below_with (Put w x) place.0;
+    least = least_with (Put w x);
   }
 
-  pub with_take : (w : ℕ) (x : Wire M) → new.puts ≡ old.puts → IsCounted old.takes new.takes (v, w) → IsTableOf (rows ++ ((s, v, Take w x) ∷ [])) new
-  with_take w x puts counted = record {
+  pub with_take : (w : ℕ) (x : Wire M) → new.puts ≡ old.puts → IsCounted old.takes new.takes (v, w) → IsInPlace rows (s, v, Take w x)
+      → IsTableOf (rows ++ ((s, v, Take w x) ∷ [])) new
+  with_take w x puts counted place = record {
     counters = counters_with (Take w x);
     puts = λ a b. ap (λ m. list_in m (a, b)) puts ∙ is.puts a b ∙ puts_stay rows (s, v, Take w x) a b refl;
     takes = λ a b. takes_grown rows s v w x a b (count_in old.takes (a, b)) (count_in new.takes (a, b)) (is.takes a b)
         (λ same. ap (λ k. count_in new.takes k) same ∙ counted.here ∙ ap (λ k. suc (count_in old.takes k)) (sym same)) (counted.others (a, b));
+    below = below_with (Take w x) place.0;
+    least = least_with (Take w x);
   }
+
+-- ---- maps
+-- another link
+link_apart : (a q : ℕ × ℕ) → (q ≡ a → ⊥) → same_link a q ≡ false
+link_apart a q ne = ⊎_elim
+    (λ first. ⊎_elim
+    (λ second. let pair : q ≡ a = ap (λ k. (k, q.1)) (sym first) ∙ ap (λ k. (a.0, k)) (sym second) in absurd (ne pair))
+    (λ other. let yes = eq-eqb a.0 q.0 first in let no = ne_eqb a.1 q.1 other in rw yes (rw no refl))
+    (cases_eq a.1 q.1))
+    (λ other. let no = ne_eqb a.0 q.0 other in rw no refl)
+    (cases_eq a.0 q.0)
+
+module _ {S : Type 0} where
+  pub counter_set : (old new : HashMap ℕ ℕ S) (v s : ℕ) → Updates nat_eq old new v (Some s)
+      → (counter_in new v ≡ s) × ((q : ℕ) → q ≢ v → counter_in new q ≡ counter_in old q)
+  counter_set old new v s updates = (
+    ap (λ o. unwrap_or o 0) updates.1,
+    λ q ne. ap (λ o. unwrap_or o 0) (updates.2 q (ne_eqb v q (λ e. ne (sym e)))),
+  )
+
+  pub counted_by : (old new : HashMap (ℕ × ℕ) ℕ S) (link : ℕ × ℕ) (n : ℕ) → Updates same_link old new link (Some n) → n ≡ suc (count_in old link)
+      → IsCounted old new link
+  counted_by old new link n updates is = record {
+    here = ap (λ o. unwrap_or o 0) updates.1 ∙ is;
+    others = λ q ne. ap (λ o. unwrap_or o 0) (updates.2 q (link_apart link q ne));
+  }
+
+items_or : {A : Type 0} (o : Option (Vec ℕ A)) (list : Vec ℕ A) → list.items ≡ [] → (unwrap_or o list).items ≡ items_of o
+items_or None list none = none
+items_or (Some there) list none = refl
+
+module _ {S A : Type 0} where
+  pub pushed_by : (old new : HashMap (ℕ × ℕ) (Vec ℕ A) S) (link : ℕ × ℕ) (item : ℕ) (empty was is : Vec ℕ A) → Updates same_link old new link (Some is)
+      → was ≡ unwrap_or (get same_link old link) empty → empty.items ≡ [] → is.items ≡ was.items ++ (item ∷ []) → IsPushed old new link item
+  pushed_by old new link item empty was is updates before none push = record {
+    here = ap (λ o. items_of o) updates.1 ∙ push
+        ∙ ap (λ l. l ++ (item ∷ [])) (ap (λ (v : Vec ℕ A). v.items) before ∙ items_or (get same_link old link) empty none);
+    others = λ q ne. ap (λ o. items_of o) (updates.2 q (link_apart link q ne));
+  }
+
+-- the first row
+pub from_start : {M : Type 0} (row : StampedRow M) → Precedes (0, 0, Pulse 0) row
+from_start row = ⊎_elim (λ zero. inr (zero, omega arith)) (λ side. ⊎_elim (λ lt. inl lt) (λ gt. absurd (omega (arith, gt))) side) (cases_order 0 row.0)

@@ -50,6 +50,10 @@ module _ {M : Type 0} where
   stamp_behind before row =
       next_stamp (λ w. stamps_of (puts_at before w row.1)) (entries_at before row.1) row.2
 
+  -- A row has the stamp of its node's counter behind these rows, and none of them comes after it in the order.
+  abbrev pub IsInPlace : List (StampedRow M) → StampedRow M → Type 0
+  IsInPlace before row = All (λ r. Precedes r row) before × (row.0 ≡ stamp_behind before row)
+
   -- Each row has the stamp that the counter of its node gives it.
   abbrev pub AreStampedRows : List (StampedRow M) → Type 0
   AreStampedRows rows = (before : List (StampedRow M)) (row : StampedRow M) (after : List (StampedRow M))

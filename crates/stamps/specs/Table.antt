@@ -1,22 +1,24 @@
--- What rows say of the stamp of the next one, in a table.
+-- What rows say of the next one, in a table.
 use Rattle.std.specs.Prelude.{◌≡◌, ◌≢◌, ℕ, suc, Bool, ◌&&◌, nat_eq, List, [], ◌∷◌, ◌++◌, length, Option, Some, None}
+use Rattle.std.specs.Prelude.{All, slice_index_or}
+use Rattle.entries.specs.declared.entry.Entry.TheVariants.{Pulse}
 use Rattle.std.specs.HashMap.{get, HashMap}
 use Rattle.std.specs.Option.{unwrap_or}
 use Rattle.std.specs.declared.vec.Vec.{Vec}
 use Rattle.stamps.specs.declared.table.StampTable.{StampTable}
 use Rattle.stamps.specs.Stamps.{counter_of, stamps_of}
-use Rattle.stamps.specs.Merged.{StampedRow, entries_at, puts_at, takes_at}
+use Rattle.stamps.specs.Merged.{StampedRow, Precedes, entries_at, puts_at, takes_at}
 
 -- one link, by two vertices
 abbrev pub same_link : ℕ × ℕ → ℕ × ℕ → Bool
 same_link a b = nat_eq a.0 b.0 && nat_eq a.1 b.1
 
-module _ {S A : Type 0} where
-  -- the items of a list that is there
-  abbrev pub items_of : Option (Vec ℕ A) → List ℕ
-  items_of None = []
-  items_of (Some list) = list.items
+-- the items of a list, if there is one
+abbrev pub items_of : {A : Type 0} → Option (Vec ℕ A) → List ℕ
+items_of None = []
+items_of (Some list) = list.items
 
+module _ {S A : Type 0} where
   -- the list of a link, with no items if there is none
   abbrev pub list_in : HashMap (ℕ × ℕ) (Vec ℕ A) S → ℕ × ℕ → List ℕ
   list_in m link = items_of (get same_link m link)
@@ -39,9 +41,16 @@ module _ {S : Type 0} where
     pub here : count_in new link ≡ suc (count_in old link)
     pub others : (q : ℕ × ℕ) → q ≢ link → count_in new q ≡ count_in old q
 
--- The table is that of these rows: the counter of each vertex, and of each link the stamps of its puts and how many wires
--- were taken.
+-- the stamp of the wire that v takes next from w, by the puts in rows
+abbrev pub stamp_taken : {M : Type 0} → List (StampedRow M) → ℕ → ℕ → ℕ
+stamp_taken rows v w = slice_index_or (stamps_of (puts_at rows w v)) (length (takes_at rows v w)) 0
+
+-- The table is that of these rows: the counter of each vertex, of each link the stamps of its puts and how many wires
+-- were taken, and a stamp and vertex that none of the rows comes after, and that no row comes before if none comes after it.
 pub record IsTableOf {M : Type 0} (rows : List (StampedRow M)) (table : StampTable) : Type 0 where
   pub counters : (v : ℕ) → counter_in table.counters v ≡ counter_of (entries_at rows v)
   pub puts : (v w : ℕ) → list_in table.puts (v, w) ≡ stamps_of (puts_at rows v w)
   pub takes : (v w : ℕ) → count_in table.takes (v, w) ≡ length (takes_at rows v w)
+  pub below : All (λ r. Precedes r (table.last_stamp, table.last_vertex, Pulse 0)) rows
+  pub least : (row : StampedRow M) → All (λ r. Precedes r row) rows
+      → Precedes (table.last_stamp, table.last_vertex, Pulse 0) row

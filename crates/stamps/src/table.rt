@@ -1,9 +1,10 @@
-//! The stamp of the next row, by what the rows before it say.
+//! Whether the next row is in place, by what the rows before it say.
 
 ghost use Rattle.std.specs.Prelude.{◌≡◌, ◌≢◌, ◌++◌, ◌∷◌, [], suc, List, MatchBool, OnOk, slice_index_or};
+ghost use Rattle.entries.specs.declared.entry.Entry.TheVariants.{Pulse};
 ghost use Rattle.stamps.specs.Stamps.{counter_of};
-ghost use Rattle.stamps.specs.Merged.{StampedRow, entries_at, stamp_behind};
-ghost use Rattle.stamps.specs.Table.{IsCounted, IsPushed, IsTableOf, count_in, list_in};
+ghost use Rattle.stamps.specs.Merged.{IsInPlace, Precedes, StampedRow, entries_at, stamp_behind};
+ghost use Rattle.stamps.specs.Table.{IsCounted, IsPushed, IsTableOf, count_in, list_in, stamp_taken};
 
 use alpha_core::Memory;
 use entries::Entry;
@@ -13,8 +14,8 @@ use std::collections::HashMap;
 type Puts = HashMap<(u32, u32), Vec<u64>>;
 type Takes = HashMap<(u32, u32), usize>;
 
-/// What rows of stamped entries say of the stamp of the next row. A lookup takes the same time however many rows there
-/// are.
+/// What rows of stamped entries say of the next row: its stamp, and that it may not come before any of them. A look takes
+/// the same time however many rows there are.
 #[derive(Drop)]
 pub struct StampTable {
     // The counter of each vertex that has a row.
@@ -23,6 +24,9 @@ pub struct StampTable {
     puts: Puts,
     // How many wires were taken, by the vertex that takes and the one that puts.
     takes: Takes,
+    // The last row, at the beginning 0 and 0.
+    last_stamp: u64,
+    last_vertex: u32,
 }
 
 // Whether a stamp is one more than a number.
@@ -30,6 +34,14 @@ fn follows(stamp: u64, counter: u64) -> bool
     ensures { MatchBool result (stamp ≡ suc counter) (stamp ≢ suc counter) }
 {
     0 < stamp && stamp - 1 == counter
+}
+
+// Whether a row may come behind a row of this stamp and vertex.
+fn comes_behind<T: Copy>(stamp: u64, vertex: u32, row: &(u64, u32, Entry<T>)) -> bool
+    ensures { MatchBool result (Precedes (stamp, vertex, Pulse 0) row.now)
+        (Precedes (stamp, vertex, Pulse 0) row.now → ⊥) }
+{
+    stamp < row.0 || (stamp == row.0 && vertex <= row.1)
 }
 
 // The stamp of put number k on a link, from 0; 0 if there is none.
@@ -68,25 +80,35 @@ fn add_take(takes: &mut Takes, link: (u32, u32)) -> Result<(), AllocError>
 impl StampTable {
     /// The table of no rows.
     pub fn new(alloc: Global) -> StampTable
-        ensures none { {M : Type 0} → IsTableOf {M = M} [] result }
+        ensures none { (M : Type 0) → IsTableOf {M = M} [] result }
     {
         StampTable {
             counters: HashMap::new(alloc),
             puts: HashMap::new(alloc),
             takes: HashMap::new(alloc),
+            last_stamp: 0,
+            last_vertex: 0,
         }
     }
 
     /// The counter of a vertex: the stamp of its last row, or 0 if it has none.
     pub fn stamp_of(&self, vertex: u32) -> u64
-        ensures counter { {M : Type 0} → (rows : List (StampedRow M)) → IsTableOf rows self.now
+        ensures counter { (M : Type 0) (rows : List (StampedRow M)) → IsTableOf rows self.now
             → result ≡ counter_of (entries_at rows vertex) }
     {
         self.counters.get(&vertex).copied().unwrap_or(0)
     }
 
-    /// Whether a row has the stamp that those before it give it.
-    pub fn is_next<T: Copy>(&self, row: &(u64, u32, Entry<T>)) -> bool
+    // The stamp of the next take by a vertex from another, but for the counter: that of the wire's put.
+    fn stamp_taken(&self, v: u32, w: u32) -> u64
+        ensures { (M : Type 0) (rows : List (StampedRow M)) → IsTableOf rows self.now
+            → result ≡ stamp_taken rows v w }
+    {
+        put_stamp(&self.puts, (w, v), taken(&self.takes, (v, w)))
+    }
+
+    // Whether a row has the stamp that its node's counter gives it.
+    fn is_next<T: Copy>(&self, row: &(u64, u32, Entry<T>)) -> bool
         ensures next { (rows : List (StampedRow T)) → IsTableOf rows self.now
             → MatchBool result (row.now.0 ≡ stamp_behind rows row.now) (row.now.0 ≢ stamp_behind rows row.now) }
     {
@@ -95,23 +117,31 @@ impl StampTable {
         match entry {
             Entry::Pulse(_) => follows(stamp, counter),
             Entry::Put(_, _) => follows(stamp, counter),
-            Entry::Take(w, _) => {
-                let put = put_stamp(&self.puts, (w, v), taken(&self.takes, (v, w)));
-                follows(stamp, counter.max(put))
-            }
+            Entry::Take(w, _) => follows(stamp, counter.max(self.stamp_taken(v, w))),
         }
     }
 
-    /// The table with one row more.
+    /// Whether a row is in place behind those rows: whether it has the stamp that its node's counter gives it, and none
+    /// of them comes after it in the order.
+    pub fn is_in_place<T: Copy>(&self, row: &(u64, u32, Entry<T>)) -> bool
+        ensures place { (rows : List (StampedRow T)) → IsTableOf rows self.now
+            → MatchBool result (IsInPlace rows row.now) (IsInPlace rows row.now → ⊥) }
+    {
+        comes_behind(self.last_stamp, self.last_vertex, row) && self.is_next(row)
+    }
+
+    /// The table with one row more, which is in place.
     ///
     /// # Errors
     ///
     /// `Memory` if memory is refused. Of what rows the table then is isn't said.
     pub fn add<T: Copy>(&mut self, alloc: Global, row: &(u64, u32, Entry<T>)) -> Result<(), Memory>
         ensures added { OnOk result ((rows : List (StampedRow T)) → IsTableOf rows self.old
-            → IsTableOf (rows ++ row.now ∷ []) self.new) }
+            → IsInPlace rows row.now → IsTableOf (rows ++ row.now ∷ []) self.new) }
     {
         let (stamp, v, entry) = *row;
+        self.last_stamp = stamp;
+        self.last_vertex = v;
         self.counters.insert(v, stamp)?;
         match entry {
             Entry::Pulse(_) => {}
