@@ -1,22 +1,22 @@
 -- The table of rows with one row more at their end.
 use Rattle.std.proofs.Common.{◌≡◌, ◌≢◌, ℕ, suc, ◌+◌, ◌<◌, ◌≤◌, ◌==◌, List, [], ◌∷◌, ◌++◌, length, refl, sym, ap, ◌∙◌, ⊎_elim, inl, inr, arith, subst}
-use Rattle.std.specs.Prelude.{◌&&◌, if◌then◌else◌, All, nat_eq, Option, Some, None, false}
+use Rattle.std.specs.Prelude.{◌&&◌, if◌then◌else◌, All, max, nat_eq, slice_index_or, Option, Some, None, false}
 use Rattle.std.specs.HashMap.{get, HashMap, Updates}
 use Rattle.std.specs.Option.{unwrap_or}
 use Rattle.std.specs.declared.vec.Vec.{Vec}
 use Rattle.std.proofs.lemmas.Bool.{cases_eq, cases_order, eq-eqb, ne_eqb}
 use Rattle.std.proofs.lemmas.List.{append-nil, get_or_at, length-append, map-append}
-use Rattle.std.proofs.lemmas.List.Elements.{All-get_or, All-push, All-weaker}
+use Rattle.std.proofs.lemmas.List.Elements.{All-get_or, All-nil, All-push, All-weaker}
 use Rattle.alpha_core.specs.declared.stamped.Stamped.{Stamped}
 use Rattle.alpha_core.specs.declared.wire.Wire.{Wire}
 use Rattle.entries.specs.declared.entry.Entry.{Entry}
 use Rattle.entries.specs.declared.entry.Entry.TheVariants.{Pulse, Put, Take}
-use Rattle.stamps.specs.Stamps.{counter_of, stamped, stamps_of}
-use Rattle.stamps.specs.Merged.{StampedRow, IsInPlace, Precedes, entries_at, puts_at, takes_at}
-use Rattle.stamps.specs.Table.{IsCounted, IsPushed, IsTableOf, count_in, counter_in, items_of, list_in, same_link}
+use Rattle.stamps.specs.Stamps.{counter_of, next_stamp, stamped, stamps_of, taken_in}
+use Rattle.stamps.specs.Merged.{StampedRow, IsInPlace, Precedes, entries_at, puts_at, stamp_behind, takes_at}
+use Rattle.stamps.specs.Table.{IsCounted, IsEmptyTable, IsPushed, IsTableOf, count_in, counter_in, items_of, list_in, same_link}
 use Rattle.stamps.specs.declared.table.StampTable.{StampTable}
 use Rattle.stamps.proofs.Appends.{puts_append, takes_append}
-use Rattle.stamps.proofs.Lists.{entry_here, entry_other, put_here, put_other, take_here, take_other}
+use Rattle.stamps.proofs.Lists.{entry_here, entry_other, put_here, put_other, take_here, take_other, takes_are}
 use Rattle.stamps.proofs.Local.{counter_behind}
 use Rattle.stamps.proofs.Unique.{entries_append}
 
@@ -61,7 +61,7 @@ module _ {M : Type 0} (rows : List (StampedRow M)) where
       ap (λ k. puts_at (row ∷ []) k b) first ∙ ap (λ k. puts_at (row ∷ []) v k) second ∙ put_here s v w x [] in
       here (ap (λ k. (k, b)) first ∙ ap (λ k. (v, k)) second) ∙ ap (λ k. k ++ (s ∷ [])) is
       ∙ sym (ap (λ k. stamps_of k) (puts_append rows (row ∷ []) a b ∙ ap (λ k. puts_at rows a b ++ k) one)
-      ∙ map-append (λ (z : Stamped M). z.stamp) (puts_at rows a b) (stamped s x ∷ []))
+      ∙ map-append (λ (z : Stamped M). z.stamp) (puts_at rows a b) (stamped s x ∷ [])))
       (λ ne. apart (λ _ second. ne second))
       (cases_eq b w))
       (λ ne. apart (λ first _. ne first))
@@ -152,6 +152,43 @@ module _ {M : Type 0} (rows : List (StampedRow M)) (old new : StampTable) (s v :
     least = least_with (Take w x);
   }
 
+-- the same, of a row whose entry is known
+module _ {M : Type 0} (rows : List (StampedRow M)) (old new : StampTable) (row : StampedRow M) (is : IsTableOf rows old) (place : IsInPlace rows row)
+    (stamp : new.last_stamp ≡ row.0) (vertex : new.last_vertex ≡ row.1)
+    (set : (counter_in new.counters row.1 ≡ row.0) × ((q : ℕ) → q ≢ row.1 → counter_in new.counters q ≡ counter_in old.counters q)) where
+  placed : (e : Entry M) → row.2 ≡ e → IsInPlace rows (row.0, row.1, e)
+  placed e same = subst (λ e. IsInPlace rows (row.0, row.1, e)) same place
+
+  told : (e : Entry M) → row.2 ≡ e → IsTableOf (rows ++ ((row.0, row.1, e) ∷ [])) new → IsTableOf (rows ++ (row ∷ [])) new
+  told e same table = subst (λ e. IsTableOf (rows ++ ((row.0, row.1, e) ∷ [])) new) (sym same) table
+
+  pub row_pulse : (p : ℕ) → row.2 ≡ Pulse p → new.puts ≡ old.puts → new.takes ≡ old.takes → IsTableOf (rows ++ (row ∷ [])) new
+  row_pulse p same puts takes =
+      told (Pulse p) same (with_pulse rows old new row.0 row.1 is stamp vertex set.0 set.1 p puts takes (placed (Pulse p) same))
+
+  pub row_put : (w : ℕ) (x : Wire M) → row.2 ≡ Put w x → IsPushed old.puts new.puts (row.1, w) row.0 → new.takes ≡ old.takes
+      → IsTableOf (rows ++ (row ∷ [])) new
+  row_put w x same pushed takes =
+      told (Put w x) same (with_put rows old new row.0 row.1 is stamp vertex set.0 set.1 w x pushed takes (placed (Put w x) same))
+
+  pub row_take : (w : ℕ) (x : Wire M) → row.2 ≡ Take w x → new.puts ≡ old.puts → IsCounted old.takes new.takes (row.1, w)
+      → IsTableOf (rows ++ (row ∷ [])) new
+  row_take w x same puts counted =
+      told (Take w x) same (with_take rows old new row.0 row.1 is stamp vertex set.0 set.1 w x puts counted (placed (Take w x) same))
+
+-- the stamp of a take
+pub take_next : {M : Type 0} (rows : List (StampedRow M)) (table : StampTable) (row : StampedRow M) (w : ℕ) (x : Wire M) (counter wire : ℕ)
+    → IsTableOf rows table → row.2 ≡ Take w x → counter ≡ counter_in table.counters row.1
+    → wire ≡ slice_index_or (list_in table.puts (w, row.1)) (count_in table.takes (row.1, w)) 0 → suc (max counter wire) ≡ stamp_behind rows row
+take_next rows table row w x counter wire is same at_counter at_wire =
+    let v = row.1 in
+    let a : counter ≡ counter_of (entries_at rows v) = at_counter ∙ is.counters v in
+    let b : wire ≡ slice_index_or (stamps_of (puts_at rows w v)) (length (taken_in (entries_at rows v) w)) 0 =
+    at_wire ∙ ap (λ l. slice_index_or l (count_in table.takes (v, w)) 0) (is.puts w v)
+    ∙ ap (λ n. slice_index_or (stamps_of (puts_at rows w v)) n 0) (is.takes v w ∙ ap (λ l. length l) (takes_are rows v w)) in
+    ap (λ n. suc (max n wire)) a ∙ ap (λ n. suc (max (counter_of (entries_at rows v)) n)) b
+    ∙ ap (λ e. next_stamp (λ u. stamps_of (puts_at rows u v)) (entries_at rows v) e) (sym same)
+
 -- ---- maps
 -- another link
 link_apart : (a q : ℕ × ℕ) → (q ≡ a → ⊥) → same_link a q ≡ false
@@ -191,6 +228,16 @@ module _ {S A : Type 0} where
     others = λ q ne. ap (λ o. items_of o) (updates.2 q (link_apart link q ne));
   }
 
--- the first row
-pub from_start : {M : Type 0} (row : StampedRow M) → Precedes (0, 0, Pulse 0) row
+-- no row comes before the stamp and vertex 0
+from_start : {M : Type 0} (row : StampedRow M) → Precedes (0, 0, Pulse 0) row
 from_start row = ⊎_elim (λ zero. inr (zero, omega arith)) (λ side. ⊎_elim (λ lt. inl lt) (λ gt. absurd (omega (arith, gt))) side) (cases_order 0 row.0)
+
+pub empty_table : {M : Type 0} (table : StampTable) → IsEmptyTable table → IsTableOf {M = M} [] table
+empty_table {M} table empty = record {
+  counters = empty.counters;
+  puts = λ v w. empty.puts (v, w);
+  takes = λ v w. empty.takes (v, w);
+  below = All-nil (λ (r : StampedRow M). Precedes r (table.last_stamp, table.last_vertex, Pulse 0));
+  least = λ row all. subst (λ k. Precedes (k, table.last_vertex, Pulse 0) row) (sym empty.stamp)
+      (subst (λ k. Precedes (0, k, Pulse 0) row) (sym empty.vertex) (from_start row));
+}

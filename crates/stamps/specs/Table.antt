@@ -41,14 +41,26 @@ module _ {S : Type 0} where
     pub here : count_in new link ≡ suc (count_in old link)
     pub others : (q : ℕ × ℕ) → q ≢ link → count_in new q ≡ count_in old q
 
--- the stamp of the wire that v takes next from w, by the puts in rows
-abbrev pub stamp_taken : {M : Type 0} → List (StampedRow M) → ℕ → ℕ → ℕ
-stamp_taken rows v w = slice_index_or (stamps_of (puts_at rows w v)) (length (takes_at rows v w)) 0
+-- the counter of v
+abbrev pub counter_at : StampTable → ℕ → ℕ
+counter_at table v = counter_in table.counters v
+
+-- the stamp of the wire that v takes next from w
+abbrev pub wire_stamp_at : StampTable → ℕ → ℕ → ℕ
+wire_stamp_at table v w = slice_index_or (list_in table.puts (w, v)) (count_in table.takes (v, w)) 0
+
+-- The table of no rows.
+pub record IsEmptyTable (table : StampTable) : Type 0 where
+  pub counters : (v : ℕ) → counter_at table v ≡ 0
+  pub puts : (link : ℕ × ℕ) → list_in table.puts link ≡ []
+  pub takes : (link : ℕ × ℕ) → count_in table.takes link ≡ 0
+  pub stamp : table.last_stamp ≡ 0
+  pub vertex : table.last_vertex ≡ 0
 
 -- The table is that of these rows: the counter of each vertex, of each link the stamps of its puts and how many wires
 -- were taken, and a stamp and vertex that none of the rows comes after, and that no row comes before if none comes after it.
 pub record IsTableOf {M : Type 0} (rows : List (StampedRow M)) (table : StampTable) : Type 0 where
-  pub counters : (v : ℕ) → counter_in table.counters v ≡ counter_of (entries_at rows v)
+  pub counters : (v : ℕ) → counter_at table v ≡ counter_of (entries_at rows v)
   pub puts : (v w : ℕ) → list_in table.puts (v, w) ≡ stamps_of (puts_at rows v w)
   pub takes : (v w : ℕ) → count_in table.takes (v, w) ≡ length (takes_at rows v w)
   pub below : All (λ r. Precedes r (table.last_stamp, table.last_vertex, Pulse 0)) rows

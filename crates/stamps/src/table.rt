@@ -2,9 +2,9 @@
 
 ghost use Rattle.std.specs.Prelude.{◌≡◌, ◌≢◌, ◌++◌, ◌∷◌, [], suc, List, MatchBool, OnOk, slice_index_or};
 ghost use Rattle.entries.specs.declared.entry.Entry.TheVariants.{Pulse};
-ghost use Rattle.stamps.specs.Stamps.{counter_of};
-ghost use Rattle.stamps.specs.Merged.{IsInPlace, Precedes, StampedRow, entries_at, stamp_behind};
-ghost use Rattle.stamps.specs.Table.{IsCounted, IsPushed, IsTableOf, count_in, list_in, stamp_taken};
+ghost use Rattle.stamps.specs.Merged.{IsInPlace, Precedes, StampedRow, stamp_behind};
+ghost use Rattle.stamps.specs.Table.{IsCounted, IsPushed, IsEmptyTable, IsTableOf, count_in, counter_at};
+ghost use Rattle.stamps.specs.Table.{list_in, wire_stamp_at};
 
 use alpha_core::Memory;
 use entries::Entry;
@@ -80,7 +80,7 @@ fn add_take(takes: &mut Takes, link: (u32, u32)) -> Result<(), AllocError>
 impl StampTable {
     /// The table of no rows.
     pub fn new(alloc: Global) -> StampTable
-        ensures none { (M : Type 0) → IsTableOf {M = M} [] result }
+        ensures none { IsEmptyTable result }
     {
         StampTable {
             counters: HashMap::new(alloc),
@@ -93,16 +93,14 @@ impl StampTable {
 
     /// The counter of a vertex: the stamp of its last row, or 0 if it has none.
     pub fn stamp_of(&self, vertex: u32) -> u64
-        ensures counter { (M : Type 0) (rows : List (StampedRow M)) → IsTableOf rows self.now
-            → result ≡ counter_of (entries_at rows vertex) }
+        ensures counter { result ≡ counter_at self.now vertex }
     {
         self.counters.get(&vertex).copied().unwrap_or(0)
     }
 
-    // The stamp of the next take by a vertex from another, but for the counter: that of the wire's put.
-    fn stamp_taken(&self, v: u32, w: u32) -> u64
-        ensures { (M : Type 0) (rows : List (StampedRow M)) → IsTableOf rows self.now
-            → result ≡ stamp_taken rows v w }
+    // The stamp of the wire that a vertex takes next from another.
+    fn wire_stamp(&self, v: u32, w: u32) -> u64
+        ensures { result ≡ wire_stamp_at self.now v w }
     {
         put_stamp(&self.puts, (w, v), taken(&self.takes, (v, w)))
     }
@@ -117,7 +115,7 @@ impl StampTable {
         match entry {
             Entry::Pulse(_) => follows(stamp, counter),
             Entry::Put(_, _) => follows(stamp, counter),
-            Entry::Take(w, _) => follows(stamp, counter.max(self.stamp_taken(v, w))),
+            Entry::Take(w, _) => follows(stamp, counter.max(self.wire_stamp(v, w))),
         }
     }
 

@@ -10,6 +10,6 @@ returns c =
     let before : c.or_insert.result.now ≡ unwrap_or (get same_link c.args.puts.now c.args.link) c.new.result = search rules in
     let push : c.push.new.self.items ≡ c.or_insert.result.now.items ++ (c.args.stamp ∷ []) = search rules in
     record {
-      pushed = pushed_by c.args.puts.now _ c.args.link c.args.stamp c.new.result c.or_insert.result.now c.push.new.self (search rules) before
+      pushed = pushed_by c.args.puts.now _ c.args.link c.args.stamp c.new.result c.or_insert.result.now c.push.new.self ? before
           c.new.ensures.items push;
     }
