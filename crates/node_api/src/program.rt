@@ -23,10 +23,11 @@ pub struct Refused {
 /// A program that every node of a network runs, pulse by pulse.
 ///
 /// At pulse 0 `init` is called. At each later pulse, up to the last, `pre_step`, `handle_messages` and
-/// `post_step` are called in this order with the pulse's number, also if the inbox is empty. No contract
-/// can say that an engine calls `pre_step` and `post_step`; a test shows it of `run_rounds`. Vertices
+/// `post_step` are called in this order with the pulse's number, also if the inbox is empty; an engine may leave
+/// out the calls of a pulse at which nothing came and the node rests (`rests_until`). No contract can say that an
+/// engine calls `pre_step` and `post_step`; a test shows it of `run_rounds` and programs that never rest. Vertices
 /// count from 1, ports and pulses from 0. The names of the calls are those of the simulator Sinalgo (ETH
-/// Zurich).
+/// Zurich); `rests_until` is ours.
 pub trait NodeProgram: Sized + Drop + Send {
     ghost use Rattle.node_api.specs.declared.program.Refused.{Refused};
 
@@ -86,9 +87,8 @@ pub trait NodeProgram: Sized + Drop + Send {
         requires pulse { 1 ≤ pulse }
         ensures same { self.new ≡ self.old };
 
-    /// Before which pulse the node, which has made `pulse`, does nothing while nothing comes: until then an empty
-    /// inbox leaves its state, and nothing is sent. An engine may pass it over. A program that doesn't say is called
-    /// at every pulse.
+    /// Up to which pulse the node, which has made `pulse`, rests: at the pulses between these two an empty inbox
+    /// leaves its state, and nothing is sent. A program without a function of this name never rests.
     fn rests_until(&self, pulse: u32) -> u32
         ensures rests { RestsUntil program self.now pulse result }
     {

@@ -1,7 +1,7 @@
 -- What every vertex sends as one list, and vertices that are passed over.
-use Rattle.std.proofs.Common.{◌≡◌, ℕ, suc, ◌+◌, ◌-◌, ◌<◌, ◌≤◌, List, [], length, get_or, set, refl, ap, sym, ◌∙◌, arith, subst}
+use Rattle.std.proofs.Common.{◌≡◌, ℕ, suc, ◌+◌, ◌-◌, ◌<◌, ◌≤◌, List, [], length, get_or, set, replicate, refl, ap, sym, ◌∙◌, arith, subst}
 use Rattle.std.specs.Prelude.{Option, Ok, Result, IsSome, map}
-use Rattle.std.proofs.lemmas.List.{length-set}
+use Rattle.std.proofs.lemmas.List.{get_or-replicate, length-replicate, length-set}
 use Rattle.std.proofs.lemmas.List.FromFn.{length-map-range_with_len, get_or-map-range_with_len}
 use Rattle.node_api.specs.interference.Net.{Net, IsNetwork, IsVertex, count_of, degree_of, vertices}
 use Rattle.node_api.specs.Boxes.{Mail, nothing, unread, HasFrom}
@@ -11,7 +11,7 @@ use Rattle.node_api.specs.Laws.{KeepsPorts}
 use Rattle.node_api.proofs.Runs.{length-inbox, node_at-ports, node_at-more}
 use Rattle.node_api.proofs.Reading.{nothing-came}
 use Rattle.sync_rounds.specs.Lists.{Lists}
-use Rattle.sync_rounds.specs.Rests.{HasOutboxes, sent_by}
+use Rattle.sync_rounds.specs.Rests.{AreResting, HasOutboxes, sent_by}
 use Rattle.sync_rounds.proofs.Received.{set_cases}
 
 module _ {S M E : Type 0} (program : Program S M E) (net : Net) where
@@ -62,3 +62,18 @@ pub nothing_came : {M : Type 0} (inbox : Mail M) (slots : List (Option M)) (n : 
     slots ≡ nothing n
 nothing_came inbox slots n is size none =
     nothing-came slots (subst (λ (mail : Mail _). HasFrom mail.slots mail.cursor → ⊥) is none) ∙ ap (λ (k : ℕ). nothing k) size
+
+-- the outbox of the vertex's degree
+pub own_out : {M : Type 0} (net : Net) (outs : List (List (Option M))) (v degree : ℕ) (d : List (Option M)) → IsVertex net v → HasOutboxes net outs →
+    degree ≡ degree_of net v → get_or outs degree d ≡ nothing (degree_of net v)
+own_out net outs v degree d is_vertex has is = ap (λ (k : ℕ). get_or outs k d) is ∙ has.empty v d is_vertex
+
+-- of nodes at the start nothing is known
+pub rests-unknown : {S M E : Type 0} (program : Program S M E) (net : Net) (p n : ℕ) (untils : List ℕ) → n ≡ count_of net → untils ≡ replicate n 0 →
+    AreResting program net p untils
+rests-unknown program net p n untils size is = record {
+  count = ap length is ∙ (length-replicate n 0 ∙ size);
+  rest = λ k d below q above before.
+      let at : get_or untils k d ≡ 0 = ap (λ (l : List ℕ). get_or l k d) is ∙ get_or-replicate n k 0 d (omega arith) in
+      absurd (omega arith);
+}

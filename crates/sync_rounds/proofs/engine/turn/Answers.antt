@@ -1,20 +1,15 @@
 -- The node makes the run's next pulse (`stepped`), so its outbox is the run's, and what is in it goes to the neighbours.
-use Rattle.std.proofs.Common.{◌≡◌, ◌+◌, ◌-◌, ◌<◌, ◌≤◌, ℕ, suc, List, [], length, get_or, set, ap, sym, ◌∙◌, arith, subst}
+use Rattle.std.proofs.Common.{◌≡◌, ◌+◌, ◌-◌, ◌<◌, ◌≤◌, ℕ, suc, List, [], length, set, ap, sym, ◌∙◌, arith, subst}
 use Rattle.std.specs.Prelude.{Option}
-use Rattle.node_api.specs.interference.Net.{Net, IsVertex, degree_of}
+use Rattle.node_api.specs.interference.Net.{IsVertex, degree_of}
 use Rattle.node_api.specs.Boxes.{Mail, nothing, unread}
 use Rattle.node_api.specs.Program.{RestsUntil}
 use Rattle.node_api.specs.Run.{node_at, state_at, outbox_at, inbox_at}
 use Rattle.sync_rounds.specs.Delivery.{Delivered, Sends}
 use Rattle.sync_rounds.specs.Rests.{HasOutboxes, sent_by}
-use Rattle.sync_rounds.proofs.Resting.{outboxes_kept, sent_by-at, sent-length}
+use Rattle.sync_rounds.proofs.Resting.{outboxes_kept, own_out, sent_by-at, sent-length}
 use Rattle.sync_rounds.proofs.Steps.{inbox_fits, left_empty, out_empty, stepped}
 use Rattle.sync_rounds.proofs.engine.turn.Goals as goal
-
--- the outbox of the vertex's degree
-own_out : {M : Type 0} (net : Net) (outs : List (List (Option M))) (v degree : ℕ) (d : List (Option M)) → IsVertex net v → HasOutboxes net outs →
-    degree ≡ degree_of net v → get_or outs degree d ≡ nothing (degree_of net v)
-own_out net outs v degree d is_vertex has is = ap (λ (k : ℕ). get_or outs k d) is ∙ has.empty v d is_vertex
 
 pub pulse_one-requires-clause-ports : goal.pulse_one-requires-clause-ports
 pulse_one-requires-clause-ports g c κs within =

@@ -1,4 +1,4 @@
-use Rattle.std.proofs.Common.{◌≡◌, ◌∷◌, ℕ, suc, List, length, replicate, ap, sym, ◌∙◌, arith}
+use Rattle.std.proofs.Common.{◌≡◌, ◌∷◌, ℕ, suc, List, length, replicate, ap, ◌∙◌, arith}
 use Rattle.node_api.proofs.Words.{all-zeros}
 use Rattle.node_api.proofs.inline_words.InlineWords.clear.Goals as goal
 

@@ -53,8 +53,14 @@ overflow_add-word c =
     let l = c.loop-rest in
     let (place, later, below, marked) = some_bit a.places a.words c.args.self.now c.args.from c.self.view_is c.requires.some in
     let none : l.rest ≡ 0 = grind (arith, nat_tests, c.loop-rest-test.true) in
-    omega (arith, beyond a.words c.args.from l.word l.rest place l.invariant none later marked, below, ap length c.self.view_is,
-    length-marks_in a.places a.words, c.self.invariant.2)
+    omega (
+      arith,
+      beyond a.words c.args.from l.word l.rest place l.invariant none later marked,
+      below,
+      ap length c.self.view_is,
+      length-marks_in a.places a.words,
+      c.self.invariant.2,
+    )
 
 pub loop-rest-preserved : goal.loop-rest-preserved
 loop-rest-preserved c =
