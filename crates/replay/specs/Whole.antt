@@ -17,11 +17,14 @@ use Rattle.stamps.specs.Merged.{StampedRow, AreOrdered, AreStampedRows, IsInPlac
 abbrev pub HoldsNothing : {S M : Type 0} → Net → State S M → ℕ → Type 0
 HoldsNothing net state v = (i : ℕ) → i < degree_of net v → (link_at state.links v i).held ≡ []
 
+-- v is drained, and no link out of it holds a wire
+abbrev pub IsDone : {S M E : Type 0} → Program S M E → Net → State S M → ℕ → Type 0
+IsDone program net state v =
+    IsTrue (is_drained (last_pulse_on program net) (node_of program net state v).view) × HoldsNothing net state v
+
 -- Every node is drained, and every link is empty.
-pub record IsWhole {S M E : Type 0} (program : Program S M E) (net : Net) (state : State S M) : Type 0 where
-  pub drained : (v : ℕ) → IsVertex net v
-      → IsTrue (is_drained (last_pulse_on program net) (node_of program net state v).view)
-  pub empty : (v : ℕ) → IsVertex net v → HoldsNothing net state v
+abbrev pub IsWhole : {S M E : Type 0} → Program S M E → Net → State S M → Type 0
+IsWhole program net state = (v : ℕ) → IsVertex net v → IsDone program net state v
 
 -- The rows are a replay that leads to a state. They are in the order of their stamps, and each has the stamp that the
 -- counter of its node gives it.

@@ -164,10 +164,10 @@ module _ {S M E : Type 0} (program : Program S M E) (net : Net) (ok : IsNetwork 
         run.last,
         record {
           replay = met_replay.1;
-          whole = record {
-            drained = λ v vertex. subst (λ n. is_drained (last_pulse_on program net) n.view ≡ true) (sym (run.nodes_are v vertex)) (drained v vertex);
-            empty = λ v vertex i lt. ap (λ l. l.held) (run.links_are v i vertex lt) ∙ ap (λ l. wires_of l) (empty v i vertex lt);
-          };
+          whole = λ v vertex. (
+            subst (λ n. is_drained (last_pulse_on program net) n.view ≡ true) (sym (run.nodes_are v vertex)) (drained v vertex),
+            λ i lt. ap (λ l. l.held) (run.links_are v i vertex lt) ∙ ap (λ l. wires_of l) (empty v i vertex lt),
+          );
         },
         run.nodes_are,
       )

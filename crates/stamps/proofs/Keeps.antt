@@ -1,18 +1,17 @@
 -- Each event of a node keeps its stamps.
-use Rattle.std.proofs.Common.{◌≡◌, ℕ, suc, ◌+◌, ◌<◌, ◌≤◌, ◌==◌, true, false, List, [], ◌∷◌, ◌++◌, map, length, get_or, refl, sym, ap, ◌∙◌, ⊎_elim, inl, inr}
+use Rattle.std.proofs.Common.{◌≡◌, ℕ, suc, ◌+◌, ◌<◌, ◌≤◌, ◌==◌, List, [], ◌∷◌, ◌++◌, length, get_or, refl, sym, ap, ◌∙◌, ⊎_elim, inl, inr}
 use Rattle.std.proofs.Common.{arith, subst}
-use Rattle.std.specs.Prelude.{max, ◌⊎◌, if◌then◌else◌}
+use Rattle.std.specs.Prelude.{max, ◌⊎◌}
 use Rattle.std.proofs.lemmas.Bool.{cases_Bool, cases_eq, cases_lt, eq-eqb, ne_eqb}
-use Rattle.std.proofs.lemmas.List.{append-nil, get_or_append_left, get_or_past, get_or_push, length-append, length-map, map-append}
+use Rattle.std.proofs.lemmas.List.{append-nil, get_or_append_left, get_or_push, length-append, length-map, map-append}
 use Rattle.alpha_core.specs.interference.Net.{Net, IsNetwork, IsVertex, degree_of, neighbour_of, neighbours, port_to}
 use Rattle.alpha_core.proofs.interference.Members.{place_of-is}
 use Rattle.alpha_core.proofs.interference.Neighbours.{port_to-is}
 use Rattle.alpha_core.specs.declared.stamped.Stamped.{Stamped}
 use Rattle.alpha_core.specs.declared.wire.Wire.{Wire}
-use Rattle.entries.specs.declared.entry.Entry.{Entry}
 use Rattle.entries.specs.declared.entry.Entry.TheVariants.{Pulse, Put, Take}
 use Rattle.stamps.specs.Stamps.{StampedEntry, AreStamped, counter_of, next_stamp, put_in, stamped, stamps_of, taken_in}
-use Rattle.stamps.specs.Keeps.{HasTaken, KeepsStamps, OneMore, came_to}
+use Rattle.stamps.specs.Keeps.{HasTaken, OneMore, came_to}
 use Rattle.stamps.specs.Laws.{EventsKeepStamps}
 use Rattle.stamps.proofs.Local.{counter_behind, taken_more}
 

@@ -1,10 +1,10 @@
 -- What a node's own stamps say of the links that come to it, and that they rise.
-use Rattle.std.proofs.Common.{◌≡◌, ℕ, suc, ◌+◌, ◌<◌, ◌≤◌, ◌==◌, true, false, List, [], ◌∷◌, ◌++◌, map, length, get_or, refl, sym, ap, ◌∙◌, ⊎_elim}
+use Rattle.std.proofs.Common.{◌≡◌, ℕ, suc, ◌+◌, ◌<◌, ◌≤◌, ◌==◌, List, [], ◌∷◌, ◌++◌, length, get_or, refl, sym, ap, ◌∙◌, ⊎_elim}
 use Rattle.std.proofs.Common.{append_assoc, arith, subst}
-use Rattle.std.specs.Prelude.{All, max, if◌then◌else◌}
+use Rattle.std.specs.Prelude.{All, max}
 use Rattle.std.proofs.lemmas.List.Elements.{All-cons, All-nil}
 use Rattle.std.proofs.lemmas.Bool.{cases_Bool, eqb-true}
-use Rattle.std.proofs.lemmas.List.{append-nil, get_or_at, length-append, length-map, map-append}
+use Rattle.std.proofs.lemmas.List.{get_or_at, length-append, length-map, map-append}
 use Rattle.alpha_core.specs.declared.stamped.Stamped.{Stamped}
 use Rattle.entries.specs.declared.entry.Entry.{Entry}
 use Rattle.entries.specs.declared.entry.Entry.TheVariants.{Pulse, Put, Take}

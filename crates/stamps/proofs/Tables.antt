@@ -1,6 +1,6 @@
 -- The table of rows with one row more at their end.
-use Rattle.std.proofs.Common.{◌≡◌, ◌≢◌, ℕ, suc, ◌+◌, ◌<◌, ◌≤◌, ◌==◌, List, [], ◌∷◌, ◌++◌, length, refl, sym, ap, ◌∙◌, ⊎_elim, inl, inr, arith, subst}
-use Rattle.std.specs.Prelude.{◌&&◌, if◌then◌else◌, All, max, nat_eq, slice_index_or, Option, Some, None, false}
+use Rattle.std.proofs.Common.{◌≡◌, ◌≢◌, ℕ, suc, ◌<◌, List, [], ◌∷◌, ◌++◌, length, refl, sym, ap, ◌∙◌, ⊎_elim, inl, inr, arith, subst}
+use Rattle.std.specs.Prelude.{All, max, nat_eq, slice_index_or, Option, Some, None, false}
 use Rattle.std.specs.HashMap.{get, HashMap, Updates}
 use Rattle.std.specs.Option.{unwrap_or}
 use Rattle.std.specs.declared.vec.Vec.{Vec}

@@ -3,7 +3,7 @@ use Rattle.std.specs.HashMap.{get}
 use Rattle.std.specs.HashMap.Entry.{map_with_value}
 use Rattle.std.specs.Option.{unwrap_or}
 use Rattle.std.proofs.lemmas.Grind.{common_steps}
-use Rattle.stamps.specs.Table.{IsPushed, list_in, same_link}
+use Rattle.stamps.specs.Table.{same_link}
 use Rattle.stamps.proofs.Tables.{pushed_by}
 use Rattle.stamps.proofs.table.add_put.Goals as goal
 
