@@ -1,7 +1,7 @@
 -- What every vertex sends as one list, and vertices that are passed over.
-use Rattle.std.proofs.Common.{◌≡◌, ℕ, suc, ◌+◌, ◌-◌, ◌<◌, ◌≤◌, List, [], length, get_or, set, replicate, refl, ap, sym, ◌∙◌, arith, subst}
-use Rattle.std.specs.Prelude.{Option, Ok, Result, IsSome, map}
-use Rattle.std.proofs.lemmas.List.{get_or-replicate, length-replicate, length-set}
+use Rattle.std.proofs.Common.{◌≡◌, ℕ, suc, ◌+◌, ◌-◌, ◌<◌, ◌≤◌, List, [], length, get_or, set, replicate, take, drop, ◌++◌, ◌∷◌, Bool, true, false, inl, inr, refl, ap, sym, ◌∙◌, arith, subst}
+use Rattle.std.specs.Prelude.{Option, Ok, Result, IsSome, map, slice_index_or, ◌⊎◌}
+use Rattle.std.proofs.lemmas.List.{get_or-replicate, length-replicate, length-set, take-append-le, take_all, get_or_append_left, get_or_push}
 use Rattle.std.proofs.lemmas.List.FromFn.{length-map-range_with_len, get_or-map-range_with_len}
 use Rattle.node_api.specs.interference.Net.{Net, IsNetwork, IsVertex, count_of, degree_of, vertices}
 use Rattle.node_api.specs.Boxes.{Mail, nothing, unread, HasFrom}
@@ -11,8 +11,8 @@ use Rattle.node_api.specs.Laws.{KeepsPorts}
 use Rattle.node_api.proofs.Runs.{length-inbox, node_at-ports, node_at-more}
 use Rattle.node_api.proofs.Reading.{nothing-came}
 use Rattle.sync_rounds.specs.Lists.{Lists}
-use Rattle.sync_rounds.specs.Rests.{AreResting, HasOutboxes, sent_by}
-use Rattle.sync_rounds.proofs.Received.{set_cases}
+use Rattle.sync_rounds.specs.Rests.{AreResting, HasDegrees, HasOutboxes, sent_by}
+use Rattle.sync_rounds.proofs.Received.{below_or_last, set_cases}
 
 module _ {S M E : Type 0} (program : Program S M E) (net : Net) where
   -- the entry of a vertex
@@ -77,3 +77,28 @@ rests-unknown program net p n untils size is = record {
       let at : get_or untils k d ≡ 0 = ap (λ (l : List ℕ). get_or l k d) is ∙ get_or-replicate n k 0 d (omega arith) in
       absurd (omega arith);
 }
+
+-- a slice of a whole list that keeps its length
+pub whole_written : {X : Type 0} (xs ys : List X) (n : ℕ) → length ys ≡ length xs → length xs ≡ n → take n (ys ++ drop (length ys) xs) ≡ ys
+whole_written xs ys n same size = take-append-le n ys (drop (length ys) xs) (omega arith) ∙ take_all n ys (omega arith)
+
+-- the degree of one vertex more occurs
+pub degrees-more : (net : Net) (n degree : ℕ) (occurs : List Bool) → degree < length occurs → degree ≡ degree_of net (n + 1) → HasDegrees net n occurs →
+    HasDegrees net (n + 1) (set occurs degree true)
+degrees-more net n degree occurs below is has v is_vertex upto =
+    set_cases (λ (b : Bool). b ≡ true) occurs degree (degree_of net v) true false below (λ same. refl) (λ other.
+    elim (below_or_last v (n + 1) (omega arith)) [
+      | inl earlier ↦ has v is_vertex (omega arith)
+      | inr last ↦ absurd (other (ap (degree_of net) last ∙ sym is))
+    ])
+
+-- the outbox of a degree that occurs is empty, and one more than those before
+pub outs-more : {M : Type 0} (n : ℕ) (occurs : List Bool) (outs : List (List (Option M))) (out : List (Option M)) → length outs ≡ n →
+    (slice_index_or occurs n false ≡ true → out ≡ nothing n) →
+    ((k : ℕ) (d : List (Option M)) → k < n → slice_index_or occurs k false ≡ true → get_or outs k d ≡ nothing k) →
+    (k : ℕ) (d : List (Option M)) → k < n + 1 → slice_index_or occurs k false ≡ true → get_or (outs ++ out ∷ []) k d ≡ nothing k
+outs-more n occurs outs out size here before k d below there =
+    elim (below_or_last k n below) [
+      | inl earlier ↦ get_or_append_left outs (out ∷ []) d k (omega arith) ∙ before k d earlier there
+      | inr same ↦ rw same (get_or_push outs out d n size ∙ here (ap (λ (i : ℕ). slice_index_or occurs i false) (sym same) ∙ there))
+    ]

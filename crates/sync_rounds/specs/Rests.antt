@@ -1,5 +1,5 @@
 -- What the engine keeps: before which pulses nodes rest, an empty outbox for each degree, and what was sent.
-use Rattle.std.specs.Prelude.{◌≡◌, ℕ, ◌+◌, ◌<◌, ◌≤◌, Bool, true, List, length, map, Option, Some, slice_get, slice_index_or}
+use Rattle.std.specs.Prelude.{◌≡◌, ℕ, ◌+◌, ◌<◌, ◌≤◌, Bool, false, true, List, length, map, Option, slice_index_or}
 use Rattle.node_api.specs.interference.Net.{Net, IsVertex, count_of, degree_of, vertices}
 use Rattle.node_api.specs.Boxes.{nothing}
 use Rattle.node_api.specs.Program.{Program, RestsUntil}
@@ -21,4 +21,4 @@ pub record HasOutboxes {M : Type 0} (net : Net) (outs : List (List (Option M))) 
 
 -- Of the vertices up to n, the list says of the degree of each that it occurs.
 abbrev pub HasDegrees : Net → ℕ → List Bool → Type 0
-HasDegrees net n occurs = (v : ℕ) → IsVertex net v → v ≤ n → slice_get occurs (degree_of net v) ≡ Some true
+HasDegrees net n occurs = (v : ℕ) → IsVertex net v → v ≤ n → slice_index_or occurs (degree_of net v) false ≡ true

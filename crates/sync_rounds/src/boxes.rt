@@ -1,7 +1,9 @@
 //! The boxes of an engine: an empty inbox for each vertex, and an empty outbox for each degree.
 
-ghost use Rattle.std.specs.Prelude.{◌≡◌, ◌+◌, IfOk, length};
+ghost use Rattle.std.specs.Prelude.{◌≡◌, ◌≤◌, ◌+◌, IfOk, length, true};
 ghost use Rattle.node_api.specs.interference.Net.{count_of, greatest_degree_of};
+ghost use Rattle.node_api.below.interference.specs.declared.limits.TheConstants.{MAX_DEGREE};
+ghost use Rattle.node_api.specs.Boxes.{nothing};
 ghost use Rattle.sync_rounds.specs.Lists.{Lists, empty_inbox};
 ghost use Rattle.sync_rounds.specs.Rests.{HasDegrees, HasOutboxes};
 
@@ -29,10 +31,17 @@ pub(crate) fn outboxes_of<T: Copy>(alloc: Global, net: &Network) -> Result<Vec<O
     let occurs = degrees_of(alloc, net)?;
     let mut outs = Vec::new(alloc);
     for degree in 0..net.greatest_degree() + 1 {
-        let ports = if occurs[degree as usize] { degree } else { 0 };
-        outs.push(Outbox::new(alloc, ports)?)?;
+        outs.push(outbox_if(alloc, occurs[degree as usize], degree)?)?;
     }
     Ok(outs)
+}
+
+// An empty outbox of this degree if the degree occurs, and one without ports if it doesn't.
+fn outbox_if<T: Copy>(alloc: Global, occurs: bool, degree: u32) -> Result<Outbox<T>, Memory>
+    requires degree { degree ≤ MAX_DEGREE }
+    ensures empty { IfOk result (λ out. occurs ≡ true → out ≡ nothing degree) }
+{
+    Outbox::new(alloc, if occurs { degree } else { 0 })
 }
 
 // Of each number up to the greatest degree, whether a vertex has this degree.
