@@ -1,7 +1,7 @@
 -- What every vertex sends as one list, and vertices that are passed over.
 use Rattle.std.proofs.Common.{◌≡◌, ℕ, suc, ◌+◌, ◌-◌, ◌<◌, ◌≤◌, List, [], length, get_or, set, replicate, take, drop, ◌++◌, ◌∷◌, Bool, true, false, inl, inr, refl, ap, sym, ◌∙◌, arith, subst}
 use Rattle.std.specs.Prelude.{Option, Ok, Result, IsSome, map, slice_index_or, ◌⊎◌}
-use Rattle.std.proofs.lemmas.List.{get_or-replicate, length-replicate, length-set, take-append-le, take_all, get_or_append_left, get_or_push}
+use Rattle.std.proofs.lemmas.List.{get_or-replicate, length-replicate, length-set, take-append-le, take_all}
 use Rattle.std.proofs.lemmas.List.FromFn.{length-map-range_with_len, get_or-map-range_with_len}
 use Rattle.node_api.specs.interference.Net.{Net, IsNetwork, IsVertex, count_of, degree_of, vertices}
 use Rattle.node_api.specs.Boxes.{Mail, nothing, unread, HasFrom}
@@ -91,14 +91,3 @@ degrees-more net n degree occurs below is has v is_vertex upto =
       | inl earlier ↦ has v is_vertex (omega arith)
       | inr last ↦ absurd (other (ap (degree_of net) last ∙ sym is))
     ])
-
--- the outbox of a degree that occurs is empty, and one more than those before
-pub outs-more : {M : Type 0} (n : ℕ) (occurs : List Bool) (outs : List (List (Option M))) (out : List (Option M)) → length outs ≡ n →
-    (slice_index_or occurs n false ≡ true → out ≡ nothing n) →
-    ((k : ℕ) (d : List (Option M)) → k < n → slice_index_or occurs k false ≡ true → get_or outs k d ≡ nothing k) →
-    (k : ℕ) (d : List (Option M)) → k < n + 1 → slice_index_or occurs k false ≡ true → get_or (outs ++ out ∷ []) k d ≡ nothing k
-outs-more n occurs outs out size here before k d below there =
-    elim (below_or_last k n below) [
-      | inl earlier ↦ get_or_append_left outs (out ∷ []) d k (omega arith) ∙ before k d earlier there
-      | inr same ↦ rw same (get_or_push outs out d n size ∙ here (ap (λ (i : ℕ). slice_index_or occurs i false) (sym same) ∙ there))
-    ]

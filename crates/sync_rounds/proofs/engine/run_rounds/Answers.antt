@@ -24,16 +24,18 @@ loop-done-preserved g c =
     let later_is = ap (λ v. v.items) c.swap.ensures.y_after
     ∙ whole_written l.now.items r.new.now l.now.len (r.auto.now ∙ ap length c.deref_mut-in-loop-done-3.ensures.value) (omega (arith, l.now.ok.0)) in
     record {
-      nodes = subst (λ (p : ℕ). Lists n (state_at m.program net p) _) next
-          (subst (λ (xs : List _). Lists n (state_at m.program net (suc l.done)) xs)
-          (sym (whole_written l.nodes.items r.new.nodes l.nodes.len (r.auto.nodes ∙ ap length c.deref_mut.ensures.value) (omega (arith, l.nodes.ok.0)))) r.ensures.nodes);
+      nodes = subst (λ (xs : List _). Lists n (state_at m.program net (l.done + 1)) xs)
+          (sym (whole_written l.nodes.items r.new.nodes l.nodes.len (r.auto.nodes ∙ ap length c.deref_mut.ensures.value) (omega (arith, l.nodes.ok.0))))
+          (subst (λ (p : ℕ). Lists n (state_at m.program net p) r.new.nodes) next r.ensures.nodes);
       outs = subst (λ (xs : List (List (Option _))). HasOutboxes net xs)
-          (sym (whole_written l.outs.items r.new.outs l.outs.len (r.auto.outs ∙ ap length c.deref_mut-in-loop-done.ensures.value) (omega (arith, l.outs.ok.0)))) r.ensures.outs;
-      rests = subst (λ (p : ℕ). AreResting m.program net p _) next
-          (subst (λ (xs : List ℕ). AreResting m.program net (suc l.done) xs)
-          (sym (whole_written l.untils.items r.new.untils l.untils.len (r.auto.untils ∙ ap length c.deref_mut-in-loop-done-2.ensures.value) (omega (arith, l.untils.ok.0)))) r.ensures.rests);
-      now = subst (λ (p : ℕ). Lists n (λ v. unread (inbox_at m.program net (suc p) v)) _) next
-          (subst (λ (xs : List (Mail _)). Lists n (λ v. unread (inbox_at m.program net (suc (suc l.done)) v)) xs) (sym now_is) r.ensures.later);
+          (sym (whole_written l.outs.items r.new.outs l.outs.len (r.auto.outs ∙ ap length c.deref_mut-in-loop-done.ensures.value)
+          (omega (arith, l.outs.ok.0)))) r.ensures.outs;
+      rests = subst (λ (xs : List ℕ). AreResting m.program net (l.done + 1) xs)
+          (sym (whole_written l.untils.items r.new.untils l.untils.len (r.auto.untils ∙ ap length c.deref_mut-in-loop-done-2.ensures.value)
+          (omega (arith, l.untils.ok.0))))
+          (subst (λ (p : ℕ). AreResting m.program net p r.new.untils) next r.ensures.rests);
+      now = subst (λ (xs : List (Mail _)). Lists n (λ v. unread (inbox_at m.program net (suc (l.done + 1)) v)) xs) (sym now_is)
+          (subst (λ (p : ℕ). Lists n (λ v. unread (inbox_at m.program net (suc p) v)) r.new.later) next r.ensures.later);
       later = subst (λ (xs : List (Mail _)). Lists n (empty_inbox net) xs) (sym later_is) r.ensures.now;
     }
 
