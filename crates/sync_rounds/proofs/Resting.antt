@@ -1,14 +1,14 @@
 -- What every vertex sends as one list, and vertices that are passed over.
-use Rattle.std.proofs.Common.{◌≡◌, ℕ, suc, ◌+◌, ◌-◌, ◌<◌, ◌≤◌, List, [], length, get_or, set, replicate, take, drop, ◌++◌, ◌∷◌, Bool, true, false, inl, inr, refl, ap, sym, ◌∙◌, arith, subst}
-use Rattle.std.specs.Prelude.{Option, Ok, Result, IsSome, map, slice_index_or, ◌⊎◌}
+use Rattle.std.proofs.Common.{◌≡◌, ℕ, suc, ◌+◌, ◌-◌, ◌<◌, List, [], length, get_or, set, replicate, take, drop, ◌++◌, Bool, true, false, inl, inr, refl, ap, sym, ◌∙◌, arith, subst}
+use Rattle.std.specs.Prelude.{Option, Ok, Result}
 use Rattle.std.proofs.lemmas.List.{get_or-replicate, length-replicate, length-set, take-append-le, take_all}
 use Rattle.std.proofs.lemmas.List.FromFn.{length-map-range_with_len, get_or-map-range_with_len}
-use Rattle.node_api.specs.interference.Net.{Net, IsNetwork, IsVertex, count_of, degree_of, vertices}
+use Rattle.node_api.specs.interference.Net.{Net, IsVertex, count_of, degree_of}
 use Rattle.node_api.specs.Boxes.{Mail, nothing, unread, HasFrom}
 use Rattle.node_api.specs.Program.{Program, RestsUntil}
-use Rattle.node_api.specs.Run.{node_at, state_at, outbox_at, inbox_at, inbox_from, after}
+use Rattle.node_api.specs.Run.{node_at, state_at, outbox_at, inbox_at, after}
 use Rattle.node_api.specs.Laws.{KeepsPorts}
-use Rattle.node_api.proofs.Runs.{length-inbox, node_at-ports, node_at-more}
+use Rattle.node_api.proofs.Runs.{node_at-ports, node_at-more}
 use Rattle.node_api.proofs.Reading.{nothing-came}
 use Rattle.sync_rounds.specs.Lists.{Lists}
 use Rattle.sync_rounds.specs.Rests.{AreResting, HasDegrees, HasOutboxes, sent_by}

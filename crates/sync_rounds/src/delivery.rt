@@ -50,7 +50,12 @@ fn deliver_from<T: Copy>(net: &Network, w: u32, outs: &mut [Outbox<T>], inboxes:
 
 // Puts what one vertex sent into its neighbours' inboxes, and empties its outbox; an outbox that sends nothing isn't
 // looked into.
-pub(crate) fn send_out<T: Copy>(net: &Network, w: u32, out: &mut Outbox<T>, inboxes: &mut [Inbox<T>])
+pub(crate) fn send_out<T: Copy>(
+    net: &Network,
+    w: u32,
+    out: &mut Outbox<T>,
+    inboxes: &mut [Inbox<T>],
+)
     requires vertex { IsVertex net.now w }
     requires ports { length out.old ≡ degree_of net.now w }
     requires before { (outs : List (List (Option T))) × Sends net.now outs w out.old inboxes.old }

@@ -1,6 +1,5 @@
-use Rattle.std.proofs.Common.{◌≡◌, ◌+◌, ◌<◌, ◌≤◌, ℕ, Bool, true, false, length, refl, ap, sym, ◌∙◌, arith, inl, inr}
+use Rattle.std.proofs.Common.{◌+◌, ◌<◌, length, ◌∙◌, arith}
 use Rattle.std.proofs.lemmas.List.{length-set}
-use Rattle.node_api.specs.interference.Net.{degree_of, greatest_degree_of}
 use Rattle.node_api.proofs.interference.Neighbours.{degree-within}
 use Rattle.sync_rounds.proofs.Resting.{degrees-more}
 use Rattle.sync_rounds.proofs.boxes.degrees_of.Goals as goal

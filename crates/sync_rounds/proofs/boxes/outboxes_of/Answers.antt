@@ -1,8 +1,5 @@
-use Rattle.std.proofs.Common.{◌≡◌, ◌+◌, ◌<◌, ◌≤◌, ℕ, List, true, false, length, ap, sym, ◌∙◌, arith, subst}
-use Rattle.std.specs.Prelude.{Option, slice_index_or}
-use Rattle.std.proofs.lemmas.List.{get_or_default, length_push}
-use Rattle.node_api.specs.interference.Net.{IsVertex, degree_of, greatest_degree_of}
-use Rattle.node_api.specs.Boxes.{nothing}
+use Rattle.std.proofs.Common.{◌≡◌, ◌+◌, arith}
+use Rattle.node_api.specs.interference.Net.{degree_of, greatest_degree_of}
 use Rattle.node_api.proofs.interference.Neighbours.{degree-within, greatest_degree-within}
 use Rattle.sync_rounds.proofs.boxes.outboxes_of.Goals as goal
 

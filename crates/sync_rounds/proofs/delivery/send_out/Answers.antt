@@ -1,7 +1,4 @@
 -- A quiet outbox has nothing to be delivered.
-use Rattle.std.proofs.Common.{◌≡◌, ◌+◌, ◌-◌, ◌<◌, ◌≤◌, ℕ, List, [], length, get_or, ap, sym, ◌∙◌, arith, subst}
-use Rattle.std.specs.Prelude.{Option}
-use Rattle.node_api.specs.Boxes.{nothing}
 use Rattle.sync_rounds.proofs.Deliveries.{delivered_quiet}
 use Rattle.sync_rounds.proofs.delivery.send_out.Goals as goal
 

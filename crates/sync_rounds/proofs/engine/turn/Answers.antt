@@ -1,11 +1,7 @@
 -- The node makes the run's next pulse (`stepped`), so its outbox is the run's, and what is in it goes to the neighbours.
-use Rattle.std.proofs.Common.{◌≡◌, ◌+◌, ◌-◌, ◌<◌, ◌≤◌, ℕ, suc, List, [], length, set, ap, sym, ◌∙◌, arith, subst}
-use Rattle.std.specs.Prelude.{Option}
-use Rattle.node_api.specs.interference.Net.{IsVertex, degree_of}
-use Rattle.node_api.specs.Boxes.{Mail, nothing, unread}
+use Rattle.std.proofs.Common.{◌≡◌, ◌+◌, ℕ, suc, length, set, ap, sym, ◌∙◌, arith, subst}
+use Rattle.node_api.specs.Boxes.{Mail, nothing}
 use Rattle.node_api.specs.Program.{RestsUntil}
-use Rattle.node_api.specs.Run.{node_at, state_at, outbox_at, inbox_at}
-use Rattle.sync_rounds.specs.Delivery.{Delivered, Sends}
 use Rattle.sync_rounds.specs.Rests.{HasOutboxes, sent_by}
 use Rattle.sync_rounds.proofs.Resting.{outboxes_kept, own_out, sent_by-at, sent-length}
 use Rattle.sync_rounds.proofs.Steps.{inbox_fits, left_empty, out_empty, stepped}
