@@ -9,9 +9,10 @@
 //! let best = nodes[0].best();    // the greatest identifier within two links of vertex 1
 //! ```
 //!
-//! The engine takes memory at the start alone: an inbox and an outbox for each node, and room to list the vertices
-//! that send something at a pulse. A pulse costs time by the nodes and the messages that are sent: a port at which
-//! nothing is sent isn't looked at.
+//! `run_rounds` takes memory at the start alone: two inboxes for each node, which change places after a pulse, and an
+//! outbox for each degree that occurs. A pulse costs time by the messages that are sent and the nodes that are called; a
+//! node that rests and to which nothing came costs a look, and a port at which nothing is sent none. `Rounds` keeps an
+//! outbox for each node, and a list of those that sent something.
 //!
 //! Limits: those of a `Network`, and a last pulse below 2³².
 #![tactic(auto)]
