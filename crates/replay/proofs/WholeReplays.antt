@@ -9,13 +9,21 @@ use Rattle.net_core.specs.Step.{step}
 use Rattle.net_core.proofs.Parts.{take-split}
 use Rattle.replay.specs.declared.refused.WholeRefused.{WholeRefused}
 use Rattle.replay.specs.declared.refused.WholeRefused.TheVariants.{Replay, WrongStamp, NotWhole}
-use Rattle.replay.specs.Replays.{IsReplay, at_entry}
+use Rattle.replay.specs.declared.refused.EntryRefused.{EntryRefused}
+use Rattle.replay.specs.declared.refused.ReplayRefused.{ReplayRefused}
+use Rattle.replay.specs.Replays.{IsReplay, WhyNot, at_entry}
 use Rattle.replay.specs.Rows.{Row, event_of, row_of}
-use Rattle.replay.specs.Whole.{IsStampedReplay, IsWhole, IsWholeReplay, ReachesRow, WholeReplaysAreExact, WhyNotWhole}
+use Rattle.replay.specs.Whole.{IsStampedReplay, IsWhole, IsWholeReplay, ReachesRow, StopsAtEntry, StopsAtStamp, WholeReplaysAreExact, WhyNotWhole}
 use Rattle.replay.proofs.Decided.{decided}
 use Rattle.replay.proofs.Replayed.{replay-next, replay-start}
 use Rattle.stamps.specs.Merged.{StampedRow, AreOrdered, AreStampedRows, IsInPlace, rows_in}
 use Rattle.stamps.proofs.Growing.{all_before, ordered_push, stamped_none, stamped_push}
+
+-- the rows up to one, and that one
+pub rows-more : {A : Type 0} (rows : List A) (i : ℕ) (row : A) → i < length rows → row ≡ get_or rows i row → take i rows ++ (row ∷ []) ≡ take (i + 1) rows
+rows-more rows i row lt here =
+    let e : suc i ≡ i + 1 = omega arith in
+    sym (take-split rows i row lt here).0 ∙ ap (λ k. take k rows) e
 
 module _ {S M E : Type 0} (program : Program S M E) (net : Net) where
   pub stamped-start : IsStampedReplay program net [] (start program net)
@@ -38,8 +46,7 @@ module _ {S M E : Type 0} (program : Program S M E) (net : Net) where
       → row_of program net state (event_of net (row.1, row.2)) ≡ Some (row.1, row.2) → IsInPlace (take i rows) row
       → IsStampedReplay program net (take (i + 1) rows) next
   stamped-next rows i row state next lt here is leads writes place =
-      let e : suc i ≡ i + 1 = omega arith in
-      let more : take i rows ++ (row ∷ []) ≡ take (i + 1) rows = sym (take-split rows i row lt here).0 ∙ ap (λ k. take k rows) e in
+      let more = rows-more rows i row lt here in
       record {
         replay = replay-more rows i row state next lt here is.replay leads writes;
         ordered = subst AreOrdered more (ordered_push (take i rows) row is.ordered place.0);
@@ -47,16 +54,37 @@ module _ {S M E : Type 0} (program : Program S M E) (net : Net) where
       }
 
   -- the row at an index, where the rows before it lead
-  pub row-there : (rows : List (StampedRow M)) (i : ℕ) (row : StampedRow M) (state : State S M) → i < length rows → row ≡ get_or rows i row
-      → IsStampedReplay program net (take i rows) state → ReachesRow program net rows
-  row-there rows i row state lt here is = record {
-    before = take i rows;
-    row = row;
-    after = drop (suc i) rows;
-    splits = (take-split rows i row lt here).1;
-    reached = state;
-    is_replay = is;
-  }
+  module _ (rows : List (StampedRow M)) (i : ℕ) (row : StampedRow M) (state : State S M) (lt : i < length rows) (here : row ≡ get_or rows i row)
+      (is : IsStampedReplay program net (take i rows) state) where
+    reaches : ReachesRow program net rows
+    reaches = record {
+      before = take i rows;
+      row = row;
+      after = drop (suc i) rows;
+      splits = (take-split rows i row lt here).1;
+      reached = state;
+      is_replay = is;
+    }
+
+    pub stops-entry : (reason : EntryRefused) (refused : ReplayRefused) → WhyNot program net state (row.1, row.2) reason → refused ≡ at_entry i reason
+        → StopsAtEntry program net rows refused
+    stops-entry reason refused why index = record {
+      at = reaches;
+      reason = reason;
+      why = why;
+      index = index ∙ ap (λ k. at_entry k reason) (sym (take-split rows i row lt here).2);
+    }
+
+    pub stops-stamp : (next : State S M) → step program net state (event_of net (row.1, row.2)) ≡ Ok next
+        → row_of program net state (event_of net (row.1, row.2)) ≡ Some (row.1, row.2) → (IsInPlace (take i rows) row → ⊥) → StopsAtStamp program net rows i
+    stops-stamp next leads writes misplaced = record {
+      at = reaches;
+      next = next;
+      leads = leads;
+      writes = writes;
+      misplaced = misplaced;
+      index = sym (take-split rows i row lt here).2;
+    }
 
   module _ (ok : IsNetwork net) where
     not-whole : (rows : List (StampedRow M)) (last : State S M) (refused : WholeRefused) → IsWholeReplay program net rows last
