@@ -36,4 +36,4 @@ pub use run::run_workers;
 
 // What crates above name of lower ones.
 pub use gather_laws::laws::whole_outcomes_are_complete;
-pub use run_options::Options;
+pub use run_options::{MAX_CAPACITY, MAX_WORKERS, Options};
