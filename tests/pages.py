@@ -13,7 +13,7 @@
 - No crate is reached along more paths through crates.txt than tools/paths.py allows.
 - README.md or docs/LAYERS.md names each crate, and README.md is at most 120 lines. No line of a page is wider than 150 columns.
 - Each file named in backquotes exists, each link leads to a page and a heading, and each function and clause that
-  docs/PROMISES.md names is in the code.
+  docs/PROMISES.md names is in the code. It names each public law.
 """
 import os
 import random
@@ -236,6 +236,21 @@ def clauses_of_crate(crate):
     return found
 
 
+def laws_of_crates():
+    """Each public law, a function with an empty body, by its path: `crate::function`, or `crate::laws::function`."""
+    found = set()
+    for crate in os.listdir(os.path.join(TOP, "crates")):
+        for module in ("lib", "laws"):
+            file = os.path.join(TOP, "crates", crate, "src", f"{module}.rt")
+            if os.path.isfile(file):
+                with open(file, encoding="utf-8") as text:
+                    names = re.findall(r"^pub fn (\w+)[^\n]*\n(?:    .*\n)+\{\}$", text.read(), re.M)
+                with open(os.path.join(TOP, "crates", crate, "src", "lib.rt"), encoding="utf-8") as text:
+                    inside = "laws::" if module == "laws" and "pub mod laws;" in text.read() else ""
+                found |= {f"{crate}::{inside}{name}" for name in names}
+    return found
+
+
 def check_promises():
     """A promise is written as `crate::function`: `clause`, `clause`; it may go on in the next line."""
     crates, text = {}, " ".join(line.strip() for line in lines_of("docs/PROMISES.md"))
@@ -249,6 +264,9 @@ def check_promises():
             if clause not in crate.get(name, set()) and clause not in crate.get("ghost", set()):
                 missing.append(clause)
         note(f"docs/PROMISES.md {path}", not missing, f"not in the code: {missing}")
+    laws = laws_of_crates()
+    missing = sorted(laws - {path for path, _ in promises})
+    note("laws in docs/PROMISES.md", len(laws) > 50 and not missing, f"{len(laws)} are found, not named: {missing}")
     note("promises of docs/PROMISES.md", len(promises) > 200, f"{len(promises)} are found")
 
 

@@ -40,5 +40,5 @@ pub use wiring::Wiring;
 
 // What crates above name of lower ones.
 pub use alpha_laws::{AlphaNode, Memory, NodeProgram};
-pub use entries::{Entries, Entry};
+pub use entries::Entries;
 pub use link_queue::{Link, Met, PutEnd, TakeEnd};

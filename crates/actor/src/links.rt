@@ -53,7 +53,7 @@ impl<J: Wiring, P: NodeProgram> Links<J, P> {
     /// Puts a wire on the end's link: `link_queue::Link::put`, at the link that the end is of.
     ///
     /// # Errors
-    /// `Full` hands the same wire back if the link was full at a moment of the call; the end's list is as it was.
+    /// `Full` hands the same wire back, and the end's list is as it was.
     pub fn put<R: Wait>(
         &self,
         rt: &R,

@@ -15,8 +15,8 @@ pub fn plain_plans_are_proper()
         → IsFaultOfCheck ((input ++ 10 ∷ []) ++ answer) fault → fault_status fault ≡ 4 }
 {}
 
-/// A text has at most one plain answer. What `plain_bytes` and `plan_bytes` return is one, by the clause `ok` of each: so
-/// if both return `Ok` for the same bytes, they return the same bytes, whatever the options are and the threads did.
+/// A text has at most one plain answer. What `plain_bytes` and `plan_bytes` return is one, by the clause `ok` of each.
+/// So if both return `Ok` for the same bytes, they return the same bytes, whatever the options are and the threads did.
 pub fn plan_equals_plain()
     ensures same { (input plain plan : List ℕ) → IsPlainAnswer input plain → IsPlainAnswer input plan → plan ≡ plain }
 {}

@@ -41,8 +41,6 @@ pub use workers::plan_bytes;
 pub use colour_program::{Colouring, Payload};
 pub use dimacs_col::ColFault;
 pub use event_texts::EventFault;
-pub use node_pool::{
-    Gate, OpenGate, Options, Outcome, PoolFault, run_workers, whole_outcomes_are_complete,
-};
+pub use node_pool::{Gate, OpenGate, Options, Outcome, PoolFault, run_workers};
 pub use replay::{ReplayRefused, replay};
 pub use transcripts::{TextFault, read_transcript, transcript_text};

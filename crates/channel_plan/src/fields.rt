@@ -1,12 +1,12 @@
-//! The fields of a line of a plan text.
+//! The fields of a line of a plan text, and the numbers that fields of other texts spell, too.
 
 ghost use Rattle.std.specs.Prelude.{◌≡◌, ◌∷◌, List, ℕ};
 ghost use Rattle.channel_plan.specs.Reading.{is_header, row_of, small_number};
 
 use dimacs_col::Fields;
 
-// The number of a field, where it is below 2^32.
-fn number(field: &[u8]) -> Option<u32>
+/// The number that a field spells, if it is below 2^32.
+pub fn small_number(field: &[u8]) -> Option<u32>
     ensures { result ≡ small_number field.now }
 {
     if field.is_empty() {
@@ -35,8 +35,8 @@ pub(crate) fn is_header(first: &[u8], mut others: Fields) -> bool
 pub(crate) fn row(first: &[u8], mut others: Fields) -> Option<(u32, u32)>
     ensures { result ≡ row_of (first.now ∷ others.entry) }
 {
-    let vertex = number(first)?;
-    let channel = number(others.next()?)?;
+    let vertex = small_number(first)?;
+    let channel = small_number(others.next()?)?;
     if channel == 0 || others.next().is_some() {
         return None;
     }

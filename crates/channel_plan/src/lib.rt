@@ -22,7 +22,8 @@ mod split;
 mod writing;
 
 pub use checking::check;
+pub use fields::small_number;
 pub use plan::{CheckFault, Plan};
 pub use reading::read_plan;
-pub use split::{TextStart, is_one_of, split_plan, text_before, text_start};
+pub use split::{TextStart, split_plan, text_before, text_start};
 pub use writing::plan_text;

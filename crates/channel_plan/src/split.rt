@@ -17,8 +17,8 @@ pub struct TextStart {
     pub lines: usize,
 }
 
-/// Whether a field is one of some words.
-pub fn is_one_of(field: &[u8], words: &[&[u8]]) -> bool
+// Whether a field is one of some words.
+fn is_one_of(field: &[u8], words: &[&[u8]]) -> bool
     ensures { result ≡ is_one_of field.now (words_in words.now) }
 {
     for word in words {

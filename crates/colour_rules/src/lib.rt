@@ -18,7 +18,7 @@
 //! The forests are those of A. Panconesi and R. Rizzi, Some simple distributed algorithms for sparse
 //! networks, 2001. Merging them is this project's own.
 //!
-//! Limits: degree 1,023, and so 1,023 forests and colours 0 to 1,023. Only `make` takes memory.
+//! Limits: degree 1,023, and so 1,023 forests and colours 0 to 1,023. Only `make` is given an allocator.
 #![tactic(auto)]
 
 mod chosen;

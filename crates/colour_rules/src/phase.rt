@@ -76,8 +76,8 @@ impl Schedule {
         }
     }
 
-    /// How many steps the merging of a forest takes.
-    pub fn steps(&self) -> u32
+    // How many steps the merging of a forest takes.
+    fn steps(&self) -> u32
         ensures { result ≡ steps self.now }
     {
         3 * (u32::from(self.greatest_degree) + 1)

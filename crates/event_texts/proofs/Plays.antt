@@ -1,34 +1,21 @@
 -- A script that is played event by event: one event more (play-next), and the fault at one that isn't possible (fault-told).
-use Rattle.std.proofs.Common.{◌≡◌, ◌≢◌, ◌+◌, ◌<◌, ◌∙◌, ℕ, suc, List, [], ◌∷◌, ◌++◌, take, drop, length, get_or, Result, Ok, Err, ap, arith, sym}
+use Rattle.std.proofs.Common.{◌≡◌, ◌≢◌, ◌+◌, ◌<◌, ◌∙◌, ℕ, suc, [], ◌∷◌, take, drop, length, get_or, Ok, Err, ap, arith}
 use Rattle.std.proofs.lemmas.List.{map-append}
 use Rattle.alpha_core.specs.interference.Net.{Net}
 use Rattle.alpha_core.specs.node_api.Program.{Program}
 use Rattle.net_core.specs.declared.event.Event.{Event}
 use Rattle.net_core.specs.declared.refused.StepRefused.{StepRefused}
 use Rattle.net_core.specs.declared.refused.StepRefused.TheVariants as step_refused
-use Rattle.net_core.specs.State.{State, start}
-use Rattle.net_core.specs.Step.{go_on, run, run_from, step}
+use Rattle.net_core.specs.State.{State}
+use Rattle.net_core.specs.Step.{run, step}
 use Rattle.net_core.proofs.Parts.{take-split}
+use Rattle.net_core.proofs.Reached.{run_push}
 use Rattle.event_texts.specs.Played.{IsFaultOfRun, IsFaultOfStep, IsRefusal, IsToldOfStep, events_in, fault_with}
 use Rattle.event_texts.specs.Reading.{Script}
 use Rattle.event_texts.specs.declared.fault.EventFault.{EventFault}
 use Rattle.event_texts.specs.declared.fault.EventFault.TheVariants.{LinkEmpty, Memory, NoEvent, NoSuch, NotReady, NothingToPut}
 
 module _ {S M E : Type 0} (program : Program S M E) (net : Net) where
-  run-push : (k : ℕ) (events : List Event) (event : Event) (state reached next : State S M) → run_from program net k events state ≡ Ok reached →
-      step program net reached event ≡ Ok next → run_from program net k (events ++ (event ∷ [])) state ≡ Ok next
-  run-push k [] event state reached next e made =
-      let same : state ≡ reached = cc in
-      ap (λ s. go_on k (step program net s event) (λ n. Ok n)) same ∙ ap (λ r. go_on k r (λ n. Ok n)) made
-  run-push k (first ∷ events) event state reached next e made =
-      by-step (step program net state first) e (λ n is. run-push (suc k) events event n reached next is made)
-    where
-      by-step : (r : Result (State S M) StepRefused) → go_on k r (λ n. run_from program net (suc k) events n) ≡ Ok reached
-          → ((n : State S M) → run_from program net (suc k) events n ≡ Ok reached → run_from program net (suc k) (events ++ (event ∷ [])) n ≡ Ok next)
-          → go_on k r (λ n. run_from program net (suc k) (events ++ (event ∷ [])) n) ≡ Ok next
-      by-step (Ok n) e more = more n e
-      by-step (Err reason) e more = absurd cc
-
   -- the event at an index of a script, and the state that the events before it reach
   module _ (script : Script) (i : ℕ) (row : ℕ × Event) (lt : i < length script) (here : row ≡ get_or script i row) (state : State S M)
       (before : run program net (events_in (take i script)) ≡ Ok state) where
@@ -38,7 +25,7 @@ module _ {S M E : Type 0} (program : Program S M E) (net : Net) where
         ap (λ n. run program net (events_in (take n script))) more
         ∙ ap (λ l. run program net (events_in l)) (take-split script i row lt here).0
         ∙ ap (λ l. run program net l) (map-append (λ r. r.1) (take i script) (row ∷ []))
-        ∙ run-push 0 (events_in (take i script)) row.1 (start program net) state next before made
+        ∙ run_push program net (events_in (take i script)) row.1 state next before made
 
     refusal : (reason : StepRefused) (fault : EventFault) → step program net state row.1 ≡ Err reason →
         IsFaultOfStep program net state row.0 row.1 reason fault → IsRefusal program net script fault

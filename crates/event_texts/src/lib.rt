@@ -23,7 +23,6 @@ mod playing;
 mod reading;
 mod split;
 mod state_text;
-mod wire_text;
 
 pub use expected::expected_words;
 pub use fault::EventFault;

@@ -1,17 +1,16 @@
 //! The text of a state of a network.
 
-ghost use Rattle.std.specs.Prelude.{◌≡◌, ◌++◌, ◌<◌, IfOk};
+ghost use Rattle.std.specs.Prelude.{◌≡◌, ◌++◌, ◌<◌, IfOk, flat_map};
 ghost use Rattle.alpha_core.specs.interference.Net.{IsVertex, degree_of, neighbour_of};
 ghost use Rattle.net_core.specs.State.{link_at, node_of};
 ghost use Rattle.colour_program.specs.colour_rules.Program.{colouring};
-ghost use Rattle.event_texts.specs.StateText.{link_text, links_text, node_text, state_text};
+ghost use Rattle.event_texts.specs.StateText.{colour_wire_text, link_text, links_text, node_text, state_text};
 
-use crate::wire_text::push_wires;
-use alpha_core::Memory;
-use colour_program::Colouring;
+use alpha_core::{Memory, Wire};
+use colour_program::{Colouring, Payload};
 use net_core::NetState;
 use std::alloc::{AllocError, Global};
-use wire_texts::push_numbered;
+use wire_texts::{push_numbered, push_wire};
 
 // Appends the line of a vertex's node.
 fn push_node(text: &mut Vec<u8>, state: &NetState<Colouring>, v: u32) -> Result<(), AllocError>
@@ -26,6 +25,16 @@ fn push_node(text: &mut Vec<u8>, state: &NetState<Colouring>, v: u32) -> Result<
         push_numbered(text, b" channel ", u128::from(node.program().colour()) + 1)?;
     }
     text.push(b'\n')?;
+    Ok(())
+}
+
+// Appends wires, with a space before each word.
+fn push_wires(text: &mut Vec<u8>, wires: &[Wire<Payload>]) -> Result<(), AllocError>
+    ensures { IfOk result (λ _. text.new.items ≡ text.old.items ++ flat_map colour_wire_text wires.now) }
+{
+    for wire in wires {
+        push_wire(text, *wire)?;
+    }
     Ok(())
 }
 

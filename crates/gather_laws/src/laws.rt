@@ -27,9 +27,8 @@ pub fn whole_outcomes_are_counted<S, M, E>()
     ensures law { (program : Program S M E) (net : Net) → IsNetwork net → WholeOutcomesAreCounted program net }
 {}
 
-/// No outcome deadlocks: it is whole, or one of its nodes can take a wire, put one or make a pulse, over links of any
-/// capacity but none. So a run that stopped before its end was stopped by its looks or a fault, and not because all
-/// nodes waited for each other.
+/// No outcome deadlocks: it is whole, or one of its nodes can take a wire, put one or make a pulse, over links that
+/// hold one wire or more. So whatever ended a run before all was done, it wasn't that all nodes waited for each other.
 pub fn stopped_outcomes_can_go_on<S, M, E>()
     ensures law { (program : Program S M E) → OnEveryNetwork program (OutcomesCanGoOn program) }
 {}

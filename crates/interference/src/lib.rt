@@ -10,8 +10,8 @@
 //! net.neighbour(3, 1) // 2, the greater neighbour of vertex 3
 //! ```
 //!
-//! Limits: `MAX_NODES` (20,000) nodes, `MAX_EDGES` (400,000) edges, `MAX_DEGREE` (1,023) neighbours
-//! a node, identifiers below 2^64.
+//! Limits: `MAX_NODES` (20,000) nodes and `MAX_EDGES` (400,000) edges, both of `dimacs_col`; `MAX_DEGREE` (1,023)
+//! neighbours a node; identifiers below 2^64.
 #![tactic(auto)]
 
 mod degrees;
@@ -25,7 +25,6 @@ mod network;
 mod rows;
 mod same_ids;
 
-pub use dimacs_col::{MAX_EDGES, MAX_NODES};
 pub use edges::edges_fit;
 pub use fault::{Memory, NetFault, TryFault};
 pub use limits::MAX_DEGREE;

@@ -24,4 +24,3 @@ mod view;
 pub use ends::{PutEnd, PutSide, TakeEnd, TakeSide};
 pub use link::{Link, MeetRefused};
 pub use met::{Full, Met};
-pub use view::EndView;

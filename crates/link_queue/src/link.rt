@@ -109,7 +109,8 @@ impl<P: NodeProgram> Link<P> {
     /// What the end has put and then the wire has to begin a legal list of the link; so nothing is put after a close.
     ///
     /// # Errors
-    /// `Full` hands the same wire back, only if the link was full at a moment of the call; the end's list is as it was.
+    /// `Full` hands the same wire back, and the end's list is as it was. That the link was full at a moment of the call
+    /// is the queue's promise; the clause `full` says less.
     pub fn put<R: Wait>(
         &self,
         rt: &R,
@@ -135,8 +136,8 @@ impl<P: NodeProgram> Link<P> {
         }
     }
 
-    /// Takes the oldest wire off the link; `None` only if the link was empty at a moment of the call. It
-    /// can't return out-of-memory, and may spin.
+    /// Takes the oldest wire off the link; `None` if the queue is empty. That it was, at a moment of the call, is the
+    /// queue's promise; the clause `empty` says less. It can't return out-of-memory, and may spin.
     pub fn take<R: Wait>(&self, rt: &R, end: &mut TakeEnd<P>) -> Option<Wire<P::Payload>>
         requires end { IsTakeEndOf self.now end.old }
         ensures end { StaysTakeEnd self.now end.old end.new }

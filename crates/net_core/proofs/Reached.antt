@@ -34,14 +34,17 @@ module _ {S M E : Type 0} (program : Program S M E) (net : Net) where
   pub reached_start : IsReached program net (start program net)
   reached_start = ([], refl)
 
+  -- a run, and one event more
+  pub run_push : (events : List Event) (event : Event) (state next : State S M) → run program net events ≡ Ok state →
+      step program net state event ≡ Ok next → run program net (events ++ (event ∷ [])) ≡ Ok next
+  run_push events event state next is e =
+      run-append 0 events (event ∷ []) (start program net)
+      ∙ ap (λ r. and_then r (λ s. run_from program net (0 + length events) (event ∷ []) s)) is
+      ∙ ap (λ r. go_on (0 + length events) r (λ next. Ok next)) e
+
   pub reached_step : (state next : State S M) (event : Event) → IsReached program net state → step program net state event ≡ Ok next →
       IsReached program net next
-  reached_step state next event (events, is) e = (
-    events ++ (event ∷ []),
-    run-append 0 events (event ∷ []) (start program net)
-        ∙ ap (λ r. and_then r (λ s. run_from program net (0 + length events) (event ∷ []) s)) is
-        ∙ ap (λ r. go_on (0 + length events) r (λ next. Ok next)) e,
-  )
+  reached_step state next event (events, is) e = (events ++ (event ∷ []), run_push events event state next is e)
 
   -- the event at an index of a list, and what the list comes to by it
   module _ (events : List Event) (i : ℕ) (event : Event) (lt : i < length events) (event_is : event ≡ get_or events i event)
@@ -51,9 +54,7 @@ module _ {S M E : Type 0} (program : Program S M E) (net : Net) where
         let parts = take-split events i event lt event_is in
         let one : i + 1 ≡ suc i = omega arith in
         ap (λ n. run program net (take n events)) one ∙ ap (λ l. run program net l) parts.0
-        ∙ run-append 0 (take i events) (event ∷ []) (start program net)
-        ∙ ap (λ r. and_then r (λ s. run_from program net (0 + length (take i events)) (event ∷ []) s)) before
-        ∙ ap (λ r. go_on (0 + length (take i events)) r (λ next. Ok next)) made
+        ∙ run_push (take i events) event state next before made
 
     pub run_stops : (refused : StepRefused) → step program net state event ≡ Err refused → run program net events ≡ Err (at_index i refused)
     run_stops refused made =

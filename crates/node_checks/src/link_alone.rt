@@ -53,8 +53,8 @@ pub fn one_after_another<R: Wait>(rt: &R, alloc: Global, network: &Network) -> R
     })
 }
 
-/// The one wire that a link holds when its ends meet after a put, a take and a put. If memory is refused to the meeting,
-/// the ends meet again.
+/// The one wire that a link holds when its ends meet after a put, a take and a put. If memory is refused to the
+/// meeting, the ends meet again.
 pub fn met_again<R: Wait>(
     rt: &R,
     alloc: Global,

@@ -9,25 +9,11 @@ use Rattle.net_core.specs.declared.refused.StepRefused.{StepRefused}
 use Rattle.net_core.specs.State.{State, start}
 use Rattle.net_core.specs.Step.{go_on, run_from, step}
 use Rattle.net_core.proofs.Parts.{take-split}
+use Rattle.net_core.proofs.Reached.{run_push}
 use Rattle.replay.specs.Rows.{Row, event_of, if_made, row_of, rows_from, rows_of}
 use Rattle.replay.specs.Replays.{IsReplay}
 
 module _ {S M E : Type 0} (program : Program S M E) (net : Net) where
-  -- a run, and one event more
-  run-push : (k : ℕ) (events : List Event) (event : Event) (state reached next : State S M) → run_from program net k events state ≡ Ok reached →
-      step program net reached event ≡ Ok next → run_from program net k (events ++ (event ∷ [])) state ≡ Ok next
-  run-push k [] event state reached next e made =
-      let same : state ≡ reached = cc in
-      ap (λ s. go_on k (step program net s event) (λ n. Ok n)) same ∙ ap (λ r. go_on k r (λ n. Ok n)) made
-  run-push k (first ∷ events) event state reached next e made =
-      by-step (step program net state first) e (λ n is. run-push (suc k) events event n reached next is made)
-    where
-      by-step : (r : Result (State S M) StepRefused) → go_on k r (λ n. run_from program net (suc k) events n) ≡ Ok reached
-          → ((n : State S M) → run_from program net (suc k) events n ≡ Ok reached → run_from program net (suc k) (events ++ (event ∷ [])) n ≡ Ok next)
-          → go_on k r (λ n. run_from program net (suc k) (events ++ (event ∷ [])) n) ≡ Ok next
-      by-step (Ok n) e more = more n e
-      by-step (Err reason) e more = absurd cc
-
   none-behind : (r : Result (State S M) StepRefused) → if_made r (λ next. rows_from program net next []) ≡ []
   none-behind (Ok next) = refl
   none-behind (Err reason) = refl
@@ -54,7 +40,7 @@ module _ {S M E : Type 0} (program : Program S M E) (net : Net) where
       IsReplay program net (rows ++ (row ∷ [])) next
   replay-push rows row state next is leads writes = record {
     events = is.events ++ (event_of net row ∷ []);
-    is_run = run-push 0 is.events (event_of net row) (start program net) state next is.is_run leads;
+    is_run = run_push program net is.events (event_of net row) state next is.is_run leads;
     rows_are = rows-push 0 is.events (event_of net row) (start program net) state is.is_run
         ∙ ap (λ o. rows_of program net is.events ++ (o ∷ [])) writes
         ∙ ap (λ l. l ++ (Some row ∷ [])) is.rows_are ∙ sym (map-append Some rows (row ∷ []));

@@ -22,7 +22,6 @@ mod process;
 mod serving;
 mod words;
 
-pub use answer::answer_bytes;
 pub use command_line::Program;
 pub use process::serve_process;
 pub use serving::serve;

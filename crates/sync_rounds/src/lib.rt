@@ -9,9 +9,9 @@
 //! let best = nodes[0].best();    // the greatest identifier within two links of vertex 1
 //! ```
 //!
-//! The engine takes memory at the start alone: an inbox and an outbox for each node, and room to list the vertices
-//! that send something at a pulse. A pulse costs time by the nodes and the messages that are sent: a port at which
-//! nothing is sent isn't looked at.
+//! By its code the engine allocates at the start alone: an inbox and an outbox for each node, and room to list the
+//! vertices that send something at a pulse; and a pulse costs time by the nodes and the messages that are sent: a port
+//! at which nothing is sent isn't looked at. No contract says so.
 //!
 //! Limits: those of a `Network`, and a last pulse below 2³².
 #![tactic(auto)]

@@ -4,8 +4,9 @@ ghost use Rattle.std.specs.Prelude.{◌≡◌, ◌∷◌};
 ghost use Rattle.transcripts.specs.EntryLines.{entry_of, header_of, only, payload_in, payload_with};
 ghost use Rattle.transcripts.specs.EntryLines.{pulsed_wire, row_of, wire_of, wire_with};
 
-use crate::numbers::{small_number, wide_number};
+use crate::numbers::wide_number;
 use alpha_core::{PayloadText, Wire};
+use channel_plan::small_number;
 use dimacs_col::Fields;
 use entries::Entry;
 use std::str::from_utf8;

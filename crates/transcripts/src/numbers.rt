@@ -1,8 +1,7 @@
-//! The numbers of a line.
+//! The great numbers of a line.
 
 ghost use Rattle.std.specs.Prelude.{◌≡◌, ◌≢◌, MatchOption, Option, get_or};
 ghost use Rattle.dimacs_col.specs.Lines.{number_of};
-ghost use Rattle.channel_plan.specs.Reading.{small_number};
 ghost use Rattle.transcripts.specs.EntryLines.{wide_number};
 
 use std::str::from_utf8;
@@ -19,13 +18,6 @@ fn unsigned(field: &[u8]) -> Option<&str>
         return None;
     }
     from_utf8(field).ok()
-}
-
-/// The number that a field spells, if it is below 2^32.
-pub(crate) fn small_number(field: &[u8]) -> Option<u32>
-    ensures { result ≡ small_number field.now }
-{
-    unsigned(field)?.parse().ok()
 }
 
 /// The number that a field spells, if it is below 2^128.

@@ -110,8 +110,8 @@ fn came(v: u32, pulse: u32) -> Option<Payload> {
     *row.as_slice().get(pulse.wrapping_sub(1) as usize)?
 }
 
-/// Whether two nodes show the same at each pulse from one to the last, with what comes to a vertex of the edge, and once
-/// more behind it, where nothing comes.
+/// Whether two nodes show the same at each pulse from one to the last, with what comes to a vertex of the edge, and
+/// once more behind it, where nothing comes.
 pub fn go_on_alike(
     alloc: Global,
     one: &mut Colouring,

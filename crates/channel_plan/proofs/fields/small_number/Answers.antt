@@ -2,7 +2,7 @@ use Rattle.std.proofs.Common.{◌+◌, ◌∙◌, ◌-◌, get_or, refl, sym, ar
 use Rattle.std.proofs.lemmas.Bool.{eqb-true, eqb-false}
 use Rattle.dimacs_col.proofs.Numbers.{digits-front}
 use Rattle.channel_plan.proofs.Numbers.{digits-more, great-front, small-empty, small-end, small-other}
-use Rattle.channel_plan.proofs.fields.number.Goals as goal
+use Rattle.channel_plan.proofs.fields.small_number.Goals as goal
 
 pub returns-then-is_empty : goal.returns-then-is_empty
 returns-then-is_empty c = sym (small-empty c.args.field.now (eqb-true (length c.args.field.now) 0 (sym c.is_empty.ensures ∙ c.if-is_empty.true)))

@@ -1,7 +1,7 @@
 use Rattle.std.proofs.Common.{◌≡◌, ◌<◌, ◌^◌, take, drop}
 use Rattle.std.specs.Str.{all_ascii_digits}
 use Rattle.std.specs.Str.Parse.{digits_value}
-use Rattle.channel_plan.proofs.fields.number.Given as goal
+use Rattle.channel_plan.proofs.fields.small_number.Given as goal
 
 -- the value of the digits so far, and whether the others are digits decides
 abbrev pub invariant-loop-digit : goal.invariant-loop-digit
