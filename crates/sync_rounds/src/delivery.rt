@@ -44,8 +44,7 @@ fn deliver_from<T: Copy>(net: &Network, w: u32, outs: &mut [Outbox<T>], inboxes:
     ensures outs { outs.new ≡ slice_set outs.old (w - 1) (nothing (length (slice_index_or outs.old (w - 1) []))) }
 {
     let out = &mut outs[(w - 1) as usize];
-    deliver_out(net, w, out, inboxes);
-    out.clear();
+    send_out(net, w, out, inboxes);
 }
 
 // Puts what one vertex sent into its neighbours' inboxes, and empties its outbox; an outbox that sends nothing isn't
