@@ -56,7 +56,7 @@ module _ {S M E : Type 0} (program : Program S M E) (net : Net) where
   -- the row at an index, where the rows before it lead
   module _ (rows : List (StampedRow M)) (i : ℕ) (row : StampedRow M) (state : State S M) (lt : i < length rows) (here : row ≡ get_or rows i row)
       (is : IsStampedReplay program net (take i rows) state) where
-    reaches : ReachesRow program net rows
+    abbrev reaches : ReachesRow program net rows
     reaches = record {
       before = take i rows;
       row = row;
