@@ -1,5 +1,6 @@
 -- What every vertex sends as one list, and vertices that are passed over.
-use Rattle.std.proofs.Common.{◌≡◌, ℕ, suc, ◌+◌, ◌-◌, ◌<◌, List, [], length, get_or, set, replicate, take, drop, ◌++◌, Bool, true, false, inl, inr, refl, ap, sym, ◌∙◌, arith, subst}
+use Rattle.std.proofs.Common.{◌≡◌, ℕ, suc, ◌+◌, ◌-◌, ◌<◌, List, [], length, get_or, set}
+use Rattle.std.proofs.Common.{replicate, take, drop, ◌++◌, Bool, true, false, inl, inr, refl, ap, sym, ◌∙◌, arith, subst}
 use Rattle.std.specs.Prelude.{Option, Ok, Result}
 use Rattle.std.proofs.lemmas.List.{get_or-replicate, length-replicate, length-set, take-append-le, take_all}
 use Rattle.std.proofs.lemmas.List.FromFn.{length-map-range_with_len, get_or-map-range_with_len}
@@ -58,8 +59,8 @@ outboxes_kept net outs v out is_vertex has empty = record {
 }
 
 -- an inbox of which nothing is to be read is empty
-pub nothing_came : {M : Type 0} (inbox : Mail M) (slots : List (Option M)) (n : ℕ) → inbox ≡ unread slots → length slots ≡ n → (HasFrom inbox.slots inbox.cursor → ⊥) →
-    slots ≡ nothing n
+pub nothing_came : {M : Type 0} (inbox : Mail M) (slots : List (Option M)) (n : ℕ) → inbox ≡ unread slots → length slots ≡ n →
+    (HasFrom inbox.slots inbox.cursor → ⊥) → slots ≡ nothing n
 nothing_came inbox slots n is size none =
     nothing-came slots (subst (λ (mail : Mail _). HasFrom mail.slots mail.cursor → ⊥) is none) ∙ ap (λ (k : ℕ). nothing k) size
 

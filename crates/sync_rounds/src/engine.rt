@@ -51,7 +51,8 @@ fn start<P: NodeProgram>(
 ) -> Result<(Vec<P>, Vec<Outbox<P::Payload>>, Vec<Inbox<P::Payload>>), Memory>
     ensures nodes { IfOk result (λ all. Lists (count_of net.now) (state_at P.program net.now 0) all.0.items) }
     ensures outs { IfOk result (λ all. HasOutboxes net.now all.1.items) }
-    ensures now { IfOk result (λ all. Lists (count_of net.now) (λ v. unread (inbox_at P.program net.now 1 v)) all.2.items) }
+    ensures now { IfOk result
+        (λ all. Lists (count_of net.now) (λ v. unread (inbox_at P.program net.now 1 v)) all.2.items) }
 {
     net.is_network();
     let mut outs = outboxes_of(alloc, net)?;

@@ -10,8 +10,8 @@
 //! ```
 //!
 //! `run_rounds` takes memory at the start alone: two inboxes for each node, which change places after a pulse, and an
-//! outbox for each degree that occurs. A pulse costs time by the messages that are sent and the nodes that are called; a
-//! node that rests and to which nothing came costs a look, and a port at which nothing is sent none. `Rounds` keeps an
+//! outbox for each degree that occurs. A pulse costs time by the messages that are sent and the nodes that are called.
+//! A node that rests and to which nothing came costs a look, and a port at which nothing is sent none. `Rounds` keeps an
 //! outbox for each node, and a list of those that sent something.
 //!
 //! Limits: those of a `Network`, and a last pulse below 2³².

@@ -23,6 +23,7 @@ invariant-loop-i g l =
       now_done : (k : ℕ) (d : Mail _) → k < l.i → slice_index_or l.now k d ≡ empty_inbox l.net (k + 1);
       now_left : (k : ℕ) (d : Mail _) → l.i ≤ k → k < count_of l.net → slice_index_or l.now k d ≡ unread (inbox_at m.program l.net (suc l.done) (k + 1));
       rest_done : (k d : ℕ) → k < l.i → RestsUntil m.program (state_at m.program l.net (suc l.done) (k + 1)) (suc l.done) (slice_index_or l.untils k d);
-      rest_left : (k d : ℕ) → l.i ≤ k → k < count_of l.net → RestsUntil m.program (state_at m.program l.net l.done (k + 1)) l.done (slice_index_or l.untils k d);
+      rest_left : (k d : ℕ) → l.i ≤ k → k < count_of l.net →
+          RestsUntil m.program (state_at m.program l.net l.done (k + 1)) l.done (slice_index_or l.untils k d);
       later : Delivered l.net (sent_by m.program l.net (suc l.done)) (l.i + 1) [] l.later;
     }
