@@ -1,6 +1,6 @@
 -- Stamped rows, one after the other, and whole replays.
-use Rattle.std.proofs.Common.{◌≡◌, ℕ, suc, ◌+◌, ◌<◌, ◌∙◌, List, [], ◌∷◌, ◌++◌, map, take, drop, length, get_or, Some, Ok}
-use Rattle.std.proofs.Common.{ap, arith, refl, sym, subst}
+use Rattle.std.proofs.Common.{◌≡◌, ℕ, suc, ◌+◌, ◌<◌, ◌∙◌, List, [], ◌∷◌, ◌++◌, take, drop, length, get_or, Some, Ok}
+use Rattle.std.proofs.Common.{ap, arith, sym, subst}
 use Rattle.std.proofs.lemmas.List.{get_or-map, length-map, map-append, take-map}
 use Rattle.alpha_laws.specs.interference.Net.{IsNetwork, Net}
 use Rattle.alpha_laws.specs.node_api.Program.{Program}

@@ -1,7 +1,7 @@
 -- The stamps of merged rows are those that the counters give: a wire that was taken was put before.
-use Rattle.std.proofs.Common.{◌≡◌, ℕ, suc, ◌+◌, ◌-◌, ◌<◌, ◌≤◌, ◌==◌, true, false, List, [], ◌∷◌, ◌++◌, map, length, get_or, refl, sym, ap, ◌∙◌, ⊎_elim, inl, inr}
+use Rattle.std.proofs.Common.{◌≡◌, ℕ, suc, ◌<◌, ◌≤◌, ◌==◌, true, List, [], ◌∷◌, ◌++◌, length, get_or, refl, sym, ap, ◌∙◌, ⊎_elim}
 use Rattle.std.proofs.Common.{zero, arith, subst, Ok, Err}
-use Rattle.std.specs.Prelude.{All, max, Result, MatchResult, ◌&&◌, if◌then◌else◌}
+use Rattle.std.specs.Prelude.{All, max, Result, MatchResult, ◌&&◌}
 use Rattle.std.proofs.lemmas.Bool.{cases_Bool, eq-eqb}
 use Rattle.std.proofs.lemmas.List.{get_or_append_left, get_or_at, length-append, length-map, map-append}
 use Rattle.std.proofs.lemmas.List.Elements.{All-cons, All-head, All-nil, All-tail, All-weaker, All-get_or}
@@ -27,7 +27,7 @@ use Rattle.stamps.proofs.Lists.{entry_here, puts_are}
 use Rattle.stamps.proofs.Unique.{entries_append}
 use Rattle.stamps.proofs.Local.{taken_more}
 use Rattle.stamp_laws.specs.Laws.{HaveMet, IsReplayTo, links_of}
-use Rattle.stamp_laws.proofs.Met.{met_written}
+use Rattle.stamp_laws.proofs.MetNodes.{met_written}
 use Rattle.stamp_laws.proofs.Written.{wires_taken}
 use Rattle.stamp_laws.proofs.Runs.{merged}
 
@@ -117,7 +117,7 @@ module _ {S M E : Type 0} (program : Program S M E) (net : Net) (ok : IsNetwork 
       wires_taken (wrote v) w ∙ ap (λ u. takes_in (bare_of (wrote v)) u) (sym to) ∙ (met.written v vertex).takes_are i lt in
       let here : taken_in (wrote v) w ≡ taken_in b w ++ taken_in ((s, Take w x) ∷ entries_at after v) w =
       ap (λ l. taken_in l w) split ∙ taken_more b ((s, Take w x) ∷ entries_at after v) w in
-      let one : taken_in ((s, Take w x) ∷ entries_at after v) w ≡ (s, x) ∷ taken_in (entries_at after v) w = let yes = eq-eqb w w refl in rw yes refl in
+      let one : taken_in ((s, Take w x) ∷ entries_at after v) w ≡ stamped s x ∷ taken_in (entries_at after v) w = let yes = eq-eqb w w refl in rw yes refl in
       let many : k < length took =
       let a = ap (λ l. length l) wires in let b' = ap (λ l. length l) here in let c = ap (λ l. length l) one in
       let d = length-append (taken_in b w) (taken_in ((s, Take w x) ∷ entries_at after v) w) in
@@ -159,8 +159,7 @@ module _ {S M E : Type 0} (program : Program S M E) (net : Net) (ok : IsNetwork 
       → ((v i : ℕ) → IsVertex net v → i < degree_of net v → held v i ≡ [])
       → (last : State S M) × IsWholeReplay program net rows last × ((v : ℕ) → IsVertex net v → node_of program net last v ≡ nodes v)
   whole_replay drained empty =
-      let run = met_replay.0 in
-      (
+      let run = met_replay.0 in (
         run.last,
         record {
           replay = met_replay.1;

@@ -1,7 +1,6 @@
 -- All rows, by the first of them.
-use Rattle.std.proofs.Common.{◌≡◌, ℕ, suc, ◌-◌, ◌<◌, List, [], ◌∷◌, ◌++◌, map, length, get_or, replicate, Some, Ok, refl, sym, ap, ◌∙◌, subst, arith}
-use Rattle.std.proofs.Common.{zero, append_assoc}
-use Rattle.std.specs.List.{range_with_len}
+use Rattle.std.proofs.Common.{◌≡◌, ℕ, suc, ◌-◌, ◌<◌, List, [], ◌∷◌, map, length, get_or, replicate, Some, Ok, refl, sym, ap, ◌∙◌, subst, arith}
+use Rattle.std.proofs.Common.{zero}
 use Rattle.std.specs.Prelude.{All}
 use Rattle.std.proofs.lemmas.List.{append-nil, get_or-map, length-map, length-replicate}
 use Rattle.std.proofs.lemmas.List.FromFn.{length-range_with_len, get_or-range_with_len}
@@ -13,15 +12,15 @@ use Rattle.alpha_laws.specs.alpha_core.View.{Node}
 use Rattle.alpha_laws.specs.alpha_core.Program.{start_node}
 use Rattle.alpha_laws.proofs.Across.{over}
 use Rattle.actor.specs.Written.{Leads, takes_in}
-use Rattle.net_core.specs.State.{Link, State, link_at, no_link, node_of, sent_of, start}
+use Rattle.net_core.specs.State.{Link, State, link_at, no_link, start}
 use Rattle.net_core.specs.Step.{go_on, run_from, step}
-use Rattle.replay.specs.Rows.{event_of, if_made, row_of, rows_from}
+use Rattle.replay.specs.Rows.{event_of, if_made, rows_from}
 use Rattle.stamps.specs.Stamps.{StampedEntry, Carries, bare_of, put_in, taken_in, wires_of}
-use Rattle.stamps.specs.Merged.{StampedRow, AreOrdered, IsMerge, Precedes, entries_at, puts_at, rows_in, takes_at}
+use Rattle.stamps.specs.Merged.{StampedRow, AreOrdered, IsMerge, entries_at, puts_at, rows_in, takes_at}
 use Rattle.stamps.proofs.Lists.{puts_are, takes_are}
 use Rattle.stamp_laws.specs.Laws.{AreWritten, IsReplayTo}
 use Rattle.stamp_laws.proofs.Written.{wires_taken}
-use Rattle.stamp_laws.proofs.Steps.{Comes, IsTable, Left, Made, row_made}
+use Rattle.stamp_laws.proofs.Steps.{Comes, IsTable, Left, row_made}
 
 module _ {S M E : Type 0} (program : Program S M E) (net : Net) (ok : IsNetwork net) (nodes : ℕ → Node S M) (links : ℕ → ℕ → Link M) where
   -- the rows lead from a state to the end

@@ -1,24 +1,23 @@
 -- One row: where it has the least stamp of those that are left, its event is possible, writes it down, and leads to a state
 -- from which the others are left.
-use Rattle.std.proofs.Common.{◌≡◌, ℕ, suc, ◌+◌, ◌-◌, ◌<◌, ◌≤◌, true, List, [], ◌∷◌, ◌++◌, map, length, get_or, set, Some, Ok, Err, slice_get, refl, sym, ap, ◌∙◌}
+use Rattle.std.proofs.Common.{◌≡◌, ℕ, ◌+◌, ◌-◌, ◌<◌, ◌≤◌, List, [], ◌∷◌, ◌++◌, length, get_or, Some, Ok, Err, slice_get, refl, sym, ap, ◌∙◌}
 use Rattle.std.proofs.Common.{append_assoc, arith, subst, ⊎_elim}
-use Rattle.std.specs.Prelude.{Result, MatchResult, if◌then◌else◌, All}
+use Rattle.std.specs.Prelude.{Result, MatchResult, All}
 use Rattle.std.proofs.lemmas.Bool.{cases_eq}
 use Rattle.std.proofs.lemmas.List.{get_or-set_same, get_or-set_other, length-set}
 use Rattle.alpha_laws.specs.interference.Net.{Net, IsNetwork, IsVertex, count_of, degree_of, neighbours, neighbour_of, port_to, back_port_of}
-use Rattle.alpha_laws.proofs.interference.Neighbours.{at-back_port, back-of-back_port, port_to-is}
+use Rattle.alpha_laws.proofs.interference.Neighbours.{at-back_port, port_to-is}
 use Rattle.alpha_laws.proofs.interference.Members.{place_of-is}
 use Rattle.alpha_laws.specs.node_api.Program.{Program, last_pulse_on}
 use Rattle.alpha_laws.specs.alpha_core.Wire.{Wire}
-use Rattle.alpha_laws.specs.alpha_core.View.{View, Node, can_pulse, port_at}
+use Rattle.alpha_laws.specs.alpha_core.View.{Node, port_at}
 use Rattle.alpha_laws.specs.alpha_core.Alpha.{pulse, put_done, reaction}
 use Rattle.alpha_laws.specs.alpha_core.Program.{start_node}
 use Rattle.entries.specs.declared.entry.Entry.{Entry}
 use Rattle.entries.specs.declared.entry.Entry.TheVariants.{Pulse, Put, Take}
 use Rattle.actor.specs.Written.{Leads}
-use Rattle.net_core.specs.State.{Link, State, link_at, link_to, node_of, set_link, set_link_to, set_node}
+use Rattle.net_core.specs.State.{Link, State, link_at, node_of, set_link, set_link_to, set_node}
 use Rattle.net_core.specs.Step.{after_put, after_take, else_old, step}
-use Rattle.net_core.specs.declared.event.Event.TheVariants as event
 use Rattle.net_core.proofs.LinkTable.{link_same, link_other, rows_kept, row_kept}
 use Rattle.net_core.proofs.NetKept.{port_is, vertex_is}
 use Rattle.net_core.proofs.Parts.{first-some}
@@ -264,7 +263,7 @@ module _ {S M E : Type 0} (program : Program S M E) (net : Net) (ok : IsNetwork 
           leads = leads_on s v (Take w x) rows state changed (set_link_to net state.links v i new) vertex left got.2;
           comes = comes_on rows ((s, v, Take w x) ∷ rows) state u k new vertex' lt' left here_now
               (λ a j vertex'' lt'' apart. refl)
-              (λ a j vertex'' lt'' apart. take_other s v w (neighbour_of net a j) a x rows (λ to from'. 
+              (λ a j vertex'' lt'' apart. take_other s v w (neighbour_of net a j) a x rows (λ to from'.
               let same : a ≡ u = from' ∙ sym from in
               apart same (sym (port_to-is net ok a j vertex'' lt'') ∙ ap (λ b. port_to net a b) to ∙ ap (λ b. port_to net b v) same)));
         };

@@ -69,8 +69,7 @@ module _ {M : Type 0} where
           ap (λ k. get_or (came k) (length (taken_in before k)) 0) from_is
           ∙ ap (λ l. get_or l (length (taken_in before w)) 0) (came_is ∙ map-append (λ z. z.stamp) done (y ∷ rest))
           ∙ get_or_at (stamps_of done) y.stamp (stamps_of rest) 0 (length (taken_in before w)) (length-map done (λ z. z.stamp) ∙ count) in
-          let later : y.stamp < s = omega (arith, is_next, stamp) in
-          (
+          let later : y.stamp < s = omega (arith, is_next, stamp) in (
             head,
             later,
             again (done ++ (y ∷ [])) rest

@@ -17,8 +17,7 @@ module _ {M : Type 0} where
       let first : x.0 < y.0 = let at = up 0 x (omega arith) in at in
       let rest = rises_by_steps (y ∷ entries) (λ k d lt.
       let e : suc k + 1 ≡ suc (k + 1) = omega arith in
-      subst (λ j. (get_or (y ∷ entries) k d).0 < (get_or (x ∷ y ∷ entries) j d).0) e (up (suc k) d (omega (arith, lt)))) in
-      (
+      subst (λ j. (get_or (y ∷ entries) k d).0 < (get_or (x ∷ y ∷ entries) j d).0) e (up (suc k) d (omega (arith, lt)))) in (
         All-cons (λ (later : StampedEntry M). x.0 < later.0) y entries first
             (All-weaker (λ (later : StampedEntry M). y.0 < later.0) (λ (later : StampedEntry M). x.0 < later.0)
             (λ z above. omega (arith, first, above)) entries rest.0),

@@ -12,6 +12,7 @@ use std::alloc::{AllocError, Global};
 use std::collections::HashMap;
 
 type Puts = HashMap<(u32, u32), Vec<u64>>;
+
 type Takes = HashMap<(u32, u32), usize>;
 
 /// What rows of stamped entries say of the next row: its stamp, and that it may not come before any of them. A look takes

@@ -1,4 +1,4 @@
-use Rattle.stamp_laws.proofs.Met.{met_written}
+use Rattle.stamp_laws.proofs.MetNodes.{met_written}
 use Rattle.stamp_laws.proofs.laws.met_nodes_are_written.Goals as goal
 
 pub returns : goal.returns

@@ -1,5 +1,5 @@
 -- Nodes that keep their stamps are written, once their ends have met.
-use Rattle.std.proofs.Common.{◌≡◌, ℕ, List, ◌++◌, map, refl, sym, ap, ◌∙◌, subst}
+use Rattle.std.proofs.Common.{◌≡◌, ℕ, List, refl, sym, ap, ◌∙◌, subst}
 use Rattle.std.proofs.lemmas.List.{map-append}
 use Rattle.alpha_laws.specs.interference.Net.{Net, IsNetwork, IsVertex, neighbour_of, back_port_of}
 use Rattle.alpha_laws.proofs.interference.Neighbours.{at-back_port}
