@@ -7,3 +7,4 @@ pub mod Walks
 pub mod Steps
 pub mod Spreading
 pub mod Reaching
+pub mod Resting

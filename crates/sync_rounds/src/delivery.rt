@@ -44,8 +44,29 @@ fn deliver_from<T: Copy>(net: &Network, w: u32, outs: &mut [Outbox<T>], inboxes:
     ensures outs { outs.new ≡ slice_set outs.old (w - 1) (nothing (length (slice_index_or outs.old (w - 1) []))) }
 {
     let out = &mut outs[(w - 1) as usize];
-    deliver_out(net, w, out, inboxes);
-    out.clear();
+    send_out(net, w, out, inboxes);
+}
+
+// Puts what one vertex sent into its neighbours' inboxes, and empties its outbox; an outbox that sends nothing isn't
+// looked into.
+pub(crate) fn send_out<T: Copy>(
+    net: &Network,
+    w: u32,
+    out: &mut Outbox<T>,
+    inboxes: &mut [Inbox<T>],
+)
+    requires vertex { IsVertex net.now w }
+    requires ports { length out.old ≡ degree_of net.now w }
+    requires before { (outs : List (List (Option T))) × Sends net.now outs w out.old inboxes.old }
+    ensures after { (outs : List (List (Option T))) → Sends net.now outs w out.old inboxes.old
+        → Delivered net.now outs (w + 1) [] inboxes.new }
+    ensures out { out.new ≡ nothing (length out.old) }
+{
+    net.is_network();
+    if !out.is_quiet() {
+        deliver_out(net, w, out, inboxes);
+        out.clear();
+    }
 }
 
 // Puts what is in the outbox of one vertex into its neighbours' inboxes, each payload at the port that leads back.
