@@ -8,3 +8,4 @@ pub mod Steps
 pub mod Spreading
 pub mod Reaching
 pub mod Resting
+pub mod Still

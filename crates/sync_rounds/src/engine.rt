@@ -1,7 +1,7 @@
 //! The run of a program: what a node sends goes into the inboxes of the next pulse at once, and a node that rests and
 //! to which nothing came is passed over.
 
-ghost use Rattle.std.specs.Prelude.{◌≡◌, ◌<◌, ◌≤◌, ◌+◌, ◌^◌, [], IfOk, suc};
+ghost use Rattle.std.specs.Prelude.{◌≡◌, ◌<◌, ◌≤◌, ◌+◌, ◌^◌, ℕ, [], IfOk, false, slice_index_or, suc};
 ghost use Rattle.node_api.specs.interference.Net.{IsVertex, count_of};
 ghost use Rattle.node_api.specs.Boxes.{unread};
 ghost use Rattle.node_api.specs.Program.{RestsUntil, own_of};
@@ -26,11 +26,18 @@ use std::mem::swap;
 pub fn run_rounds<P: NodeProgram>(alloc: Global, net: &Network) -> Result<Vec<P>, Memory>
     ensures states { IfOk result (λ nodes. nodes.items ≡ last_states P.program net.now) }
 {
+    net.is_network();
     let (mut nodes, mut outs, mut now) = start::<P>(alloc, net)?;
     let mut later = inboxes_of(alloc, net)?;
     let mut untils = vec![in alloc; 0u32; net.nodes() as usize]?;
+    let mut came = true;
+    let mut all_rest = 0;
     for done in 0..P::last_pulse(net) {
-        round(
+        // Nothing came to anybody, and all nodes rest: the pulse changes nothing.
+        if !came && done + 1 < all_rest {
+            continue;
+        }
+        let (sent, until) = round(
             net,
             done,
             &mut nodes,
@@ -40,6 +47,8 @@ pub fn run_rounds<P: NodeProgram>(alloc: Global, net: &Network) -> Result<Vec<P>
             &mut later,
         );
         swap(&mut now, &mut later);
+        came = sent;
+        all_rest = until;
     }
     Ok(nodes)
 }
@@ -88,7 +97,8 @@ fn greet<P: NodeProgram>(
     send_out(net, v, out, later);
 }
 
-// The pulse after `done` of all nodes. What was sent at `done` is in `now`; what is sent goes into `later`.
+// The pulse after `done` of all nodes. What was sent at `done` is in `now`; what is sent goes into `later`. Returns
+// whether something was sent, and before which pulse all nodes rest.
 fn round<P: NodeProgram>(
     net: &Network,
     done: u32,
@@ -97,7 +107,7 @@ fn round<P: NodeProgram>(
     untils: &mut [u32],
     now: &mut [Inbox<P::Payload>],
     later: &mut [Inbox<P::Payload>],
-)
+) -> (bool, u32)
     requires done { done + 1 < 2 ^ 32 }
     requires nodes { Lists (count_of net.now) (state_at P.program net.now done) nodes.old }
     requires outs { HasOutboxes net.now outs.old }
@@ -109,20 +119,30 @@ fn round<P: NodeProgram>(
     ensures rests { AreResting P.program net.now (suc done) untils.new }
     ensures now { Lists (count_of net.now) (empty_inbox net.now) now.new }
     ensures later { Lists (count_of net.now) (λ v. unread (inbox_at P.program net.now (suc (suc done)) v)) later.new }
+    ensures quiet { result.0 ≡ false → Lists (count_of net.now) (empty_inbox net.now) later.new }
+    ensures least { (k d : ℕ) → k < count_of net.now → result.1 ≤ slice_index_or untils.new k d }
 {
     net.is_network();
+    let mut sent = false;
+    let mut least = u32::MAX;
     for i in 0..net.nodes() {
         let inbox = &mut now[i as usize];
+        let until = untils[i as usize];
         // Nothing came, and the node rests: a call would change nothing.
-        if done + 1 < untils[i as usize] && !inbox.has_next() {
+        if done + 1 < until && !inbox.has_next() {
+            least = least.min(until);
             continue;
         }
         let node = &mut nodes[i as usize];
-        untils[i as usize] = turn(net, i + 1, done, node, inbox, outs, later);
+        let (rests, is_loud) = turn(net, i + 1, done, node, inbox, outs, later);
+        untils[i as usize] = rests;
+        least = least.min(rests);
+        sent = sent | is_loud;
     }
+    (sent, least)
 }
 
-// The pulse after `done` of one vertex. Returns before which pulse it rests.
+// The pulse after `done` of one vertex. Returns before which pulse it rests, and whether it sent something.
 fn turn<P: NodeProgram>(
     net: &Network,
     v: u32,
@@ -131,7 +151,7 @@ fn turn<P: NodeProgram>(
     inbox: &mut Inbox<P::Payload>,
     outs: &mut [Outbox<P::Payload>],
     later: &mut [Inbox<P::Payload>],
-) -> u32
+) -> (u32, bool)
     requires vertex { IsVertex net.now v }
     requires done { done + 1 < 2 ^ 32 }
     requires node { node.old ≡ state_at P.program net.now done v }
@@ -142,12 +162,13 @@ fn turn<P: NodeProgram>(
     ensures inbox { inbox.new ≡ empty_inbox net.now v }
     ensures outs { HasOutboxes net.now outs.new }
     ensures after { Delivered net.now (sent_by P.program net.now (suc done)) (v + 1) [] later.new }
-    ensures rests { RestsUntil P.program (state_at P.program net.now (suc done) v) (suc done) result }
+    ensures rests { RestsUntil P.program (state_at P.program net.now (suc done) v) (suc done) result.0 }
+    ensures quiet { result.1 ≡ false → later.new ≡ later.old }
 {
     net.is_network();
     let out = &mut outs[net.degree(v) as usize];
     pulse_one(node, done + 1, inbox, out);
     let until = node.rests_until(done + 1);
-    send_out(net, v, out, later);
-    until
+    let is_loud = send_out(net, v, out, later);
+    (until, is_loud)
 }

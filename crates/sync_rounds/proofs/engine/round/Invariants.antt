@@ -1,11 +1,11 @@
-use Rattle.std.proofs.Common.{◌≡◌, ◌≤◌, ◌<◌, ◌+◌, ℕ, suc, [], length}
+use Rattle.std.proofs.Common.{◌≡◌, ◌≤◌, ◌<◌, ◌+◌, ℕ, suc, [], false, length}
 use Rattle.std.specs.Prelude.{slice_index_or}
 use Rattle.node_api.specs.interference.Net.{count_of}
 use Rattle.node_api.specs.Boxes.{Mail, unread}
 use Rattle.node_api.specs.Program.{RestsUntil}
 use Rattle.node_api.specs.Run.{inbox_at, state_at}
 use Rattle.sync_rounds.specs.Delivery.{Delivered}
-use Rattle.sync_rounds.specs.Lists.{empty_inbox}
+use Rattle.sync_rounds.specs.Lists.{Lists, empty_inbox}
 use Rattle.sync_rounds.specs.Rests.{HasOutboxes, sent_by}
 use Rattle.sync_rounds.proofs.engine.round.Given as goal
 
@@ -25,5 +25,7 @@ invariant-loop-i g l =
       rest_done : (k d : ℕ) → k < l.i → RestsUntil m.program (state_at m.program l.net (suc l.done) (k + 1)) (suc l.done) (slice_index_or l.untils k d);
       rest_left : (k d : ℕ) → l.i ≤ k → k < count_of l.net →
           RestsUntil m.program (state_at m.program l.net l.done (k + 1)) l.done (slice_index_or l.untils k d);
+      least : (k d : ℕ) → k < l.i → l.least ≤ slice_index_or l.untils k d;
+      quiet : l.sent ≡ false → Lists (count_of l.net) (empty_inbox l.net) l.later;
       later : Delivered l.net (sent_by m.program l.net (suc l.done)) (l.i + 1) [] l.later;
     }

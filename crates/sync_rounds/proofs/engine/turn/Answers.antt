@@ -18,8 +18,8 @@ pulse_one-requires-clause-out g c κs within =
     out_empty m.program m.laws.keeps_ports c.args.net.now c.args.done c.args.v _ _ c.requires.node
     (own_out c.args.net.now c.args.outs.now c.args.v c.degree.result c.index-outs-degree.result c.requires.vertex c.requires.outs c.degree.ensures.value)
 
-pub send_out-requires-clause-ports : goal.send_out-requires-clause-ports
-send_out-requires-clause-ports g c =
+pub send_out-is_loud-requires-clause-ports : goal.send_out-is_loud-requires-clause-ports
+send_out-is_loud-requires-clause-ports g c =
     let m = g.P.NodeProgram in
     let node = stepped m.program m.laws.keeps_ports c.args.net.now c.args.done c.args.v (c.args.done + 1) _ _ (
       c.pulse_one.new.node,
@@ -27,8 +27,8 @@ send_out-requires-clause-ports g c =
     ) (omega arith) c.requires.node (ap (λ (mail : Mail _). mail.slots) c.requires.inbox) c.pulse_one.ensures.node in
     ap (λ x. length x.1) node ∙ sent-length m.program c.args.net.now m.laws.keeps_ports (suc c.args.done) c.args.v
 
-pub send_out-requires-clause-before : goal.send_out-requires-clause-before
-send_out-requires-clause-before g c =
+pub send_out-is_loud-requires-clause-before : goal.send_out-is_loud-requires-clause-before
+send_out-is_loud-requires-clause-before g c =
     let m = g.P.NodeProgram in
     let node = stepped m.program m.laws.keeps_ports c.args.net.now c.args.done c.args.v (c.args.done + 1) _ _ (
       c.pulse_one.new.node,
@@ -58,12 +58,13 @@ returns g c =
       node = ap (λ x. x.0) node;
       inbox = left_empty m.program m.laws.keeps_ports net c.args.done v c.args.inbox.now.slots c.pulse_one.new.inbox
           (ap (λ (mail : Mail _). mail.slots) c.requires.inbox) c.pulse_one.ensures.empty;
-      outs = subst (λ (d : ℕ). HasOutboxes net (set c.args.outs.now d c.send_out.new.out)) (sym c.degree.ensures.value)
-          (outboxes_kept net c.args.outs.now v c.send_out.new.out c.requires.vertex c.requires.outs
-          (c.send_out.ensures.out ∙ ap (λ (n : ℕ). nothing n) size));
-      after = c.send_out.ensures.after (sent_by m.program net next) (record {
+      outs = subst (λ (d : ℕ). HasOutboxes net (set c.args.outs.now d c.send_out-is_loud.new.out)) (sym c.degree.ensures.value)
+          (outboxes_kept net c.args.outs.now v c.send_out-is_loud.new.out c.requires.vertex c.requires.outs
+          (c.send_out-is_loud.ensures.out ∙ ap (λ (n : ℕ). nothing n) size));
+      after = c.send_out-is_loud.ensures.after (sent_by m.program net next) (record {
         before = c.requires.before;
         row = sent_by-at m.program net next v c.requires.vertex ∙ sym (ap (λ x. x.1) node);
       });
+      quiet = c.send_out-is_loud.ensures.quiet;
       rests = subst (λ s. RestsUntil m.program s next c.rests_until-until.result) (ap (λ x. x.0) node) rests;
     }
