@@ -26,7 +26,7 @@ from verdicts import verdict_rows
 
 TOP = os.path.dirname(os.path.dirname(os.path.abspath(__file__)))
 PROGRAM = os.path.join(TOP, "forestplan")
-LIMIT = 60
+LIMIT = 300
 TALLY = {"passed": 0, "failed": 0}
 
 TRIANGLE = "p edge 3 3|e 1 2|e 1 3|e 2 3|"

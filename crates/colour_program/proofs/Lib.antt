@@ -1,3 +1,2 @@
 mod Pulses
-mod Quiet
 pub mod colour_rules

@@ -114,4 +114,12 @@ impl NodeProgram for Colouring {
     }
 
     fn post_step(&mut self, _pulse: u32) {}
+
+    fn rests_until(&self, pulse: u32) -> u32 {
+        if self.idle.from <= pulse.saturating_add(1) {
+            self.idle.to
+        } else {
+            0
+        }
+    }
 }

@@ -1,10 +1,10 @@
 -- Reading an inbox to its end takes in its payloads, by ascending port.
-use Rattle.std.proofs.Common.{◌≡◌, ℕ, zero, suc, ◌+◌, ◌-◌, ◌<◌, ◌≤◌, List, ◌∷◌, length, drop, refl, ap, sym, ◌∙◌, arith}
+use Rattle.std.proofs.Common.{◌≡◌, ℕ, zero, suc, ◌+◌, ◌-◌, ◌<◌, ◌≤◌, List, [], ◌∷◌, length, drop, refl, ap, sym, ◌∙◌, arith}
 use Rattle.std.specs.Prelude.{Option, Some, None, IsSome}
 use Rattle.std.proofs.lemmas.List.{drop_more, drop_all}
 use native.Mathlib.Decide.{dec_lt}
 use Prim.{yes, no}
-use Rattle.node_api.specs.Boxes.{Mail, Reads, HasFrom, at_port, fold_slots, fold_rest}
+use Rattle.node_api.specs.Boxes.{Mail, Reads, HasFrom, at_port, fold_slots, fold_rest, nothing}
 
 module _ {M B : Type 0} (f : B → ℕ → M → B) where
   slot_none : (slots : List (Option M)) (i : ℕ) (b : B) → i < length slots → at_port slots i ≡ None →
@@ -56,3 +56,14 @@ module _ {M B : Type 0} (f : B → ℕ → M → B) where
             (drop_all (cursor + (length slots - cursor)) slots (omega arith))
         | no other ↦ ap (λ (rest : List (Option M)). fold_slots f b cursor rest) (drop_all cursor slots (omega arith))
       ]
+
+-- an inbox in which nothing is left to be read from its first port holds nothing
+pub nothing-came : {M : Type 0} (slots : List (Option M)) → (HasFrom slots 0 → ⊥) → slots ≡ nothing (length slots)
+nothing-came [] quiet = refl
+nothing-came (None ∷ slots) quiet = ap (λ rest. None ∷ rest) (nothing-came slots (λ some. quiet (
+  suc some.0,
+  omega arith,
+  (let h : some.0 < length slots = some.2 in omega arith),
+  some.3,
+)))
+nothing-came (Some x ∷ slots) quiet = absurd (quiet (0, omega arith, omega arith, refl))

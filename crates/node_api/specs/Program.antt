@@ -1,6 +1,7 @@
 -- What a node program is to contracts: the functions that say all of its states and messages.
-use Rattle.std.specs.Prelude.{◌≡◌, ℕ, List, Option, Result, Ok, Err, MatchResult}
+use Rattle.std.specs.Prelude.{◌≡◌, ℕ, ◌<◌, List, Option, Result, Ok, Err, MatchResult}
 use Rattle.interference.specs.Net.{Net, count_of, id_of, degree_of, greatest_degree_of, forest_count_of}
+use Rattle.node_api.specs.Boxes.{nothing}
 
 -- What every vertex knows of its network: n, Δ and U.
 pub record Sizes : Type 0 where
@@ -37,6 +38,11 @@ pub record Program (S M E : Type 0) : Type 0 where
 -- the last pulse on a network
 abbrev pub last_pulse_on : {S M E : Type 0} → Program S M E → Net → ℕ
 last_pulse_on program net = program.last (sizes_of net)
+
+-- A node in this state, which has made pulse p, does nothing at any pulse before `until` while nothing comes.
+abbrev pub RestsUntil : {S M E : Type 0} → Program S M E → S → ℕ → ℕ → Type 0
+RestsUntil program s p until =
+    (q : ℕ) → p < q → q < until → program.next s q (nothing (program.ports s)) ≡ Ok (s, nothing (program.ports s))
 
 -- A call's result matches what `next` says: it is the refusal, or there is none and this is the node.
 abbrev pub Matches : {A X E : Type 0} → Result A E → Result X E → X → Type 0

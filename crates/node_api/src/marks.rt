@@ -3,6 +3,7 @@
 ghost use Rattle.std.specs.Prelude.{◌≡◌, ◌<◌, ◌≤◌, ℕ, IfOk, false, length, replicate, slice_index_or, slice_set, true};
 ghost use Rattle.node_api.specs.Marks.{count_marks, is_marked};
 
+use crate::inline_words::InlineWords;
 use interference::Memory;
 use std::alloc::Global;
 use std::marker::Model;
@@ -12,7 +13,7 @@ use std::marker::Model;
 #[derive(Drop)]
 pub(crate) struct Marks {
     // Bit b of word w is the place 64 * w + b.
-    words: Vec<u64>,
+    words: InlineWords,
     places: u32,
     count: u32,
 }
@@ -23,10 +24,10 @@ impl Model for Marks {
 
     ghost Value = { List Bool };
 
-    ghost view = { λ a. marks_in a.places a.words.items };
+    ghost view = { λ a. marks_in a.places a.words };
 
-    ghost invariant = { λ a. (a.places ≤ 64 * length a.words.items)
-        × (a.count ≡ count_marks (marks_in a.places a.words.items)) × (a.places < 2 ^ 32) };
+    ghost invariant = { λ a. (a.places ≤ 64 * length a.words)
+        × (a.count ≡ count_marks (marks_in a.places a.words)) × (a.places < 2 ^ 32) };
 }
 
 impl Marks {
@@ -38,11 +39,7 @@ impl Marks {
     pub(crate) fn new(alloc: Global, places: u32) -> Result<Marks, Memory>
         ensures none { IfOk result (λ marks. marks ≡ replicate places false) }
     {
-        let count = places.div_ceil(64);
-        let mut words = Vec::with_capacity(alloc, count as usize)?;
-        for _word in 0..count {
-            words.push(0u64)?;
-        }
+        let words = InlineWords::new(alloc, places.div_ceil(64))?;
         Ok(Marks {
             words,
             places,
@@ -69,7 +66,7 @@ impl Marks {
         requires place { place < length self.now }
         ensures marked { result ≡ is_marked self.now place }
     {
-        self.words[place as usize / 64] & (1 << (place % 64)) != 0
+        self.words.get(place as usize / 64) & (1 << (place % 64)) != 0
     }
 
     // Marks a place that isn't marked (`has`).
@@ -78,7 +75,9 @@ impl Marks {
         requires free { is_marked self.old place ≡ false }
         ensures marked { self.new ≡ slice_set self.old place true }
     {
-        self.words[place as usize / 64] |= 1 << (place % 64);
+        let index = place as usize / 64;
+        let word = self.words.get(index);
+        self.words.set(index, word | (1 << (place % 64)));
         self.count += 1;
     }
 
@@ -86,9 +85,7 @@ impl Marks {
     pub(crate) fn clear(&mut self)
         ensures none { self.new ≡ replicate (length self.old) false }
     {
-        for i in 0..self.words.len() {
-            self.words[i] = 0;
-        }
+        self.words.clear();
         self.count = 0;
     }
 
@@ -101,10 +98,10 @@ impl Marks {
         ensures first { (place : ℕ) → from ≤ place → place < result → is_marked self.now place ≡ false }
     {
         let mut word = from as usize / 64;
-        let mut rest = self.words[word] & (u64::MAX << (from % 64));
+        let mut rest = self.words.get(word) & (u64::MAX << (from % 64));
         while rest == 0 {
             word += 1;
-            rest = self.words[word];
+            rest = self.words.get(word);
         }
         (word * 64) as u32 + rest.trailing_zeros()
     }

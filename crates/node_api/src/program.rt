@@ -3,7 +3,7 @@
 ghost use Rattle.std.specs.Prelude.{◌≡◌, ◌≤◌, IfOk, OnErr, length};
 ghost use Rattle.interference.specs.Net.{Net, IsVertex};
 ghost use Rattle.node_api.specs.Boxes.{nothing};
-ghost use Rattle.node_api.specs.Program.{Program, Matches, last_pulse_on, own_of};
+ghost use Rattle.node_api.specs.Program.{Program, Matches, RestsUntil, last_pulse_on, own_of};
 ghost use Rattle.node_api.specs.Laws.{IsProgram};
 
 use crate::inbox::Inbox;
@@ -23,10 +23,11 @@ pub struct Refused {
 /// A program that every node of a network runs, pulse by pulse.
 ///
 /// At pulse 0 `init` is called. At each later pulse, up to the last, `pre_step`, `handle_messages` and
-/// `post_step` are called in this order with the pulse's number, also if the inbox is empty. No contract
-/// can say that an engine calls `pre_step` and `post_step`; a test shows it of `run_rounds`. Vertices
+/// `post_step` are called in this order with the pulse's number, also if the inbox is empty; an engine may leave
+/// out the calls of a pulse at which nothing came and the node rests (`rests_until`). No contract can say that an
+/// engine calls `pre_step` and `post_step`; a test shows it of `run_rounds` and programs that never rest. Vertices
 /// count from 1, ports and pulses from 0. The names of the calls are those of the simulator Sinalgo (ETH
-/// Zurich).
+/// Zurich); `rests_until` is ours.
 pub trait NodeProgram: Sized + Drop + Send {
     ghost use Rattle.node_api.specs.declared.program.Refused.{Refused};
 
@@ -85,4 +86,13 @@ pub trait NodeProgram: Sized + Drop + Send {
     fn post_step(&mut self, pulse: u32)
         requires pulse { 1 ≤ pulse }
         ensures same { self.new ≡ self.old };
+
+    /// Up to which pulse the node, which has made `pulse`, rests: at the pulses between these two an empty inbox
+    /// leaves its state, and nothing is sent. A program without a function of this name never rests.
+    fn rests_until(&self, pulse: u32) -> u32
+        ensures rests { RestsUntil program self.now pulse result }
+    {
+        let _ = pulse;
+        0
+    }
 }

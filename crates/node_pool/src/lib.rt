@@ -13,8 +13,8 @@
 //! `taking_apart` takes the nodes apart again, `cross` brings the ends that take back to where their links leave, and
 //! `meeting` lets each link meet both its ends. `gathering` makes the outcome of what is gathered.
 //!
-//! Limits: `MAX_WORKERS` and `MAX_CAPACITY` of `run_options`. Without a transcript no turn can return out-of-memory.
-//! Nothing is promised of time, of fairness, that an outcome is whole, or that the call returns.
+//! Limits: `MAX_WORKERS` and `MAX_CAPACITY`. Without a transcript no turn can return out-of-memory. Nothing is promised
+//! of time, of fairness, that an outcome is whole, or that the call returns.
 #![tactic(auto)]
 
 mod cross;

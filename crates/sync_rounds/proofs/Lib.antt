@@ -7,3 +7,5 @@ pub mod Walks
 pub mod Steps
 pub mod Spreading
 pub mod Reaching
+pub mod Resting
+pub mod Still

@@ -7,3 +7,4 @@ pub mod Spread
 pub mod Words
 pub mod SpreadLaws
 pub mod Reach
+pub mod Rests

@@ -1,6 +1,6 @@
 //! From the outboxes of a pulse to the inboxes of the next one.
 
-ghost use Rattle.std.specs.Prelude.{◌≡◌, ◌<◌, ◌-◌, ◌+◌, ◌++◌, ◌∷◌, ℕ, List, Option, [], length};
+ghost use Rattle.std.specs.Prelude.{◌≡◌, ◌<◌, ◌-◌, ◌+◌, ◌++◌, ◌∷◌, ℕ, List, Option, [], false, length};
 ghost use Rattle.std.specs.Prelude.{slice_index_or, slice_set};
 ghost use Rattle.node_api.specs.interference.Net.{Net, IsNetwork, IsVertex, count_of, degree_of};
 ghost use Rattle.node_api.specs.Boxes.{Mail, nothing, unread, FilledPorts};
@@ -44,8 +44,32 @@ fn deliver_from<T: Copy>(net: &Network, w: u32, outs: &mut [Outbox<T>], inboxes:
     ensures outs { outs.new ≡ slice_set outs.old (w - 1) (nothing (length (slice_index_or outs.old (w - 1) []))) }
 {
     let out = &mut outs[(w - 1) as usize];
-    deliver_out(net, w, out, inboxes);
-    out.clear();
+    send_out(net, w, out, inboxes);
+}
+
+// Puts what one vertex sent into its neighbours' inboxes, and empties its outbox; an outbox that sends nothing isn't
+// looked into. Returns whether something was sent.
+pub(crate) fn send_out<T: Copy>(
+    net: &Network,
+    w: u32,
+    out: &mut Outbox<T>,
+    inboxes: &mut [Inbox<T>],
+) -> bool
+    requires vertex { IsVertex net.now w }
+    requires ports { length out.old ≡ degree_of net.now w }
+    requires before { (outs : List (List (Option T))) × Sends net.now outs w out.old inboxes.old }
+    ensures after { (outs : List (List (Option T))) → Sends net.now outs w out.old inboxes.old
+        → Delivered net.now outs (w + 1) [] inboxes.new }
+    ensures out { out.new ≡ nothing (length out.old) }
+    ensures quiet { result ≡ false → inboxes.new ≡ inboxes.old }
+{
+    net.is_network();
+    if !out.is_quiet() {
+        deliver_out(net, w, out, inboxes);
+        out.clear();
+        return true;
+    }
+    false
 }
 
 // Puts what is in the outbox of one vertex into its neighbours' inboxes, each payload at the port that leads back.

@@ -1,19 +1,24 @@
-//! The rounds of a program, pulse by pulse.
+//! The run of a program: what a node sends goes into the inboxes of the next pulse at once, and a node that rests and
+//! to which nothing came is passed over.
 
-ghost use Rattle.std.specs.Prelude.{◌≡◌, ◌<◌, ◌≤◌, ◌+◌, ◌^◌, IfOk, length, suc, vec_capacity};
-ghost use Rattle.node_api.specs.interference.Net.{count_of};
-ghost use Rattle.node_api.specs.Boxes.{nothing, unread};
-ghost use Rattle.node_api.specs.Run.{state_at, outbox_at, inbox_at, last_states, after};
-ghost use Rattle.sync_rounds.specs.Lists.{Lists, empty_inbox, empty_outbox};
-ghost use Rattle.sync_rounds.specs.Senders.{HasSenders};
+ghost use Rattle.std.specs.Prelude.{◌≡◌, ◌<◌, ◌≤◌, ◌+◌, ◌^◌, ℕ, [], IfOk, false, slice_index_or, suc};
+ghost use Rattle.node_api.specs.interference.Net.{IsVertex, count_of};
+ghost use Rattle.node_api.specs.Boxes.{unread};
+ghost use Rattle.node_api.specs.Program.{RestsUntil, own_of};
+ghost use Rattle.node_api.specs.Run.{state_at, inbox_at, last_states};
+ghost use Rattle.sync_rounds.specs.Delivery.{Delivered};
+ghost use Rattle.sync_rounds.specs.Lists.{Lists, empty_inbox};
+ghost use Rattle.sync_rounds.specs.Rests.{AreResting, HasOutboxes, sent_by};
 
-use crate::delivery::deliver;
-use crate::rounds::Rounds;
-use crate::senders::note;
+use crate::boxes::{inboxes_of, outboxes_of};
+use crate::delivery::send_out;
+use crate::stepping::pulse_one;
 use node_api::{Inbox, Memory, Network, NodeProgram, Outbox};
 use std::alloc::Global;
+use std::mem::swap;
 
-/// Runs a program on a network and returns all nodes after its last pulse: entry `v - 1` is vertex `v`.
+/// Runs a program on a network and returns all nodes after its last pulse: entry `v - 1` is vertex `v`. A node is
+/// passed over at the pulses at which it rests (`rests_until`) and nothing came.
 ///
 /// # Errors
 ///
@@ -21,109 +26,149 @@ use std::alloc::Global;
 pub fn run_rounds<P: NodeProgram>(alloc: Global, net: &Network) -> Result<Vec<P>, Memory>
     ensures states { IfOk result (λ nodes. nodes.items ≡ last_states P.program net.now) }
 {
-    let mut rounds = Rounds::<P>::start(alloc, net)?;
-    for _done in 0..P::last_pulse(net) {
-        rounds.step();
+    net.is_network();
+    let (mut nodes, mut outs, mut now) = start::<P>(alloc, net)?;
+    let mut later = inboxes_of(alloc, net)?;
+    let mut untils = vec![in alloc; 0u32; net.nodes() as usize]?;
+    let mut came = true;
+    let mut all_rest = 0;
+    for done in 0..P::last_pulse(net) {
+        // Nothing came to anybody, and all nodes rest: the pulse changes nothing.
+        if !came && done + 1 < all_rest {
+            continue;
+        }
+        let (sent, until) = round(
+            net,
+            done,
+            &mut nodes,
+            &mut outs,
+            &mut untils,
+            &mut now,
+            &mut later,
+        );
+        swap(&mut now, &mut later);
+        came = sent;
+        all_rest = until;
     }
-    Ok(rounds.into_nodes())
+    Ok(nodes)
 }
 
-// All nodes after pulse 0, with what they sent and empty inboxes.
-pub(crate) fn start<P: NodeProgram>(
+// All nodes after pulse 0, an empty outbox for each degree, and the inboxes of pulse 1.
+fn start<P: NodeProgram>(
     alloc: Global,
     net: &Network,
-) -> Result<(Vec<P>, Vec<Inbox<P::Payload>>, Vec<Outbox<P::Payload>>), Memory>
+) -> Result<(Vec<P>, Vec<Outbox<P::Payload>>, Vec<Inbox<P::Payload>>), Memory>
     ensures nodes { IfOk result (λ all. Lists (count_of net.now) (state_at P.program net.now 0) all.0.items) }
-    ensures inboxes { IfOk result (λ all. Lists (count_of net.now) (empty_inbox net.now) all.1.items) }
-    ensures outs { IfOk result (λ all. Lists (count_of net.now) (outbox_at P.program net.now 0) all.2.items) }
-{
-    let mut nodes = Vec::new(alloc);
-    let mut inboxes = Vec::new(alloc);
-    let mut outs = Vec::new(alloc);
-    for i in 0..net.nodes() {
-        let degree = net.degree(i + 1);
-        let inbox = Inbox::new(alloc, degree)?;
-        let mut out = Outbox::new(alloc, degree)?;
-        let mut node = P::make(alloc, net, i + 1)?;
-        node.init(&mut out);
-        nodes.push(node)?;
-        inboxes.push(inbox)?;
-        outs.push(out)?;
-    }
-    Ok((nodes, inboxes, outs))
-}
-
-// The pulse after `done` of all nodes, on what was sent at `done` by the senders.
-pub(crate) fn round<P: NodeProgram>(
-    net: &Network,
-    done: u32,
-    nodes: &mut [P],
-    inboxes: &mut [Inbox<P::Payload>],
-    outs: &mut [Outbox<P::Payload>],
-    senders: &mut Vec<u32>,
-)
-    requires done { done + 1 < 2 ^ 32 }
-    requires nodes { Lists (count_of net.now) (state_at P.program net.now done) nodes.old }
-    requires inboxes { Lists (count_of net.now) (empty_inbox net.now) inboxes.old }
-    requires outs { Lists (count_of net.now) (outbox_at P.program net.now done) outs.old }
-    requires senders { HasSenders (count_of net.now) (outbox_at P.program net.now done) senders.old }
-    ensures nodes { Lists (count_of net.now) (state_at P.program net.now (done + 1)) nodes.new }
-    ensures inboxes { Lists (count_of net.now) (empty_inbox net.now) inboxes.new }
-    ensures outs { Lists (count_of net.now) (outbox_at P.program net.now (done + 1)) outs.new }
-    ensures senders { HasSenders (count_of net.now) (outbox_at P.program net.now (done + 1)) senders.new }
+    ensures outs { IfOk result (λ all. HasOutboxes net.now all.1.items) }
+    ensures now { IfOk result
+        (λ all. Lists (count_of net.now) (λ v. unread (inbox_at P.program net.now 1 v)) all.2.items) }
 {
     net.is_network();
-    deliver(net, outs, senders, inboxes);
-    pulse_all(net, done, nodes, inboxes, outs, senders);
+    let mut outs = outboxes_of(alloc, net)?;
+    let mut now = inboxes_of(alloc, net)?;
+    let mut nodes = Vec::with_capacity(alloc, net.nodes() as usize)?;
+    for i in 0..net.nodes() {
+        let mut node = P::make(alloc, net, i + 1)?;
+        greet(net, i + 1, &mut node, &mut outs, &mut now);
+        nodes.push(node)?;
+    }
+    Ok((nodes, outs, now))
 }
 
-// The pulse after `done` of all nodes, whose outboxes are empty. It leaves the inboxes empty.
-fn pulse_all<P: NodeProgram>(
+// Pulse 0 of one vertex.
+fn greet<P: NodeProgram>(
+    net: &Network,
+    v: u32,
+    node: &mut P,
+    outs: &mut [Outbox<P::Payload>],
+    later: &mut [Inbox<P::Payload>],
+)
+    requires vertex { IsVertex net.now v }
+    requires node { node.old ≡ P.program.made (own_of net.now v) }
+    requires outs { HasOutboxes net.now outs.old }
+    requires before { Delivered net.now (sent_by P.program net.now 0) v [] later.old }
+    ensures node { node.new ≡ state_at P.program net.now 0 v }
+    ensures outs { HasOutboxes net.now outs.new }
+    ensures after { Delivered net.now (sent_by P.program net.now 0) (v + 1) [] later.new }
+{
+    net.is_network();
+    let out = &mut outs[net.degree(v) as usize];
+    node.init(out);
+    send_out(net, v, out, later);
+}
+
+// The pulse after `done` of all nodes. What was sent at `done` is in `now`; what is sent goes into `later`. Returns
+// whether something was sent, and before which pulse all nodes rest.
+fn round<P: NodeProgram>(
     net: &Network,
     done: u32,
     nodes: &mut [P],
-    inboxes: &mut [Inbox<P::Payload>],
     outs: &mut [Outbox<P::Payload>],
-    senders: &mut Vec<u32>,
-)
+    untils: &mut [u32],
+    now: &mut [Inbox<P::Payload>],
+    later: &mut [Inbox<P::Payload>],
+) -> (bool, u32)
     requires done { done + 1 < 2 ^ 32 }
     requires nodes { Lists (count_of net.now) (state_at P.program net.now done) nodes.old }
-    requires inboxes { Lists (count_of net.now) (λ v. unread (inbox_at P.program net.now (suc done) v)) inboxes.old }
-    requires outs { Lists (count_of net.now) (empty_outbox net.now) outs.old }
-    requires room { count_of net.now ≤ vec_capacity senders.old }
+    requires outs { HasOutboxes net.now outs.old }
+    requires rests { AreResting P.program net.now done untils.old }
+    requires now { Lists (count_of net.now) (λ v. unread (inbox_at P.program net.now (suc done) v)) now.old }
+    requires later { Lists (count_of net.now) (empty_inbox net.now) later.old }
     ensures nodes { Lists (count_of net.now) (state_at P.program net.now (suc done)) nodes.new }
-    ensures inboxes { Lists (count_of net.now) (empty_inbox net.now) inboxes.new }
-    ensures outs { Lists (count_of net.now) (outbox_at P.program net.now (suc done)) outs.new }
-    ensures senders { HasSenders (count_of net.now) (outbox_at P.program net.now (suc done)) senders.new }
+    ensures outs { HasOutboxes net.now outs.new }
+    ensures rests { AreResting P.program net.now (suc done) untils.new }
+    ensures now { Lists (count_of net.now) (empty_inbox net.now) now.new }
+    ensures later { Lists (count_of net.now) (λ v. unread (inbox_at P.program net.now (suc (suc done)) v)) later.new }
+    ensures quiet { result.0 ≡ false → Lists (count_of net.now) (empty_inbox net.now) later.new }
+    ensures least { (k d : ℕ) → k < count_of net.now → result.1 ≤ slice_index_or untils.new k d }
 {
-    senders.clear();
+    net.is_network();
+    let mut sent = false;
+    let mut least = u32::MAX;
     for i in 0..net.nodes() {
-        let out = &mut outs[i as usize];
+        let inbox = &mut now[i as usize];
+        let until = untils[i as usize];
+        // Nothing came, and the node rests: a call would change nothing.
+        if done + 1 < until && !inbox.has_next() {
+            least = least.min(until);
+            continue;
+        }
         let node = &mut nodes[i as usize];
-        let inbox = &mut inboxes[i as usize];
-        pulse_one(node, done + 1, inbox, out);
-        note(senders, i + 1, out);
+        let (rests, is_loud) = turn(net, i + 1, done, node, inbox, outs, later);
+        untils[i as usize] = rests;
+        least = least.min(rests);
+        sent = sent | is_loud;
     }
+    (sent, least)
 }
 
-// One pulse of one node. It leaves the inbox empty.
-fn pulse_one<P: NodeProgram>(
+// The pulse after `done` of one vertex. Returns before which pulse it rests, and whether it sent something.
+fn turn<P: NodeProgram>(
+    net: &Network,
+    v: u32,
+    done: u32,
     node: &mut P,
-    pulse: u32,
     inbox: &mut Inbox<P::Payload>,
-    out: &mut Outbox<P::Payload>,
-)
-    requires pulse { 1 ≤ pulse }
-    requires unread { inbox.old ≡ unread inbox.old.slots }
-    requires ports { length inbox.old.slots ≡ P.program.ports node.old }
-    requires out { out.old ≡ nothing (P.program.ports node.old) }
-    ensures node { (node.new, out.new)
-        ≡ after node.old (P.program.ports node.old) (P.program.next node.old pulse inbox.old.slots) }
-    ensures empty { inbox.new ≡ unread (nothing (length inbox.old.slots)) }
+    outs: &mut [Outbox<P::Payload>],
+    later: &mut [Inbox<P::Payload>],
+) -> (u32, bool)
+    requires vertex { IsVertex net.now v }
+    requires done { done + 1 < 2 ^ 32 }
+    requires node { node.old ≡ state_at P.program net.now done v }
+    requires inbox { inbox.old ≡ unread (inbox_at P.program net.now (suc done) v) }
+    requires outs { HasOutboxes net.now outs.old }
+    requires before { Delivered net.now (sent_by P.program net.now (suc done)) v [] later.old }
+    ensures node { node.new ≡ state_at P.program net.now (suc done) v }
+    ensures inbox { inbox.new ≡ empty_inbox net.now v }
+    ensures outs { HasOutboxes net.now outs.new }
+    ensures after { Delivered net.now (sent_by P.program net.now (suc done)) (v + 1) [] later.new }
+    ensures rests { RestsUntil P.program (state_at P.program net.now (suc done) v) (suc done) result.0 }
+    ensures quiet { result.1 ≡ false → later.new ≡ later.old }
 {
-    node.pre_step(pulse);
-    // No program refuses what comes in the synchronous run; after a refusal the state would stay.
-    let _ = node.handle_messages(pulse, inbox, out);
-    node.post_step(pulse);
-    inbox.clear();
+    net.is_network();
+    let out = &mut outs[net.degree(v) as usize];
+    pulse_one(node, done + 1, inbox, out);
+    let until = node.rests_until(done + 1);
+    let is_loud = send_out(net, v, out, later);
+    (until, is_loud)
 }

@@ -9,19 +9,22 @@
 //! let best = nodes[0].best();    // the greatest identifier within two links of vertex 1
 //! ```
 //!
-//! By its code the engine allocates at the start alone: an inbox and an outbox for each node, and room to list the
-//! vertices that send something at a pulse; and a pulse costs time by the nodes and the messages that are sent: a port
-//! at which nothing is sent isn't looked at. No contract says so.
+//! By its code `run_rounds` allocates at the start alone: two inboxes for each node, which change places after a pulse, and
+//! an outbox for each degree that occurs. A pulse costs time by the messages that are sent and the nodes that are called.
+//! A node that rests and to which nothing came costs a look, and a port at which nothing is sent none. `Rounds` keeps an
+//! outbox for each node, and a list of those that sent something. No contract says so.
 //!
 //! Limits: those of a `Network`, and a last pulse below 2³².
 #![tactic(auto)]
 
+mod boxes;
 mod delivery;
 mod engine;
 mod greatest;
 pub mod laws;
 mod rounds;
 mod senders;
+mod stepping;
 
 pub use engine::run_rounds;
 pub use greatest::{Best, Greatest};

@@ -5,7 +5,7 @@ use Rattle.colour_laws.specs.colour_rules.Payload.{Payload}
 use Rattle.colour_laws.specs.colour_rules.Node.{Node, ports}
 use Rattle.colour_laws.specs.colour_rules.Program.{next}
 use Rattle.colour_laws.proofs.colour_rules.Idling.{idle-waiting}
-use Rattle.colour_program.proofs.Quiet.{nothing-came}
+use Rattle.node_api.proofs.Reading.{nothing-came}
 use Rattle.colour_program.proofs.colouring.ColouringNodeProgram.handle_messages.Goals as goal
 
 pub returns-then-not-has_next-clause-answer : goal.returns-then-not-has_next-clause-answer

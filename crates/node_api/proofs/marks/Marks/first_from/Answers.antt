@@ -1,7 +1,6 @@
 use Rattle.std.proofs.Common.{◌≡◌, ℕ, List, Bool, ◌+◌, ◌*◌, ◌/◌, ◌<◌, ◌≤◌, true, false, length, ap, sym, ◌∙◌, arith, w64}
 use Rattle.std.specs.Int.{trailing_zeros}
 use Rattle.std.proofs.lemmas.Bool.Decides.{nat_tests}
-use Rattle.std.proofs.lemmas.List.{get_or_default}
 use native.Mathlib.Decide.{dec_lt}
 use Prim.{yes, no}
 use Rattle.node_api.specs.Marks.{has_bit, is_marked, marks_in}
@@ -17,18 +16,18 @@ some_bit n words marks from is (place, later, below, marked) =
     let low : place < n = omega (arith, below, ap length is, length-marks_in n words) in
     (place, later, low, sym (marks_in-at n words place false low) ∙ (ap (λ l. is_marked l place) is ∙ marked))
 
-pub index-requires : goal.index-requires
-index-requires c =
+pub get-requires : goal.get-requires
+get-requires c =
     let a = c.self.inside in
-    let (place, later, below, marked) = some_bit a.places a.words.items c.args.self.now c.args.from c.self.view_is c.requires.some in
-    omega (arith, later, below, c.self.invariant.0, a.words.ok.0)
+    let (place, later, below, marked) = some_bit a.places a.words c.args.self.now c.args.from c.self.view_is c.requires.some in
+    record { index = omega (arith, later, below, c.self.invariant.0) }
 
 pub loop-rest-init : goal.loop-rest-init
 loop-rest-init c =
     let a = c.self.inside in
-    let (place, later, below, marked) = some_bit a.places a.words.items c.args.self.now c.args.from c.self.view_is c.requires.some in
-    let inside : c.args.from / 64 < length a.words.items = omega (arith, later, below, c.self.invariant.0) in
-    rest-first a.words.items c.args.from c.index.result.now (c.index.ensures ∙ get_or_default a.words.items (c.args.from / 64) _ 0 inside)
+    let (place, later, below, marked) = some_bit a.places a.words c.args.self.now c.args.from c.self.view_is c.requires.some in
+    let inside : c.args.from / 64 < length a.words = omega (arith, later, below, c.self.invariant.0) in
+    rest-first a.words c.args.from c.get.result c.get.ensures.word
     (omega arith) inside
 
 -- a place that counts is beyond the words that were looked at
@@ -40,24 +39,38 @@ beyond words from word rest place r none later marked =
       | no other ↦ omega arith
     ]
 
-pub index-rest-requires : goal.index-rest-requires
-index-rest-requires c =
+pub get-rest-requires : goal.get-rest-requires
+get-rest-requires c =
     let a = c.self.inside in
     let l = c.loop-rest in
-    let (place, later, below, marked) = some_bit a.places a.words.items c.args.self.now c.args.from c.self.view_is c.requires.some in
+    let (place, later, below, marked) = some_bit a.places a.words c.args.self.now c.args.from c.self.view_is c.requires.some in
     let none : l.rest ≡ 0 = grind (arith, nat_tests, c.loop-rest-test.true) in
-    omega (arith, beyond a.words.items c.args.from l.word l.rest place l.invariant none later marked, below, c.self.invariant.0, a.words.ok.0)
+    record { index = omega (arith, beyond a.words c.args.from l.word l.rest place l.invariant none later marked, below, c.self.invariant.0) }
+
+pub overflow_add-word : goal.overflow_add-word
+overflow_add-word c =
+    let a = c.self.inside in
+    let l = c.loop-rest in
+    let (place, later, below, marked) = some_bit a.places a.words c.args.self.now c.args.from c.self.view_is c.requires.some in
+    let none : l.rest ≡ 0 = grind (arith, nat_tests, c.loop-rest-test.true) in
+    omega (
+      arith,
+      beyond a.words c.args.from l.word l.rest place l.invariant none later marked,
+      below,
+      ap length c.self.view_is,
+      length-marks_in a.places a.words,
+      c.self.invariant.2,
+    )
 
 pub loop-rest-preserved : goal.loop-rest-preserved
 loop-rest-preserved c =
     let a = c.self.inside in
     let l = c.loop-rest in
-    let (place, later, below, marked) = some_bit a.places a.words.items c.args.self.now c.args.from c.self.view_is c.requires.some in
+    let (place, later, below, marked) = some_bit a.places a.words c.args.self.now c.args.from c.self.view_is c.requires.some in
     let none : l.rest ≡ 0 = grind (arith, nat_tests, c.loop-rest-test.true) in
-    let far = beyond a.words.items c.args.from l.word l.rest place l.invariant none later marked in
-    let inside : l.word + 1 < length a.words.items = omega (arith, far, below, c.self.invariant.0) in
-    rest-next a.words.items c.args.from l.word l.rest l.invariant none c.index-rest.result.now
-    (c.index-rest.ensures ∙ get_or_default a.words.items (l.word + 1) _ 0 inside) (omega arith) inside
+    let far = beyond a.words c.args.from l.word l.rest place l.invariant none later marked in
+    let inside : l.word + 1 < length a.words = omega (arith, far, below, c.self.invariant.0) in
+    rest-next a.words c.args.from l.word l.rest l.invariant none c.get-rest.result c.get-rest.ensures.word (omega arith) inside
     (omega (arith, l.invariant.past))
 
 -- something is left of the word: its lowest place is no later than the one that there is, and so it is one of the places
@@ -79,7 +92,7 @@ overflow_mul-result c =
     let a = c.self.inside in
     let l = c.loop-rest in
     let (some, low) =
-    found-below a.places a.words.items c.args.self.now c.args.from l.word l.rest l.invariant c.loop-rest-test.false c.self.view_is c.requires.some in
+    found-below a.places a.words c.args.self.now c.args.from l.word l.rest l.invariant c.loop-rest-test.false c.self.view_is c.requires.some in
     omega (arith, low, c.self.invariant.2)
 
 pub overflow_cast-result : goal.overflow_cast-result
@@ -87,7 +100,7 @@ overflow_cast-result c =
     let a = c.self.inside in
     let l = c.loop-rest in
     let (some, low) =
-    found-below a.places a.words.items c.args.self.now c.args.from l.word l.rest l.invariant c.loop-rest-test.false c.self.view_is c.requires.some in
+    found-below a.places a.words c.args.self.now c.args.from l.word l.rest l.invariant c.loop-rest-test.false c.self.view_is c.requires.some in
     omega (arith, low, c.self.invariant.2)
 
 pub overflow_add-result : goal.overflow_add-result
@@ -95,7 +108,7 @@ overflow_add-result c =
     let a = c.self.inside in
     let l = c.loop-rest in
     let (some, low) =
-    found-below a.places a.words.items c.args.self.now c.args.from l.word l.rest l.invariant c.loop-rest-test.false c.self.view_is c.requires.some in
+    found-below a.places a.words c.args.self.now c.args.from l.word l.rest l.invariant c.loop-rest-test.false c.self.view_is c.requires.some in
     omega (arith, low, c.self.invariant.2)
 
 pub returns-clause-later : goal.returns-clause-later
@@ -103,35 +116,35 @@ returns-clause-later c =
     let a = c.self.inside in
     let l = c.loop-rest in
     let (some, low) =
-    found-below a.places a.words.items c.args.self.now c.args.from l.word l.rest l.invariant c.loop-rest-test.false c.self.view_is c.requires.some in
-    found-later a.words.items c.args.from l.word l.rest l.invariant some
+    found-below a.places a.words c.args.self.now c.args.from l.word l.rest l.invariant c.loop-rest-test.false c.self.view_is c.requires.some in
+    found-later a.words c.args.from l.word l.rest l.invariant some
 
 pub returns-clause-within : goal.returns-clause-within
 returns-clause-within c =
     let a = c.self.inside in
     let l = c.loop-rest in
     let (some, low) =
-    found-below a.places a.words.items c.args.self.now c.args.from l.word l.rest l.invariant c.loop-rest-test.false c.self.view_is c.requires.some in
-    omega (arith, low, ap length c.self.view_is, length-marks_in a.places a.words.items)
+    found-below a.places a.words c.args.self.now c.args.from l.word l.rest l.invariant c.loop-rest-test.false c.self.view_is c.requires.some in
+    omega (arith, low, ap length c.self.view_is, length-marks_in a.places a.words)
 
 pub returns-clause-marked : goal.returns-clause-marked
 returns-clause-marked c =
     let a = c.self.inside in
     let l = c.loop-rest in
     let (some, low) =
-    found-below a.places a.words.items c.args.self.now c.args.from l.word l.rest l.invariant c.loop-rest-test.false c.self.view_is c.requires.some in
+    found-below a.places a.words c.args.self.now c.args.from l.word l.rest l.invariant c.loop-rest-test.false c.self.view_is c.requires.some in
     ap (λ m. is_marked m (l.word * 64 + trailing_zeros w64 l.rest)) (sym c.self.view_is)
-    ∙ (marks_in-at a.places a.words.items (l.word * 64 + trailing_zeros w64 l.rest) false low
-    ∙ found-marked a.words.items c.args.from l.word l.rest l.invariant some)
+    ∙ (marks_in-at a.places a.words (l.word * 64 + trailing_zeros w64 l.rest) false low
+    ∙ found-marked a.words c.args.from l.word l.rest l.invariant some)
 
 pub returns-clause-first : goal.returns-clause-first
 returns-clause-first c =
     let a = c.self.inside in
     let l = c.loop-rest in
     let (some, low) =
-    found-below a.places a.words.items c.args.self.now c.args.from l.word l.rest l.invariant c.loop-rest-test.false c.self.view_is c.requires.some in
+    found-below a.places a.words c.args.self.now c.args.from l.word l.rest l.invariant c.loop-rest-test.false c.self.view_is c.requires.some in
     λ q after before.
     (let below : q < a.places = omega (arith, low, before) in
     ap (λ m. is_marked m q) (sym c.self.view_is)
-    ∙ (marks_in-at a.places a.words.items q false below
-    ∙ found-first a.words.items c.args.from l.word l.rest l.invariant some q after before))
+    ∙ (marks_in-at a.places a.words q false below
+    ∙ found-first a.words c.args.from l.word l.rest l.invariant some q after before))

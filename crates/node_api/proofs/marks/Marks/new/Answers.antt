@@ -1,4 +1,5 @@
 use Rattle.std.proofs.Common.{length, ap, sym, ◌∙◌, arith, ℕ}
+use Rattle.std.specs.Prelude.{max}
 use Rattle.std.proofs.lemmas.List.{length-replicate}
 use Rattle.node_api.specs.Marks.{count_marks, marks_in}
 use Rattle.node_api.proofs.Counting.{count-none}
@@ -7,12 +8,13 @@ use Rattle.node_api.proofs.marks.Marks.new.Goals as goal
 
 pub invariant_of-result : goal.invariant_of-result
 invariant_of-result c =
-    let words = c.loop-word.invariant in
-    let n = c.loop-word._word in (
-      omega (arith, ap length words, length-replicate {A = ℕ} n 0, c.loop-word-test.false, c.div_ceil-count.ensures),
-      sym (ap (λ l. count_marks (marks_in c.args.places l)) words ∙ (ap count_marks (marks_in-zeros c.args.places n) ∙ count-none c.args.places)),
+    let zeros = c.in_ok-words.ensures.zeros in
+    let n : ℕ = max 1 c.div_ceil.result in (
+      omega (arith, ap length zeros, length-replicate {A = ℕ} n 0, c.div_ceil.ensures),
+      sym (ap (λ l. count_marks (marks_in c.args.places l)) zeros ∙ (ap count_marks (marks_in-zeros c.args.places n) ∙ count-none c.args.places)),
       omega (arith, c.ranges.places.fits),
     )
 
 pub returns : goal.returns
-returns c = record { none = ap (λ l. marks_in c.args.places l) c.loop-word.invariant ∙ marks_in-zeros c.args.places c.loop-word._word }
+returns c =
+    record { none = ap (λ l. marks_in c.args.places l) c.in_ok-words.ensures.zeros ∙ marks_in-zeros c.args.places (max 1 c.div_ceil.result) }
