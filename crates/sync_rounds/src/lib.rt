@@ -9,10 +9,10 @@
 //! let best = nodes[0].best();    // the greatest identifier within two links of vertex 1
 //! ```
 //!
-//! By its code `run_rounds` allocates at the start alone: two inboxes for each node, which change places after a pulse, and
-//! an outbox for each degree that occurs. A pulse costs time by the messages that are sent and the nodes that are called.
-//! A node that rests and to which nothing came costs a look, and a port at which nothing is sent none. `Rounds` keeps an
-//! outbox for each node, and a list of those that sent something. No contract says so.
+//! By its code `run_rounds` allocates at the start alone: two inboxes for each node, which change places after a pulse,
+//! and an outbox for each degree that occurs. A pulse costs time by the messages that are sent and the nodes that are
+//! called. A node that rests and to which nothing came costs a look, and a port at which nothing is sent none. `Rounds`
+//! keeps an outbox for each node, and a list of those that sent something. No contract says so.
 //!
 //! Limits: those of a `Network`, and a last pulse below 2³².
 #![tactic(auto)]
