@@ -15,7 +15,7 @@ def ports_of(net, v):
 
 
 def last_pulse(net):
-    return 12 + 3 * net.forest_count * (net.greatest_degree + 1)
+    return 12 + 3 * net.forest_count * (net.span + 1)
 
 
 class Colouring:
@@ -23,10 +23,13 @@ class Colouring:
 
     def __init__(self, net, v):
         self.id, self.degree = net.identifiers[v], len(net.neighbours[v])
-        self.delta, self.forests = net.greatest_degree, net.forest_count
+        self.span, self.forests, self.barred = net.span, net.forest_count, net.barred[v]
         self.roles = [None] * self.degree
         self.colours, self.before = [0] * self.forests, [0] * self.forests
-        self.old, self.merged, self.chosen = 0, 0, set()
+        self.old, self.merged, self.chosen = 0, self.least_free(()), set()
+
+    def least_free(self, chosen):
+        return min(set(range(self.span + 1)) - self.barred - set(chosen))
 
     def greet(self):
         return [("Hello", self.id)] * self.degree
@@ -68,14 +71,14 @@ class Colouring:
         return [None] * self.degree if pulse == 12 else self.colours_sent()
 
     def merge(self, t, inbox):
-        width = self.delta + 1
+        width = self.span + 1
         forest, step = divmod(t, 3 * width)
         if step == 0:
             self.old, self.chosen = self.merged, set()
         self.chosen |= {slot[1] for slot in inbox if slot}
         if (self.colours[forest], self.old) != divmod(step, width):
             return [None] * self.degree
-        self.merged = min(set(range(width)) - self.chosen)
+        self.merged = self.least_free(self.chosen)
         is_last = step == 3 * width - 1
         return [("Chosen", self.merged) if f <= forest and not is_last else None for _, f in self.roles]
 

@@ -70,7 +70,10 @@ def forests_rows():
         ("four-cycle", "p edge 4 4|e 1 2|e 2 3|e 3 4|e 1 4|", "forests 4 2|0 1 2|0 2 3|0 3 4|1 1 4|"),
         ("complete graph on four", "p edge 4 6|e 1 2|e 1 3|e 1 4|e 2 3|e 2 4|e 3 4|",
          "forests 4 3|0 1 2|0 2 3|0 3 4|1 1 3|1 2 4|2 1 4|"),
+        ("the lower vertex with the higher identifier", "p edge 2 1|i 1 7|e 1 2|", "forests 2 1|0 2 1|"),
+        ("identifiers changed about, behind the edges", "p edge 3 2|e 1 2|e 2 3|i 3 0 x|i 1 2|i 2 1|", "forests 3 1|0 2 1|0 3 2|"),
         ("no line feed at the end", "p edge 2 1|e 1 2", "forests 2 1|0 1 2|"),
+        ("a triangle with a bar", TRIANGLE + "b 3 1|", TRIANGLE_FORESTS),
         ("tabs and leading blanks", " \tp\tcol 2\t1|\t e 1  2|", "forests 2 1|0 1 2|"),
         ("comment of bytes that are no text", "c\xff|p edge 1 0|", "forests 1 0|"),
         ("the greatest star", "p edge 1024 1023|" + "".join(f"e {v} 1024|" for v in range(1, 1024)),
@@ -83,6 +86,8 @@ def forests_rows():
 def plain_rows():
     rows = [
         ("one edge", "p edge 2 1|e 1 2|", [1, 2]),
+        ("one edge and an identifier", "p edge 2 1|i 2 5|e 1 2|", [2, 1]),
+        ("one edge and the greatest identifier", f"p edge 2 1|i 2 {2**128 - 1}|e 1 2|", [2, 1]),
         ("triangle", TRIANGLE, [2, 3, 1]),
         ("path in an odd layout", "c path\r|p edges 3 99 extra\r|\r|n 1 2\r|e 1 2 7\r|e 2 1\r|e 3 2\r|e 2 3\r|", [1, 2, 1]),
         ("two nodes alone", "p col 2 0|", [1, 1]),
@@ -94,7 +99,7 @@ def plain_rows():
         ("a path of six, three nodes alone", "p edge 9 5|e 3 4|e 4 5|e 5 6|e 6 7|e 7 9|", [1, 1, 1, 3, 2, 1, 2, 1, 1]),
         ("a path of seven, three nodes alone", "p edge 10 6|e 2 3|e 3 5|e 5 6|e 6 7|e 7 8|e 8 10|",
          [1, 2, 1, 1, 2, 1, 2, 1, 1, 2]),
-    ]
+    ] + barred_plans()
     for name, network, channels in rows:
         wanted = "plan|" + "".join(f"{v} {channel}|" for v, channel in enumerate(channels, 1))
         for command in ("plain", "plan"):
@@ -107,6 +112,35 @@ def plain_rows():
         for command in ("plain", "plan"):
             done = run([command], text(network))
             expect(f"{command} of {network[:30]!r}", done, 1, b"", f"forestplan: {fault}\n".encode())
+
+
+def bars_of(v, first, last):
+    """Lines that bar the channels from the first to the last one."""
+    return "".join(f"b {v} {channel}|" for channel in range(first, last + 1))
+
+
+def barred_plans():
+    """Rows of networks with barred channels, worked by hand. On one edge the three-colours are 0 and 1, so vertex 1 chooses first;
+    in the greatest star the centre chooses last."""
+    edge, star = "p edge 2 1|e 1 2|", "p edge 1024 1023|" + "".join(f"e {v} 1024|" for v in range(1, 1024))
+    return [
+        ("the triangle, with 1 barred at vertex 3", TRIANGLE + "b 3 1|", [1, 3, 2]),
+        ("two nodes alone, with bars", "p edge 2 0|b 1 1|b 1 2|b 2 2|", [3, 1]),
+        ("a bar that comes again", "p edge 2 0|b 1 1|b 1 2|b 2 2|b 1 1|b 2 2 x|", [3, 1]),
+        ("an edge, with 1 barred at vertex 1", edge + "b 1 1|", [2, 1]),
+        ("an edge, with 1 barred at vertex 2", edge + "b 2 1|", [1, 2]),
+        ("an edge, with 2 barred at vertex 2", edge + "b 2 2|", [1, 3]),
+        ("an edge, with the next channel barred at each end", edge + "b 1 1|b 2 2|", [2, 1]),
+        ("an edge, with 1 and 3 barred at both ends", edge + "b 1 1|b 2 1|b 1 3|b 2 3|", [2, 4]),
+        ("a bar of the greatest channel, before the edges", "p edge 2 1|\tb 02 02048 further|e 1 2|", [1, 2]),
+        ("as many bars of a vertex as the limit", "p edge 1 0|" + bars_of(1, 1, 1024), [1025]),
+        ("as many bars of a vertex as the limit, each twice", "p edge 1 0|" + 2 * bars_of(1, 1, 1024), [1025]),
+        ("all channels barred, at one of two vertices each", "p edge 2 0|" + bars_of(1, 1, 1024) + bars_of(2, 1025, 2048), [1025, 1]),
+        ("all channels barred, each at a vertex of its own", "p edge 2048 0|" + "".join(f"b {v} {v}|" for v in range(1, 2049)),
+         [2] + [1] * 2047),
+        ("the greatest span", star + bars_of(1024, 1, 1024), [1] * 1023 + [1025]),
+        ("the greatest span, with 1 free", star + bars_of(1024, 2, 1025), [1] * 1023 + [1026]),
+    ]
 
 
 def example_texts():
@@ -137,7 +171,8 @@ def fault_rows():
     rows = [
         ("", "F1"), ("c x|", "F1"), ("e 1 2|p edge 2 1|", "F3 line 1"), ("p edge 2 1|p x|", "F2 line 2"),
         ("p edge 3|", "F4 line 1"), ("p nothing 3 1|", "F4 line 1"), ("p edge 20001 0|", "F7 line 1"),
-        ("q 1|", "F8 line 1"), ("node 1|", "F8 line 1"), ("edge 1 2|", "F8 line 1"), ("x1|", "F8 line 1"), ("i 1 5|", "F8 line 1"), ("b 1 1|", "F8 line 1"), ("\xff|", "F8 line 1"),
+        ("q 1|", "F8 line 1"), ("node 1|", "F8 line 1"), ("edge 1 2|", "F8 line 1"), ("x1|", "F8 line 1"),
+        ("id 1 5|", "F8 line 1"), ("bar 1 1|", "F8 line 1"), ("B 1 1|", "F8 line 1"), ("\xff|", "F8 line 1"),
         ("p edge 99999999999999999999999999 x|", "F4 line 1"), ("p edge 99999999999999999999999999 1|", "F7 line 1"),
         (edge + "e 1 1|", "F6 line 2"), (edge + "e 0 1|", "F5 line 2"), (edge + "e 1 3|", "F5 line 2"),
         (edge + "e 5 5|", "F5 line 2"), (edge + "e 1|", "F4 line 2"), (edge + "e 1 x|", "F4 line 2"),
@@ -145,6 +180,23 @@ def fault_rows():
         (edge + "e 340282366920938463463374607431768211457 1|", "F5 line 2"),
         (edge + "e 4294967297 4294967297|", "F5 line 2"),
         (edge + "|c|e 1 1|e 0 0|", "F6 line 4"),
+        ("i 1 5|p edge 2 1|", "F10 line 1"), ("i x|p edge 2 1|", "F10 line 1"), (edge + "i 1|", "F4 line 2"), (edge + "i 3 x|", "F4 line 2"),
+        (edge + "i 3 5|", "F5 line 2"), (edge + "i 0 340282366920938463463374607431768211456|", "F5 line 2"),
+        (edge + "i 1 340282366920938463463374607431768211456|", "F11 line 2"), (edge + "i 1 5|i 1 5|", "F12 line 3"),
+        (edge + "i 1 5|i 1 340282366920938463463374607431768211456|", "F11 line 3"),
+        (edge + "i 1 2|e 1 2|", "N2 vertices 1 2"), (edge + "i 2 1|", "N2 vertices 1 2"),
+        (edge + "i 1 9|i 2 009|", "N2 vertices 1 2"), (edge + "i 2 9|i 1 9|", "N2 vertices 1 2"),
+        ("p edge 4 0|i 4 2|i 3 1|", "N2 vertices 1 3"), ("p edge 4 0|i 3 1|i 4 2|", "N2 vertices 1 3"),
+        ("b 1 1|", "F10 line 1"), ("b 1 1|p edge 2 1|", "F10 line 1"), ("b x|p edge 2 1|", "F10 line 1"), (edge + "b|", "F4 line 2"),
+        (edge + "b 1|", "F4 line 2"), (edge + "b x 1|", "F4 line 2"), (edge + "b 3 x|", "F4 line 2"), (edge + "b 1 -1|", "F4 line 2"),
+        (edge + "b 3 1|", "F5 line 2"), (edge + "b 3 0|", "F5 line 2"), (edge + "b 0 2049|", "F5 line 2"),
+        (edge + "b 4294967297 1|", "F5 line 2"), (edge + "b 1 0|", "F13 line 2"), (edge + "b 1 2049|", "F13 line 2"),
+        (edge + "b 1 65537|", "F13 line 2"), (edge + "b 1 4294967297|", "F13 line 2"), (edge + "b 2 18446744073709551617|", "F13 line 2"),
+        (edge + "b 1 340282366920938463463374607431768211457|", "F13 line 2"), (edge + "b 1 1|b 2 1|b 1 000|", "F13 line 4"),
+        (edge + bars_of(1, 1, 1025), "F14 line 1026"), (edge + bars_of(2, 1024, 2048), "F14 line 1026"),
+        (edge + bars_of(1, 1, 1024) + bars_of(2, 1, 1024) + bars_of(1, 1, 1024) + "e 1 2|b 2 2048|b 1 2048|", "F14 line 3075"),
+        (edge + bars_of(1, 1, 1024) + "b 1 2049|", "F13 line 1026"), (edge + bars_of(1, 1, 1024) + "b 1 1|q|", "F8 line 1027"),
+        (edge + "e 1 1|" + bars_of(1, 1, 1025), "F6 line 2"), (edge + "b 1 2|i 1 2|", "N2 vertices 1 2"),
         ("p edge 1025 1024|" + "".join(f"e 1 {v}|" for v in range(2, 1026)), "N1 vertex 1"),
     ]
     for network, fault in rows:

@@ -57,7 +57,7 @@ Example:
 """
 
 # The word of each payload of the colouring, and the bound of its number.
-PAYLOADS = {b"hello": 2**64, b"label": 2**16, b"colour": 2**64, b"chosen": 2**16}
+PAYLOADS = {b"hello": 2**128, b"label": 2**16, b"colour": 2**128, b"chosen": 2**16}
 
 # `kind` is Pulse, Put or Take; `what` is the number of the pulse, or the wire, as alpha_definition.py has it. A pulse has no
 # neighbour. `text` is the line as the search takes it.

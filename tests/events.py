@@ -65,6 +65,7 @@ WORKED = [
     ("no node", "p edge 0 0|", ""),
     ("a node alone", "p edge 1 0|", "node 1 pulse 0|"),
     ("a node alone at its last pulse", "p edge 1 0|" + 12 * "pulse 1|", "node 1 pulse 12 channel 1|"),
+    ("a node alone with a bar at its last pulse", "p edge 1 0|b 1 1|b 1 3|" + 12 * "pulse 1|", "node 1 pulse 12 channel 2|"),
     ("the start of an edge", EDGE, "node 1 pulse 0|link 1 2 taken 0|node 2 pulse 0|link 2 1 taken 0|"),
     ("no line feed at the end", EDGE + "put 1 0",
      "node 1 pulse 0|link 1 2 taken 0 payload 0 hello 1|node 2 pulse 0|link 2 1 taken 0|"),
@@ -103,6 +104,7 @@ REFUSED = [
     (EDGE + "c|put 1 0||take 2 0|take 2 0|take 2 0|", "LinkEmpty line 7: link from 1 to 2"),
     (EDGE + "put 1 0|take 2 0|put 2 0|put 2 0|take 1 0|take 1 0|pulse 1|", "NotReady line 9: safe 0 of 2"),
     ("p edge 1 0|" + 13 * "pulse 1|", "NotReady line 14: pulse 12 is the last"),
+    (EDGE + "b 1 0|put 1 0|x|", "F13 line 3"), (EDGE + "put 1 0|b 1 1|", "NoEvent line 4"),
     ("p edge 4 3|e 1 2|e 1 3|e 1 4|pulse 1|", "NotReady line 5: ack 0 of 2, 3 and 4; safe 0 of 2, 3 and 4"),
     (TRIANGLE + "pulse 2|", "NotReady line 5: ack 0 of 1 and 3; safe 0 of 1 and 3"),
     (TRIANGLE + 2 * (ALL_PUT + ALL_TAKE) + ALL_PUT + "pulse 1|", "NotReady line 35: safe 0 of 2 and 3"),
@@ -143,7 +145,7 @@ NOT_REPLAYED = [
     # the greatest number of each kind of payload, which is read and isn't the wire that is due, and one more
     *((EDGE + f"transcript 1 2|1 put 2 payload 0 {kind} {most + more}|",
        "X1 line 4" if more else "WrongWire line 4: expected payload 0 hello 1")
-      for kind, most in [("hello", 2**64 - 1), ("label", 2**16 - 1), ("colour", 2**64 - 1), ("chosen", 2**16 - 1)] for more in (0, 1)),
+      for kind, most in [("hello", 2**128 - 1), ("label", 2**16 - 1), ("colour", 2**128 - 1), ("chosen", 2**16 - 1)] for more in (0, 1)),
     ("p edge 1 0|transcript 1 1|1 pulse 2|", "WrongWire line 3: expected pulse 1"),
     ("p edge 1 0|transcript 1 1|1 pulse 1|1 pulse 1|", "WrongWire line 4: expected pulse 2"),
 ]
@@ -192,7 +194,8 @@ def random_network(source, most):
     nodes = source.randrange(0, most)
     edges = [(v, w) for v in range(1, nodes + 1) for w in range(v + 1, nodes + 1) if source.random() < 0.5]
     source.shuffle(edges)
-    return f"p edge {nodes} {len(edges)}\n" + "".join(f"e {v} {w}\n" for v, w in edges)
+    bars = [(v, source.randint(1, 4)) for v in range(1, nodes + 1) if source.random() < 0.2]
+    return f"p edge {nodes} {len(edges)}\n" + "".join(f"e {v} {w}\n" for v, w in edges) + "".join(f"b {v} {c}\n" for v, c in bars)
 
 
 def random_events(source, net, count):
@@ -242,7 +245,7 @@ def random_rows(program):
 def ending_rows(program):
     """Events to the end: every node has halted, nothing waits, and the channels are the colours plus one."""
     source = random.Random(SEED)
-    for network in [TRIANGLE, "p edge 4 4|e 1 2|e 2 3|e 3 4|e 1 4|", "p edge 5 5|e 1 2|e 1 3|e 1 4|e 1 5|e 2 3|", "p edge 3 1|e 1 3|"]:
+    for network in [TRIANGLE, TRIANGLE + "b 3 1|", "p edge 4 4|e 1 2|e 2 3|e 3 4|e 1 4|", "p edge 5 5|e 1 2|e 1 3|e 1 4|e 1 5|e 2 3|", "p edge 3 1|e 1 3|"]:
         net = network_of(text(network))
         events = random_events(random.Random(source.random()), net, 0) + whole_run(source, net)
         data, numbered = written(source, text(network).decode(), events)

@@ -12,7 +12,7 @@ docs/FORMATS.md (slow_reader.py). The last line is 'N passed, M failed'.
       PLAY      default: the built forestplay
 
 Besides the random texts: each byte at each place of a small text, byte order marks and other bytes before each place, numbers around
-powers of two, lines of a megabyte; and less and less address space. It needs a C compiler, `cc`."""
+powers of two, lines of a megabyte, about as many bars of a vertex as the limit; and less and less address space. It needs a C compiler, `cc`."""
 import argparse
 import os
 import sys
@@ -32,14 +32,14 @@ TALLY = {"passed": 0, "failed": 0}
 
 # Of each command a small good text.
 SMALL = {
-    "forests": "p edge 3 3|e 1 2|e 1 3|e 2 3|",
-    "plain": "c|p col 2 1|e 1 2|",
-    "plan": "p edge 2 1|e 2 1|",
+    "forests": "p edge 3 3|i 2 7|b 3 1|e 1 2|e 1 3|e 2 3|",
+    "plain": "c|p col 2 1|e 1 2|i 1 5|b 2 1|",
+    "plan": "p edge 2 1|b 1 2|e 2 1|b 2 1|",
     "transcript": "p edges 2 1|e 1 2|",
-    "check": EDGE + "plan|2 2|1 1|",
-    "events": EDGE + "put 1 0|take 2 0|",
+    "check": EDGE + "b 2 1|plan|2 2|1 1|",
+    "events": EDGE + "i 1 3|put 1 0|take 2 0|",
     "replay": EDGE + "transcript 1 2|1 put 2 payload 0 hello 1|",
-    "rounds": "p edge 1 0|n 1|",
+    "rounds": "p edge 1 0|n 1|i 1 9|b 1 1|",
 }
 # Texts of which each beginning is a text besides.
 WHOLE = {
@@ -122,7 +122,9 @@ def long_lines(data, length=2**20):
     """A line of a megabyte before the text, in the middle of it and behind it; and many blank lines."""
     for line in (b"c" * length, b" " * length, b"\t" * length, b"q" * length, b"e" * length, b"1" * length, b"\0" * length,
                  b"\xff" * length, b"\r" * length, b"c" + b"\r" * length, b"e 1 2 " + b"9 " * (length // 2),
-                 b"e 1 " + b"0" * length + b"2", b"e 1 " + b"9" * length, b" " * length + b"e 1 2", b"p edge " + b"1" * length + b" 1"):
+                 b"e 1 " + b"0" * length + b"2", b"e 1 " + b"9" * length, b"i 1 " + b"0" * length + b"5", b"i 1 " + b"9" * length,
+                 b"b 1 " + b"0" * length + b"5", b"b 1 " + b"9" * length,
+                 b" " * length + b"e 1 2", b"p edge " + b"1" * length + b" 1"):
         middle = data.index(b"\n") + 1
         yield line + b"\n" + data
         yield data[:middle] + line + b"\n" + data[middle:]
@@ -130,6 +132,15 @@ def long_lines(data, length=2**20):
     for blank in (b"\n", b"\r\n", b" \n"):
         yield blank * (length // 4) + data
         yield data + blank * (length // 4)
+
+
+def crowds_of_bars(data):
+    """About as many bars of a vertex as the limit, each once or some again, before the text's own lines and behind them."""
+    middle = data.index(b"\n") + 1
+    for count, again in product((1023, 1024, 1025, 1026), (0, 3)):
+        lines = b"".join(b"b 1 %d\n" % channel for channel in [*range(1, again + 1), *range(2049 - count, 2049), *range(2046, 2046 + again)])
+        yield data[:middle] + lines + data[middle:]
+        yield data + lines
 
 
 def main():
@@ -168,6 +179,7 @@ def all_rows(programs, only):
         if command in READERS:
             programs.row("each byte at each place", command, each_byte(data))
             programs.row("lines of a megabyte", command, long_lines(data))
+            programs.row("bars about the limit", command, crowds_of_bars(data))
     print(f"{programs.texts} texts that aren't random")
 
 

@@ -360,10 +360,56 @@ def steps_in_order(net):
     return rounds
 
 
+LONG_NAMES = b"p edge 4 4\ni 2 %d\ni 4 0\ne 1 2\ne 2 3\ne 1 4\ne 1 3\n" % (2**128 - 1)
+
+
+def identifier_rows():
+    """A line `i V NUMBER` goes with its vertex; two of one number are refused."""
+    for words in (["read", "-"], ["number", "-", "--by", "degree"], ["number", "-", "--by", "random", "--seed", 3]):
+        data = LONG_NAMES if words[0] == "read" else LONG_NAMES + b"i 1 1\ni 3 3\n"
+        net, made = network_of(LONG_NAMES), network_of(written(*words, data=data))
+        edges = [{frozenset(found.identifiers[v] for v in pair) for pair in found.number} for found in (net, made)]
+        note(f"{words}: who has which neighbours, by identifiers", edges[0] == edges[1] and len(edges[0]) == 4, edges)
+    for words, data in ((["read", "-"], b"p tw 2 1\n1 2\ni 1 2\n"), (["number", "-", "--by", "degree"], b"p edge 2 0\ni 2 9\ni 1 9\n")):
+        status, text, said = call(*words, data=data)
+        note(f"{words}: two of one identifier", (status, text) == (1, b"") and b"1 and 2 have one identifier" in said, said)
+
+
+BARRED = b"c name 4 Last\np edge 4 4\ne 1 2\ne 2 3\nb 4 2\ne 1 4\nb 4 2048\ne 1 3\nb 1 2\nb 4 2 again\n"
+
+
+def bar_rows():
+    """A line `b V CHANNEL` goes with its vertex, which is known by its neighbours here."""
+    for words in (["read", "-"], ["number", "-", "--by", "degree"], ["number", "-", "--by", "random", "--seed", 3]):
+        net, made = network_of(BARRED), network_of(written(*words, data=BARRED))
+        found = [sorted((len(net.neighbours[v]), sorted(net.barred[v])) for v in net.neighbours) for net in (net, made)]
+        wanted = [(1, [1, 2047]), (2, []), (2, []), (3, [1])]
+        note(f"{words}: whose channels are barred", found == [wanted, wanted], found)
+    text = written("read", "-", data=b"p edge 3 1\ne 0 1\nb 0 7\n")
+    note("a bar in a text that counts from 0", b"\nb 1 7\n" in text, text)
+    for data, said in ((b"p edge 2 1\nb 1 0\n", b"no vertex with a channel of 1 to 2048: `b 1 0`"), (b"p edge 2 1\nb 1\n", b"`b 1`"),
+                       (b"p edge 2 1\nb 1 2049\n", b"`b 1 2049`"), (b"p edge 2 1\nb 3 1\n", b"a barred channel of 3, which is no vertex"),
+                       (b"p edge 2 1\n" + b"".join(b"b 2 %d\n" % channel for channel in range(1, 1026)), b"line 1026: more than 1024 channels")):
+        status, text, why = call("read", "-", data=data)
+        note(f"read of {data[:30]}", (status, text) == (1, b"") and said in why, why)
+    told, _ = told_of(BARRED)
+    note("tell of bars", told["barred"] == "3 channels at 2 nodes, at most 2 at one, so at most 6 channels", told)
+    note("tell of a network without bars", "barred" not in told_of(LONG_NAMES)[0])
+    with tempfile.TemporaryDirectory() as folder:
+        path = os.path.join(folder, "net.col")
+        with open(path, "wb") as file:
+            file.write(BARRED)
+        for plan, wanted in ((b"plan\n1 1\n2 3\n3 2\n4 3\n", (0, b"1 1\n2 3\n3 2\nLast 3\n")), (b"plan\n1 1\n2 3\n3 2\n4 2\n", (1, b""))):
+            status, text, why = call("names", path, data=plan)
+            note(f"names on {plan}", (status, text) == wanted and (b"channel 2 is barred at vertex 4 (C8)" in why) == (status == 1), why)
+
+
 def tell_rows():
     """Beside the definitions: the rounds' payloads, and the lines and bytes of a run's transcript."""
     networks = {name: example(f"{name}.col") for name in ("triangle", "petersen", "star", "four_cycle", "chain6")}
     networks |= {"a ring of 12": written("ring", 12), "a grid": written("grid", 3, 4), "one": written("path", 1)}
+    networks["long names"] = LONG_NAMES
+    networks["bars"] = BARRED
     for name, data in networks.items():
         net = network_of(data)
         told, warned = told_of(data)
@@ -373,8 +419,10 @@ def tell_rows():
         run = transcript_text(len(net.neighbours), made_transcript(random.Random(SEED), net, 4))
         degrees = [len(ws) for ws in net.neighbours.values()]
         got = {key: numbers(what) for key, what in told.items()}
-        wanted = {"edges": [edges, edges], "neighbours": [min(degrees), max(degrees), max(degrees) + 1],
-                  "forests": [net.forest_count, 12, 3, net.forest_count, max(degrees) + 1, last], "in turn": [steps_in_order(net)],
+        bars = [len(barred) for barred in net.barred.values() if barred]
+        enough = max(degrees) + max(bars, default=0) + 1
+        wanted = {"edges": [edges, edges], "neighbours": [min(degrees), max(degrees)] + ([] if bars else [enough]),
+                  "forests": [net.forest_count, 12, 3, net.forest_count, enough, last], "in turn": [steps_in_order(net)],
                   "payloads": [payloads], "wires": [2, payloads, 2, edges, last + 1, wires]}
         note(f"tell of {name}", {key: got.get(key) for key in wanted} == wanted, (told, wanted))
         note(f"tell of {name}: the transcript's lines", got["transcript"][0] == run.count(b"\n"), told)
@@ -426,6 +474,16 @@ FAULTS = [
     ("1 2\n2 3\n", "F8 line 1", "`1` begins no line", True), ("\ufeffp edge 2 1\ne 1 2\n", "F8 line 1", "byte order mark", True),
     ("p edge 1025 1024\n" + "".join(f"e 1 {v}\n" for v in range(2, 1026)), "N1 vertex 1", "vertex 1 has 1024 neighbours", False),
     ("node 1\n", "F8 line 1", "`node`", True), ("p edge 2 1\n\x0b\n", "F8 line 2", "`\\x0b`", False), ("p\x0bedge 2 1\n", "F8 line 1", "`p\\x0bedge`", False),
+    ("i 1 5\np edge 2 1\n", "F10 line 1", "an identifier before", True), ("p edge 2 1\ni 1\n", "F4 line 2", "NUMBER is missing", False),
+    ("p edge 2 1\ni x 1\n", "F4 line 2", "`x` is no number", False), ("p edge 2 1\ni 3 5\n", "F5 line 2", "vertex 3 is none", False),
+    ("p edge 2 1\ni 0 %d\n" % 2**128, "F5 line 2", "count from 1", False), ("p edge 2 1\ni 1 %d\n" % 2**128, "F11 line 2", "2^128", False),
+    ("p edge 2 1\ni 1 5\ni 1 5\n", "F12 line 3", "second identifier of vertex 1", False),
+    ("b 1 5\np edge 2 1\n", "F10 line 1", "a barred channel before", True), ("p edge 2 1\nb 1\n", "F4 line 2", "CHANNEL is missing", False),
+    ("p edge 2 1\nb x 1\n", "F4 line 2", "no `b V CHANNEL`: `x` is no number", False), ("p edge 2 1\nb 3 0\n", "F5 line 2", "vertex 3 is none", False),
+    ("p edge 2 1\nb 0 1\n", "F5 line 2", "count from 1", False), ("p edge 2 1\nb 1 0\n", "F13 line 2", "channel 0 is none", False),
+    ("p edge 2 1\nb 1 2049\n", "F13 line 2", "channel 2049 is none that can be barred, which are 1 to 2048", False),
+    ("p edge 2 1\n" + "".join(f"b 2 {channel}\n" for channel in range(1, 1026)), "F14 line 1026", "more than 1024 channels are barred at vertex 2", False),
+    ("p edge 2 1\ni 1 2\n", "N2 vertices 1 2", "vertices 1 and 2 have one identifier", False),
     ("p edge 99999999999999999999999999 x\n", "F4 line 1", "no number", False), ("p edge 2 1\ne 1 2 \t\r\ne 1 -2\n", "F4 line 3", "`-2`", False),
 ]
 
@@ -487,6 +545,8 @@ def main():
         number_rows()
         name_rows(folder)
         script_rows(folder)
+        identifier_rows()
+        bar_rows()
         tell_rows()
         bound_rows()
         fault_rows(program)

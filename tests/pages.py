@@ -150,7 +150,7 @@ def tutorial_table(title, rows):
         wanted = [rows[0][1:]]
         for row in rows[2:]:
             net = example(row[0].strip("`"))
-            last = 12 + 3 * net.forest_count * (net.greatest_degree + 1)
+            last = 12 + 3 * net.forest_count * (net.span + 1)
             wanted.append([str(x) for x in (len(net.neighbours), net.greatest_degree, net.forest_count, last, channels_of(net))])
         return wanted
     if rows[0][0].startswith("identifiers"):

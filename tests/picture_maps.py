@@ -5,7 +5,7 @@ from collections import Counter
 from alpha_definition import last_pulse
 from picture_base import note
 from picture_marks import SVG, centre, ends, gap, marks, nearest, number, numbered, parsed, texts, title, titles
-from plain_definition import Network, bit, colours, drop, merge, network_of, plan_text, shift, three
+from plain_definition import bit, colours, drop, first_colours, merge, network_of, plan_text, shift, three
 from rounds_definition import rounds_text
 
 CHANNELS = ["#0072B2", "#E69F00", "#009E73", "#F0E442", "#CC79A7", "#56B4E9", "#D55E00", "#444444"]
@@ -77,12 +77,38 @@ def places_drawn(draw, network):
     return {int(title(group).split()[1].rstrip(":")): centre(marks(group, "channel")[0]) for group in marks(root, "vertex")}
 
 
+def words_of_bars(net, v):
+    """What stands behind a vertex's channel: up to twelve of the barred ones."""
+    bars = [str(c + 1) for c in sorted(net.barred[v])]
+    more = f" and {len(bars) - 12} more" if len(bars) > 12 else ""
+    return f", barred {', '.join(bars[:12])}{more}" if bars else ""
+
+
+def bars_row(name, net, root, times):
+    """Of each vertex the lowest four barred channels, crossed out, in the order of the vertices, and how many more there are; all of
+    it so many times."""
+    of_all = times * [sorted(net.barred[v]) for v in sorted(net.barred)]
+    wanted = [("bar", CHANNELS[c % 8], str(c + 1)) for bars in of_all for c in bars[:4]]
+    shown = numbered(root, "bar")
+    note(f"{name}: barred channels", shown == wanted, shown)
+    more = [mark.text for mark in marks(root, "more")]
+    note(f"{name}: further ones", more == [f"+{len(bars) - 4}" for bars in of_all if len(bars) > 4], more)
+    width = float(root.get("viewBox").split()[2])
+    right = [centre(mark)[0] + number(mark, "r") for mark in marks(root, "bar")] + [
+        number(mark, "x") + 0.6 * number(mark, "font-size") * len(mark.text) for mark in marks(root, "more")]
+    note(f"{name}: no barred channel is cut", all(x <= width for x in right) and all(number(mark, "cx") > number(mark, "r")
+         for mark in marks(root, "bar")), right)
+
+
 def plan_rows(draw, name, network):
     net = network_of(network)
     plan = {v: c + 1 for v, c in colours(net).items()}
     root = parsed(draw("plan", network, plan_text(network)))
     places = {int(title(group).split()[1].rstrip(":")): centre(marks(group, "channel")[0]) for group in marks(root, "vertex")}
-    note(f"plan of {name}: a vertex each", titles(root, "vertex") == [f"vertex {v}: channel {c}" for v, c in sorted(plan.items())])
+    wanted = [f"vertex {v}: channel {c}{words_of_bars(net, v)}" for v, c in sorted(plan.items())]
+    note(f"plan of {name}: a vertex each", titles(root, "vertex") == wanted, titles(root, "vertex"))
+    bars_row(f"plan of {name}", net, root, len(plan) <= 100)
+    note(f"plan of {name}: it says that channels are barred", any("barred" in text for text in texts(root)[:2]) == (net.greatest_bars > 0))
     shown = [row[1:] for group in marks(root, "vertex") for row in numbered(group, "channel")]
     wanted = [(CHANNELS[(c - 1) % 8], str(c)) for _, c in sorted(plan.items())]
     note(f"plan of {name}: hues and numbers", shown == wanted, shown)
@@ -134,7 +160,7 @@ def forests_rows(draw, name, network, asked=None):
     net = network_of(network)
     words = ["--forests", f"{asked[0]}..{asked[-1]}"] if asked else []
     root = parsed(draw("forests", network, rounds_text(net), *words))
-    merged = dict.fromkeys(net.neighbours, 0)
+    merged = first_colours(net)
     shown_forests = {title(group): group for group in marks(root, "forest") + marks(root, "merged")}
     kept = asked or [f for f in range(net.forest_count) if net.forest_count <= 6 or f < 4 or f == net.forest_count - 1]
     note(f"forests of {name}: its columns", len(shown_forests) == 2 * len(kept), list(shown_forests))
@@ -197,7 +223,7 @@ def rounds_rows(draw, name, network, asked=None, *options):
     heads = HEADS * len(drawn)
     note(f"rounds of {name}: what each pulse does", [mark.text for mark in marks(root, "group")] == heads, heads)
     turns = []
-    merged, width = dict.fromkeys(net.neighbours, 0), net.greatest_degree + 1
+    merged, width = first_colours(net), net.span + 1
     for f in range(net.forest_count):
         old, merged = merged, merge(net, f, merged)
         if f not in drawn:
@@ -213,6 +239,8 @@ def rounds_rows(draw, name, network, asked=None, *options):
         for mark in ("choice", "after"):
             wanted = [(mark, CHANNELS[merged[v] % 8], str(merged[v] + 1)) for v in sorted(merged)]
             note(f"rounds of {name}, forest {f}: {mark}", numbered(block, mark) == wanted, numbered(block, mark))
+        wanted = [("bar", CHANNELS[c % 8], str(c + 1)) for v in sorted(net.barred) for c in sorted(net.barred[v])[:4]]
+        note(f"rounds of {name}, forest {f}: barred channels", numbered(block, "bar") == wanted, numbered(block, "bar"))
         xs = dict(zip(sorted(merged), (centre(mark)[0] for mark in marks(block, "choice"))))
         turn = {v: three(net, f)[v] * width + old[v] for v in merged}
         wrong = [(v, w) for v in xs for w in xs if (xs[v] < xs[w]) != (turn[v] < turn[w])]
@@ -251,12 +279,10 @@ def strip_mark(column, colour, is_in_forest):
     return "colour", f"#{level:02X}{level:02X}{level:02X}", str(colour) if colour < 1000 else f"{digits}d"
 
 
-def bits_rows(draw, name, network, v, text=None, identifiers=None):
+def bits_rows(draw, name, network, v):
     """Each forest in which v has a parent."""
     net = network_of(network)
-    if identifiers:
-        net = Network(identifiers, net.number)
-    text = text or rounds_text(net)
+    text = rounds_text(net)
     for f in range(net.forest_count):
         if net.parent(f, v):
             bits_of_forest(f"{name}, forest {f}", net, f, v, parsed(draw("bits", network, text, "--vertex", v, "--forest", f)))
@@ -321,13 +347,13 @@ def shared_rows(name, net, shared):
 
 def frame_faults(net, text, pulse, root, merged, words):
     """What is wrong in a frame: its panels, and in each its tokens, its vertices' colours or channels, and its arrows."""
-    forests = [None] if pulse < 2 else list(range(net.forest_count)) if pulse <= 12 else [(pulse - 13) // (3 * (net.greatest_degree + 1))]
+    forests = [None] if pulse < 2 else list(range(net.forest_count)) if pulse <= 12 else [(pulse - 13) // (3 * (net.span + 1))]
     panels, wrong = marks(root, "panel"), []
     if [title(panel) if len(panel) and panel.find(TITLE) is not None else None for panel in panels] != (
             [None if f is None else f"forest {f}" for f in forests] or [None]):
         wrong.append((pulse, "panels", len(panels)))
     if pulse > 12:
-        k, j = divmod((pulse - 13) % (3 * (net.greatest_degree + 1)), net.greatest_degree + 1)
+        k, j = divmod((pulse - 13) % (3 * (net.span + 1)), net.span + 1)
         if f"colour {k} in forest {forests[0]}, colour {j} (channel {j + 1}) so far" not in words[1]:
             wrong.append((pulse, words))
     puts = [line.split() for line in text.decode().split("\n") if f" payload {pulse} " in line]
@@ -341,7 +367,7 @@ def frame_faults(net, text, pulse, root, merged, words):
         shown = [row[2] for row in numbered(panel, "colour")]
         if shown != [str(coloured[v]) for v in sorted(coloured)]:
             wrong.append((pulse, forest, "colours", shown))
-        decided = merged if net.forest_count else dict.fromkeys(net.neighbours if pulse == 12 else (), 0)
+        decided = merged if net.forest_count else first_colours(net) if pulse == 12 else {}
         if pulse > 12 or not net.forest_count:
             if [row[2] for row in numbered(panel, "channel")] != [str(c + 1) for _, c in sorted(decided.items())]:
                 wrong.append((pulse, forest, "channels", numbered(panel, "channel")))

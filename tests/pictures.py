@@ -19,7 +19,7 @@ from collections import Counter
 import check_transcript
 from made_transcripts import MISTAKES, made_transcript, transcript_text, with_mistake
 from picture_base import LIMIT, SEED, TALLY, TOP, Drawing, call, example, examples, note, transcript, transcript_by
-from picture_maps import (bits_rows, crowded_rows, forests_rows, grid_rows, matrix_rows, parts_rows, plan_rows, player_rows,
+from picture_maps import (bars_row, bits_rows, crowded_rows, forests_rows, grid_rows, matrix_rows, parts_rows, plan_rows, player_rows,
                           rounds_rows)
 from picture_marks import gap, parsed, texts, titles
 from picture_names import name_rows
@@ -33,6 +33,7 @@ ONE, EDGE, ROW = b"p edge 1 0\n", b"p edge 2 1\ne 1 2\n", b"p edge 4 3\ne 1 2\ne
 WRONG_NETWORKS = {
     b"": b"(F1)", b"p edge 2 1\ne 1 2\np edge 2 1\n": b"(F2)", b"e 1 2\n": b"(F3)", b"p edge 2\n": b"(F4)", b"p edge 2 1\ne 1\n": b"(F4)",
     b"p edge 2 1\ne 1 x\n": b"(F4)", b"p map 2 1\n": b"(F4)", b"p edge 2 1\ne 1 3\n": b"(F5)", b"p edge 2 1\ne 0 1\n": b"(F5)",
+    b"p edge 2 1\nb 1 0\n": b"(F13)", b"b 1 1\np edge 2 1\n": b"(F10)", b"p edge 2 1\nb 1\n": b"(F4)",
     b"p edge 2 1\ne 1 1\n": b"(F6)", b"p edge 20001 0\n": b"(F7)", b"p edge 2 1\nq 1 2\n": b"(F8)", b"p edge 0 0\n": b"no node",
 }
 ALL_JOINED = b"p edge 8 28\n" + b"".join(
@@ -40,6 +41,9 @@ ALL_JOINED = b"p edge 8 28\n" + b"".join(
 # Eight vertices with a place for two or three of them.
 CROWD = b"p edge 8 4\ne 1 2\ne 2 3\ne 1 3\ne 5 6\n" + b"".join(b"c at %d %d %d\n" % (v, v // 3, v // 5) for v in range(1, 9))
 APART = b"p edge 5 3\ne 1 2\ne 2 3\ne 1 3\n"
+# Barred channels of ten vertices: one, four, five, and fourteen at a vertex, of one to four digits.
+BARS = b"b 1 2\n" + b"".join(b"b %d %d\n" % pair for v, bars in (
+    (3, (1, 2048, 77, 500)), (7, (4, 3, 2, 1, 1024)), (10, range(1, 15))) for pair in [(v, channel) for channel in bars])
 # How often a mistake is tried until it makes a transcript wrong: most do at once.
 TRIES = 1000
 
@@ -246,13 +250,18 @@ def main():
     program, play = (path and os.path.abspath(path) for path in (given.program, given.play))
     with tempfile.TemporaryDirectory() as folder:
         draw, all_of = Drawing(folder), examples()
-        for name, network in (all_of | {"two": EDGE, "a row": ROW, "one apart": APART}).items():
+        barred = all_of["petersen"] + BARS
+        for name, network in (all_of | {"two": EDGE, "a row": ROW, "one apart": APART, "barred petersen": barred}).items():
             plan_rows(draw, name, network)
             matrix_rows(draw, name, network)
             forests_rows(draw, name, network)
         matrix_rows(draw, "all on channel 1", all_of["petersen"], lambda network: b"plan\n" + b"".join(b"%d 1\n" % v for v in range(1, 11)))
-        for name in ("petersen", "triangle", "star", "four_cycle", "path", "chain6", "drops"):
+        for name in ("petersen", "triangle", "star", "four_cycle", "path", "chain6", "drops", "barred"):
             rounds_rows(draw, name, all_of[name])
+        rounds_rows(draw, "barred petersen", barred)
+        for name, network in (("barred", all_of["barred"]), ("barred petersen", barred)):
+            net = network_of(network)
+            bars_row(f"rounds of {name}", net, parsed(draw("rounds", network, rounds_text(net))), net.forest_count)
         rounds_rows(draw, "queen5_5", all_of["queen5_5"])
         rounds_rows(draw, "queen5_5", all_of["queen5_5"], [1], "--forest", 1)
         rounds_rows(draw, "queen5_5", all_of["queen5_5"], [4, 5], "--forests", "4..5")
@@ -264,14 +273,11 @@ def main():
         parts_rows(draw)
         large = circle_of(2000)
         matrix_rows(draw, "a ring of 2000", large)
-        for name, v in (("petersen", 6), ("queen5_5", 5), ("star", 1)):
+        for name, v in (("petersen", 6), ("queen5_5", 5), ("star", 1), ("long_names", 1)):
             bits_rows(draw, name, all_of[name], v)
-        with open(os.path.join(TOP, "docs", "pictures", "long_ids.rounds"), "rb") as file:
-            text = file.read()
-        names = {int(v): int(name) for v, name in re.findall(rb"^(\d+) put \d+ payload 0 hello (\d+)", text, re.M)}
-        bits_rows(draw, "long_ids", all_of["chain6"], 1, text, names)
         for name, network in (("triangle", all_of["triangle"]), ("petersen", all_of["petersen"]), ("all joined", ALL_JOINED),
-                              ("one", ONE), ("three apart", b"p edge 3 0\n"), ("two", EDGE)):
+                              ("one", ONE), ("three apart", b"p edge 3 0\n"), ("two", EDGE), ("barred", all_of["barred"]),
+                              ("three apart with bars", b"p edge 3 0\nb 1 1\nb 1 2\nb 3 2\n")):
             player_rows(draw, name, network)
         for name, network in (("two", EDGE), ("path", all_of["path"]), ("chain6", all_of["chain6"])):
             for seed in (1, 2):

@@ -3,10 +3,12 @@ the tests compare the program with. A list over the vertices is a dictionary, an
 
 
 class Network:
-    """The identifier of each vertex, and the set of edges; and what the definitions read off these."""
+    """The identifier of each vertex, the set of edges, and the barred colours of some vertices; and what the definitions read off
+    these."""
 
-    def __init__(self, identifiers, edges):
+    def __init__(self, identifiers, edges, barred=None):
         self.identifiers = identifiers
+        self.barred = {v: frozenset((barred or {}).get(v, ())) for v in identifiers}
         self.neighbours = {v: set() for v in identifiers}
         for v, w in edges:
             self.neighbours[v].add(w)
@@ -16,6 +18,8 @@ class Network:
         self.number = {frozenset((v, w)): f for v, ws in self.higher.items() for f, w in enumerate(ws)}
         self.greatest_degree = max((len(ws) for ws in self.neighbours.values()), default=0)
         self.forest_count = max((len(ws) for ws in self.higher.values()), default=0)
+        self.greatest_bars = max(map(len, self.barred.values()), default=0)
+        self.span = self.greatest_degree + self.greatest_bars
 
     def parent(self, f, v):
         return self.higher[v][f] if f < len(self.higher[v]) else None
@@ -27,15 +31,20 @@ def fields_of(line):
 
 
 def network_of(text):
-    """The network of a text without a fault; vertex V has the identifier V."""
-    nodes, edges = 0, set()
+    """The network of a text without a fault; a vertex has the identifier that a line gives it, and else its number. A colour is a
+    channel less one."""
+    nodes, given, edges, barred = 0, {}, set(), {}
     for line in text.split(b"\n"):
         fields = fields_of(line)
         if fields and fields[0] == b"p":
             nodes = int(fields[2])
         elif fields and fields[0] == b"e":
             edges.add((int(fields[1]), int(fields[2])))
-    return Network({v: v for v in range(1, nodes + 1)}, edges)
+        elif fields and fields[0] == b"i":
+            given[int(fields[1])] = int(fields[2])
+        elif fields and fields[0] == b"b":
+            barred.setdefault(int(fields[1]), set()).add(int(fields[2]) - 1)
+    return Network({v: given.get(v, v) for v in range(1, nodes + 1)}, edges, barred)
 
 
 def text_of(lines):
@@ -103,22 +112,28 @@ def merge(net, f, old):
 
 
 def merged(net, f, old, colour_in_f):
-    """The list that its own equation gives back: each vertex has the least colour that is not among those of the neighbours
-    that it looks at. There is one such list, since these have lower pairs; the equation is applied until it holds."""
+    """The list that its own equation gives back: each vertex has the least colour of 0 to the span that is not barred at it and
+    not among those of the neighbours that it looks at. There is one such list, since these have lower pairs; the equation is
+    applied until it holds."""
     pair = {v: (colour_in_f[v], old[v]) for v in old}
     looked_at = {v: [w for w in ws if net.number[frozenset((v, w))] <= f and pair[w] < pair[v]]
                  for v, ws in net.neighbours.items()}
-    palette = set(range(net.greatest_degree + 1))
+    palette = {v: set(range(net.span + 1)) - net.barred[v] for v in old}
     new, made = None, dict.fromkeys(old, 0)
     while new != made:
         new = made
-        made = {v: min(palette - {new[w] for w in ws}) for v, ws in looked_at.items()}
+        made = {v: min(palette[v] - {new[w] for w in ws}) for v, ws in looked_at.items()}
     return new
 
 
+def first_colours(net):
+    """The least colour of each vertex that is not barred at it."""
+    return {v: min(set(range(net.span + 1)) - net.barred[v]) for v in net.neighbours}
+
+
 def colours(net):
-    """All zeros, merged for each forest in turn."""
-    c = dict.fromkeys(net.neighbours, 0)
+    """The first colours, merged for each forest in turn."""
+    c = first_colours(net)
     for f in range(net.forest_count):
         c = merge(net, f, c)
     return c

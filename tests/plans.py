@@ -9,7 +9,7 @@ import subprocess
 from alpha_definition import wire_words
 from one_worker import Run
 from plain_definition import network_of, plan_text
-from plain_networks import FAMILIES, SEED, text_of
+from plain_networks import BARRED, FAMILIES, SEED, some_bars, text_of
 
 LIMIT = 60
 MOST_TOLD = 2000
@@ -57,7 +57,7 @@ WORKED_RUNS = [
 def plan_rows(program):
     """Rows (name, good, what)."""
     rows = [one_row(program, *row) for row in WORKED_RUNS]
-    rows += [family_row(program, index) for index in range(len(FAMILIES))]
+    rows += [family_row(program, index) for index in range(len(FAMILIES + BARRED))]
     return rows + [small_row(program)] + list(first_rows(program)) + list(turn_rows(program))
 
 
@@ -81,10 +81,11 @@ def one_row(program, words, data, *wanted):
 
 def family_row(program, index):
     """Each network of a family once, the pairs of workers and capacity by turns over all families."""
-    title, _ = FAMILIES[index]
-    before = sum(1 for family in FAMILIES[:index] for _ in texts_of(family))
+    families = FAMILIES + BARRED
+    title, _ = families[index]
+    before = sum(1 for family in families[:index] for _ in texts_of(family))
     different, count = [], 0
-    for count, network in enumerate(texts_of(FAMILIES[index]), 1):
+    for count, network in enumerate(texts_of(families[index]), 1):
         pair = PAIRS[(before + count - 1) % len(PAIRS)]
         got = answer_of(program, plan_words(*pair), network)
         if got != answer_of(program, ["plain"], network) or got[0] != 0:
@@ -110,7 +111,7 @@ def texts_of(family):
     title, networks = family
     source = random.Random(f"{SEED} {title}")
     for nodes, edges in networks(source):
-        yield text_of(source, nodes, edges)
+        yield text_of(source, nodes, edges, bars=some_bars(source, nodes) if family in BARRED else {})
 
 
 def first_rows(program):

@@ -100,7 +100,7 @@ def page_rows(given, folder, name, network, size):
     told = in_browser(given.browser, at["page"], "#pulse-2", size, "--dump-dom")
     seen = [line.split("|") for line in html.unescape((re.findall(r'<pre id="seen">(.*?)</pre>', told, re.S) or [""])[0]).split("\n")]
     rows = {row[0]: row[1:] for row in seen if len(row) == 7}
-    last, forests = 12 + 3 * net.forest_count * (net.greatest_degree + 1), net.forest_count
+    last, forests = 12 + 3 * net.forest_count * (net.span + 1), net.forest_count
     wanted = [("opened", 2, None), ("next", 3, None), ("right", 4, None), ("right on the slider", 5, None), ("back", 4, None), ("left", 3, None),
               ("slid to 7", 7, None), ("slid to the end", last, None), ("right at the end", last, None), ("linked to 3", 3, None),
               ("played 2 seconds", 5, None), ("played from the end", 0, None)]

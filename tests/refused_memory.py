@@ -41,6 +41,7 @@ def refused_memory_rows(program, network, answer):
         rows = [("the refusing allocator builds", True, "")]
         rows.append(sweep(program, front, ["forests"], network, (0, answer, b"")))
         rows.append(sweep(program, front, ["plain"], network, (0, plan_text(network), b"")))
+        rows += [sweep(program, front, ["plain"], barred, (0, plan_text(barred), b"")) for barred in barred_networks(network)]
         checked = network + plan_text(network)
         rows.append(sweep(program, front, ["check"], checked, (0, b"proper 3\n", b"")))
         rows.append(sweep(program, front, ["check"], network, (1, b"", b"forestplan: C6 line 1\n")))
@@ -52,6 +53,11 @@ def refused_memory_rows(program, network, answer):
                 return rows + [(f"the tests of crates/{crate} are built", False, f"no file {tests_of(crate)}")]
         rows += [bytes_or_memory(front, folder, tests_of("worker_checks"), name) for name in BYTES_OR_MEMORY]
         return rows + [tried_again(front, folder, name) for name in TRIED_AGAIN]
+
+
+def barred_networks(network):
+    """With identifiers and bars; and with so many bars that the nodes' sets of colours have boxes of their own."""
+    return [network + b"i 1 9\nb 3 1\nb 3 7\nb 1 2\ni 2 0\n", network + b"".join(b"b 1 %d\n" % channel for channel in range(1, 131))]
 
 
 def bytes_or_memory(front, folder, tests, name):

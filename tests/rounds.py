@@ -1,6 +1,6 @@
 #!/usr/bin/env python3
 """Black-box tests of `forestplay rounds`: compares whole texts with the definitions, and the payloads of the rounds with those of
-transcripts; and the stored text of nodes with long names. The last line is 'N passed, M failed'.
+transcripts. The last line is 'N passed, M failed'.
 
   rounds.py [--program PROGRAM] [--plan PLAN]
       PROGRAM   has the command `rounds`; default: the built forestplay
@@ -11,13 +11,12 @@ import argparse
 import glob
 import os
 import random
-import re
 import subprocess
 import sys
 import tempfile
 
-from plain_definition import Network, network_of
-from plain_networks import climbing, complete, cycle, path, random_of, star, text_of, tree, two_sided
+from plain_definition import network_of
+from plain_networks import climbing, complete, cycle, path, random_of, some_bars, star, text_of, tree, two_sided
 from refused_memory import build_front, sweep
 from rounds_definition import made_text, rounds_text
 from shell import run_line
@@ -30,10 +29,13 @@ WORKERS = (1, 2, 4)
 MOST = 400
 TALLY = {"passed": 0, "failed": 0}
 EDGE = "p edge 2 1|e 1 2|"
+TRIANGLE = "p edge 3 3|e 1 2|e 1 3|e 2 3|"
 # A network text for each kind of fault, and what is said of it.
 FAULTS = [("", "F1"), ("p edge 1 0|p edge 1 0|", "F2 line 2"), ("e 1 2|p edge 2 1|", "F3 line 1"), ("p edge 2|", "F4 line 1"),
           ("p edge 2 1|e 1 3|", "F5 line 2"), ("p edge 2 1|e 1 1|", "F6 line 2"), ("p edge 20001 0|", "F7 line 1"),
-          (EDGE + "put 1 0|q|", "F8 line 3")]
+          (EDGE + "put 1 0|q|", "F8 line 3"), ("i 1 5|p edge 2 1|", "F10 line 1"), (f"p edge 2 1|i 1 {2**128}|", "F11 line 2"),
+          ("p edge 2 1|i 1 5|i 1 5|", "F12 line 3"), (EDGE + "b 1 2049|", "F13 line 3"),
+          ("p edge 1 0|" + "".join(f"b 1 {channel}|" for channel in range(1, 1026)), "F14 line 1026")]
 # The headline as one line of shell, as README has it: the payloads of the rounds and of a run of threads are the same lines.
 HEADLINE = """cmp <("$0" rounds < "$2" | grep put | sort) <("$1" transcript --workers "$3" < "$2" | grep 'put .* payload' | sort)"""
 
@@ -58,12 +60,24 @@ def run(words, data=b"", **given):
 # step 0, node 2 ends with 1 and chooses at step 2.
 EDGE_NAMES = ["seed"] + ["step"] * 4 + ["shift", "drop"] * 3
 EDGE_COLOURS = [(1, 2), (1, 0), (1, 0), (1, 0), (1, 0), (0, 1), (0, 1), (1, 0), (1, 0), (0, 1), (0, 1)]
-EDGE_TEXT = (
-    "rounds 1 2 1 1 18|pulse 0 greet|1 put 2 payload 0 hello 1|2 put 1 payload 0 hello 2|pulse 1 orient|1 put 2 payload 1 label 0|"
+EDGE_BEGINNING = (
+    "pulse 0 greet|1 put 2 payload 0 hello 1|2 put 1 payload 0 hello 2|pulse 1 orient|1 put 2 payload 1 label 0|"
     + "".join(f"pulse {p} {name}|1 colour 0 {own}|2 colour 0 {parent}|" + (f"2 put 1 payload {p} colour {parent}|" if p < 12 else "")
-              for p, (name, (own, parent)) in enumerate(zip(EDGE_NAMES, EDGE_COLOURS), 2))
-    + "pulse 13 merge 0 0 0|1 chose 0|1 put 2 payload 13 chosen 0|pulse 14 merge 0 0 1|"
+              for p, (name, (own, parent)) in enumerate(zip(EDGE_NAMES, EDGE_COLOURS), 2)))
+EDGE_TEXT = (
+    "rounds 1 2 1 1 18|" + EDGE_BEGINNING + "pulse 13 merge 0 0 0|1 chose 0|1 put 2 payload 13 chosen 0|pulse 14 merge 0 0 1|"
     "pulse 15 merge 0 1 0|2 chose 1|2 put 1 payload 15 chosen 1|pulse 16 merge 0 1 1|pulse 17 merge 0 2 0|pulse 18 merge 0 2 1|")
+# With channel 1 barred at node 1 the merge has nine pulses. Node 1 begins with colour 1, so it chooses at step 1, and again 1; node 2
+# begins with 0, so it chooses at step 3, and 0 is neither barred nor taken. With one bar at each end there are nine pulses, too: of
+# channel 1 at both, node 2 has heard 1 and takes 2; it chooses at step 4.
+BARRED_EDGES = [
+    ("b 1 1|", "rounds 2 2 1 1 1 21|" + EDGE_BEGINNING + "pulse 13 merge 0 0 0|pulse 14 merge 0 0 1|1 chose 1|1 put 2 payload 14 chosen 1|"
+     "pulse 15 merge 0 0 2|pulse 16 merge 0 1 0|2 chose 0|2 put 1 payload 16 chosen 0|pulse 17 merge 0 1 1|pulse 18 merge 0 1 2|"
+     "pulse 19 merge 0 2 0|pulse 20 merge 0 2 1|pulse 21 merge 0 2 2|"),
+    ("b 2 1|b 1 1|b 2 1|", "rounds 2 2 1 1 1 21|" + EDGE_BEGINNING + "pulse 13 merge 0 0 0|pulse 14 merge 0 0 1|1 chose 1|1 put 2 payload 14 chosen 1|"
+     "pulse 15 merge 0 0 2|pulse 16 merge 0 1 0|pulse 17 merge 0 1 1|2 chose 2|2 put 1 payload 17 chosen 2|pulse 18 merge 0 1 2|"
+     "pulse 19 merge 0 2 0|pulse 20 merge 0 2 1|pulse 21 merge 0 2 2|"),
+]
 EMPTY_TEXT = "rounds 1 0 0 0 12|pulse 0 greet|pulse 1 orient|" + "".join(f"pulse {p} {name}|" for p, name in enumerate(EDGE_NAMES, 2))
 
 
@@ -81,32 +95,28 @@ def networks():
     for title, family in [("random", random_of(8, 5, 14)), ("climbing", climbing(3, 40))]:
         for i, (nodes, edges) in enumerate(family(source)):
             all_of[f"{title} {i}"] = text_of(source, nodes, edges)
+    for i, (nodes, edges) in enumerate(random_of(12, 1, 9)(source)):
+        all_of[f"barred {i}"] = text_of(source, nodes, edges, bars=some_bars(source, nodes, 4))
     return all_of
 
 
 def text_rows(program, all_of):
     for name, data, wanted in [("an edge", EDGE, EDGE_TEXT), ("no node", "p edge 0 0|", EMPTY_TEXT),
-                               ("a node alone", "p edge 1 0|", EMPTY_TEXT.replace("1 0 0", "1 1 0"))]:
+                               ("a node alone", "p edge 1 0|", EMPTY_TEXT.replace("1 0 0", "1 1 0")),
+                               ("a node alone with two bars", "p edge 1 0|b 1 9|b 1 1|", EMPTY_TEXT.replace("1 0 0 0", "2 1 0 2 0")),
+                               *((f"an edge with {bars}", EDGE + bars, wanted) for bars, wanted in BARRED_EDGES)]:
         got = rounds_text(network_of(text(data)))
         note(f"the definition of {name}", got == text(wanted), got)
         done = run([program, "rounds"], text(data))
         note(f"the rounds of {name}", (done.returncode, done.stdout, done.stderr) == (0, text(wanted), b""), done)
+    done = run([program, "rounds"], text(TRIANGLE + "b 3 1|"))
+    note("the last pulse of a triangle with a bar", done.stdout.startswith(b"rounds 2 3 2 1 2 36\n"), done)
     for name, data in all_of.items():
         net = network_of(data)
         wanted = rounds_text(net)
         note(f"both definitions on {name}", wanted == made_text(net), data)
         done = run([program, "rounds"], data)
         note(f"the rounds of {name}", (done.returncode, done.stdout, done.stderr) == (0, wanted, b""), (data, done))
-
-
-def stored_rows():
-    """The stored text of nodes with long names is what the definitions say of all its pulses, for those names."""
-    with open(os.path.join(TOP, "docs", "pictures", "long_ids.rounds"), "rb") as file:
-        stored = file.read()
-    names = {int(v): int(name) for v, name in re.findall(rb"^(\d+) put \d+ payload 0 hello (\d+)$", stored, re.M)}
-    net = Network(names, {(v, v + 1) for v in range(1, len(names))})
-    note("the stored text has long names", len(names) == 6 and all(60 <= name.bit_length() <= 64 for name in names.values()), names)
-    note("the stored text with long names", stored == rounds_text(net) == made_text(net), stored)
 
 
 def headline_rows(program, plan, all_of):
@@ -154,7 +164,6 @@ def main():
     program, plan = os.path.abspath(given.program), os.path.abspath(given.plan)
     all_of = networks()
     text_rows(program, all_of)
-    stored_rows()
     headline_rows(program, plan, {name: data for name, data in all_of.items() if len(data) < MOST})
     fault_rows(program)
     memory_rows(program)

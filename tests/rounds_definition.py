@@ -2,7 +2,7 @@
 the vertices, as plain_definition.py has them, and without a node that keeps anything. `made_text` is the same text from the
 nodes of alpha_definition.py."""
 from alpha_definition import Colouring, last_pulse, ports_of
-from plain_definition import bit, drop, merge, shift, text_of
+from plain_definition import bit, drop, first_colours, merge, shift, text_of
 
 FIRST_MERGE = 13
 WORK_NAMES = ["step"] * 4 + ["shift", "drop"] * 3
@@ -14,7 +14,11 @@ def rounds_text(net):
 
 
 def head_of(net):
-    return [f"rounds 1 {len(net.neighbours)} {net.greatest_degree} {net.forest_count} {last_pulse(net)}"]
+    """Edition 1, and edition 2 if a channel is barred."""
+    sizes = [1, len(net.neighbours), net.greatest_degree, net.forest_count, last_pulse(net)]
+    if net.greatest_bars:
+        sizes[:3] = [2, *sizes[1:3], net.greatest_bars]
+    return ["rounds " + " ".join(map(str, sizes))]
 
 
 def phase_words(net, p):
@@ -25,8 +29,8 @@ def phase_words(net, p):
 
 def merge_step(net, p):
     """Forest, three-colour and old colour of a merge pulse."""
-    forest, step = divmod(p - FIRST_MERGE, 3 * (net.greatest_degree + 1))
-    return forest, *divmod(step, net.greatest_degree + 1)
+    forest, step = divmod(p - FIRST_MERGE, 3 * (net.span + 1))
+    return forest, *divmod(step, net.span + 1)
 
 
 def pulse_lines(net, p):
@@ -44,7 +48,7 @@ class Facts:
     def __init__(self, net):
         self.net = net
         self.colours = [self.colours_of(f) for f in range(net.forest_count)]
-        self.merged = [dict.fromkeys(net.neighbours, 0)]
+        self.merged = [first_colours(net)]
         for f in range(net.forest_count):
             self.merged.append(merge(net, f, self.merged[f]))
 
@@ -94,7 +98,7 @@ class Facts:
                 yield w, "chosen", self.choice(p, v)
 
     def is_last_step(self, p):
-        return merge_step(self.net, p)[1:] == (2, self.net.greatest_degree)
+        return merge_step(self.net, p)[1:] == (2, self.net.span)
 
 
 def made_text(net):

@@ -42,6 +42,7 @@ NETWORKS = {
     "star": "p edge 3 2|e 1 2|e 1 3|",
     "triangle": "p edge 3 3|e 1 2|e 1 3|e 2 3|",
     "apart": "p edge 3 1|e 1 3|",
+    "barred": "p edge 2 1|e 1 2|b 1 1|b 2 3|",
     "alone": "p edge 1 0|",
     "row of four": "p edge 4 3|e 1 2|e 2 3|e 3 4|",
     "ring of four": "p edge 4 4|e 1 2|e 2 3|e 3 4|e 1 4|",
@@ -180,7 +181,7 @@ def puts_rows(name):
 
 
 def small_rows():
-    for name in ("alone", "apart", "two", "path"):
+    for name in ("alone", "apart", "barred", "two", "path"):
         puts_rows(name)
 
 
@@ -223,7 +224,7 @@ def end_rows(name, space):
 
 
 def formula_rows():
-    for name in ("alone", "apart", "two", "path", "star"):
+    for name in ("alone", "apart", "barred", "two", "path", "star"):
         end_rows(f"{name}, puts apart", Space(net_of(name), puts=True, limit=MOST))
 
 
@@ -394,14 +395,14 @@ class NodeWithout(Colouring):
         return [None] * self.degree if pulse == 12 else self.colours_sent()
 
     def merge(self, t, inbox):
-        width = self.delta + 1
+        width = self.span + 1
         forest, step = divmod(t, 3 * width)
         if step == 0:
             self.old, self.chosen = self.merged, set()
         self.chosen |= {slot[1] for slot in inbox if slot}
         if (self.colours[forest], 0 if self.rule == "pair" else self.old) != divmod(step, width):
             return [None] * self.degree
-        self.merged = min(set(range(width)) - self.chosen)
+        self.merged = self.least_free(self.chosen)
         told = [f == forest if self.rule == "earlier" else f <= forest for _, f in self.roles]
         return [("Chosen", self.merged) if is_told and step < 3 * width - 1 else None for is_told in told]
 
@@ -421,8 +422,8 @@ def goes_wrong(net, rule):
         if pulse == 12 and any(nodes[v].colours[f] == nodes[w].colours[f] for v, ws in net.higher.items()
                                for f, w in enumerate(ws)):
             return True
-        forest, step = divmod(pulse - 13, 3 * (net.greatest_degree + 1))
-        if pulse > 12 and step == 3 * (net.greatest_degree + 1) - 1:
+        forest, step = divmod(pulse - 13, 3 * (net.span + 1))
+        if pulse > 12 and step == 3 * (net.span + 1) - 1:
             if any(f <= forest and len({nodes[v].merged for v in pair}) == 1 for pair, f in net.number.items()):
                 return True
     return False

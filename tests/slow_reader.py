@@ -13,6 +13,8 @@ from verdicts import wrong_plan
 
 MOST_NODES, MOST_EDGES, MOST_NEIGHBOURS = 20_000, 400_000, 1023
 MOST_VERTEX = 2**32 - 1
+IDENTIFIERS = 2**128
+MOST_CHANNEL, MOST_BARS = 2048, 1024
 FORMATS, EVENTS = (b"edge", b"edges", b"col"), (b"pulse", b"put", b"take")
 PROGRAM_OF = (dict.fromkeys(("forests", "plain", "plan", "transcript", "check"), "forestplan")
               | dict.fromkeys(("events", "replay", "rounds"), "forestplay"))
@@ -56,8 +58,8 @@ def numbers(fields, count):
 
 
 def network_in(rows):
-    """Nodes and edges of the lines of a network text."""
-    nodes, edges = None, set()
+    """Nodes, identifiers that lines give, edges, and barred channels of the lines of a network text."""
+    nodes, given, edges, bars = None, {}, set(), {}
     for line, fields in enumerate(rows, 1):
         first = fields[0] if fields else b"c"
         if first.startswith(b"c") or first in (b"n", b"d", b"v", b"x"):
@@ -68,11 +70,20 @@ def network_in(rows):
             edges.add(edge_in(line, fields, nodes))
             if len(edges) > MOST_EDGES:
                 raise Fault(f"F7 line {line}")
+        elif first == b"i":
+            vertex, identifier = identifier_in(line, fields, nodes, given)
+            given[vertex] = identifier
+        elif first == b"b":
+            vertex, channel = bar_in(line, fields, nodes)
+            bars.setdefault(vertex, set()).add(channel)
+            if len(bars[vertex]) > MOST_BARS:
+                raise Fault(f"F14 line {line}")
         else:
             raise Fault(f"F8 line {line}")
     if nodes is None:
         raise Fault("F1")
-    return nodes, uncrowded(edges)
+    uncrowded(edges)
+    return nodes, distinct(nodes, given), frozenset(edges), tuple((v, tuple(sorted(channels))) for v, channels in sorted(bars.items()))
 
 
 def nodes_in(line, fields, nodes):
@@ -99,6 +110,34 @@ def edge_in(line, fields, nodes):
     return min(found), max(found)
 
 
+def said_of_vertex(line, fields, nodes):
+    """The vertex and the number of an `i` or a `b` line."""
+    found = numbers(fields[1:], 2)
+    if nodes is None:
+        raise Fault(f"F10 line {line}")
+    if found is None:
+        raise Fault(f"F4 line {line}")
+    if not 1 <= found[0] <= nodes:
+        raise Fault(f"F5 line {line}")
+    return found
+
+
+def bar_in(line, fields, nodes):
+    found = said_of_vertex(line, fields, nodes)
+    if not 1 <= found[1] <= MOST_CHANNEL:
+        raise Fault(f"F13 line {line}")
+    return found
+
+
+def identifier_in(line, fields, nodes, given):
+    found = said_of_vertex(line, fields, nodes)
+    if found[1] >= IDENTIFIERS:
+        raise Fault(f"F11 line {line}")
+    if found[0] in given:
+        raise Fault(f"F12 line {line}")
+    return found
+
+
 def uncrowded(edges):
     degrees = {}
     for edge in edges:
@@ -107,11 +146,22 @@ def uncrowded(edges):
     crowded = [v for v, degree in degrees.items() if degree > MOST_NEIGHBOURS]
     if crowded:
         raise Fault(f"N1 vertex {min(crowded)}")
-    return frozenset(edges)
 
 
-def definition_of(nodes, edges):
-    return Network({v: v for v in range(1, nodes + 1)}, edges)
+def distinct(nodes, given):
+    """The identifiers that lines give, if no two vertices have one; a vertex without such a line has its number."""
+    vertices_with = {}
+    for v in range(1, nodes + 1):
+        vertices_with.setdefault(given.get(v, v), []).append(v)
+    same = [vertices[:2] for vertices in vertices_with.values() if len(vertices) > 1]
+    if same:
+        raise Fault("N2 vertices {} {}".format(*min(same)))
+    return tuple(sorted(given.items()))
+
+
+def definition_of(nodes, given, edges, bars):
+    named = dict(given)
+    return Network({v: named.get(v, v) for v in range(1, nodes + 1)}, edges, {v: [channel - 1 for channel in of_v] for v, of_v in bars})
 
 
 def split(rows, is_first):
@@ -121,9 +171,11 @@ def split(rows, is_first):
 
 
 @functools.lru_cache(maxsize=2**12)
-def written(write, nodes, edges):
+def written(write, nodes, given, edges, bars):
     """What a definition makes of the plainest text of a network."""
-    return write(b"p edge %d 0\n" % nodes + b"".join(b"e %d %d\n" % edge for edge in sorted(edges)))
+    return write(b"p edge %d 0\n" % nodes + b"".join(b"i %d %d\n" % pair for pair in given)
+                 + b"".join(b"b %d %d\n" % (v, channel) for v, channels in bars for channel in channels)
+                 + b"".join(b"e %d %d\n" % edge for edge in sorted(edges)))
 
 
 def rounds(rows):
@@ -136,8 +188,8 @@ def rounds_of(text):
 
 def check(rows):
     before, behind = split(rows, lambda first: first == b"plan")
-    nodes, edges = network_in(before)
-    verdict = wrong_plan(nodes, {frozenset(edge) for edge in edges}, plan_in(behind))
+    nodes, _, edges, bars = network_in(before)
+    verdict = wrong_plan(nodes, {frozenset(edge) for edge in edges}, plan_in(behind), dict(bars))
     if not verdict.startswith("proper"):
         raise Fault(verdict)
     return f"{verdict}\n".encode()
@@ -210,7 +262,7 @@ def forests(rows):
 
 def transcript(rows):
     """Of workers that make no look (`--turns 0`): without a node there is nothing to be done."""
-    nodes, _ = network_in(rows)
+    nodes, _, _, _ = network_in(rows)
     if nodes > 0:
         raise Stopped
     return b"transcript 1 0\n"

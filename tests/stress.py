@@ -30,7 +30,7 @@ from collections import Counter
 
 from check_transcript import Wrong, in_order, whole_run
 from plain_definition import network_of
-from plain_networks import cycle, path, star, text_of, tree
+from plain_networks import cycle, path, some_bars, star, text_of, tree
 from transcripts import is_counted, replayed_by
 
 TOP = os.path.dirname(os.path.dirname(os.path.abspath(__file__)))
@@ -41,7 +41,7 @@ BUSY = 'while kill -0 "$0" 2>/dev/null; do :; done'
 
 
 def network(source):
-    """Any density up to six nodes; beyond, a shape with a few edges more, since runs grow with the degrees."""
+    """Any density up to six nodes; beyond, a shape with a few edges more, since runs grow with the degrees. Some have bars."""
     nodes = source.randint(2, 40)
     names = source.sample(range(1, nodes + 1), nodes)
     if nodes <= 6:
@@ -50,7 +50,8 @@ def network(source):
     else:
         shape = source.choice((path, cycle, tree, tree, star if nodes < 20 else tree))
         pairs = list(shape(source, names)) + [source.sample(names, 2) for _ in range(source.choice((0, 0, 1, 3)))]
-    return text_of(source, nodes, {(min(pair), max(pair)) for pair in pairs})
+    bars = some_bars(source, nodes, 3) if source.random() < 0.2 else {}
+    return text_of(source, nodes, {(min(pair), max(pair)) for pair in pairs}, bars=bars)
 
 
 def number_up_to_64(source):

@@ -20,7 +20,7 @@ from check_transcript import Wrong, find_order, first_refused, in_order, read, u
 from made_transcripts import MISTAKES, made_transcript, mixed_text, transcript_text, with_mistake
 from one_worker import Run
 from plain_definition import network_of
-from plain_networks import all_small, cycle, path, random_of, star, text_of, tree, two_sided
+from plain_networks import all_small, cycle, path, random_of, some_bars, star, text_of, tree, two_sided
 
 TESTS = os.path.dirname(os.path.abspath(__file__))
 CHECKER = os.path.join(TESTS, "check_transcript.py")
@@ -96,8 +96,8 @@ WORKED = [
 ] + [(EDGE, f"transcript 1 2||{entry}|1 pulse 1|", "line 3: X1") for entry in (
     "1", "1 pulse", "1 pulse 1 1", "1 pulse x", "1 pulse -1", "1 pulse 4294967296", "4294967296 pulse 1", "pulse 1", "c", "transcript 1 2",
     "1 put 2", "1 put close", "1 put 2 close 0", "1 Put 2 close", "1 put 2 ack", "1 put 2 ack 0 0", "1 take 2 safe 4294967296", "1 take x close",
-    "1 take 2 payload 0 hello", "1 take 2 payload 0 hello 18446744073709551616", "1 take 2 payload 0 best 1", "1 take 2 payload 0 Hello 1",
-    "1 put 2 payload 1 label 65536", "1 put 2 payload 13 chosen 65536", "1 put 2 payload 2 colour 18446744073709551616",
+    "1 take 2 payload 0 hello", "1 take 2 payload 0 hello 340282366920938463463374607431768211456", "1 take 2 payload 0 best 1", "1 take 2 payload 0 Hello 1",
+    "1 put 2 payload 1 label 65536", "1 put 2 payload 13 chosen 65536", "1 put 2 payload 2 colour 340282366920938463463374607431768211456",
     "1 put 2 payload 4294967296 hello 1", "1 put 2 payload 0 hello 1 1", "1 put 2 payload 0 hello \xb2", "1\x0bpulse 1", "1 pulse 1\r\r")] + [
     # the search
     (EDGE, "transcript 1 2|1 take 2 close|", "line 2: LinkEmpty"), (EDGE, "transcript 1 2|1 put 2 safe 0|", "line 2: WrongWire"),
@@ -137,7 +137,8 @@ def worked_rows():
 
 
 def networks():
-    """Each as its text and what it is: all on up to 4 nodes, random ones on up to 6, and shapes on up to 8 of 12."""
+    """Each as its text and what it is: all on up to 4 nodes, random ones on up to 6, shapes on up to 8 of 12, and random ones on up to
+    6 nodes with barred channels."""
     source = random.Random(SEED)
     pairs = list(all_small(source)) + list(random_of(60, 0, 6)(source))
     for shape in [path, cycle, tree, star, two_sided] * 8:
@@ -145,6 +146,7 @@ def networks():
         names = source.sample(range(1, nodes + 1), source.randint(3, min(nodes, 8)))
         pairs.append((nodes, {(min(pair), max(pair)) for pair in shape(source, names)}))
     texts = [text_of(source, nodes, edges) for nodes, edges in pairs]
+    texts += [text_of(source, nodes, edges, bars=some_bars(source, nodes, 3)) for nodes, edges in random_of(24, 1, 6)(source)]
     return [(data, network_of(data)) for data in texts]
 
 

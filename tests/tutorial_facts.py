@@ -5,13 +5,13 @@ import itertools
 import os
 
 from alpha_definition import AlphaNode, Colouring, NetState, last_pulse, ports_of
-from plain_definition import Network, bit, colours, drop, network_of, shift
+from plain_definition import Network, bit, colours, drop, first_colours, merge, network_of, shift, three
 
 TOP = os.path.dirname(os.path.dirname(os.path.abspath(__file__)))
 
 
 def fact_rows():
-    return [too_many_row(), row_of_six_row(), *order_rows(), *drop_rows(), *acknowledgement_rows()]
+    return [too_many_row(), row_of_six_row(), *order_rows(), *drop_rows(), *bar_rows(), *acknowledgement_rows()]
 
 
 def example(name):
@@ -98,6 +98,21 @@ def drop_rows():
             net = Network({v: v for v in range(1, nodes + 1)}, {(v, w) for v, w in enumerate(parents, 1) if w})
             count += bool(dropped(net, 0))
     yield "forests of up to seven nodes in which a drop changes a colour", count == 0, count
+
+
+def bar_rows():
+    """The ring of four with a bar, by hand: after pulse 12 nodes 1 and 3 have 0 in forest 0, and 2 and 4 have 1. So 3 is first, by (0, 0),
+    and takes 0; then 1, by (0, 1), takes 1; then 2 and 4, by (1, 0): 2 has heard both and takes 2, 4 has heard 3 alone and takes 1. In
+    forest 1, the edge of 1 and 4, node 1 is before 4: 3 takes 0, 1 takes 1, 4 has heard both and takes 2, and so does 2."""
+    net = example("examples/barred.col")
+    merges = [first_colours(net), merge(net, 0, first_colours(net)), colours(net)]
+    wanted = [{1: 1, 2: 0, 3: 0, 4: 0}, {1: 1, 2: 2, 3: 0, 4: 1}, {1: 1, 2: 2, 3: 0, 4: 2}]
+    yield "the ring of four with a bar", (merges, last_pulse(net)) == (wanted, 36), merges
+    yield "three colours of the ring of four", three(net, 0) == {1: 0, 2: 1, 3: 0, 4: 1} and three(net, 1)[1] < three(net, 1)[4], three(net, 1)
+    star = example("examples/star.col")
+    barred = Network(star.identifiers, star.number, {9: {0}})
+    found = [colours(net) for net in (star, barred)]
+    yield "the star with a bar", found == [{v: 1 for v in range(1, 9)} | {9: 0}, {v: 0 for v in range(1, 9)} | {9: 1}], found
 
 
 class Hasty(AlphaNode):

@@ -12,6 +12,7 @@ SEED = 2026
 
 TRIANGLE = "p edge 3 3|e 1 2|e 1 3|e 2 3|"
 GOOD = TRIANGLE + "plan|1 2|2 3|3 1|"
+BARRED = TRIANGLE + "b 3 1|"
 
 # (text in which '|' stands for a line feed, what `check` says of it)
 WORKED_VERDICTS = [
@@ -47,6 +48,20 @@ WORKED_VERDICTS = [
     ("p edge 1025 1024|" + "".join(f"e 1 {v}|" for v in range(2, 1026)) + "plan|x|", "N1 vertex 1"),
     ("p edge 0 0|plan|", "proper 0"), ("p edge 0 0|plan|1 1|", "C2 vertex 1"), ("p col 2 0|plan|2 1|1 1|", "proper 1"),
     ("p col 2 0|plan|2 1|1 2|", "C5 vertex 1"),
+    # barred channels: the greatest degree is 2, and vertex 3 has one bar, so channels are 1 to 4
+    (BARRED + "plan|1 2|2 3|3 1|", "C8 vertex 3"), (BARRED + "plan|1 1|2 3|3 2|", "proper 3"),
+    (BARRED + "plan|1 1|2 3|3 4|", "proper 4"), (BARRED + "plan|1 1|2 3|3 5|", "C5 vertex 3"),
+    (BARRED + "plan|1 1|2 4|3 2|", "proper 4"), (BARRED + "plan|1 5|2 3|3 2|", "C5 vertex 1"),
+    # row by row: a barred channel before a later row's fault, after an earlier one's, and before missing vertices and clashes
+    (BARRED + "plan|3 1|1 5|", "C8 vertex 3"), (BARRED + "plan|1 5|3 1|", "C5 vertex 1"), (BARRED + "plan|3 1|4 1|", "C8 vertex 3"),
+    (BARRED + "plan|4 1|3 1|", "C2 vertex 4"), (BARRED + "plan|3 2|3 1|", "C3 vertex 3"), (BARRED + "plan|3 1|", "C8 vertex 3"),
+    (BARRED + "plan|1 2|2 2|3 1|", "C8 vertex 3"), (BARRED + "plan|3 0|3 1|", "C6 line 2"),
+    # a channel that is barred and above the greatest that is allowed: 1 for the degree and the one bar, and 1
+    ("p edge 2 0|b 1 9|plan|1 9|2 1|", "C5 vertex 1"), ("p edge 2 0|b 1 2|plan|1 2|2 1|", "C8 vertex 1"),
+    ("p edge 2 0|b 1 2|b 1 2|plan|1 3|2 1|", "C5 vertex 1"), ("p edge 2 0|b 1 2|b 1 1|plan|1 3|2 1|", "proper 3"),
+    ("p edge 2 0|b 1 1|b 1 2|b 2 2|plan|1 3|2 1|", "proper 3"), ("p edge 2 0|b 1 1|b 1 2|b 2 2|plan|1 3|2 2|", "C8 vertex 2"),
+    # faults of bars come first; `b` is no row of a plan
+    (TRIANGLE + "b 3 0|plan|x|", "F13 line 5"), (TRIANGLE + "plan|b 3 1|1 2|2 3|3 1|", "C6 line 2"),
 ]
 
 
@@ -80,7 +95,11 @@ def verdict_of(data):
     start = next((i for i, line in enumerate(lines) if line[:1] == [b"plan"]), len(lines))
     nodes = next(int(line[2]) for line in lines[:start] if line[:1] == [b"p"])
     edges = {frozenset(map(int, line[1:3])) for line in lines[:start] if line[:1] == [b"e"]}
-    return wrong_line(lines[start:]) or wrong_plan(nodes, edges, [tuple(map(int, line)) for line in lines[start + 1:] if line])
+    bars = {}
+    for line in lines[:start]:
+        if line[:1] == [b"b"]:
+            bars.setdefault(int(line[1]), set()).add(int(line[2]))
+    return wrong_line(lines[start:]) or wrong_plan(nodes, edges, [tuple(map(int, line)) for line in lines[start + 1:] if line], bars)
 
 
 def wrong_line(lines):
@@ -94,8 +113,9 @@ def wrong_line(lines):
     return None
 
 
-def wrong_plan(nodes, edges, plan):
-    most = max((sum(v in edge for edge in edges) for v in range(1, nodes + 1)), default=0) + 1
+def wrong_plan(nodes, edges, plan, bars):
+    """Of a plan the first fault, or that it is proper; `bars` are the channels that are barred at some vertices."""
+    most = max((sum(v in edge for edge in edges) for v in range(1, nodes + 1)), default=0) + max(map(len, bars.values()), default=0) + 1
     channels = {}
     for v, channel in plan:
         if not 1 <= v <= nodes:
@@ -104,6 +124,8 @@ def wrong_plan(nodes, edges, plan):
             return f"C3 vertex {v}"
         if channel > most:
             return f"C5 vertex {v}"
+        if channel in bars.get(v, ()):
+            return f"C8 vertex {v}"
         channels[v] = channel
     missing = [v for v in range(1, nodes + 1) if v not in channels]
     clashes = sorted(tuple(sorted(edge)) for edge in edges if len({channels.get(v) for v in edge}) == 1)
@@ -131,18 +153,20 @@ def random_plans(program):
         edges = [(v, w) for v in range(1, nodes + 1) for w in range(1, v) if source.random() < 0.4]
         plan = [(v, source.randint(1, 4)) for v in range(1, nodes + 1)]
         source.shuffle(plan)
+        bars = [(source.randint(1, nodes), source.randint(1, 4)) for _ in range(source.choice((0, 0, 1, 3)))] if nodes else []
         for _ in range(source.choice((0, 0, 1, 2))):
-            plan.insert(source.randint(0, len(plan)), (source.randint(0, nodes + 1), source.randint(0, 4)))
+            plan.insert(source.randint(0, len(plan)), (source.randint(0, nodes + 1), source.randint(0, 5)))
         plan = plan[source.choice((0, 0, 0, 1)):]
-        data = text_of(nodes, edges, plan)
+        data = text_of(nodes, edges, plan, bars)
         done = run(program, data)
         if (done.returncode, done.stdout, done.stderr) != answer_to(verdict_of(data)):
             different.append((data, verdict_of(data), done))
     return "300 random plans by the definition of the verdict", not different, f"{len(different)}: {different[:1]}"
 
 
-def text_of(nodes, edges, plan):
-    return (b"p edge %d %d\n" % (nodes, len(edges)) + b"".join(b"e %d %d\n" % edge for edge in edges) + b"plan\n"
+def text_of(nodes, edges, plan, bars=()):
+    return (b"p edge %d %d\n" % (nodes, len(edges)) + b"".join(b"e %d %d\n" % edge for edge in edges)
+            + b"".join(b"b %d %d\n" % bar for bar in bars) + b"plan\n"
             + b"".join(b"%d %d\n" % row for row in plan))
 
 

@@ -41,7 +41,7 @@ fn put_one<R: Wait>(rt: &R, queue: &Bare, pass: &mut BarePass, wire: Wire<Best>)
     false
 }
 
-fn put_round<R: Wait>(rt: &R, queue: &Bare, pass: &mut BarePass, best: u64, pulse: u32) -> bool
+fn put_round<R: Wait>(rt: &R, queue: &Bare, pass: &mut BarePass, best: u128, pulse: u32) -> bool
     requires { IsPassOf queue.now pass.old }
     ensures { IsPassOf queue.now pass.new }
 {
@@ -54,7 +54,7 @@ fn put_round<R: Wait>(rt: &R, queue: &Bare, pass: &mut BarePass, best: u64, puls
     put_one(rt, queue, pass, Wire::Safe(pulse))
 }
 
-fn put_all<R: Wait>(rt: &R, queue: &Bare, pass: &mut BarePass, best: u64, pulses: u32) -> bool
+fn put_all<R: Wait>(rt: &R, queue: &Bare, pass: &mut BarePass, best: u128, pulses: u32) -> bool
     requires { IsPassOf queue.now pass.old }
     ensures { IsPassOf queue.now pass.new }
 {

@@ -14,7 +14,7 @@ mod link_threads;
 use crate::bare_queue::{Bare, bare_alone, bare_between};
 use crate::link_threads::{hand_over, put_all, take_all};
 use alpha_core::Wire;
-use interference::{NetFault, Network, edges_fit};
+use interference::{NetFault, Network, bars_fit, edges_fit};
 use link_queue::{Link, MAX_CAPACITY};
 use std::alloc::Global;
 use std::env;
@@ -33,7 +33,8 @@ fn pair(rt: &impl Abort, alloc: Global) -> Result<Network, NetFault>
     let ids = [1, 2];
     let edges = [(1, 2)];
     assert!(rt; edges_fit(2, &edges));
-    Network::new(alloc, 2, &ids, &edges)
+    assert!(rt; bars_fit(2, &[]));
+    Network::new(alloc, 2, &ids, &edges, &[])
 }
 
 // One number of all the wires, in their order.
@@ -41,7 +42,7 @@ fn mixed(got: &[Option<Wire<Best>>]) -> u64 {
     let mut sum = 0u64;
     for wire in got {
         let number = match *wire {
-            Some(Wire::Payload(pulse, best)) => u64::from(pulse) ^ best.0,
+            Some(Wire::Payload(pulse, best)) => u64::from(pulse) ^ best.0 as u64,
             Some(Wire::Ack(pulse)) => u64::from(pulse).wrapping_add(1),
             Some(Wire::Safe(pulse)) => u64::from(pulse).wrapping_add(2),
             Some(Wire::Close) => 3,

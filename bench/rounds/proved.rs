@@ -1,7 +1,7 @@
 // The program in Rattle that times the engine. It is no file .rt, since the gate reads each of those.
 #![tactic(auto)]
 
-use interference::{Memory, NetFault, Network, edges_fit};
+use interference::{Memory, NetFault, Network, bars_fit, edges_fit};
 use std::alloc::Global;
 use std::io::{self, ErrorKind};
 use std::time::Instant;
@@ -43,31 +43,31 @@ fn complete(alloc: Global) -> Result<Vec<(u32, u32)>, Memory> {
     Ok(edges)
 }
 
-fn first_ids(alloc: Global, nodes: u32) -> Result<Vec<u64>, Memory> {
+fn first_ids(alloc: Global, nodes: u32) -> Result<Vec<u128>, Memory> {
     let mut ids = Vec::new(alloc);
     for i in 0..nodes {
-        ids.push(u64::from(i) + 1)?;
+        ids.push(u128::from(i) + 1)?;
     }
     Ok(ids)
 }
 
 // The network in which vertex v has the identifier v, or none where the edges are no network's.
 fn network(alloc: Global, nodes: u32, edges: &[(u32, u32)]) -> Result<Option<Network>, NetFault> {
-    if !edges_fit(nodes, edges) {
+    if !edges_fit(nodes, edges) || !bars_fit(nodes, &[]) {
         return Ok(None);
     }
     let ids = first_ids(alloc, nodes)?;
     if ids.len() != nodes as usize {
         return Ok(None);
     }
-    Ok(Some(Network::new(alloc, nodes, &ids, edges)?))
+    Ok(Some(Network::new(alloc, nodes, &ids, edges, &[])?))
 }
 
 // One number of all the answers, in their order.
 fn mixed<const D: u32>(programs: &[Greatest<D>]) -> u64 {
     let mut sum = 0u64;
     for program in programs {
-        sum = sum.wrapping_mul(31).wrapping_add(program.best());
+        sum = sum.wrapping_mul(31).wrapping_add(program.best() as u64);
     }
     sum
 }

@@ -6,7 +6,7 @@ import csv
 import re
 
 import dot
-from networks import fields_of, name_of, place_of, shown, whole
+from networks import IDENTIFIERS, MAX_BARS, MAX_CHANNEL, fields_of, name_of, place_of, shown, whole
 from wrong import Wrong, wrong_line
 
 FORMS = ("pairs", "adjacency", "multiline", "dot", "dimacs")
@@ -21,7 +21,7 @@ class Listed:
 
     def __init__(self, form):
         self.form, self.edges, self.alone, self.notes = form, [], [], []
-        self.nodes, self.names, self.places = None, {}, {}
+        self.nodes, self.names, self.places, self.identifiers, self.bars = None, {}, {}, {}, {}
 
 
 def decoded(data, name):
@@ -197,7 +197,8 @@ def read_dot(text, name):
 
 
 def read_dimacs(text, name):
-    """Edges are lines `e V W` or `a V W WEIGHT`, or `V W` behind `p tw`. Without a `p` line the greatest number counts."""
+    """Edges are lines `e V W` or `a V W WEIGHT`, or `V W` behind `p tw`. Without a `p` line the greatest number counts. A line
+    `i V NUMBER` gives V an identifier, and `b V CHANNEL` bars a channel at V."""
     found = Listed("DIMACS")
     for line, raw in enumerate(text.split("\n"), 1):
         fields = [field for field in fields_of(raw) if field]
@@ -207,6 +208,10 @@ def read_dimacs(text, name):
             read_head(found, name, line, fields)
         elif fields[0].startswith("c"):
             read_comment(found, raw, fields)
+        elif fields[0] == "i":
+            read_identifier(found, name, line, fields)
+        elif fields[0] == "b":
+            read_bar(found, name, line, fields)
         else:
             ends = fields[1:3] if fields[0] in ("e", "a") else fields[:2]
             if len(ends) < 2 or None in map(whole, ends):
@@ -224,6 +229,25 @@ def read_head(found, name, line, fields):
     found.nodes = numbers[0]
     if fields[1] not in ("edge", "edges", "col"):
         found.notes.append(f"`{shown(' '.join(fields[:2]))}` is read like `p edge`")
+
+
+def read_identifier(found, name, line, fields):
+    v, number = map(whole, (fields[1:3] + ["", ""])[:2])
+    if v is None or number is None or number >= IDENTIFIERS:
+        raise wrong_line(name, line, f"no vertex with an identifier below 2^128: `{shown(' '.join(fields))}`")
+    if str(v) in found.identifiers:
+        raise wrong_line(name, line, f"a second identifier of vertex {v}")
+    found.identifiers[str(v)] = number
+
+
+def read_bar(found, name, line, fields):
+    v, channel = map(whole, (fields[1:3] + ["", ""])[:2])
+    if v is None or channel is None or not 1 <= channel <= MAX_CHANNEL:
+        raise wrong_line(name, line, f"no vertex with a channel of 1 to {MAX_CHANNEL}: `{shown(' '.join(fields))}`")
+    bars = found.bars.setdefault(str(v), set())
+    bars.add(channel)
+    if len(bars) > MAX_BARS:
+        raise wrong_line(name, line, f"more than {MAX_BARS} channels are barred at vertex {v}")
 
 
 def read_comment(found, raw, fields):

@@ -85,11 +85,13 @@ COMMANDS = {
                "  random  by chance, by --seed\n"
                "  degree  fewest neighbours first\n"
                "  place   from left to right, by the comment lines `c at V X Y`\n"
-               "A node keeps its name; one without a name gets its old number as name.\n"
+               "A node keeps its name; one without a name gets its old number as name. Identifiers and\n"
+               "barred channels of lines `i` and `b` go with their nodes.\n"
                "The forests depend on the numbers, and so does the plan.",
                "./network number examples/petersen.col --by random --seed 2 | ./forestplan forests"),
     "tell": ("Says what a network is, and what a run on it comes to; or what is wrong with its text.",
-             "  forests     the greatest number of neighbours of a node with a greater number\n"
+             "  barred      how many channels are barred, if any is\n"
+             "  forests     the greatest number of neighbours of a node with a greater identifier\n"
              "  in turn     how long it would take if nodes chose in the order of their numbers\n"
              "  payloads    the messages of the rounds: every run of `plan` has just these\n"
              "  wires       what all links of such a run carry: the payloads, as many\n"

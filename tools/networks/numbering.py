@@ -1,6 +1,8 @@
-"""`./network number`: the same network with other numbers. A node keeps its name, or is named by its old number."""
+"""`./network number`: the same network with other numbers. A node keeps its name, or is named by its old number; it keeps the
+identifier that a line gives it, and its barred channels."""
 import random
 
+from networks import two_alike
 from texts import Made
 from wrong import Wrong
 
@@ -37,4 +39,9 @@ def renumbered(network, way, seed, is_reversed):
     number = {old: new for new, old in enumerate(reversed(order) if is_reversed else order, 1)}
     names = {new: network.names.get(old, str(old)) for old, new in number.items()}
     places = {number[v]: place for v, place in network.given.items() if v in number}
-    return Made(network.nodes, {(number[v], number[w]) for v, w in network.edges}, names, places)
+    identifiers = {number[v]: own for v, own in network.said.items()}
+    same = two_alike({v: v for v in network.vertices} | identifiers)
+    if same:
+        raise Wrong(f"{network.name}: nodes {same[0]} and {same[1]} would have one identifier; give each node a line `i V NUMBER`")
+    return Made(network.nodes, {(number[v], number[w]) for v, w in network.edges}, names, places, identifiers=identifiers,
+                bars={number[v]: channels for v, channels in network.bars.items()})

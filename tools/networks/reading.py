@@ -1,6 +1,6 @@
 """`./network read`: a network in one of the forms, as a text that the programs read, and what was guessed and left out."""
 from forms import decoded, listed
-from networks import MAX_DEGREE, MAX_EDGES, MAX_NODES, shown, whole
+from networks import MAX_DEGREE, MAX_EDGES, MAX_NODES, shown, two_alike, whole
 from texts import Made
 from wrong import Wrong
 
@@ -13,7 +13,8 @@ def read(data, name, form=None, heading=None):
     number = {node: v for v, node in order.items()}
     edges, left_out = kept(found, number)
     names = {v: node for v, node in order.items() if node != str(v)} | found.names
-    made = Made(max(order, default=0), edges, names, found.places)
+    made = Made(max(order, default=0), edges, names, found.places, identifiers=given(found.identifiers, number, name, "an identifier"),
+                bars=given(found.bars, number, name, "a barred channel"))
     check(made, name)
     return made, [summary(made, found, by)] + mended + found.notes + left_out
 
@@ -49,6 +50,14 @@ def numbered_by_text(found, name):
         found.places = {v + 1: place for v, place in found.places.items()} if 0 in found.places else found.places
     return ({v: str(v - shift) for v in range(1, found.nodes + 1)},
             "it counts from 0, so each number is one more" if shift else "numbers as in the text")
+
+
+def given(found, number, name, what):
+    """What lines say of a vertex, by its number."""
+    unknown = [node for node in found if node not in number]
+    if unknown:
+        raise Wrong(f"{name}: {what} of {shown(unknown[0])}, which is no vertex")
+    return {number[node]: said for node, said in found.items()}
 
 
 def clean(name):
@@ -95,6 +104,9 @@ def check(made, name):
     most = max(degrees, key=degrees.get, default=None)
     if most and degrees[most] > MAX_DEGREE:
         raise Wrong(f"{name}: node {made.names.get(most, most)} has {degrees[most]} neighbours, and may have {MAX_DEGREE}")
+    same = two_alike({v: v for v in range(1, made.nodes + 1)} | made.identifiers)
+    if same:
+        raise Wrong(f"{name}: nodes {same[0]} and {same[1]} have one identifier")
     made.degree = degrees.get(most, 0)
 
 

@@ -24,14 +24,19 @@ class Run:
     that there can be."""
 
     def __init__(self, network):
-        higher = {v: sum(w > v for w in network.neighbours[v]) for v in network.vertices}
+        higher = {v: len(higher_of(network, v)) for v in network.vertices}
         self.network, self.forests = network, max(higher.values(), default=0)
-        self.last = LAST_COLOUR + 3 * self.forests * (network.degree + 1)
+        self.last = LAST_COLOUR + 3 * self.forests * network.channels
         self.is_bound = False
         self.payloads, self.bytes, self.how = counted_payloads(self)
         self.wires = 2 * self.payloads + 2 * len(network.edges) * (self.last + 1)
         self.entries = 2 * self.wires + network.nodes * self.last
         self.bytes += plain_bytes(self)
+
+
+def higher_of(network, v):
+    """The neighbours with a higher identifier."""
+    return [w for w in network.neighbours[v] if network.identifiers[w] > network.identifiers[v]]
 
 
 def digits(count):
@@ -63,7 +68,7 @@ def counted_payloads(run):
     """How many payloads a run has, the bytes of their entries, and who counted."""
     network, steps, program = run.network, run.network.nodes * run.last, built("forestplay")
     if steps <= MOST_AT_ONCE or steps <= MOST_HERE and not program:
-        rounds = Rounds(network, {v: v for v in network.vertices})
+        rounds = Rounds(network, network.identifiers)
         puts = [payload_bytes(v, w, pulse.number, f"{word} {number}") for pulse in rounds.pulses for v, w, word, number in pulse.puts]
         return len(puts), sum(puts), "counted by the definition of the rounds"
     if program:
@@ -89,7 +94,7 @@ def built(name):
 
 def bytes_for(network):
     """The network as the programs are given it."""
-    return text_of(Made(network.nodes, network.edges)).encode()
+    return text_of(Made(network.nodes, network.edges, identifiers=network.identifiers, bars=network.bars)).encode()
 
 
 def payloads_by(program, network):
@@ -112,7 +117,7 @@ def most_payloads(run):
     """A greeting both ways, a label and ten colours of each edge; and in each merge both ends of each edge choose."""
     number = {}
     for v in run.network.vertices:
-        for f, w in enumerate(w for w in run.network.neighbours[v] if w > v):
+        for f in range(len(higher_of(run.network, v))):
             number[f] = number.get(f, 0) + 1
     merged = sum(count * (run.forests - f) for f, count in number.items())
     return 13 * len(run.network.edges) + 2 * merged
@@ -138,14 +143,26 @@ def facts(reading, path):
         ("nodes", f"{network.nodes:,}" + (f", {degrees.count(0):,} of them without a neighbour" if 0 in degrees else "")),
         ("edges", f"{edges:,}" + (f", {counted(again, 'line')} more with an edge that was there before" if again else "")
          + f"; the `p` line says {reading.promised:,}"),
-        ("neighbours", f"{min(degrees, default=0):,} to {network.degree:,} of a node, so at most {counted(network.degree + 1, 'channel')}"),
-        ("forests", f"{run.forests:,}, so the last pulse is 12 + 3 * {run.forests:,} * {network.degree + 1:,} = {run.last:,}"),
+        ("neighbours", f"{min(degrees, default=0):,} to {network.degree:,} of a node" + ("" if network.bars else enough(network))),
+        *barred(network),
+        ("forests", f"{run.forests:,}, so the last pulse is 12 + 3 * {run.forests:,} * {network.channels:,} = {run.last:,}"),
         ("in turn", f"{counted(steps_in_turn(network), 'round')}, if the nodes chose in the order of their numbers"),
         ("payloads", f"{most}{run.payloads:,}; {run.how}"),
         ("wires", f"{most}2 * {run.payloads:,} + 2 * {edges:,} * {run.last + 1:,} = {run.wires:,}"),
         ("transcript", f"{most}{run.entries + 1:,} lines, {size(run.bytes)}"),
         ("time", times(run)),
     ]
+
+
+def enough(network):
+    return f", so at most {counted(network.channels, 'channel')}"
+
+
+def barred(network):
+    """The line that a network with barred channels has besides."""
+    if network.bars:
+        yield "barred", (f"{counted(sum(map(len, network.bars.values())), 'channel')} at {counted(len(network.bars), 'node')}, at most "
+                         f"{network.most_bars:,} at one" + enough(network))
 
 
 def times(run):

@@ -64,7 +64,7 @@ def plan_of(network, space):
     edges = [{"v": v, "w": w, "x1": nodes[v]["x"], "y1": nodes[v]["y"], "x2": nodes[w]["x"], "y2": nodes[w]["y"]}
              for v, w in network.edges]
     slots = {f"{v} {w}": slots_of(places[v], places[w]) for v, w in space.links}
-    hues = {c: [channel_hue(c), text_on(channel_hue(c))] for c in range(1, network.degree + 2)}
+    hues = {c: [channel_hue(c), text_on(channel_hue(c))] for c in range(1, network.channels + 1)}
     events = space.depth[space.ends[0]] if not space.without else 0
     return {"nodes": nodes, "edges": edges, "slots": slots, "radius": RADIUS, "token": [HALF_WIDTH, HALF_HEIGHT], "hues": hues,
             "wires": {kind: [hue, PALE[kind]] for kind, hue in WIRES.items()}, "events": events, "dares": dares_of(space)}

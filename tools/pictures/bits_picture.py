@@ -8,7 +8,7 @@ from wrong import Wrong
 RING = "#D55E00"
 FIRST, LAST = 2, 6
 LEFT, TOP, STEP = 150, 106, 84
-LONG = 40
+LONG, LONGER = 40, 80
 
 
 def draw(rounds, forest=0, vertex=None):
@@ -21,11 +21,11 @@ def draw(rounds, forest=0, vertex=None):
     parent = rounds.parents[vertex, forest]
     pairs = [(rounds.pulses[p].colours[vertex, forest], rounds.pulses[p].colours[parent, forest]) for p in range(FIRST, LAST + 1)]
     most = max(digits(number) for number in pairs[0])
-    cell = 11 if most > LONG else 18 if most > 8 else 26
+    cell = 7 if most > LONGER else 11 if most > LONG else 18 if most > 8 else 26
     lengths = ", ".join(str(max(map(digits, pair))) for pair in pairs)
     is_short = all(rounds.identifiers[v] == v for v in network.vertices)
-    said = ("The names are the vertices’ own numbers, so they are short; of 64 digits, four steps leave six colours just so."
-            if is_short else "Names of up to 64 digits, and four steps leave six colours.")
+    said = ("The names are the vertices’ own numbers, so they are short; of 128 digits, four steps leave six colours just so."
+            if is_short else "Names of up to 128 digits, and four steps leave six colours.")
     rule = "It looks for the least place i in which its digits differ from its parent’s; with its own digit d there, it becomes 2·i + d."
     width = max(LEFT + most * cell + 350, 40 + text_width(rule, 11.5) * 0.95)
     svg = Svg(width, TOP + 5 * STEP - 12, f"Bit steps of {network.name}")

@@ -1,7 +1,7 @@
 """The marks that the pictures share: vertices by their channel or colour, edges and arrows between them, legends."""
 from math import sqrt
 
-from palette import ALONE, FOREST_COLOURS, INK, PAPER, SOFT, WIRES, channel_hue, grey, is_ring, short, text_on
+from palette import ALONE, FOREST_COLOURS, INK, PAPER, SOFT, WIRES, WRONG, channel_hue, grey, is_ring, short, text_on
 from places import middle
 from svg import text_width
 
@@ -18,6 +18,35 @@ def channel_circle(svg, x, y, radius, channel, number=True, mark="channel"):
         fill = INK if is_ring(channel) else text_on(hue)
         size = radius * (1.12 if channel < 10 else 0.92) * (0.85 if is_ring(channel) else 1)
         svg.text(x, y + size * 0.36, channel, round(size, 1), fill, "middle", bold=True)
+
+
+# Of a vertex's barred channels so many are drawn, and behind them how many more there are.
+MOST_BARS = 4
+
+
+def bar_mark(svg, x, y, radius, channel, mark="bar"):
+    """A channel that is barred at a vertex: its number, crossed out."""
+    svg.circle(x, y, radius, PAPER, channel_hue(channel), 1, mark=mark)
+    size = round(radius * (1.2, 1.0, 0.8, 0.62)[len(str(channel)) - 1], 1)
+    svg.text(x, y + size * 0.36, channel, size, INK, "middle", bold=True)
+    svg.line(x - 0.9 * radius, y + 0.9 * radius, x + 0.9 * radius, y - 0.9 * radius, WRONG, 0.9, opacity="0.8")
+
+
+def more_bars(channels):
+    return f"+{len(channels) - MOST_BARS}" if len(channels) > MOST_BARS else ""
+
+
+def bars_width(channels, radius):
+    """How much room a row of barred channels takes."""
+    return min(len(channels), MOST_BARS) * (2 * radius + 2) + text_width(more_bars(channels), 1.5 * radius)
+
+
+def bar_row(svg, x, y, channels, radius):
+    """The barred channels of a vertex, lowest first, to the right of a place."""
+    for at, channel in enumerate(channels[:MOST_BARS]):
+        bar_mark(svg, x + radius + at * (2 * radius + 2), y, radius, channel)
+    if more_bars(channels):
+        svg.text(x + MOST_BARS * (2 * radius + 2), y + 0.55 * radius, more_bars(channels), 1.5 * radius, SOFT, halo=2, mark="more")
 
 
 def colour_square(svg, x, y, half, colour, number=True, mark="colour"):

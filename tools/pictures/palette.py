@@ -45,5 +45,5 @@ def grey(number):
 
 
 def short(number):
-    """A number as a square has room for: `64d` is one of 64 binary digits."""
+    """A number as a square has room for: `128d` is one of 128 binary digits."""
     return str(number) if number < 1000 else f"{digits(number)}d"

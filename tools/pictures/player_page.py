@@ -171,8 +171,8 @@ class Film:
             now = now | pulse.chosen
             self.merged[pulse.number] = now
         if not rounds.forests:
-            # Nothing is merged, so each node keeps colour 0.
-            self.merged[rounds.last] = dict.fromkeys(network.vertices, 0)
+            # Nothing is merged, so each node keeps its first colour.
+            self.merged[rounds.last] = dict(rounds.first)
 
     def scenes(self):
         """The pulse of each frame, ascending."""
@@ -184,7 +184,7 @@ class Film:
         caption, said = f"pulse {number} of {self.rounds.last} · {pulse.phase}", SAY[pulse.phase]
         if not forests and number >= SEED:
             return caption, "No node has a neighbour, so there is no forest" + (
-                ", and nothing to merge: each has channel 1." if number == self.rounds.last else " and no colour in it.")
+                f", and nothing to merge: each has {self.least()}." if number == self.rounds.last else " and no colour in it.")
         if pulse.step:
             forest, colour, old = pulse.step
             caption += f" · forest {forest}"
@@ -193,6 +193,9 @@ class Film:
         elif number >= SEED:
             caption += " · forest 0" if forests == 1 else f" · forests 0 to {forests - 1}"
         return caption, said
+
+    def least(self):
+        return "the least channel that isn't barred" if self.network.bars else "channel 1"
 
     def shared(self):
         """What frames refer to: the edges, and each forest's arrows."""

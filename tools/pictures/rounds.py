@@ -5,7 +5,7 @@ from wrong import Wrong, wrong_line
 
 
 def identifiers_of(lines, network, name):
-    """What the vertices call themselves: in their greetings; a vertex without neighbours by its first colour."""
+    """What the vertices call themselves: in their greetings; a vertex without neighbours by its first colour, or as its network says."""
     found = {}
     for line, raw in enumerate(lines, 1):
         fields = fields_of(raw)
@@ -19,7 +19,7 @@ def identifiers_of(lines, network, name):
             found.setdefault(vertex, number)
     taken = {}
     for v in network.vertices:
-        number = found.setdefault(v, v)
+        number = found.setdefault(v, network.identifiers[v])
         if number in taken:
             raise Wrong(f"{name}: vertices {taken[number]} and {v} have one identifier")
         taken[number] = v
@@ -31,8 +31,8 @@ def read_rounds(text, name, network):
     lines = text.split("\n")
     if lines[-1] == "":
         lines.pop()
-    if not lines or lines[0].split(" ")[:2] != ["rounds", "1"]:
-        raise wrong_line(name, 1, "no line `rounds 1 ..`")
+    if not lines or lines[0].split(" ")[:2] not in (["rounds", "1"], ["rounds", "2"]):
+        raise wrong_line(name, 1, "no line `rounds 1 ..` or `rounds 2 ..`")
     rounds = Rounds(network, identifiers_of(lines, network, name))
     wanted = list(rounds.lines())
     for number, (line, want) in enumerate(zip(lines, wanted), 1):

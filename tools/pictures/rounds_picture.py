@@ -1,7 +1,7 @@
 """The rounds strip: a block for each forest, a row for each node, a column for each pulse; squares while it is coloured,
 circles where channels are chosen."""
 from colouring import LAST_COLOUR
-from marks import alone_chip, channel_circle, colour_square, number_square
+from marks import alone_chip, bar_mark, bar_row, bars_width, channel_circle, colour_square, number_square
 from palette import FOREST_COLOURS, INK, SOFT, channel_hue
 from svg import Svg, text_width
 from wrong import at_most
@@ -10,6 +10,7 @@ MOST_ROWS, USUAL_ROWS = 400, 40
 COLUMN, ROW, LEFT, TOP = 27, 27, 112, 100
 FULL_STEPS = 40
 HEAD, FOOT = 68, 30
+BAR = 8
 GROUPS = [(2, 2, "start"), (3, 6, "bit steps"), (7, 7, "shift"), (8, 8, "drop 5"), (9, 9, "shift"), (10, 10, "drop 4"),
           (11, 11, "shift"), (12, 12, "drop 3")]
 MERGES = LEFT + 11 * COLUMN + 34
@@ -24,13 +25,13 @@ def draw(rounds, asked=None):
     is_full = all(len(steps[f]) == 3 * rounds.width for f in forests)
     most = max(map(len, steps.values()))
     column = 21 if is_full or most > 12 else COLUMN
-    width = max(MERGES + most * column + 90, 980)
+    width = max(MERGES + most * column + 90 + bars_room(network), 980)
     block = network.nodes * ROW + HEAD + FOOT
     left_out = left_out_of(rounds, forests)
     top = TOP + 18 * len(left_out)
     svg = Svg(width, top + len(forests) * block - FOOT + 18, f"Rounds of {network.name}")
     svg.heading(f"{network.name}: six colours at pulse 6, three at pulse 12, the plan at pulse {rounds.last}", *left_out)
-    legend(svg, 50 + 18 * len(left_out))
+    legend(svg, 50 + 18 * len(left_out), network.bars)
     for number, forest in enumerate(forests):
         strip = Strip(svg, rounds, forest, top + number * block, steps[forest], column)
         strip.colours()
@@ -54,7 +55,12 @@ def columns_of(rounds, forests):
     return steps
 
 
-def legend(svg, y):
+def bars_room(network):
+    """How much room the longest row of barred channels takes, behind the circles of the channels after a merge."""
+    return max((20 + bars_width(bars, BAR) for bars in network.bars.values()), default=0)
+
+
+def legend(svg, y, has_bars):
     for colour in range(6):
         colour_square(svg, 28 + 17 * colour, y, 7.5, colour, mark="legend")
     svg.text(130, y + 4, "square: colour in the forest; 3, 4, 5 are dropped", 11.5, SOFT)
@@ -62,6 +68,9 @@ def legend(svg, y):
     svg.text(474, y + 4, "still a name", 11.5, SOFT)
     alone_chip(svg, 574, y, COLUMN / 2 - 8)
     svg.text(588, y + 4, "no edge in this forest", 11.5, SOFT)
+    if has_bars:
+        bar_mark(svg, 752, y, BAR, 1, mark="legend")
+        svg.text(766, y + 4, "barred at the node", 11.5, SOFT)
     y += 22
     channel_circle(svg, 28, y, 8, 1, mark="legend")
     svg.text(42, y + 4, "circle: the node chooses this channel", 11.5, SOFT)
@@ -124,6 +133,8 @@ class Strip:
         self.step_heads()
         end = MERGES + len(self.steps) * self.column
         svg.text(end + 24, top + 63, "after", 9, SOFT, "middle")
+        if self.rounds.network.bars:
+            svg.text(end + 44, top + 63, "barred", 9, SOFT)
         before = self.rounds.merged_after(self.forest - 1)
         with svg.group("choices", f"forest {self.forest}"):
             for v in self.rounds.network.vertices:
@@ -156,3 +167,4 @@ class Strip:
         for x, pulse in chosen:
             channel_circle(svg, x, y, min(self.column, ROW) / 2 - 1, pulse.chosen[v] + 1, mark="choice")
         channel_circle(svg, end + 24, y, 11, channel + 1, mark="after")
+        bar_row(svg, end + 44, y, self.rounds.network.barred(v), BAR)

@@ -29,9 +29,10 @@ MANY_WIRES, MOST_WIRES = 50_000, 4_000_000
 
 
 def last_pulse(network):
-    """The last pulse of a network whose vertices are called by their numbers."""
-    forests = max((sum(w > v for w in ws) for v, ws in network.neighbours.items()), default=0)
-    return 12 + 3 * forests * (network.degree + 1)
+    """The last pulse of a network."""
+    names = network.identifiers
+    forests = max((sum(names[w] > names[v] for w in ws) for v, ws in network.neighbours.items()), default=0)
+    return 12 + 3 * forests * network.channels
 
 
 def least_wires(network):

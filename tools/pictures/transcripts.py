@@ -149,8 +149,8 @@ def never_put(entries, name, last, putter, take):
 
 
 def identifiers_of(network, entries):
-    """What the vertices call themselves in their greetings."""
-    found = {v: v for v in network.vertices}
+    """What the vertices call themselves in their greetings, and those that greet nobody as their network says."""
+    found = dict(network.identifiers)
     for v, listed in entries.items():
         for entry in listed:
             if entry.kind == "put" and entry.wire[0] == "payload" and entry.wire[2][0] == "hello":

@@ -10,13 +10,13 @@ for folder in ("tools/shared", "tests"):
 
 from alpha_definition import AlphaNode, Colouring, Refused, last_pulse, ports_of, wire_words  # noqa: E402,F401
 from networks import read_network  # noqa: E402,F401
-from plain_definition import Network, at_parent, bit, colours, drop, merged, other_than, shift  # noqa: E402,F401
+from plain_definition import Network, at_parent, bit, colours, drop, first_colours, merged, other_than, shift  # noqa: E402,F401
 from wrong import Wrong  # noqa: E402,F401
 
 
 def network_of(read):
-    """The definitions' network of one that was read: vertex V has the identifier V."""
-    return Network({v: v for v in read.vertices}, set(read.edges))
+    """The definitions' network of one that was read."""
+    return Network(dict(read.identifiers), set(read.edges), {v: [channel - 1 for channel in bars] for v, bars in read.bars.items()})
 
 
 def network_at(path):

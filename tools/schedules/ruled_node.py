@@ -113,16 +113,16 @@ def program_refuses(program, pulse, inbox):
         return any(slot is not None if role else slot is None or slot[0] != "Label" or slot[1] >= program.forests
                    for role, slot in zip(program.roles, inbox))
     if pulse <= 12:
-        bound = {3: 2 ** 64, 4: 127, 5: 13, 6: 7, 7: 5, 8: 5, 9: 4, 10: 4, 11: 3, 12: 3}[pulse]
+        bound = {3: 2 ** 128, 4: 255, 5: 15, 6: 7, 7: 5, 8: 5, 9: 4, 10: 4, 11: 3, 12: 3}[pulse]
         return any(slot is None or slot[0] != "Colour" or slot[1] > bound or slot[1] == program.colours[role[1]]
                    if role[0] == "Up" else slot is not None for role, slot in zip(program.roles, inbox)) or (
             pulse >= 7 and max(program.colours, default=0) > bound)
-    width = program.delta + 1
+    width = program.span + 1
     forest, step = divmod(pulse - 13, 3 * width)
     chosen = {slot[1] for slot in inbox if slot}
-    if kinds - {"Chosen", None} or max(chosen, default=0) > program.delta or chosen and step == 0:
+    if kinds - {"Chosen", None} or max(chosen, default=0) > program.span or chosen and step == 0:
         return True
     if any(slot and role[1] > forest for role, slot in zip(program.roles, inbox)):
         return True
     old, taken = (program.merged, chosen) if step == 0 else (program.old, program.chosen | chosen)
-    return (program.colours[forest], old) == divmod(step, width) and len(taken) > program.delta
+    return (program.colours[forest], old) == divmod(step, width) and set(range(width)) <= taken | program.barred

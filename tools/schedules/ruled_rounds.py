@@ -9,7 +9,7 @@ import copy
 import itertools
 from collections import namedtuple
 
-from definitions import Network, at_parent, bit, drop, merged, other_than, shift
+from definitions import Network, at_parent, bit, drop, first_colours, merged, other_than, shift
 from rules import OF_FORESTS
 
 # Nodes v and w have one colour in a forest after a pulse, w being v's parent; or after the merge of it, if `pulse` is None.
@@ -51,7 +51,7 @@ class RuledRounds:
     def __init__(self, net, without):
         self.net, self.without = net, frozenset(without)
         self.colours = [[net.identifiers] for _ in range(net.forest_count)]
-        self.merged, self.plan, self.clash = [dict.fromkeys(net.identifiers, 0)], None, None
+        self.merged, self.plan, self.clash = [first_colours(net)], None, None
         for pulse in range(3, 13):
             for f in range(net.forest_count):
                 self.colours[f].append(self.next_colours(pulse, f))

@@ -270,8 +270,8 @@ class Space:
     def phase(self, p):
         if p < 13:
             return PHASES[p]
-        forest, step = divmod(p - 13, 3 * (self.net.greatest_degree + 1))
-        return "merge {} {} {}".format(forest, *divmod(step, self.net.greatest_degree + 1))
+        forest, step = divmod(p - 13, 3 * (self.net.span + 1))
+        return "merge {} {} {}".format(forest, *divmod(step, self.net.span + 1))
 
     def wires(self, s):
         return {link: [wire_words(wire) for wire in self.contents[self.states[s][k]]] for link, k in self.slot.items()}

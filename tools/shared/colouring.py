@@ -17,7 +17,8 @@ class Pulse:
 
 
 class Rounds:
-    """A synchronous run: `parents[v, f]` is v's parent in forest f, `pulses` those from 0 to `last`."""
+    """A synchronous run: `parents[v, f]` is v's parent in forest f, `pulses` those from 0 to `last`; `allowed[v]` are the colours
+    that aren't barred at v, and `first[v]` the least of them, which v has before it chooses."""
 
     def __init__(self, network, identifiers):
         self.network, self.identifiers = network, identifiers
@@ -28,7 +29,9 @@ class Rounds:
                 self.parents[v, f] = w
                 self.forest_of[v, w] = self.forest_of[w, v] = f
         self.forests = 1 + max((f for _, f in self.parents), default=-1)
-        self.width = network.degree + 1
+        self.width = network.span + 1
+        self.allowed = {v: set(range(self.width)) - {channel - 1 for channel in network.barred(v)} for v in network.vertices}
+        self.first = {v: min(self.allowed[v]) for v in network.vertices}
         self.last = LAST_COLOUR + 3 * self.forests * self.width
         self.pulses = []
         self.run()
@@ -37,7 +40,7 @@ class Rounds:
         self.pulses = [self.greet(), self.orient(), self.seed()]
         while len(self.pulses) <= LAST_COLOUR:
             self.pulses.append(self.colour(len(self.pulses)))
-        self.merged = dict.fromkeys(self.network.vertices, 0)
+        self.merged = dict(self.first)
         self.old, self.heard = dict(self.merged), {v: set() for v in self.merged}
         while len(self.pulses) <= self.last:
             self.pulses.append(self.merge(len(self.pulses)))
@@ -87,7 +90,8 @@ class Rounds:
         return pulse
 
     def merge(self, number):
-        """A step of merging: those of the step's pair (three-colour, old colour) choose the least colour not heard of."""
+        """A step of merging: those of the step's pair (three-colour, old colour) choose the least colour that is neither barred nor
+        heard of."""
         forest, step = divmod(number - 1 - LAST_COLOUR, 3 * self.width)
         colour, old = divmod(step, self.width)
         pulse = Pulse(number, "merge", (forest, colour, old))
@@ -99,15 +103,21 @@ class Rounds:
         three = self.pulses[LAST_COLOUR].colours
         for v in self.network.vertices:
             if (three[v, forest], self.old[v]) == (colour, old):
-                self.merged[v] = pulse.chosen[v] = min(set(range(self.width)) - self.heard[v])
+                self.merged[v] = pulse.chosen[v] = min(self.allowed[v] - self.heard[v])
                 if step < 3 * self.width - 1:
                     pulse.puts += [(v, w, "chosen", self.merged[v])
                                    for w in self.network.neighbours[v] if self.forest_of[v, w] <= forest]
         return pulse
 
+    def head(self):
+        """The first line: of edition 2 if a channel is barred, and else of edition 1, which has no number of bars."""
+        network = self.network
+        edition, bars = (2, f" {network.most_bars}") if network.bars else (1, "")
+        return f"rounds {edition} {network.nodes} {network.degree}{bars} {self.forests} {self.last}"
+
     def lines(self):
         """The text of rounds, line by line."""
-        yield f"rounds 1 {self.network.nodes} {self.network.degree} {self.forests} {self.last}"
+        yield self.head()
         for pulse in self.pulses:
             yield " ".join(["pulse", str(pulse.number), pulse.phase, *map(str, pulse.step or ())])
             puts = {v: [] for v in self.network.vertices}

@@ -11,17 +11,25 @@ SKIPPED = {"n", "d", "v", "x"}
 MAX_NODES = 20000
 MAX_EDGES = 400000
 MAX_DEGREE = 1023
+IDENTIFIERS = 2 ** 128
+MAX_CHANNEL = 2048
+MAX_BARS = 1024
 # More digits than any number has that a text of ours may hold.
 MOST_DIGITS = 40
 
 
 class Network:
     """`nodes` vertices from 1; `neighbours[v]` ascending; `edges` as pairs, the lower vertex first, ascending; `given[v]` is
-    the place (x, y) of a comment line `c at V X Y`, y growing downwards, and `names[v]` the name of `c name V NAME`."""
+    the place (x, y) of a comment line `c at V X Y`, y growing downwards, and `names[v]` the name of `c name V NAME`;
+    `said[v]` is the identifier of the line `i V NUMBER`, and `identifiers[v]` that or v; `bars[v]` has the channels of lines
+    `b V CHANNEL`, ascending, and is there for the vertices that have some. `span` is the greatest number of neighbours and the
+    greatest number of bars of a vertex together: so many channels and one are enough."""
 
-    def __init__(self, name, nodes, edges, given, names=None):
+    def __init__(self, name, nodes, edges, given, names=None, identifiers=None, bars=None):
         self.name, self.nodes, self.edges, self.given, self.names = name, nodes, sorted(edges), given, names or {}
         self.vertices = range(1, nodes + 1)
+        self.said = identifiers or {}
+        self.identifiers = {v: v for v in self.vertices} | self.said
         self.neighbours = {v: [] for v in self.vertices}
         for v, w in self.edges:
             self.neighbours[v].append(w)
@@ -29,6 +37,14 @@ class Network:
         for v in self.vertices:
             self.neighbours[v].sort()
         self.degree = max((len(ws) for ws in self.neighbours.values()), default=0)
+        self.bars = {v: sorted(channels) for v, channels in sorted((bars or {}).items()) if channels}
+        self.most_bars = max(map(len, self.bars.values()), default=0)
+        self.span = self.degree + self.most_bars
+        self.channels = self.span + 1
+
+    def barred(self, v):
+        """The channels that are barred at a vertex, ascending."""
+        return self.bars.get(v, [])
 
 
 class Reading:
@@ -37,7 +53,7 @@ class Reading:
 
     def __init__(self):
         self.nodes, self.promised, self.edge_lines = None, None, 0
-        self.edges, self.given, self.names = set(), {}, {}
+        self.edges, self.given, self.names, self.identifiers, self.bars = set(), {}, {}, {}, {}
 
 
 def stem(path):
@@ -122,6 +138,42 @@ def edge_of(path, line, fields, nodes):
     return v, w
 
 
+def said_of_vertex(path, line, fields, read, what, form):
+    """Vertex and number of an `i` or a `b` line."""
+    if read.nodes is None:
+        raise wrong_line(path, line, f"{what} before the line `p edge NODES EDGES` (F10)")
+    why = why_no_number(fields[1:], form.split()[1:])
+    if why:
+        raise wrong_line(path, line, f"no `{form}`: {why} (F4)")
+    v, number = map(whole, fields[1:3])
+    if v == 0:
+        raise wrong_line(path, line, "vertex 0 is none, since vertices count from 1 (F5)")
+    if v > read.nodes:
+        raise wrong_line(path, line, f"vertex {shown(str(v))} is none, since the `p` line has {read.nodes} (F5)")
+    return v, number
+
+
+def identifier_of(path, line, fields, read):
+    """Vertex and identifier of an `i` line."""
+    v, number = said_of_vertex(path, line, fields, read, "an identifier", "i V NUMBER")
+    if number >= IDENTIFIERS:
+        raise wrong_line(path, line, "the identifier is 2^128 or more (F11)")
+    if v in read.identifiers:
+        raise wrong_line(path, line, f"a second identifier of vertex {v} (F12)")
+    return v, number
+
+
+def bar_of(path, line, fields, read):
+    """Vertex and channel of a `b` line."""
+    v, channel = said_of_vertex(path, line, fields, read, "a barred channel", "b V CHANNEL")
+    if not 1 <= channel <= MAX_CHANNEL:
+        raise wrong_line(path, line, f"channel {shown(str(channel))} is none that can be barred, which are 1 to {MAX_CHANNEL} (F13)")
+    barred = read.bars.get(v, ())
+    if channel not in barred and len(barred) == MAX_BARS:
+        raise wrong_line(path, line, f"more than {MAX_BARS} channels are barred at vertex {v} (F14)")
+    return v, channel
+
+
 def unknown_line(path, line, field):
     """Of a line that begins like no line of a network."""
     if field.startswith("\ufeff"):
@@ -155,6 +207,12 @@ def read_line(read, path, line, raw):
         read.edge_lines += 1
         if len(read.edges) > MAX_EDGES:
             raise wrong_line(path, line, f"more than {MAX_EDGES} different edges (F7)")
+    elif fields[0] == "i":
+        v, number = identifier_of(path, line, fields, read)
+        read.identifiers[v] = number
+    elif fields[0] == "b":
+        v, channel = bar_of(path, line, fields, read)
+        read.bars.setdefault(v, set()).add(channel)
     else:
         raise unknown_line(path, line, fields[0])
 
@@ -170,11 +228,22 @@ def reading_of(text, path):
 
 
 def network_of_reading(read, path):
-    network = Network(stem(path), read.nodes, read.edges, read.given, read.names)
+    network = Network(stem(path), read.nodes, read.edges, read.given, read.names, read.identifiers, read.bars)
     for v in network.vertices:
         if len(network.neighbours[v]) > MAX_DEGREE:
             raise Wrong(f"{path}: vertex {v} has {len(network.neighbours[v])} neighbours, more than {MAX_DEGREE} (N1)")
+    same = two_alike(network.identifiers)
+    if same:
+        raise Wrong(f"{path}: vertices {same[0]} and {same[1]} have one identifier (N2)")
     return network
+
+
+def two_alike(identifiers):
+    """The first two vertices with one identifier, or None."""
+    of = {}
+    for v, number in sorted(identifiers.items()):
+        of.setdefault(number, []).append(v)
+    return min((found[:2] for found in of.values() if len(found) > 1), default=None)
 
 
 def read_network(text, path):

@@ -18,8 +18,10 @@ def read_plan(text, name, network):
             raise wrong_line(name, number, f"vertex {vertex} is not one of 1 to {network.nodes} (C2)")
         if vertex in plan:
             raise wrong_line(name, number, f"a second line of vertex {vertex} (C3)")
-        if not 1 <= channel <= network.degree + 1:
-            raise wrong_line(name, number, f"channel {channel} is not one of 1 to {network.degree + 1} (C5)")
+        if not 1 <= channel <= network.channels:
+            raise wrong_line(name, number, f"channel {channel} is not one of 1 to {network.channels} (C5)")
+        if channel in network.barred(vertex):
+            raise wrong_line(name, number, f"channel {channel} is barred at vertex {vertex} (C8)")
         plan[vertex] = channel
     for vertex in network.vertices:
         if vertex not in plan:

@@ -21,7 +21,7 @@ pub trait Wiring {
 impl Wiring for Brand {
     ghost use Rattle.std.specs.Prelude.{[], false};
 
-    ghost net = { record { ids = []; ports = [] } };
+    ghost net = { record { ids = []; ports = []; bars = [] } };
 
     ghost tables = { [] };
 

@@ -49,5 +49,5 @@ pub use wire::Wire;
 // What crates above name of lower ones.
 pub use node_api::{
     Inbox, MAX_DEGREE, Memory, NetFault, Network, NodeProgram, Outbox, PayloadText, Refused, Sent,
-    edges_fit,
+    bars_fit, edges_fit,
 };

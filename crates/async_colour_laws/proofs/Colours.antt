@@ -2,14 +2,14 @@
 use Rattle.std.proofs.Common.{◌≡◌, ℕ, ◌≤◌, sym, ap, ◌∙◌, subst}
 use Rattle.std.proofs.lemmas.Bool.{and_parts, eqb-true}
 use Rattle.std.proofs.lemmas.List.{get_or_default}
-use Rattle.alpha_laws.specs.interference.Net.{Net, IsNetwork, IsVertex, IsEdge, neighbours, forest_count_of, greatest_degree_of}
+use Rattle.alpha_laws.specs.interference.Net.{Net, IsBarred, IsNetwork, IsVertex, IsEdge, neighbours, forest_count_of, span_of}
 use Rattle.alpha_laws.specs.node_api.Program.{last_pulse_on}
 use Rattle.alpha_laws.specs.node_api.Run.{state_at}
 use Rattle.alpha_laws.proofs.Runs.{runs}
 use Rattle.colour_laws.specs.colour_rules.Node as colour
 use Rattle.colour_laws.specs.colour_rules.Program.{colouring}
 use Rattle.colour_laws.specs.Colours.{colours}
-use Rattle.colour_laws.proofs.Choices.{colours_within}
+use Rattle.colour_laws.proofs.Choices.{colours_unbarred, colours_within}
 use Rattle.colour_laws.proofs.Forests.{has_forest, has_start}
 use Rattle.colour_laws.proofs.Proper.{colours_proper}
 use Rattle.colour_laws.proofs.Rounds.{rounds_are_program}
@@ -29,7 +29,9 @@ module _ (net : Net) (ok : IsNetwork net) where
     exact = exact;
     proper = λ v w edge same.
         colours_proper net ok v w edge.0 edge.1 (sym (exact v edge.0) ∙ same ∙ exact w (neighbour_is net ok v w edge));
-    within = λ v vertex. subst (λ c. c ≤ greatest_degree_of net) (sym (exact v vertex)) (colours_within net (has_forest net ok) (forest_count_of net) v);
+    within = λ v vertex. subst (λ c. c ≤ span_of net) (sym (exact v vertex)) (colours_within net (has_forest net ok) (forest_count_of net) v);
+    unbarred = λ v vertex barred. colours_unbarred net (has_forest net ok) (forest_count_of net) v
+        (subst (λ c. IsBarred net v c) (exact v vertex) barred);
   }
     where
       exact : (v : ℕ) → IsVertex net v → (nodes v).state.merged ≡ colours net v

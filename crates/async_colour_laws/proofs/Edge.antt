@@ -1,7 +1,19 @@
 -- The network of the small run keeps what every network keeps, and is whole if it is at both vertices.
 use Rattle.std.proofs.Common.{◌≡◌, ◌≢◌, ℕ, zero, suc, ◌<◌, ◌≤◌, true, Result, Ok, Err, [], refl, arith}
-use Rattle.std.specs.Prelude.{IfOk}
-use Rattle.alpha_laws.specs.interference.Net.{IsNetwork, IsVertex, id_of, id_bound, degree_of, neighbour_of, back_port_of}
+use Rattle.std.specs.Prelude.{IfOk, slice_index}
+use Rattle.alpha_laws.specs.interference.Net.{
+  IsBarred,
+  IsNetwork,
+  IsVertex,
+  id_of,
+  id_bound,
+  bar_count_of,
+  bars_of,
+  degree_of,
+  neighbour_of,
+  back_port_of,
+}
+use Rattle.dimacs_col.specs.declared.limits.TheConstants.{MAX_BARS, MAX_CHANNEL}
 use Rattle.alpha_laws.below.interference.specs.declared.limits.TheConstants.{MAX_DEGREE}
 use Rattle.alpha_laws.specs.node_api.Program.{Program, last_pulse_on}
 use Rattle.alpha_laws.specs.alpha_core.View.{is_drained}
@@ -44,6 +56,13 @@ edge_is_network = record {
       (at_first (λ port. back_port_of edge 1 port < degree_of edge (neighbour_of edge 1 port)) (omega arith) port)
       (at_first (λ port. back_port_of edge 2 port < degree_of edge (neighbour_of edge 2 port)) (omega arith) port)
       v vertex.0 vertex.1 lt;
+  bar_lists = refl;
+  few_bars = λ v vertex. at_both (λ v. bar_count_of edge v ≤ MAX_BARS) (omega arith) (omega arith) v vertex.0 vertex.1;
+  barred_colours = λ v colour vertex. at_both (λ v. IsBarred edge v colour → colour < MAX_CHANNEL)
+      (λ barred. absurd (let l : barred.0 < 0 = barred.1 in omega arith)) (λ barred. absurd (let l : barred.0 < 0 = barred.1 in omega arith))
+      v vertex.0 vertex.1;
+  ascending_bars = λ v i j vertex less lt. at_both (λ v. j < bar_count_of edge v → slice_index (bars_of edge v) i < slice_index (bars_of edge v) j)
+      (λ lt. absurd (let l : j < 0 = lt in omega arith)) (λ lt. absurd (let l : j < 0 = lt in omega arith)) v vertex.0 vertex.1 lt;
 }
 
 -- both nodes are drained, and neither link holds a wire

@@ -1,6 +1,6 @@
 -- Nodes of the colouring that have halted, and their colours.
 use Rattle.std.specs.Prelude.{◌≡◌, ◌≢◌, ℕ, ◌≤◌, Bool, IsTrue, List, Ok}
-use Rattle.alpha_laws.specs.interference.Net.{Net, IsVertex, IsEdge, greatest_degree_of}
+use Rattle.alpha_laws.specs.interference.Net.{Net, IsVertex, IsBarred, IsEdge, span_of}
 use Rattle.alpha_laws.specs.node_api.Program.{Program, last_pulse_on}
 use Rattle.alpha_laws.specs.alpha_core.Wire.{Wire}
 use Rattle.alpha_laws.specs.alpha_core.View.{Node, is_halted}
@@ -19,11 +19,13 @@ use Rattle.progress_laws.specs.Ends.{IsTerminal}
 abbrev pub AllHalted : {S M E : Type 0} → Program S M E → Net → (ℕ → Node S M) → Type 0
 AllHalted program net nodes = (v : ℕ) → IsVertex net v → IsTrue (is_halted (last_pulse_on program net) (nodes v).view)
 
--- Each node has its colour of the definition; so neighbours differ, and each colour is from 0 to the greatest degree.
+-- Each node has its colour of the definition; so neighbours differ, each colour is from 0 to the span, and none is
+-- barred at its node.
 pub record AreColoured (net : Net) (nodes : ℕ → Node colour.Node Payload) : Type 0 where
   pub exact : (v : ℕ) → IsVertex net v → (nodes v).state.merged ≡ colours net v
   pub proper : (v w : ℕ) → IsEdge net v w → (nodes v).state.merged ≢ (nodes w).state.merged
-  pub within : (v : ℕ) → IsVertex net v → (nodes v).state.merged ≤ greatest_degree_of net
+  pub within : (v : ℕ) → IsVertex net v → (nodes v).state.merged ≤ span_of net
+  pub unbarred : (v : ℕ) → IsVertex net v → IsBarred net v (nodes v).state.merged → ⊥
 
 -- nodes that simulate the synchronous run, and have halted, have these colours, whatever ran them
 abbrev pub HaltedAreColoured : Net → Type 0

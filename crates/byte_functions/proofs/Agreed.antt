@@ -2,8 +2,8 @@
 use Rattle.std.proofs.Common.{◌≡◌, ◌++◌, ◌∷◌, [], inl, inr, ◌∙◌, ℕ, Some, None, Ok, Err, List, append-nil, arith, ap, codes, map, refl}
 use Rattle.std.proofs.Common.{subst, sym}
 use Rattle.dimacs_col.specs.Lines.{Line, lines_of}
-use Rattle.dimacs_col.specs.Reading.{IsGraph}
-use Rattle.dimacs_col.proofs.Unique.{graph-or_fault, one-edges, one-nodes}
+use Rattle.dimacs_col.specs.Reading.{Graph, IsGraph}
+use Rattle.dimacs_col.proofs.Unique.{graph-or_fault, one-graph}
 use Rattle.alpha_core.specs.interference.Making.{IsFaultOf}
 use Rattle.alpha_core.specs.interference.Net.{IsNetwork, Net, vertices}
 use Rattle.alpha_core.specs.interference.NetFault.{NetFault}
@@ -29,32 +29,30 @@ use Rattle.byte_functions.proofs.ProperPlans.{AreChannels, few-vertices, proper-
 
 -- what is known of both texts
 record IsAgreed (both : List ℕ) : Type 0 where
-  nodes : ℕ
-  edges : List (ℕ × ℕ)
+  graph : Graph
   rows : List Row
-  graph : IsGraph (network_lines (lines_of both)) nodes edges
-  network : IsNetwork (network_with nodes edges)
+  reads : IsGraph (network_lines (lines_of both)) graph
+  network : IsNetwork (network_with graph)
   read : reading_of (plan_lines (lines_of both)) ≡ Ok rows
-  proper : IsProper (network_with nodes edges) rows
+  proper : IsProper (network_with graph) rows
 
 agreed : (input answer : List ℕ) → IsPlainAnswer (input ++ 10 ∷ []) answer → IsAgreed ((input ++ 10 ∷ []) ++ answer)
-agreed input answer (nodes, edges, graph, (ok, is, plan)) =
-    let net = network_with nodes edges in
+agreed input answer (graph, reads, (ok, is, plan)) =
+    let net = network_with graph in
     let lines = lines_of input in
     let colours = map plan.colour (vertices net) in
     let ended : lines_of (input ++ 10 ∷ []) ≡ lines ++ [] ∷ [] = ap lines_of (sym (append-nil (input ++ 10 ∷ []))) ∙ lines-of-both input [] ∙
     ap (λ ls. lines ++ ls) last-line in
-    let front : IsGraph lines nodes edges = graph-front lines nodes edges (subst (λ ls. IsGraph ls nodes edges) ended graph) in
+    let front : IsGraph lines graph = graph-front lines graph (subst (λ ls. IsGraph ls graph) ended reads) in
     let plan_is : lines_of answer ≡ (codes "plan" ∷ []) ∷ lines_of (rows_from 1 colours) = ap lines_of plan.rows ∙ plan-lines colours in
     let both : lines_of ((input ++ 10 ∷ []) ++ answer) ≡ lines ++ (codes "plan" ∷ []) ∷ lines_of (rows_from 1 colours) = lines-of-both input answer ∙
     ap (λ ls. lines ++ ls) plan_is in
     let cut = before-text plan_word lines (codes "plan" ∷ []) (lines_of (rows_from 1 colours)) refl (good-before lines front.good) in
-    let channels : AreChannels net plan.colour = record { differ = plan.differ; within = plan.within } in
+    let channels : AreChannels net plan.colour = record { differ = plan.differ; within = plan.within; unbarred = plan.unbarred } in
     record {
-      nodes = nodes;
-      edges = edges;
+      graph = graph;
       rows = rows_of 1 colours;
-      graph = subst (λ ls. IsGraph ls nodes edges) (sym (ap network_lines both ∙ cut.0)) front;
+      reads = subst (λ ls. IsGraph ls graph) (sym (ap network_lines both ∙ cut.0)) front;
       network = ok;
       read = ap reading_of (ap plan_lines both ∙ cut.1 ∙ sym (plan-lines colours)) ∙
           written-read colours (few-vertices net plan.colour ok) (small-colours net plan.colour ok channels);
@@ -64,7 +62,7 @@ agreed input answer (nodes, edges, graph, (ok, is, plan)) =
 pub agreed-proper : (input answer : List ℕ) → IsPlainAnswer (input ++ 10 ∷ []) answer → (greatest : ℕ) ×
     IsCheckAnswer ((input ++ 10 ∷ []) ++ answer) (verdict_text greatest)
 agreed-proper input answer is = let a = agreed input answer is in
-    (greatest_channel a.rows, (a.nodes, a.edges, a.graph, (a.network, (a.rows, (a.read, a.proper), refl))))
+    (greatest_channel a.rows, (a.graph, a.reads, (a.network, (a.rows, (a.read, a.proper), refl))))
 
 -- ---- no fault
 network-fault : (net : Net) (fault : NetFault) → IsNetwork net → IsFaultOf net fault → fault_status (plan.Net fault) ≡ 4
@@ -81,6 +79,7 @@ reading-fault lines rows (check.Stranger v) read is = absurd is
 reading-fault lines rows (check.Twice v) read is = absurd is
 reading-fault lines rows (check.Clash v w) read is = absurd is
 reading-fault lines rows (check.TooHigh v) read is = absurd is
+reading-fault lines rows (check.Barred v) read is = absurd is
 
 no-fault : (net : Net) (rows : List Row) (fault : CheckFault) → IsProper net rows → fault_of net rows ≡ Some fault → ⊥
 no-fault net rows fault proper is = let wrong : None ≡ Some fault = sym (fault-from net rows proper) ∙ is in cc
@@ -93,6 +92,7 @@ plan-fault net rows (check.Stranger v) proper is = absurd (no-fault net rows (ch
 plan-fault net rows (check.Twice v) proper is = absurd (no-fault net rows (check.Twice v) proper is)
 plan-fault net rows (check.Clash v w) proper is = absurd (no-fault net rows (check.Clash v w) proper is)
 plan-fault net rows (check.TooHigh v) proper is = absurd (no-fault net rows (check.TooHigh v) proper is)
+plan-fault net rows (check.Barred v) proper is = absurd (no-fault net rows (check.Barred v) proper is)
 
 text-fault : (net : Net) (lines : List Line) (rows : List Row) (fault : CheckFault) → reading_of lines ≡ Ok rows → IsProper net rows →
     IsFaultOfPlanText net lines fault → fault_status (plan.Check fault) ≡ 4
@@ -103,24 +103,22 @@ text-fault net lines rows fault read proper (inr (others, also, is)) =
     plan-fault net rows fault proper (subst (λ rs. IsFaultOfPlan net rs fault) (sym same) is)
 
 -- two readings of lines are one
-same-net : (lines : List Line) (m n : ℕ) (edges others : List (ℕ × ℕ)) → IsGraph lines m edges → IsGraph lines n others →
-    network_with n others ≡ network_with m edges
-same-net lines m n edges others is also = ap (λ k. network_with k others) (sym (one-nodes lines m n edges others is also)) ∙
-    ap (network_with m) (sym (one-edges lines m n edges others is also))
+same-net : (lines : List Line) (graph other : Graph) → IsGraph lines graph → IsGraph lines other → network_with other ≡ network_with graph
+same-net lines graph other is also = ap network_with (sym (one-graph lines graph other is also))
 
 -- and so a text has one plan
 pub one-plan : (input one other : List ℕ) → IsPlainAnswer input one → IsPlainAnswer input other → other ≡ one
-one-plan input one other (m, edges, graph, (ok, is, plan)) (n, others, also, (ok', is', plan')) =
-    is' ∙ ap colours_text (same-net (lines_of input) m n edges others graph also) ∙ sym is
+one-plan input one other (graph, reads, (ok, is, plan)) (more, also, (ok', is', plan')) =
+    is' ∙ ap colours_text (same-net (lines_of input) graph more reads also) ∙ sym is
 
 agreed-fault : (both : List ℕ) (fault : PlanFault) → IsAgreed both → IsFaultOfCheck both fault → fault_status fault ≡ 4
-agreed-fault both (plan.Col fault) a is = ap (λ f. fault_status (plan.Col f)) (graph-or_fault (network_lines (lines_of both)) a.nodes a.edges fault a.graph is)
-agreed-fault both (plan.Net fault) a (n, others, graph, is) =
-    network-fault (network_with a.nodes a.edges) fault a.network
-    (subst (λ net. IsFaultOf net fault) (same-net (network_lines (lines_of both)) a.nodes n a.edges others a.graph graph) is)
-agreed-fault both (plan.Check fault) a (n, others, graph, (ok, is)) =
-    text-fault (network_with a.nodes a.edges) (plan_lines (lines_of both)) a.rows fault a.read a.proper
-    (subst (λ net. IsFaultOfPlanText net (plan_lines (lines_of both)) fault) (same-net (network_lines (lines_of both)) a.nodes n a.edges others a.graph graph)
+agreed-fault both (plan.Col fault) a is = ap (λ f. fault_status (plan.Col f)) (graph-or_fault (network_lines (lines_of both)) a.graph fault a.reads is)
+agreed-fault both (plan.Net fault) a (other, reads, is) =
+    network-fault (network_with a.graph) fault a.network
+    (subst (λ net. IsFaultOf net fault) (same-net (network_lines (lines_of both)) a.graph other a.reads reads) is)
+agreed-fault both (plan.Check fault) a (other, reads, (ok, is)) =
+    text-fault (network_with a.graph) (plan_lines (lines_of both)) a.rows fault a.read a.proper
+    (subst (λ net. IsFaultOfPlanText net (plan_lines (lines_of both)) fault) (same-net (network_lines (lines_of both)) a.graph other a.reads reads)
     is)
 agreed-fault both (plan.Pool fault) a is = absurd is
 agreed-fault both (plan.Event fault) a is = absurd is

@@ -22,7 +22,7 @@ pub record AreParts (input front behind : List ℕ) : Type 0 where
 pub fault-text : (input network : List ℕ) (fault : PlanFault) → AreNetworkLines (lines_of input) (lines_of network) → IsFaultOfText network fault →
     IsFaultOfCheck input fault
 fault-text input network (plan.Col fault) are is = fault-of plan_word (lines_of input) (lines_of network) fault are is
-fault-text input network (plan.Net fault) are (n, es, graph, is) = (n, es, graph-of plan_word (lines_of input) (lines_of network) n es are graph, is)
+fault-text input network (plan.Net fault) are (graph, reads, is) = (graph, graph-of plan_word (lines_of input) (lines_of network) graph are reads, is)
 fault-text input network (plan.Check fault) are is = absurd is
 fault-text input network (plan.Pool fault) are is = absurd is
 fault-text input network (plan.Event fault) are is = absurd is
@@ -40,32 +40,30 @@ same-reading lines others (check.Stranger v) same is = absurd is
 same-reading lines others (check.Twice v) same is = absurd is
 same-reading lines others (check.Clash v w) same is = absurd is
 same-reading lines others (check.TooHigh v) same is = absurd is
+same-reading lines others (check.Barred v) same is = absurd is
 
 pub fault-reading : (input network behind : List ℕ) (net : Net) (fault : CheckFault) → AreParts input network behind →
     ReadsAs network (λ read. IsNetwork read × (net ≡ read)) → IsFaultOfReading (lines_of behind) fault → IsFaultOfCheck input (plan.Check fault)
-fault-reading input network behind net fault are (n, es, graph, (ok, same)) is = (
-  n,
-  es,
-  graph-of plan_word (lines_of input) (lines_of network) n es are.network graph,
+fault-reading input network behind net fault are (graph, reads, (ok, same)) is = (
+  graph,
+  graph-of plan_word (lines_of input) (lines_of network) graph are.network reads,
   (ok, inl (same-reading (lines_of behind) (plan_lines (lines_of input)) fault are.plan is)),
 )
 
 pub fault-rows : (input network behind : List ℕ) (net : Net) (rows : List Row) (fault : CheckFault) → AreParts input network behind →
     ReadsAs network (λ read. IsNetwork read × (net ≡ read)) → reading_of (lines_of behind) ≡ Ok rows → IsFaultOfPlan net rows fault →
     IsFaultOfCheck input (plan.Check fault)
-fault-rows input network behind net rows fault are (n, es, graph, (ok, same)) read is = (
-  n,
-  es,
-  graph-of plan_word (lines_of input) (lines_of network) n es are.network graph,
+fault-rows input network behind net rows fault are (graph, reads, (ok, same)) read is = (
+  graph,
+  graph-of plan_word (lines_of input) (lines_of network) graph are.network reads,
   (ok, inr (rows, sym are.plan ∙ read, subst (λ known. IsFaultOfPlan known rows fault) same is)),
 )
 
 pub proper-rows : (input network behind text : List ℕ) (net : Net) (rows : List Row) → AreParts input network behind →
     ReadsAs network (λ read. IsNetwork read × (net ≡ read)) → reading_of (lines_of behind) ≡ Ok rows → IsProper net rows →
     text ≡ verdict_text (greatest_channel rows) → IsCheckAnswer input text
-proper-rows input network behind text net rows are (n, es, graph, (ok, same)) read is told = (
-  n,
-  es,
-  graph-of plan_word (lines_of input) (lines_of network) n es are.network graph,
+proper-rows input network behind text net rows are (graph, reads, (ok, same)) read is told = (
+  graph,
+  graph-of plan_word (lines_of input) (lines_of network) graph are.network reads,
   (ok, (rows, (sym are.plan ∙ read, subst (λ known. IsProper known rows) same is), told)),
 )

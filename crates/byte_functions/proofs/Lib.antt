@@ -1,5 +1,6 @@
 mod Ends
 pub mod Numbering
+mod GivenIds
 pub mod Following
 pub mod ProperPlans
 pub mod Agreed

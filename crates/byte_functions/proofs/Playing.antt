@@ -1,7 +1,7 @@
 -- From what is known of a network text and of the events behind it to what `events` may answer.
 use Rattle.std.proofs.Common.{◌≡◌, inl, inr, ℕ, Ok, List, subst}
 use Rattle.dimacs_col.specs.Lines.{Line, lines_of}
-use Rattle.dimacs_col.specs.Reading.{IsFault, IsGraph}
+use Rattle.dimacs_col.specs.Reading.{Graph, IsFault, IsGraph}
 use Rattle.dimacs_col.specs.declared.fault.ColFault.{ColFault}
 use Rattle.alpha_core.specs.interference.Net.{IsNetwork, Net}
 use Rattle.net_core.specs.Step.{run}
@@ -25,7 +25,7 @@ Reads network net = ReadsAs network (λ read. IsNetwork read × (net ≡ read))
 pub fault-network : (input network : List ℕ) (fault : PlanFault) → AreNetworkLines (lines_of input) (lines_of network) → IsFaultOfText network fault →
     IsFaultOfEvents input fault
 fault-network input network (plan.Col fault) are is = fault-of event_words (lines_of input) (lines_of network) fault are is
-fault-network input network (plan.Net fault) are (n, es, graph, is) = (n, es, graph-of event_words (lines_of input) (lines_of network) n es are graph, is)
+fault-network input network (plan.Net fault) are (graph, reads, is) = (graph, graph-of event_words (lines_of input) (lines_of network) graph are reads, is)
 fault-network input network (plan.Check fault) are is = absurd is
 fault-network input network (plan.Pool fault) are is = absurd is
 fault-network input network (plan.Event fault) are is = absurd is
@@ -35,24 +35,22 @@ fault-network input network plan.Memory are is = tt
 
 pub fault-reading : (input network : List ℕ) (net : Net) (fault : EventFault) → AreNetworkLines (lines_of input) (lines_of network) →
     Reads network net → IsFaultOfReading (lines_of input) fault → IsFaultOfEvents input (plan.Event fault)
-fault-reading input network net fault are (n, es, graph, (ok, same)) is =
-    (n, es, graph-of event_words (lines_of input) (lines_of network) n es are graph, (ok, inl is))
+fault-reading input network net fault are (graph, reads, (ok, same)) is =
+    (graph, graph-of event_words (lines_of input) (lines_of network) graph are reads, (ok, inl is))
 
 pub fault-run : (input network : List ℕ) (net : Net) (script : Script) (fault : EventFault) → AreNetworkLines (lines_of input) (lines_of network) →
     Reads network net → script_of (lines_of input) ≡ Ok script → IsFaultOfRun colouring net script fault → IsFaultOfEvents input (plan.Event fault)
-fault-run input network net script fault are (n, es, graph, (ok, same)) read is = (
-  n,
-  es,
-  graph-of event_words (lines_of input) (lines_of network) n es are graph,
+fault-run input network net script fault are (graph, reads, (ok, same)) read is = (
+  graph,
+  graph-of event_words (lines_of input) (lines_of network) graph are reads,
   (ok, inr (script, read, subst (λ known. IsFaultOfRun colouring known script fault) same is)),
 )
 
 pub reached : (input network text : List ℕ) (net : Net) (script : Script) (state : ColourState) → AreNetworkLines (lines_of input) (lines_of network) →
     Reads network net → script_of (lines_of input) ≡ Ok script → run colouring net (events_in script) ≡ Ok state → text ≡ state_text net state →
     IsEventsAnswer input text
-reached input network text net script state are (n, es, graph, (ok, same)) read ran is = (
-  n,
-  es,
-  graph-of event_words (lines_of input) (lines_of network) n es are graph,
+reached input network text net script state are (graph, reads, (ok, same)) read ran is = (
+  graph,
+  graph-of event_words (lines_of input) (lines_of network) graph are reads,
   (ok, subst (λ known. IsStateReached known (lines_of input) text) same (script, state, read, ran, is)),
 )

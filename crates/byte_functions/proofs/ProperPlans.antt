@@ -6,8 +6,8 @@ use Rattle.std.proofs.lemmas.List.{length-map}
 use Rattle.std.proofs.lemmas.List.Elements.{All-map}
 use Rattle.std.proofs.lemmas.List.FromFn.{get_or-map-range_with_len, length-map-range_with_len, length-range_with_len}
 use Rattle.std.specs.List.{Contains, range_with_len}
-use Rattle.alpha_core.specs.interference.Net.{IsEdge, IsNetwork, IsVertex, Net, count_of, greatest_degree_of, vertices}
-use Rattle.alpha_core.proofs.interference.Neighbours.{greatest_degree-within}
+use Rattle.alpha_core.specs.interference.Net.{IsBarred, IsEdge, IsNetwork, IsVertex, Net, count_of, span_of, vertices}
+use Rattle.alpha_core.proofs.interference.Neighbours.{greatest_bars-within, greatest_degree-within}
 use Rattle.channel_plan.specs.Checked.{IsProper}
 use Rattle.channel_plan.specs.Reading.{Row, rows_of}
 use Rattle.channel_plan.proofs.Counts.{counted, row_count}
@@ -48,13 +48,18 @@ contains-row net colour row (k, below, is) =
 -- what a channel plan promises of its colours
 pub record AreChannels (net : Net) (colour : ℕ → ℕ) : Type 0 where
   pub differ : (v w : ℕ) → IsEdge net v w → colour v ≢ colour w
-  pub within : (v : ℕ) → IsVertex net v → colour v ≤ greatest_degree_of net
+  pub within : (v : ℕ) → IsVertex net v → colour v ≤ span_of net
+  pub unbarred : (v : ℕ) → IsVertex net v → IsBarred net v (colour v) → ⊥
 
 pub proper-rows : (net : Net) (colour : ℕ → ℕ) → IsNetwork net → AreChannels net colour → IsProper net (rows_of 1 (map colour (vertices net)))
 proper-rows net colour ok is = subst (IsProper net) (sym (rows-map colour 1 (count_of net))) (record {
   one_row = λ v h. sym (counted (map (row_at colour) (vertices net)) v) ∙ one-among colour 1 (count_of net) v h.0 (omega (arith, h.1));
   no_stranger = λ row h. (contains-row net colour row h).0;
   within = λ row h. let r = contains-row net colour row h in omega (arith, r.1, is.within row.0 r.0);
+  unbarred = λ v c h barred.
+      let r = contains-row net colour (v, c + 1) h in
+      let same : c ≡ colour v = omega (arith, r.1) in
+      is.unbarred v r.0 (subst (IsBarred net v) same barred);
   differ = λ v w channel edge hv hw.
       let left = contains-row net colour (v, channel) hv in
       let right = contains-row net colour (w, channel) hw in
@@ -68,4 +73,4 @@ few-vertices net colour ok = omega (arith, length-map (vertices net) colour, len
 pub small-colours : (net : Net) (colour : ℕ → ℕ) → IsNetwork net → AreChannels net colour → All (λ c. c + 1 < 2 ^ 32) (map colour (vertices net))
 small-colours net colour ok is =
     All-map (λ c. c + 1 < 2 ^ 32) colour (vertices net) (λ k d below.
-    omega (arith, is.within (get_or (vertices net) k d) (vertices-are net k d below), greatest_degree-within net ok))
+    omega (arith, is.within (get_or (vertices net) k d) (vertices-are net k d below), greatest_degree-within net ok, greatest_bars-within net ok))

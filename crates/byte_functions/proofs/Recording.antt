@@ -11,6 +11,6 @@ use Rattle.byte_functions.specs.Transcripts.{IsTranscriptAnswer, IsTranscriptOf,
 pub recorded : (input text : List ℕ) (net : Net) (capacity : ℕ) (outcome : Outcome colour.Node Payload)
     → ReadsAs input (λ read. IsNetwork read × (net ≡ read)) → IsOutcome colouring net capacity true outcome → is_whole outcome ≡ true
     → text ≡ entries_text (count_of net) outcome.nodes → IsTranscriptAnswer input text
-recorded input text net capacity outcome (nodes, edges, graph, (ok, e)) is whole told =
+recorded input text net capacity outcome (graph, reads, (ok, e)) is whole told =
     let of_net : IsTranscriptOf net text = record { capacity = capacity; outcome = outcome; is_outcome = is; whole = whole; is_text = told } in
-    (nodes, edges, graph, (ok, subst (λ n. IsTranscriptOf n text) e of_net))
+    (graph, reads, (ok, subst (λ n. IsTranscriptOf n text) e of_net))

@@ -5,7 +5,7 @@ use Rattle.std.proofs.lemmas.Bool.{cases_lt}
 use Rattle.std.proofs.lemmas.List.{get_or-map, length-map, same_lists}
 use Rattle.std.proofs.lemmas.List.FromFn.{get_or-map-range_with_len, length-map-range_with_len, length-range_with_len}
 use Rattle.std.proofs.lemmas.Simd.{map-map}
-use Rattle.alpha_core.specs.interference.Net.{Net, IsNetwork, IsEdge, IsVertex, count_of, greatest_degree_of, vertices}
+use Rattle.alpha_core.specs.interference.Net.{Net, IsBarred, IsNetwork, IsEdge, IsVertex, count_of, span_of, vertices}
 use Rattle.node_pool.specs.run_options.Ranges.{AreInRange}
 use Rattle.node_pool.specs.run_options.Options.{Options}
 use Rattle.node_pool.below.run_options.specs.declared.TheConstants.{MAX_CAPACITY, MAX_WORKERS}
@@ -62,8 +62,8 @@ without_transcript o transcript is =
 -- a network was read, and the fault of its run is that of the input
 pub workers-fault : (input : List ℕ) (net : Net) (o : Options) (fault : PlanFault) → ReadsAs input (λ read. IsNetwork read × (net ≡ read))
     → IsFaultOfRun o fault → IsFaultOfWorkers o input fault
-workers-fault input net o (plan.Pool fault) (nodes, edges, graph, (ok, e)) is = ((nodes, edges, graph, ok), is)
-workers-fault input net o plan.Stopped (nodes, edges, graph, (ok, e)) is = ((nodes, edges, graph, ok), is)
+workers-fault input net o (plan.Pool fault) (graph, reads, (ok, e)) is = ((graph, reads, ok), is)
+workers-fault input net o plan.Stopped (graph, reads, (ok, e)) is = ((graph, reads, ok), is)
 workers-fault input net o (plan.Col fault) read is = absurd is
 workers-fault input net o (plan.Net fault) read is = absurd is
 workers-fault input net o (plan.Check fault) read is = absurd is
@@ -73,7 +73,7 @@ workers-fault input net o plan.Memory read is = absurd is
 
 -- ---- the plan
 pub is-network : (input : List ℕ) (net : Net) → ReadsAs input (λ read. IsNetwork read × (net ≡ read)) → IsNetwork net
-is-network input net (nodes, edges, graph, (ok, e)) = subst (λ n. IsNetwork n) (sym e) ok
+is-network input net (graph, reads, (ok, e)) = subst (λ n. IsNetwork n) (sym e) ok
 
 abbrev Left : Type 0
 Left = Outcome colour.Node Payload
@@ -102,13 +102,26 @@ colours-are net outcome once exact =
     ∙ exact (suc k) (omega arith, omega (arith, below))
     ∙ sym (get_or-map-range_with_len (colours net) 1 n k (suc k) d below (omega arith)))
 
+-- the text of the colours is a channel plan
+pub plain : (input text : List ℕ) (net : Net) → ReadsAs input (λ read. IsNetwork read × (net ≡ read)) → text ≡ colours_text net
+    → ((v w : ℕ) → IsEdge net v w → colours net v ≢ colours net w) → ((v : ℕ) → colours net v ≤ span_of net)
+    → ((v : ℕ) → IsBarred net v (colours net v) → ⊥) → IsPlainAnswer input text
+plain input text net (graph, reads, (ok, e)) is proper within unbarred =
+    let plan : IsChannelPlan net text = record {
+      colour = colours net;
+      rows = is;
+      differ = proper;
+      within = λ v vertex. within v;
+      unbarred = λ v vertex. unbarred v;
+    } in
+    let there = subst (λ n. (text ≡ colours_text n) × IsChannelPlan n text) e (is, plan) in
+    (graph, reads, (ok, there.0, there.1))
+
 pub planned : (input text : List ℕ) (net : Net) (outcome : Left) → ReadsAs input (λ read. IsNetwork read × (net ≡ read))
     → text ≡ plan_of (map merged outcome.nodes) → map (λ g. g.vertex) outcome.nodes ≡ vertices net
     → ((v : ℕ) → IsVertex net v → (node_in colouring net outcome v).state.merged ≡ colours net v)
-    → ((v w : ℕ) → IsEdge net v w → colours net v ≢ colours net w) → ((v : ℕ) → colours net v ≤ greatest_degree_of net)
+    → ((v w : ℕ) → IsEdge net v w → colours net v ≢ colours net w) → ((v : ℕ) → colours net v ≤ span_of net)
+    → ((v : ℕ) → IsBarred net v (colours net v) → ⊥)
     → IsPlainAnswer input text
-planned input text net outcome (nodes, edges, graph, (ok, e)) told once exact proper within =
-    let is : text ≡ colours_text net = told ∙ ap plan_of (colours-are net outcome once exact) in
-    let plan : IsChannelPlan net text = record { colour = colours net; rows = is; differ = proper; within = λ v vertex. within v } in
-    let there = subst (λ n. (text ≡ colours_text n) × IsChannelPlan n text) e (is, plan) in
-    (nodes, edges, graph, (ok, there.0, there.1))
+planned input text net outcome read told once exact proper within unbarred =
+    plain input text net read (told ∙ ap plan_of (colours-are net outcome once exact)) proper within unbarred

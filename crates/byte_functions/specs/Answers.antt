@@ -1,8 +1,8 @@
 -- The answers to the bytes of a text.
-use Rattle.std.specs.Prelude.{◌≡◌, ℕ, List}
+use Rattle.std.specs.Prelude.{◌≡◌, ℕ, List, map, unwrap_or}
 use Rattle.std.specs.List.{range_with_len}
 use Rattle.dimacs_col.specs.Lines.{Line, lines_of}
-use Rattle.dimacs_col.specs.Reading.{IsFault, IsGraph}
+use Rattle.dimacs_col.specs.Reading.{Graph, IsFault, IsGraph, id_in}
 use Rattle.alpha_core.specs.interference.Net.{Net, IsNetwork}
 use Rattle.alpha_core.specs.interference.Making.{IsFaultOf, network_of}
 use Rattle.byte_functions.specs.Plans.{IsChannelPlan}
@@ -10,14 +10,17 @@ use Rattle.byte_functions.specs.Texts.{colours_text, forests_text}
 use Rattle.byte_functions.specs.declared.fault.PlanFault.{PlanFault}
 use Rattle.byte_functions.specs.declared.fault.PlanFault.TheVariants as plan
 
--- the network of a graph, in which vertex v has the identifier v
-abbrev pub network_with : ℕ → List (ℕ × ℕ) → Net
-network_with nodes edges = network_of (range_with_len 1 nodes) edges
+-- the identifier of each vertex: the one that it is given, or its own number
+abbrev pub identifiers_with : List (ℕ × ℕ) → ℕ → List ℕ
+identifiers_with ids nodes = map (λ v. unwrap_or (id_in ids v) v) (range_with_len 1 nodes)
+
+-- the network of a graph
+abbrev pub network_with : Graph → Net
+network_with graph = network_of (identifiers_with graph.ids graph.nodes) graph.edges graph.bars
 
 -- the lines are those of a graph, of whose network something holds
 abbrev pub LinesReadAs : List Line → (Net → Type 0) → Type 0
-LinesReadAs lines holds = (nodes : ℕ) × (edges : List (ℕ × ℕ))
-    × IsGraph lines nodes edges × holds (network_with nodes edges)
+LinesReadAs lines holds = (graph : Graph) × IsGraph lines graph × holds (network_with graph)
 
 -- the same of the lines of a text
 abbrev pub ReadsAs : List ℕ → (Net → Type 0) → Type 0

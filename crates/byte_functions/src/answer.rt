@@ -2,9 +2,12 @@
 
 ghost use Rattle.std.specs.Prelude.{◌≡◌, IfOk, IfErr};
 ghost use Rattle.std.specs.List.{range_with_len};
-ghost use Rattle.alpha_core.specs.interference.Making.{EdgesFit, IsFaultOf};
+ghost use Rattle.dimacs_col.specs.Pairs.{AreVertices};
+ghost use Rattle.dimacs_col.specs.Reading.{graph_of};
+ghost use Rattle.alpha_core.specs.interference.Making.{BarsFit, EdgesFit, IsFaultOf};
 ghost use Rattle.alpha_core.specs.interference.Net.{IsNetwork};
-ghost use Rattle.byte_functions.specs.Answers.{IsFaultOfText, IsForestsAnswer, IsPlainAnswer, ReadsAs, network_with};
+ghost use Rattle.byte_functions.specs.Answers.{IsFaultOfText, IsForestsAnswer, IsPlainAnswer, ReadsAs};
+ghost use Rattle.byte_functions.specs.Answers.{identifiers_with, network_with};
 
 use crate::fault::PlanFault;
 use crate::forests_text::text_of_forests;
@@ -14,28 +17,49 @@ use colour_laws::laws::colours_are_proper;
 use dimacs_col::{ColFile, read};
 use std::alloc::{AllocError, Global};
 
-// The identifiers 1 to n.
+// The numbers 1 to n.
 #[tactic(auto, using(crate::proofs::Numbering::one_more))]
-fn identifiers(alloc: Global, nodes: u32) -> Result<Vec<u64>, AllocError>
+fn numbers(alloc: Global, nodes: u32) -> Result<Vec<u128>, AllocError>
     ensures { IfOk result (λ ids. ids.items ≡ range_with_len 1 nodes) }
 {
     let mut ids = Vec::new(alloc);
     for v in 0..nodes {
-        ids.push(u64::from(v) + 1)?;
+        ids.push(u128::from(v) + 1)?;
     }
     Ok(ids)
 }
 
-// The network of a graph, in which each vertex is its own identifier.
-fn network_of_graph(alloc: Global, graph: &ColFile) -> Result<Network, NetFault>
-    requires { EdgesFit graph.now.nodes graph.now.edges.items }
-    ensures ok { IfOk result (λ net. (net ≡ network_with graph.now.nodes graph.now.edges.items) × IsNetwork net) }
-    ensures fault { IfErr result (IsFaultOf (network_with graph.now.nodes graph.now.edges.items)) }
+// The identifier of each vertex: the first one given, and so the one that is written last, or its number.
+fn identifiers(alloc: Global, nodes: u32, given: &[(u32, u128)]) -> Result<Vec<u128>, AllocError>
+    requires { AreVertices nodes given.now }
+    ensures { IfOk result (λ ids. ids.items ≡ identifiers_with given.now nodes) }
 {
-    let Ok(ids) = identifiers(alloc, graph.nodes) else {
+    let mut ids = numbers(alloc, nodes)?;
+    for written in 0..given.len() {
+        let (v, id) = given[given.len() - 1 - written];
+        ids[v as usize - 1] = id;
+    }
+    Ok(ids)
+}
+
+// The network of a graph.
+fn network_of_graph(alloc: Global, graph: &ColFile) -> Result<Network, NetFault>
+    requires edges { EdgesFit graph.now.nodes graph.now.edges.items }
+    requires vertices { AreVertices graph.now.nodes graph.now.ids.items }
+    requires bars { BarsFit graph.now.nodes graph.now.bars.items }
+    ensures ok { IfOk result (λ net. (net ≡ network_with (graph_of graph.now)) × IsNetwork net) }
+    ensures fault { IfErr result (IsFaultOf (network_with (graph_of graph.now))) }
+{
+    let Ok(ids) = identifiers(alloc, graph.nodes, graph.ids.as_slice()) else {
         return Err(NetFault::Memory);
     };
-    let network = Network::new(alloc, graph.nodes, ids.as_slice(), graph.edges.as_slice())?;
+    let network = Network::new(
+        alloc,
+        graph.nodes,
+        ids.as_slice(),
+        graph.edges.as_slice(),
+        graph.bars.as_slice(),
+    )?;
     network.is_network();
     Ok(network)
 }

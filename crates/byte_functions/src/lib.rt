@@ -11,7 +11,7 @@
 //! ```
 //!
 //! A text has at most 20,000 vertices and 400,000 edges, and a vertex at most 1,023 neighbours; more is
-//! a fault. Vertex v has the identifier v.
+//! a fault. Vertex v has the identifier of its line `i`, and without one v.
 #![tactic(auto)]
 
 mod answer;

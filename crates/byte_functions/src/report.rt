@@ -135,6 +135,11 @@ fn report_of_reading(alloc: Global, name: &str, fault: ColFault) -> Result<Fault
         ColFault::SelfLoop(n) => refusal_at_line(alloc, name, "F6", n),
         ColFault::TooLarge(n) => refusal_at_line(alloc, name, "F7", n),
         ColFault::UnknownLine(n) => refusal_at_line(alloc, name, "F8", n),
+        ColFault::EarlyLine(n) => refusal_at_line(alloc, name, "F10", n),
+        ColFault::NumberRange(n) => refusal_at_line(alloc, name, "F11", n),
+        ColFault::IdTwice(n) => refusal_at_line(alloc, name, "F12", n),
+        ColFault::ChannelRange(n) => refusal_at_line(alloc, name, "F13", n),
+        ColFault::TooManyBars(n) => refusal_at_line(alloc, name, "F14", n),
         ColFault::Memory => memory_report(alloc, name),
     }
 }
@@ -171,6 +176,7 @@ fn report_of_check(alloc: Global, name: &str, fault: CheckFault) -> Result<Fault
         CheckFault::Twice(v) => refusal_at_vertex(alloc, name, "C3", v),
         CheckFault::Clash(v, w) => refusal_at_vertices(alloc, name, "C4", v, w),
         CheckFault::TooHigh(v) => refusal_at_vertex(alloc, name, "C5", v),
+        CheckFault::Barred(v) => refusal_at_vertex(alloc, name, "C8", v),
         CheckFault::Syntax(n) => refusal_at_line(alloc, name, "C6", n),
         CheckFault::Memory => memory_report(alloc, name),
     }

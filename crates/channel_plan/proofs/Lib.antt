@@ -1,5 +1,6 @@
 mod Rows
 pub mod Numbers
+pub mod Barred
 pub mod Finding
 pub mod Tables
 pub mod Counts

@@ -14,10 +14,11 @@ use Rattle.std.specs.Option.{option_map, option_or}
 use Rattle.interference.specs.Net.{IsNetwork, IsVertex, Net, count_of, neighbours, vertices}
 use Rattle.interference.proofs.Neighbours.{both-ways, neighbour-is_vertex, port-of}
 use Rattle.channel_plan.specs.Checked.{Channels, IsProper, channel_of, clash_among, clash_at, clashes, fault_of}
-use Rattle.channel_plan.specs.Checked.{first_missing, is_vertex, most_channel, row_fault, rows_fault, same_channel}
+use Rattle.channel_plan.specs.Checked.{first_missing, is_barred, is_vertex, most_channel, row_fault, rows_fault, same_channel}
 use Rattle.channel_plan.specs.Reading.{Row}
 use Rattle.channel_plan.specs.declared.plan.CheckFault.{CheckFault}
 use Rattle.channel_plan.specs.declared.plan.CheckFault.TheVariants.{Clash, Missing}
+use Rattle.channel_plan.proofs.Barred.{barred-channel, unbarred-channel}
 use Rattle.channel_plan.proofs.Counts.{channel-contains, contains-channel, count-append, count-some, counted}
 use Rattle.channel_plan.proofs.Counts.{none-count, row_count, some-count}
 use Rattle.channel_plan.proofs.Tables.{channel-push, none-from, or-nothing, row-good}
@@ -67,18 +68,21 @@ vertices-are net = λ k d below.
     (omega (arith, is), omega (arith, is, size, below))
 
 -- ---- from no fault
-three : (a b d : Bool) (x y z : CheckFault) → (if not a then Some x else (if b then Some y else (if d then Some z else None))) ≡ None → (a ≡ true) ×
-    (b ≡ false) × (d ≡ false)
-three true false false x y z e = (refl, refl, refl)
-three true false true x y z e = absurd cc
-three true true d x y z e = absurd cc
-three false b d x y z e = absurd cc
+four : (a b d g : Bool) (x y z u : CheckFault) →
+    (if not a then Some x else (if b then Some y else (if d then Some z else (if g then Some u else None)))) ≡ None →
+    (a ≡ true) × (b ≡ false) × (d ≡ false) × (g ≡ false)
+four true false false false x y z u e = (refl, refl, refl, refl)
+four true false false true x y z u e = absurd cc
+four true false true g x y z u e = absurd cc
+four true true d g x y z u e = absurd cc
+four false b d g x y z u e = absurd cc
 
 -- a row that is good after some rows
 record IsGood (net : Net) (before : List Row) (row : Row) : Type 0 where
   vertex : IsVertex net row.0
   free : channel_of before row.0 ≡ None
   within : row.1 ≤ most_channel net
+  unbarred : is_barred net row.0 row.1 ≡ false
 
 vertex-from : (net : Net) (v : ℕ) → is_vertex net v ≡ true → IsVertex net v
 vertex-from net v e = (grind (arith, nat_tests), grind (arith, nat_tests))
@@ -86,10 +90,11 @@ vertex-from net v e = (grind (arith, nat_tests), grind (arith, nat_tests))
 row-none : (net : Net) (before : List Row) (row : Row) → row_fault net before row ≡ None → IsGood net before row
 unfolding row_fault
 row-none net before row e =
-    let p = three (is_vertex net row.0) (is_some (channel_of before row.0)) (nat_lt (most_channel net) row.1) _ _ _ e in record {
+    let p = four (is_vertex net row.0) (is_some (channel_of before row.0)) (nat_lt (most_channel net) row.1) (is_barred net row.0 row.1) _ _ _ _ e in record {
       vertex = vertex-from net row.0 p.0;
       free = none-from (channel_of before row.0) p.1;
       within = ltb-false (most_channel net) row.1 p.2;
+      unbarred = p.3;
     }
 
 rows-cons : (net : Net) (before : List Row) (row : Row) (rows : List Row) → rows_fault net before (row ∷ rows) ≡ None → IsGood net before row ×
@@ -98,10 +103,14 @@ unfolding rows_fault
 rows-cons net before row rows e = let both = or-none-both (row_fault net before row) (rows_fault net (before ++ row ∷ []) rows) e in
     (row-none net before row both.0, both.1)
 
-each-within : (net : Net) (before rows : List Row) → rows_fault net before rows ≡ None →
-    AllByRecursion (λ (row : Row). IsVertex net row.0 × (row.1 ≤ most_channel net)) rows
+-- what is right with a row, whatever rows are before it
+abbrev IsRight : Net → Row → Type 0
+IsRight net row = IsVertex net row.0 × (row.1 ≤ most_channel net) × (is_barred net row.0 row.1 ≡ false)
+
+each-within : (net : Net) (before rows : List Row) → rows_fault net before rows ≡ None → AllByRecursion (IsRight net) rows
 each-within net before [] e = tt
-each-within net before (row ∷ rows) e = let p = rows-cons net before row rows e in ((p.0.vertex, p.0.within), each-within net (before ++ row ∷ []) rows p.1)
+each-within net before (row ∷ rows) e = let p = rows-cons net before row rows e in
+    ((p.0.vertex, p.0.within, p.0.unbarred), each-within net (before ++ row ∷ []) rows p.1)
 
 or-some : (o : Option ℕ) (x : ℕ) → is_some (option_or o (Some x)) ≡ true
 or-some None x = refl
@@ -161,14 +170,18 @@ proper-from net rows is e =
     let none_missing = find-none (λ v. is_none (channel_of rows v)) (vertices net) (map-none Missing (first_missing net (channel_of rows)) second.0) in
     let none_clash : clash_among net (channel_of rows) (vertices net) ≡ None =
     map-none (λ (pair : ℕ × ℕ). Clash pair.0 pair.1) (clash_among net (channel_of rows) (vertices net)) second.1 in
-    let within = All-from_recursion (λ (row : Row). IsVertex net row.0 × (row.1 ≤ most_channel net)) rows (each-within net [] rows first.0) in
+    let right = All-from_recursion (IsRight net) rows (each-within net [] rows first.0) in
     let most : (v : ℕ) → row_count rows v ≤ 1 = λ v. (one-at-most net [] rows v first.0).1 in
     let known : (v channel : ℕ) → Contains rows (v, channel) → channel_of rows v ≡ Some channel = λ v channel h. channel-contains rows v channel h (most v) in
     record {
       one_row = λ v h. sym (counted rows v) ∙ one-from rows v (most v) (All-contains (λ u. is_none (channel_of rows u) ≡ false) (vertices net) v
           (All-from_recursion (λ u. is_none (channel_of rows u) ≡ false) (vertices net) none_missing) (vertex-in net v h));
-      no_stranger = λ row h. (All-contains (λ (r : Row). IsVertex net r.0 × (r.1 ≤ most_channel net)) rows row within h).0;
-      within = λ row h. (All-contains (λ (r : Row). IsVertex net r.0 × (r.1 ≤ most_channel net)) rows row within h).1;
+      no_stranger = λ row h. (All-contains (IsRight net) rows row right h).0;
+      within = λ row h. (All-contains (IsRight net) rows row right h).1;
+      unbarred = λ v colour h barred.
+          let free = (All-contains (IsRight net) rows (v, colour + 1) right h).2 in
+          let wrong : true ≡ false = sym (barred-channel net v colour barred) ∙ free in
+          absurd cc;
       differ = λ v w channel edge cv cw. elim (cases_order v w) [
         | inl same ↦ not-own net is v w edge.0 edge.1 same
         | inr other ↦ elim other [
@@ -180,6 +193,10 @@ proper-from net rows is e =
     }
 
 -- ---- from a proper plan
+not-barred : (net : Net) (rows : List Row) (row : Row) → IsProper net rows → Contains rows row → is_barred net row.0 row.1 ≡ false
+not-barred net rows row is here = unbarred-channel net row.0 row.1
+    (λ colour same barred. is.unbarred row.0 colour (subst (λ channel. Contains rows (row.0, channel)) same here) barred)
+
 rows-right : (net : Net) (before rows : List Row) → IsProper net (before ++ rows) → rows_fault net before rows ≡ None
 unfolding rows_fault
 rows-right net before [] is = refl
@@ -190,7 +207,7 @@ rows-right net before (row ∷ rows) is =
     counted (before ++ row ∷ rows) row.0 ∙ is.one_row row.0 vertex in
     let own : row_count (row ∷ rows) row.0 ≡ 1 + row_count rows row.0 = rw (same-number row.0) refl in
     let free = none-count before row.0 (omega (arith, one, own)) in
-    let good = row-good net before row vertex (ap is_some free) (is.within row here) in
+    let good = row-good net before row vertex (ap is_some free) (is.within row here) (not-barred net (before ++ row ∷ rows) row is here) in
     let left = rows-right net (before ++ row ∷ []) rows (subst (IsProper net) (sym (append_assoc before (row ∷ []) rows)) is) in
     rw (good, left) refl
 

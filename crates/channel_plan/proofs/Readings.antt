@@ -6,7 +6,7 @@ use Rattle.dimacs_col.specs.Lines.{Line}
 use Rattle.channel_plan.specs.Reader.{IsSyntaxFault}
 use Rattle.channel_plan.specs.Reading.{IsFaultOfReading, Row, is_header, known_after, read_at_end, read_from, row_of}
 use Rattle.channel_plan.specs.declared.plan.CheckFault.{CheckFault}
-use Rattle.channel_plan.specs.declared.plan.CheckFault.TheVariants.{Clash, Memory, Missing, Stranger, Syntax, TooHigh}
+use Rattle.channel_plan.specs.declared.plan.CheckFault.TheVariants.{Barred, Clash, Memory, Missing, Stranger, Syntax, TooHigh}
 use Rattle.channel_plan.specs.declared.plan.CheckFault.TheVariants.{Twice}
 
 -- ---- a line and its first field
@@ -69,6 +69,7 @@ fault-line lines n wrong (Stranger v) told is = absurd is
 fault-line lines n wrong (Twice v) told is = absurd is
 fault-line lines n wrong (Clash v w) told is = absurd is
 fault-line lines n wrong (TooHigh v) told is = absurd is
+fault-line lines n wrong (Barred v) told is = absurd is
 
 pub fault-end : {A : Type 0} (lines : List Line) (n : ℕ) (wrong : Type 0) (r : Result A CheckFault) → (wrong → read_from 1 None lines ≡ Err n) →
     IfErr r (IsSyntaxFault wrong n) → IfErr r (IsFaultOfReading lines)

@@ -11,7 +11,7 @@ use Rattle.channel_plan.specs.Checked.{clash_at, clashes, fault_of, first_clash,
 use Rattle.channel_plan.specs.Checked.{same_channel}
 use Rattle.channel_plan.specs.Reading.{Row}
 use Rattle.channel_plan.specs.declared.plan.CheckFault.{CheckFault}
-use Rattle.channel_plan.specs.declared.plan.CheckFault.TheVariants.{Clash, Memory, Missing, Stranger, Syntax, TooHigh}
+use Rattle.channel_plan.specs.declared.plan.CheckFault.TheVariants.{Barred, Clash, Memory, Missing, Stranger, Syntax, TooHigh}
 use Rattle.channel_plan.specs.declared.plan.CheckFault.TheVariants.{Twice}
 use Rattle.channel_plan.proofs.Proper.{vertices-are}
 
@@ -62,6 +62,7 @@ fault-row net rows (Stranger v) is = part-row net rows (Stranger v) is
 fault-row net rows (Twice v) is = part-row net rows (Twice v) is
 fault-row net rows (Clash v w) is = part-row net rows (Clash v w) is
 fault-row net rows (TooHigh v) is = part-row net rows (TooHigh v) is
+fault-row net rows (Barred v) is = part-row net rows (Barred v) is
 fault-row net rows (Syntax n) is = part-row net rows (Syntax n) is
 
 pub fault-missing : (net : Net) (rows : List Row) (v : ℕ) → rows_fault net [] rows ≡ None → first_missing net (channel_of rows) ≡ Some v →

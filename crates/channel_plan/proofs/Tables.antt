@@ -8,11 +8,11 @@ use Rattle.std.proofs.lemmas.List.{at_drop_all, at_drop_more, get_or-replicate, 
 use Rattle.std.proofs.lemmas.List.{length-replicate, length-set, take_more}
 use Rattle.std.specs.Option.{option_or}
 use Rattle.interference.specs.Net.{Net, IsVertex, count_of}
-use Rattle.channel_plan.specs.Checked.{IsFaultOfRow, IsTable, channel_of, is_vertex, looked, most_channel, row_fault}
+use Rattle.channel_plan.specs.Checked.{IsFaultOfRow, IsTable, channel_of, is_barred, is_vertex, looked, most_channel, row_fault}
 use Rattle.channel_plan.specs.Checked.{rows_fault}
 use Rattle.channel_plan.specs.Reading.{Row}
 use Rattle.channel_plan.specs.declared.plan.CheckFault.{CheckFault}
-use Rattle.channel_plan.specs.declared.plan.CheckFault.TheVariants.{Clash, Memory, Missing, Stranger, Syntax, TooHigh}
+use Rattle.channel_plan.specs.declared.plan.CheckFault.TheVariants.{Barred, Clash, Memory, Missing, Stranger, Syntax, TooHigh}
 use Rattle.channel_plan.specs.declared.plan.CheckFault.TheVariants.{Twice}
 
 channel-cons : (first row : Row) (rows : List Row) (w : ℕ) (b : Bool) → (first.0 == w) ≡ b →
@@ -46,9 +46,14 @@ unfolding row_fault
 row-high net before row h e high = rw (vertex-is net row.0 h, e, lt-ltb (most_channel net) row.1 high) refl
 
 pub row-good : (net : Net) (before : List Row) (row : Row) → IsVertex net row.0 → is_some (channel_of before row.0) ≡ false → row.1 ≤ most_channel net →
-    row_fault net before row ≡ None
+    is_barred net row.0 row.1 ≡ false → row_fault net before row ≡ None
 unfolding row_fault
-row-good net before row h e low = rw (vertex-is net row.0 h, e, le-ltb (most_channel net) row.1 low) refl
+row-good net before row h e low free = rw (vertex-is net row.0 h, e, le-ltb (most_channel net) row.1 low, free) refl
+
+pub row-barred : (net : Net) (before : List Row) (row : Row) → IsVertex net row.0 → is_some (channel_of before row.0) ≡ false → row.1 ≤ most_channel net →
+    is_barred net row.0 row.1 ≡ true → row_fault net before row ≡ Some (Barred row.0)
+unfolding row_fault
+row-barred net before row h e low barred = rw (vertex-is net row.0 h, e, le-ltb (most_channel net) row.1 low, barred) refl
 
 -- ---- the table
 pub table-none : (net : Net) (table : List (Option ℕ)) → table ≡ replicate (count_of net) None → IsTable net [] table
@@ -109,4 +114,5 @@ fault-here wrong left all (Stranger v) is e = e ∙ ap (λ f. option_or f left) 
 fault-here wrong left all (Twice v) is e = e ∙ ap (λ f. option_or f left) is
 fault-here wrong left all (Clash v w) is e = e ∙ ap (λ f. option_or f left) is
 fault-here wrong left all (TooHigh v) is e = e ∙ ap (λ f. option_or f left) is
+fault-here wrong left all (Barred v) is e = e ∙ ap (λ f. option_or f left) is
 fault-here wrong left all (Syntax n) is e = e ∙ ap (λ f. option_or f left) is

@@ -2,27 +2,33 @@
 use Rattle.std.specs.Prelude.{◌≡◌, ◌≤◌, ◌+◌, ◌-◌, ℕ, Bool, false, Option, Some, None, List, [], ◌∷◌, ◌++◌, ◌==◌, ◌&&◌}
 use Rattle.std.specs.Prelude.{if◌then◌else◌, Contains, count_by, fold, is_none, is_some, length, map, max, nat_lt}
 use Rattle.std.specs.Prelude.{not, option_map, slice_index_or}
-use Rattle.std.specs.List.{find}
+use Rattle.std.specs.List.{find, list_any}
 use Rattle.std.specs.Option.{option_or}
-use Rattle.interference.specs.Net.{Net, IsEdge, IsVertex, count_of, greatest_degree_of, neighbours, vertices}
+use Rattle.interference.specs.Net.{Net, IsBarred, IsEdge, IsVertex, bars_of, count_of, neighbours, span_of, vertices}
 use Rattle.channel_plan.specs.Reading.{Row}
 use Rattle.channel_plan.specs.declared.plan.CheckFault.{CheckFault}
-use Rattle.channel_plan.specs.declared.plan.CheckFault.TheVariants.{Missing, Stranger, Twice, Clash, TooHigh, Memory}
+use Rattle.channel_plan.specs.declared.plan.CheckFault.TheVariants.{Missing, Stranger, Twice, Clash, TooHigh, Barred}
+use Rattle.channel_plan.specs.declared.plan.CheckFault.TheVariants.{Memory}
 
 -- the greatest channel of some rows, 0 for none
 abbrev pub greatest_channel : List Row → ℕ
 greatest_channel rows = fold max 0 (map (λ row. row.1) rows)
 
--- a channel may be at most Δ + 1
+-- a channel may be at most Δ + B + 1
 abbrev pub most_channel : Net → ℕ
-most_channel net = greatest_degree_of net + 1
+most_channel net = span_of net + 1
 
--- A plan that is right: each vertex has one row, no row is of another vertex, no channel is above Δ + 1,
--- and no two neighbours share a channel.
+-- whether a channel, a colour plus one, is barred at a vertex
+abbrev pub is_barred : Net → ℕ → ℕ → Bool
+is_barred net v channel = list_any (λ colour. colour + 1 == channel) (bars_of net v)
+
+-- A plan that is right: each vertex has one row, no row is of another vertex, no channel is above Δ + B + 1,
+-- none is barred at its vertex, and no two neighbours share a channel.
 pub record IsProper (net : Net) (rows : List Row) : Type 0 where
   pub one_row : (v : ℕ) → IsVertex net v → count_by (λ row. row.0 == v) rows ≡ 1
   pub no_stranger : (row : Row) → Contains rows row → IsVertex net row.0
   pub within : (row : Row) → Contains rows row → row.1 ≤ most_channel net
+  pub unbarred : (v colour : ℕ) → Contains rows (v, colour + 1) → IsBarred net v colour → ⊥
   pub differ : (v w channel : ℕ) → IsEdge net v w → Contains rows (v, channel) → Contains rows (w, channel) → ⊥
 
 -- the channel of the first row of a vertex
@@ -38,7 +44,8 @@ unfoldable pub row_fault : Net → List Row → Row → Option CheckFault
 row_fault net before row =
     if not (is_vertex net row.0) then Some (Stranger row.0)
     else (if is_some (channel_of before row.0) then Some (Twice row.0)
-    else (if nat_lt (most_channel net) row.1 then Some (TooHigh row.0) else None))
+    else (if nat_lt (most_channel net) row.1 then Some (TooHigh row.0)
+    else (if is_barred net row.0 row.1 then Some (Barred row.0) else None)))
 
 -- the fault of the first row that has one, after some rows
 unfoldable pub rows_fault : Net → List Row → List Row → Option CheckFault

@@ -1,10 +1,10 @@
 //! The check of a plan.
 
-ghost use Rattle.std.specs.Prelude.{◌≡◌, [], IfOk, IfErr, None, length};
+ghost use Rattle.std.specs.Prelude.{◌≡◌, ◌≤◌, [], IfOk, IfErr, None, length};
 ghost use Rattle.interference.specs.Net.{IsVertex, count_of};
 ghost use Rattle.channel_plan.specs.Checked.{IsFaultOfPlan, IsFaultOfRow, IsProper, IsTable, RefusesRow, TakesRow};
-ghost use Rattle.channel_plan.specs.Checked.{clash_at, first_clash, first_missing, greatest_channel, looked};
-ghost use Rattle.channel_plan.specs.Checked.{rows_fault, same_channel};
+ghost use Rattle.channel_plan.specs.Checked.{clash_at, first_clash, first_missing, greatest_channel, is_barred};
+ghost use Rattle.channel_plan.specs.Checked.{looked, most_channel, rows_fault, same_channel};
 
 use crate::laws::plans_without_a_fault_are_proper;
 use crate::plan::{CheckFault, Plan};
@@ -26,11 +26,24 @@ fn put_row(net: &Network, table: &mut [Option<u32>], row: (u32, u32)) -> Result<
     if table[place].is_some() {
         return Err(CheckFault::Twice(v));
     }
-    if channel > net.greatest_degree() + 1 {
+    if channel > net.greatest_degree() + net.greatest_bars() + 1 {
         return Err(CheckFault::TooHigh(v));
+    }
+    if is_barred(net, v, channel) {
+        return Err(CheckFault::Barred(v));
     }
     table[place] = Some(channel);
     Ok(())
+}
+
+// Whether a channel is barred at a vertex; there is no channel 0.
+fn is_barred(net: &Network, v: u32, channel: u32) -> bool
+    requires vertex { IsVertex net.now v }
+    requires within { channel ≤ most_channel net.now }
+    ensures { result ≡ is_barred net.now v channel }
+{
+    net.is_network();
+    channel > 0 && net.is_barred(v, (channel - 1) as u16)
 }
 
 // Puts the channels of the rows into the table, up to the first wrong row.
@@ -123,14 +136,14 @@ fn greatest(rows: &[(u32, u32)]) -> u32
 }
 
 /// The greatest channel of a plan in which each vertex of the network has one row, no row is of another
-/// vertex, no channel is above the greatest degree plus one, and no two neighbours share a channel; 0 for
-/// no nodes.
+/// vertex, no channel is above the greatest degree plus the greatest number of bars plus one, none is
+/// barred at its vertex, and no two neighbours share a channel; 0 for no nodes.
 ///
 /// # Errors
 ///
-/// Of the first wrong row: `Stranger`, else `Twice`, else `TooHigh`. Where no row is wrong, `Missing` with
-/// the least vertex that has none; else `Clash` with the first two neighbours that share a channel, by the
-/// smaller vertex and then by the greater. `Memory` where memory is refused.
+/// Of the first wrong row: `Stranger`, else `Twice`, else `TooHigh`, else `Barred`. Where no row is wrong,
+/// `Missing` with the least vertex that has none; else `Clash` with the first two neighbours that share a
+/// channel, by the smaller vertex and then by the greater. `Memory` where memory is refused.
 pub fn check(alloc: Global, net: &Network, plan: &Plan) -> Result<u32, CheckFault>
     ensures proper { IfOk result (λ _. IsProper net.now plan.now.rows.items) }
     ensures greatest { IfOk result (λ greatest. greatest ≡ greatest_channel plan.now.rows.items) }

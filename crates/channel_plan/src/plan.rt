@@ -23,8 +23,10 @@ pub enum CheckFault {
     Twice(u32),
     #[error("C4 vertices {0} {1}: neighbours that share a channel")]
     Clash(u32, u32),
-    #[error("C5 vertex {0}: its channel is above the greatest degree plus one")]
+    #[error("C5 vertex {0}: its channel is above the greatest degree plus the greatest number of bars plus one")]
     TooHigh(u32),
+    #[error("C8 vertex {0}: its channel is barred")]
+    Barred(u32),
     #[error("C6 line {0}: neither `plan` nor a vertex and its channel")]
     Syntax(usize),
     #[error("C7: out of memory")]

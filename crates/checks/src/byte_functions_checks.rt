@@ -22,6 +22,31 @@ fn answers_texts(rt: HostRuntime) -> Result<(), Fail> {
         ),
         ("p col 2 0\n", "forests 2 0\n", "plan\n1 1\n2 1\n"),
         ("p edge 0 0\n", "forests 0 0\n", "plan\n"),
+        (
+            "p edge 2 1\ni 1 7\ne 1 2\n",
+            "forests 2 1\n0 2 1\n",
+            "plan\n1 1\n2 2\n",
+        ),
+        (
+            "p edge 2 1\ni 2 5\ne 1 2\n",
+            "forests 2 1\n0 1 2\n",
+            "plan\n1 2\n2 1\n",
+        ),
+        (
+            "p edge 2 1\ni 2 340282366920938463463374607431768211455\ne 1 2\n",
+            "forests 2 1\n0 1 2\n",
+            "plan\n1 2\n2 1\n",
+        ),
+        (
+            "p edge 3 3\ne 1 2\ne 1 3\ne 2 3\nb 3 1\n",
+            "forests 3 2\n0 1 2\n0 2 3\n1 1 3\n",
+            "plan\n1 1\n2 3\n3 2\n",
+        ),
+        (
+            "p edge 2 0\nb 1 1\nb 1 2\nb 2 2\n",
+            "forests 2 0\n",
+            "plan\n1 3\n2 1\n",
+        ),
     ] {
         let bytes = text.as_bytes();
         assert!(rt;
@@ -35,6 +60,8 @@ fn answers_texts(rt: HostRuntime) -> Result<(), Fail> {
     }
     let fault = forest_bytes(alloc, b"p edge 2 1\ne 1 1\n");
     assert!(rt; fault.is_err_and(|fault| fault == PlanFault::Col(ColFault::SelfLoop(2))));
+    let fault = forest_bytes(alloc, b"p edge 2 1\ni 1 2\ne 1 2\n");
+    assert!(rt; fault.is_err_and(|fault| fault == PlanFault::Net(NetFault::SameId(1, 2))));
     Ok(())
 }
 
@@ -53,7 +80,7 @@ fn reports(
     Ok(())
 }
 
-// The faults of networks, in the order of their table; no text gives N2 or a fault of memory at will.
+// The faults of networks, in the order of their table; no text gives a fault of memory at will.
 #[test]
 fn reports_each_fault_of_a_network(rt: HostRuntime) -> Result<(), Fail> {
     for (fault, line, status) in [
@@ -73,6 +100,11 @@ fn reports_each_fault_of_a_network(rt: HostRuntime) -> Result<(), Fail> {
             1,
         ),
         (PlanFault::Col(ColFault::UnknownLine(8)), "F8 line 8", 1),
+        (PlanFault::Col(ColFault::EarlyLine(10)), "F10 line 10", 1),
+        (PlanFault::Col(ColFault::NumberRange(11)), "F11 line 11", 1),
+        (PlanFault::Col(ColFault::IdTwice(12)), "F12 line 12", 1),
+        (PlanFault::Col(ColFault::ChannelRange(13)), "F13 line 13", 1),
+        (PlanFault::Col(ColFault::TooManyBars(14)), "F14 line 14", 1),
         (PlanFault::Col(ColFault::Memory), "memory", 4),
         (PlanFault::Net(NetFault::Degree(1)), "N1 vertex 1", 1),
         (PlanFault::Net(NetFault::SameId(1, 2)), "N2 vertices 1 2", 1),
@@ -102,6 +134,7 @@ fn reports_each_fault_of_a_run_or_a_plan(rt: HostRuntime) -> Result<(), Fail> {
         ),
         (PlanFault::Check(CheckFault::TooHigh(3)), "C5 vertex 3", 1),
         (PlanFault::Check(CheckFault::Syntax(4)), "C6 line 4", 1),
+        (PlanFault::Check(CheckFault::Barred(3)), "C8 vertex 3", 1),
         (PlanFault::Check(CheckFault::Memory), "memory", 4),
         (PlanFault::Memory, "memory", 4),
     ] {
@@ -152,7 +185,7 @@ fn reports_each_fault_of_an_event(rt: HostRuntime) -> Result<(), Fail> {
     Ok(())
 }
 
-// Plans of the triangle, and what is said of each.
+// Plans of the triangle, without a bar and with one, and what is said of each.
 #[test]
 fn checks_plans(rt: HostRuntime) -> Result<(), Fail> {
     let alloc = rt.alloc();
@@ -165,6 +198,12 @@ fn checks_plans(rt: HostRuntime) -> Result<(), Fail> {
         ("plan\n1 2\n1 9\n3 1\n", Some(CheckFault::Twice(1))),
         ("plan\n1 2\n2 3\n", Some(CheckFault::Missing(3))),
         ("", Some(CheckFault::Syntax(1))),
+        ("b 3 1\nplan\n1 2\n2 3\n3 1\n", Some(CheckFault::Barred(3))),
+        ("b 3 1\nplan\n1 1\n2 3\n3 2\n", None),
+        ("b 3 1\nplan\n1 1\n2 3\n3 5\n", Some(CheckFault::TooHigh(3))),
+        ("b 3 1\nplan\n3 1\n1 5\n", Some(CheckFault::Barred(3))),
+        ("b 3 1\nplan\n1 5\n3 1\n", Some(CheckFault::TooHigh(1))),
+        ("b 3 1\nplan\n3 2\n3 1\n", Some(CheckFault::Twice(3))),
     ] {
         let mut input = Vec::from_slice(alloc, b"p edge 3 3\ne 1 2\ne 1 3\ne 2 3\n")?;
         input.extend_from_slice(plan.as_bytes())?;

@@ -41,12 +41,163 @@ fn reads_graphs(rt: HostRuntime) -> Result<(), Fail> {
 }
 
 #[test]
+fn reads_identifiers(rt: HostRuntime) -> Result<(), Fail> {
+    let greatest = u128::MAX;
+    let wanted: [(&[u8], &[(u32, u128)]); 5] = [
+        (b"p edge 2 1\ne 1 2\n", &[]),
+        (b"p edge 2 1\ni 2 5\ne 1 2\n", &[(2, 5)]),
+        (
+            b"p edge 3 0\ni 3 340282366920938463463374607431768211455 x\r\n\ti 01  0007\n",
+            &[(1, 7), (3, greatest)],
+        ),
+        (
+            b"p edge 3 0\ni 2 1\ni 1 1\ni 3 0",
+            &[(1, 1), (2, 1), (3, 0)],
+        ),
+        (
+            b"p edge 1 0\ni 1 0000000000000000000000000000000000000000000000000000000000000000000000018446744073709551616",
+            &[(1, 18446744073709551616)],
+        ),
+    ];
+    for (text, ids) in wanted {
+        assert_eq!(rt; read(rt.alloc(), text)?.ids.as_slice(), ids);
+    }
+    Ok(())
+}
+
+#[test]
+fn reports_the_first_fault_of_an_identifier(rt: HostRuntime) {
+    use ColFault::{BadField, EarlyLine, IdTwice, NumberRange, UnknownLine, VertexRange};
+    let wanted: [(&[u8], ColFault); 16] = [
+        (b"i 1 5\np edge 2 1\n", EarlyLine(1)),
+        (b"i x\np edge 2 1\n", EarlyLine(1)),
+        (b"p edge 2 1\ni 1\n", BadField(2)),
+        (b"p edge 2 1\ni\n", BadField(2)),
+        (b"p edge 2 1\ni x 1\n", BadField(2)),
+        (b"p edge 2 1\ni 3 x\n", BadField(2)),
+        (b"p edge 2 1\ni 1 +1\n", BadField(2)),
+        (b"p edge 2 1\ni 3 5\n", VertexRange(2)),
+        (
+            b"p edge 2 1\ni 0 340282366920938463463374607431768211456\n",
+            VertexRange(2),
+        ),
+        (
+            b"p edge 2 1\ni 340282366920938463463374607431768211457 1\n",
+            VertexRange(2),
+        ),
+        (
+            b"p edge 2 1\ni 1 340282366920938463463374607431768211456\n",
+            NumberRange(2),
+        ),
+        (
+            b"p edge 2 1\ni 1 5\ni 1 99999999999999999999999999999999999999999\n",
+            NumberRange(3),
+        ),
+        (b"p edge 2 1\ni 1 5\ni 1 5\n", IdTwice(3)),
+        (b"p edge 2 1\ni 2 5\ni 1 5\ne 1 2\ni 2 6\n", IdTwice(5)),
+        (b"p edge 2 1\nid 1 5\n", UnknownLine(2)),
+        (b"p edge 2 1\nI 1 5\n", UnknownLine(2)),
+    ];
+    for (text, first) in wanted {
+        assert_eq!(rt; fault(rt.alloc(), text), Some(first));
+    }
+}
+
+#[test]
+fn reads_bars(rt: HostRuntime) -> Result<(), Fail> {
+    let wanted: [(&[u8], &[(u32, u16)]); 5] = [
+        (b"p edge 2 1\ne 1 2\n", &[]),
+        (b"p edge 3 1\nb 3 1\ne 1 2\n", &[(3, 1)]),
+        (
+            b"p edge 2 0\nb 1 1\nb 1 2\nb 2 2\n",
+            &[(1, 1), (1, 2), (2, 2)],
+        ),
+        (
+            b"p edge 3 0\n\tb 03  02048 x\r\nb 1 7\nb 3 1\nb 1 7\nb 3 2048",
+            &[(1, 7), (3, 1), (3, 2048)],
+        ),
+        (b"p edge 1 0\ni 1 5\nb 1 5\n", &[(1, 5)]),
+    ];
+    for (text, bars) in wanted {
+        assert_eq!(rt; read(rt.alloc(), text)?.bars.as_slice(), bars);
+    }
+    Ok(())
+}
+
+#[test]
+fn reports_the_first_fault_of_a_bar(rt: HostRuntime) {
+    use ColFault::{BadField, ChannelRange, EarlyLine, UnknownLine, VertexRange};
+    let wanted: [(&[u8], ColFault); 17] = [
+        (b"b 1 5\np edge 2 1\n", EarlyLine(1)),
+        (b"b x\np edge 2 1\n", EarlyLine(1)),
+        (b"p edge 2 1\nb\n", BadField(2)),
+        (b"p edge 2 1\nb 1\n", BadField(2)),
+        (b"p edge 2 1\nb x 1\n", BadField(2)),
+        (b"p edge 2 1\nb 3 x\n", BadField(2)),
+        (b"p edge 2 1\nb 1 -1\n", BadField(2)),
+        (b"p edge 2 1\nb 3 1\n", VertexRange(2)),
+        (b"p edge 2 1\nb 0 2049\n", VertexRange(2)),
+        (b"p edge 2 1\nb 4294967297 1\n", VertexRange(2)),
+        (b"p edge 2 1\nb 1 0\n", ChannelRange(2)),
+        (b"p edge 2 1\nb 1 2049\n", ChannelRange(2)),
+        (b"p edge 2 1\nb 1 65537\n", ChannelRange(2)),
+        (b"p edge 2 1\nb 2 1\nb 2 4294967297\n", ChannelRange(3)),
+        (
+            b"p edge 2 1\nb 1 340282366920938463463374607431768211457\n",
+            ChannelRange(2),
+        ),
+        (b"p edge 2 1\nbar 1 1\n", UnknownLine(2)),
+        (b"p edge 2 1\nB 1 1\n", UnknownLine(2)),
+    ];
+    for (text, first) in wanted {
+        assert_eq!(rt; fault(rt.alloc(), text), Some(first));
+    }
+}
+
+// Bars that come again don't count, nor do those of another vertex.
+#[test]
+fn reads_as_many_bars_of_a_vertex_as_the_limit(rt: HostRuntime) -> Result<(), Fail> {
+    // Runs of bars: the vertex, the first channel, and the one behind the last.
+    let wanted: [(&[(u32, u16, u16)], Result<usize, ColFault>); 6] = [
+        (&[(1, 1, 1025)], Ok(1024)),
+        (&[(1, 1, 1026)], Err(ColFault::TooManyBars(1026))),
+        (&[(2, 1025, 2049), (1, 1, 1025), (2, 1025, 2049)], Ok(2048)),
+        (
+            &[
+                (2, 1025, 2049),
+                (1, 1, 1025),
+                (2, 2000, 2049),
+                (2, 1024, 1025),
+            ],
+            Err(ColFault::TooManyBars(2099)),
+        ),
+        (
+            &[(1, 1, 1025), (1, 2049, 2050)],
+            Err(ColFault::ChannelRange(1026)),
+        ),
+        (&[(1, 1, 1025), (3, 1, 2)], Err(ColFault::VertexRange(1026))),
+    ];
+    for (runs, expected) in wanted {
+        let mut text = String::new(rt.alloc());
+        write!(text, "p edge 2 0\n")?;
+        for (v, first, end) in runs {
+            for channel in *first..*end {
+                write!(text, "b {v} {channel}\n")?;
+            }
+        }
+        let length = read(rt.alloc(), text.as_bytes()).map(|file| file.bars.len());
+        assert_eq!(rt; length, expected);
+    }
+    Ok(())
+}
+
+#[test]
 fn reports_the_first_fault(rt: HostRuntime) {
     use ColFault::{
         BadField, EdgeBeforeProblem, NoProblem, SecondProblem, SelfLoop, TooLarge, UnknownLine,
         VertexRange,
     };
-    let wanted: [(&[u8], ColFault); 26] = [
+    let wanted: [(&[u8], ColFault); 25] = [
         (b"", NoProblem),
         (b"c x\n", NoProblem),
         (b"p edge 2 1\ne 1 1\n", SelfLoop(2)),
@@ -58,8 +209,7 @@ fn reports_the_first_fault(rt: HostRuntime) {
         (b"p edge 20001 0\n", TooLarge(1)),
         (b"p edge 20001 x\n", BadField(1)),
         (b"q 1\n", UnknownLine(1)),
-        (b"i 1 2\n", UnknownLine(1)),
-        (b"b 1 2\n", UnknownLine(1)),
+        (b"b1 2\n", UnknownLine(1)),
         (b"p edge 2 1\ne 0 1\n", VertexRange(2)),
         (b"p edge 2 1\ne 1 3\n", VertexRange(2)),
         (b"p edge 2 1\ne 5 5\n", VertexRange(2)),
@@ -129,6 +279,26 @@ fn each_fault_has_its_text(rt: HostRuntime) -> Result<(), Fail> {
         (
             ColFault::UnknownLine(8),
             "F8 line 8: the first field is unknown",
+        ),
+        (
+            ColFault::EarlyLine(10),
+            "F10 line 10: an identifier or a bar before the problem line",
+        ),
+        (
+            ColFault::NumberRange(11),
+            "F11 line 11: an identifier of more than 128 binary digits",
+        ),
+        (
+            ColFault::IdTwice(12),
+            "F12 line 12: a second identifier of a vertex",
+        ),
+        (
+            ColFault::ChannelRange(13),
+            "F13 line 13: a barred channel is 0 or above 2048",
+        ),
+        (
+            ColFault::TooManyBars(14),
+            "F14 line 14: more barred channels of a vertex than the limit allows",
         ),
         (ColFault::Memory, "F9: out of memory"),
     ];

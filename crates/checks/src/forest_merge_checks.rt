@@ -13,7 +13,7 @@ fn a_set_has_what_was_added(rt: HostRuntime) {
         chosen.add(colour);
         assert!(rt; chosen.has(colour), "{colour} after");
     }
-    for colour in [2, 62, 65, 126, 129, 191, 1022] {
+    for colour in [2, 62, 65, 126, 129, 191, 1023, 1024, 2046] {
         assert!(rt; !chosen.has(colour), "{colour}");
     }
     assert!(rt; chosen.copy().has(127));
@@ -23,56 +23,87 @@ fn a_set_has_what_was_added(rt: HostRuntime) {
     }
 }
 
-// The set of the colours below `end`, and the least free colour of 0 to `delta`.
+// The colours below `end` are chosen, those from `first` and below `last` barred; the least free colour of 0 to `span`.
 #[test]
 fn the_least_free_colour_is_chosen(rt: HostRuntime) {
-    for (end, delta, least) in [
-        (0, 0, Some(0)),
-        (2, 1, None),
-        (2, 2, Some(2)),
-        (63, 100, Some(63)),
-        (64, 100, Some(64)),
-        (64, 63, None),
-        (127, 127, Some(127)),
-        (128, 127, None),
-        (GREATEST, GREATEST, Some(GREATEST)),
-        (COLOURS, GREATEST, None),
+    for (end, first, last, span, least) in [
+        (0, 0, 0, 0, Some(0)),
+        (2, 0, 0, 1, None),
+        (2, 0, 0, 2, Some(2)),
+        (63, 0, 0, 100, Some(63)),
+        (64, 0, 0, 100, Some(64)),
+        (64, 0, 0, 63, None),
+        (127, 0, 0, 127, Some(127)),
+        (128, 0, 0, 127, None),
+        (1023, 0, 0, 1023, Some(1023)),
+        (GREATEST, 0, 0, GREATEST, Some(GREATEST)),
+        (COLOURS, 0, 0, GREATEST, None),
+        (0, 0, 1, 0, None),
+        (0, 0, 1, 1, Some(1)),
+        (0, 1, 2, 1, Some(0)),
+        (2, 1, 3, 3, Some(3)),
+        (63, 63, 65, 100, Some(65)),
+        (64, 64, 128, 127, None),
+        (64, 64, 128, 128, Some(128)),
+        (0, 0, 1024, 1024, Some(1024)),
+        (1023, 1023, GREATEST, GREATEST, Some(GREATEST)),
+        (1024, 1024, COLOURS, GREATEST, None),
     ] {
         assert!(rt; end <= COLOURS);
+        assert!(rt; last <= COLOURS);
         let mut chosen = ChosenSet::new();
         for colour in 0..end {
             chosen.add(colour);
         }
-        let found = if has_free(&chosen, delta) {
-            Some(least_free(&chosen, delta))
+        let mut barred = ChosenSet::new();
+        for colour in first..last {
+            barred.add(colour);
+        }
+        let found = if has_free(&chosen, &barred, span) {
+            Some(least_free(&chosen, &barred, span))
         } else {
             None
         };
-        assert_eq!(rt; found, least, "{end} colours, delta {delta}");
+        assert_eq!(rt;
+            found,
+            least,
+            "{end} chosen, {first} to {last} barred, span {span}"
+        );
     }
-    // A gap comes before what is free at the end.
+}
+
+// A gap comes before what is free at the end; if it is barred it is none.
+#[test]
+fn a_gap_that_is_not_barred_is_chosen(rt: HostRuntime) {
     let mut chosen = ChosenSet::new();
     for colour in 0..300 {
         if colour != 130 {
             chosen.add(colour);
         }
     }
-    assert!(rt; !has_free(&chosen, 129));
-    assert!(rt; has_free(&chosen, 130));
-    assert_eq!(rt; least_free(&chosen, 130), 130);
+    let mut barred = ChosenSet::new();
+    assert!(rt; !has_free(&chosen, &barred, 129));
+    assert!(rt; has_free(&chosen, &barred, 130));
+    assert_eq!(rt; least_free(&chosen, &barred, 130), 130);
+    barred.add(130);
+    assert!(rt; !has_free(&chosen, &barred, 299));
+    assert!(rt; has_free(&chosen, &barred, 300));
+    assert_eq!(rt; least_free(&chosen, &barred, 300), 300);
 }
 
 #[test]
 fn steps_are_counted(rt: HostRuntime) {
-    for (t, delta, step) in [
+    for (t, span, step) in [
         (0, 2, (0, 0, 0)),
         (8, 2, (0, 2, 2)),
         (9, 2, (1, 0, 0)),
         (17, 2, (1, 2, 2)),
         (5, 0, (1, 2, 0)),
-        (3071, GREATEST, (0, 2, GREATEST)),
-        (3072, GREATEST, (1, 0, 0)),
+        (3071, 1023, (0, 2, 1023)),
+        (3072, 1023, (1, 0, 0)),
+        (6143, GREATEST, (0, 2, GREATEST)),
+        (6144, GREATEST, (1, 0, 0)),
     ] {
-        assert_eq!(rt; step_of(t, delta), step, "step {t}, delta {delta}");
+        assert_eq!(rt; step_of(t, span), step, "step {t}, span {span}");
     }
 }

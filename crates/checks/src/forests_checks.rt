@@ -14,7 +14,7 @@ fn forests_are_numbered_as_worked(rt: HostRuntime) -> Result<(), Fail> {
         assert_eq!(rt; role.forest(), forest);
     }
     // Identifiers, edges, and the triples worked by hand.
-    let rows: [(&[u64], &[(u32, u32)], &[(u16, u32, u32)]); 6] = [
+    let rows: [(&[u128], &[(u32, u32)], &[(u16, u32, u32)]); 6] = [
         (
             &[1, 2, 3],
             &[(1, 2), (1, 3), (2, 3)],
@@ -27,7 +27,7 @@ fn forests_are_numbered_as_worked(rt: HostRuntime) -> Result<(), Fail> {
         (&[], &[], &[]),
     ];
     for (ids, edges, triples) in rows {
-        let net = Network::try_new(rt.alloc(), ids, edges)?;
+        let net = Network::try_new(rt.alloc(), ids, edges, &[])?;
         assert_eq!(rt; decompose(rt.alloc(), &net)?.as_slice(), triples);
     }
     Ok(())

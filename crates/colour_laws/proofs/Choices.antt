@@ -1,26 +1,29 @@
 -- The place at which a node chooses, and what it chooses.
-use Rattle.std.proofs.Common.{◌≡◌, ℕ, zero, suc, ◌+◌, ◌*◌, ◌<◌, ◌≤◌, ◌==◌, Bool, true, false, List, [], ◌∷◌, refl, ap, sym, ◌∙◌, arith}
-use Rattle.std.specs.Prelude.{Option, if◌then◌else◌, ◌&&◌, map, filter, nat_lt, nat_le}
+use Rattle.std.proofs.Common.{◌≡◌, length, ℕ, zero, suc, ◌+◌, ◌*◌, ◌<◌, ◌≤◌, ◌==◌, Bool, true, false, List, [], ◌∷◌, refl, ap, sym, ◌∙◌, arith}
+use Rattle.std.specs.Prelude.{Option, if◌then◌else◌, ◌&&◌, ◌||◌, map, filter, nat_lt, nat_le}
+use Rattle.std.specs.List.{Contains}
 use Rattle.std.proofs.lemmas.Bool.Decides.{nat_tests}
 use Rattle.std.proofs.Math.Nat.{mul-le-mul_right}
 use Rattle.std.proofs.lemmas.Bool.{cases_order}
 use Rattle.std.proofs.Common.{inl, inr}
-use Rattle.node_api.specs.interference.Net.{Net, IsVertex, degree_of, id_of, neighbour_of, neighbours, greatest_degree_of}
+use Rattle.node_api.specs.interference.Net.{Net, IsBarred, IsVertex, bars_of, degree_of, id_of, neighbour_of, neighbours, span_of}
 use Rattle.node_api.specs.Program.{sizes_of}
 use Rattle.colour_base.specs.Forest.{IsProper, IsWithin}
 use Rattle.cole_vishkin.specs.Digits.{HasDigits}
 use Rattle.cole_vishkin.specs.declared.step.TheConstants.{IDENTIFIER_DIGITS}
 use Rattle.colour_laws.specs.Colours.{three}
 use Rattle.forest_merge.specs.Merge.{Merging, looked_at, is_looked_at, is_before}
-use Rattle.forest_merge.specs.Free.{least_free_colour}
+use Rattle.forest_merge.specs.Free.{colours_to, is_among, least_free_colour}
 use Rattle.cole_vishkin.specs.BitStep.{six}
 use Rattle.shift_down.proofs.StepLemmas.{three-within}
 use Rattle.cole_vishkin.proofs.StepLemmas.{four-small}
 use Rattle.forest_merge.proofs.Merges.{merge-is}
-use Rattle.forest_merge.proofs.Proper.{merge-within_few}
+use Rattle.forest_merge.proofs.Barred.{least_free_colour-at_most, least_free_colour-untaken, length-colours_to}
+use Rattle.forest_merge.proofs.Proper.{merge-unbarred_few, merge-within_few}
+use Rattle.forest_merge.proofs.Taken.{HasFree-few, is_among-at}
 use Rattle.colour_rules.specs.Node.{steps}
 use Rattle.colour_rules.specs.Table.{is_merged}
-use Rattle.colour_laws.specs.Colours.{merging, colours_after}
+use Rattle.colour_laws.specs.Colours.{is_barred, merging, colours_after}
 use Rattle.colour_laws.proofs.Expected.{step_in, is_heard, heard, among, IsForest}
 use Rattle.forests.specs.Forests.{role_of}
 use Rattle.std.proofs.lemmas.Bool.{lt-ltb, le-ltb, ltb-true}
@@ -29,6 +32,10 @@ use Rattle.forests.specs.declared.numbering.Role.{Role}
 use Rattle.forests.specs.declared.numbering.Role.TheVariants.{Unknown, Up, Down}
 use Rattle.forests.specs.Forests.{parent}
 use Rattle.colour_rules.proofs.Pairs.{same_bool}
+
+-- what is not among these is none of them
+pub not_among : (colours : List ℕ) (c : ℕ) → is_among colours c ≡ false → Contains colours c → ⊥
+not_among colours c none near = let some : is_among colours c ≡ true = is_among-at colours near.0 c near.1 near.2 in absurd (cc)
 
 pub filter-same : (t u : ℕ → Bool) (ws : List ℕ) → ((w : ℕ) → t w ≡ u w) → filter t ws ≡ filter u ws
 filter-same t u [] same = refl
@@ -113,21 +120,37 @@ module _ (net : Net) (forest : IsForest net) where
   pub three_within : (f : ℕ) → IsWithin 2 (three (parent net f) (id_of net))
   three_within f = three-within (parent net f) (six (parent net f) (id_of net)) (six_within (parent net f) (id_of net) (forest.apart f) forest.small)
 
-  pub colours_within : (f v : ℕ) → colours_after net f v ≤ greatest_degree_of net
+  -- the neighbours of a vertex and the colours that are barred at it
+  pub few_taken : (v : ℕ) → degree_of net v + length (colours_to (span_of net) (is_barred net v)) ≤ span_of net
+  few_taken v = omega (arith, forest.few v, forest.few_bars v, length-colours_to (span_of net) (bars_of net v))
+
+  few_barred : (v : ℕ) → length (bars_of net v) ≤ span_of net
+  few_barred v = omega (arith, forest.few_bars v)
+
+  pub colours_within : (f v : ℕ) → colours_after net f v ≤ span_of net
   unfolding colours_after
-  colours_within zero v = omega arith
-  colours_within (suc f) v = merge-within_few (merging net f (colours_after net f)) v (forest.few v)
+  colours_within zero v = least_free_colour-at_most (span_of net) (is_barred net v) (HasFree-few (span_of net) (bars_of net v) (few_barred v))
+  colours_within (suc f) v = merge-within_few (merging net f (colours_after net f)) v (few_taken v)
+
+  not_barred : (f v : ℕ) → is_barred net v (colours_after net f v) ≡ false
+  unfolding colours_after
+  not_barred zero v = least_free_colour-untaken (span_of net) (is_barred net v) (HasFree-few (span_of net) (bars_of net v) (few_barred v))
+  not_barred (suc f) v = merge-unbarred_few (merging net f (colours_after net f)) v (few_taken v)
+
+  pub colours_unbarred : (f v : ℕ) → IsBarred net v (colours_after net f v) → ⊥
+  colours_unbarred f v = not_among (bars_of net v) (colours_after net f v) (not_barred f v)
 
   pub step_within : (f v : ℕ) → step_in net f v < steps (sizes_of net)
-  step_within f v = step_low (three (parent net f) (id_of net) v) (colours_after net f v) (greatest_degree_of net) (three_within f v) (colours_within f v)
+  step_within f v = step_low (three (parent net f) (id_of net) v) (colours_after net f v) (span_of net) (three_within f v) (colours_within f v)
 
   pub looked_as_heard : (f v : ℕ) → looked_at (merging net f (colours_after net f)) v ≡ filter (is_heard net f (step_in net f v) v) (neighbours net v)
   looked_as_heard f v = filter-same (is_looked_at (merging net f (colours_after net f)) v) (is_heard net f (step_in net f v) v) (neighbours net v)
       (λ w. looked-is (merging net f (colours_after net f)) v w (number net v w) (nat_lt (step_in net f w) (step_in net f v)) refl
       (before_test (three (parent net f) (id_of net) w) (colours_after net f w) (three (parent net f) (id_of net) v) (colours_after net f v)
-      (greatest_degree_of net + 1) (let a = colours_within f w in omega arith) (let a = colours_within f v in omega arith)))
+      (span_of net + 1) (let a = colours_within f w in omega arith) (let a = colours_within f v in omega arith)))
 
-  pub choice_is : (f v : ℕ) → colours_after net (suc f) v ≡ least_free_colour (greatest_degree_of net) (λ c. among c (heard net f (step_in net f v) v))
+  pub choice_is : (f v : ℕ) →
+      colours_after net (suc f) v ≡ least_free_colour (span_of net) (λ c. among c (heard net f (step_in net f v) v) || is_barred net v c)
   unfolding colours_after
   choice_is f v = merge-is (merging net f (colours_after net f)) v ∙
-      ap (λ (ws : List ℕ). least_free_colour (greatest_degree_of net) (λ c. among c (map (colours_after net (suc f)) ws))) (looked_as_heard f v)
+      ap (λ (ws : List ℕ). least_free_colour (span_of net) (λ c. among c (map (colours_after net (suc f)) ws) || is_barred net v c)) (looked_as_heard f v)

@@ -16,6 +16,7 @@ use Rattle.std.specs.Prelude.{
   [],
   ◌∷◌,
   ◌++◌,
+  length,
   map,
   Option,
   Some,
@@ -27,8 +28,21 @@ use Rattle.std.specs.Prelude.{
   filter,
 }
 use Rattle.std.specs.List.{range_with_len}
-use Rattle.std.specs.FinSet.{empty, from_list}
-use Rattle.node_api.specs.interference.Net.{Net, IsVertex, id_of, degree_of, neighbours, neighbour_of, forest_count_of, greatest_degree_of}
+use Rattle.std.specs.Ordering.{nat_cmp}
+use Rattle.std.specs.FinSet.{FinSet, empty, from_list}
+use Rattle.node_api.specs.interference.Net.{
+  Net,
+  IsVertex,
+  id_of,
+  bars_of,
+  degree_of,
+  neighbours,
+  neighbour_of,
+  forest_count_of,
+  greatest_bars_of,
+  greatest_degree_of,
+  span_of,
+}
 use Rattle.node_api.specs.Program.{sizes_of}
 use Rattle.forests.specs.Forests.{number, parent, role_of}
 use Rattle.colour_laws.specs.Colours.{three, colours_after}
@@ -38,7 +52,7 @@ use Rattle.cole_vishkin.specs.declared.step.TheConstants.{IDENTIFIER_DIGITS}
 use Rattle.forest_merge.specs.Free.{is_among}
 use Rattle.colour_rules.specs.declared.payload.Payload.{Payload}
 use Rattle.forests.specs.declared.numbering.Role.TheVariants.{Unknown, Up, Down}
-use Rattle.colour_rules.specs.Node.{Node, reduction_of, steps}
+use Rattle.colour_rules.specs.Node.{Node, reduction_of, steps, up_to}
 use Rattle.colour_rules.specs.Program.{turned, kept, tells_colour, tells_chosen}
 
 -- whether a colour is among these
@@ -56,6 +70,10 @@ stages net f (suc q) = (
 abbrev pub by_forest : Net → (ℕ → ℕ) → List ℕ
 by_forest net c = map c (range_with_len 0 (forest_count_of net))
 
+-- the colours of 0 to the span that are barred at v
+abbrev pub barred_of : Net → ℕ → FinSet nat_cmp
+barred_of net v = up_to (span_of net) (bars_of net v)
+
 -- a node q pulses after Seed, and what it tells w
 abbrev pub state_while_reducing : Net → ℕ → ℕ → Node
 state_while_reducing net q v =
@@ -66,8 +84,9 @@ state_while_reducing net q v =
       colours = by_forest net (λ f. (stages net f q).0 v);
       before = by_forest net (λ f. (stages net f q).1 v);
       colour_before = 0;
-      merged = 0;
+      merged = colours_after net 0 v;
       chosen = empty;
+      barred = barred_of net v;
     }
 
 abbrev pub tells : Net → ℕ → ℕ → ℕ → Option Payload
@@ -76,7 +95,7 @@ tells net q v w = if q == 10 then None else tells_colour (by_forest net (λ f. (
 -- Merging.
 -- the step at which v chooses in forest f
 abbrev pub step_in : Net → ℕ → ℕ → ℕ
-step_in net f v = three (parent net f) (id_of net) v * (greatest_degree_of net + 1) + colours_after net f v
+step_in net f v = three (parent net f) (id_of net) v * (span_of net + 1) + colours_after net f v
 
 -- the neighbours whose choice v has heard of before step s of forest f chooses
 abbrev pub is_heard : Net → ℕ → ℕ → ℕ → ℕ → Bool
@@ -100,6 +119,7 @@ state_before_choice net f s v =
       colour_before = colours_after net f v;
       merged = merged_by net f s v;
       chosen = from_list (heard net f s v);
+      barred = barred_of net v;
     }
 
 abbrev pub state_after_choice : Net → ℕ → ℕ → ℕ → Node
@@ -120,6 +140,7 @@ pub record IsForest (net : Net) : Type 0 where
   pub apart : (f v w : ℕ) → parent net f v ≡ Some w → id_of net v ≢ id_of net w
   pub small : HasDigits IDENTIFIER_DIGITS (id_of net)
   pub few : (v : ℕ) → degree_of net v ≤ greatest_degree_of net
+  pub few_bars : (v : ℕ) → length (bars_of net v) ≤ greatest_bars_of net
 
 -- no number of the list is among those before it
 abbrev pub Fresh : List ℕ → List ℕ → Type 0

@@ -13,6 +13,7 @@ use Rattle.node_api.proofs.interference.Neighbours.{
   neighbour-id,
   neighbour-ids,
   id-small,
+  bars-within,
   degree-within,
   port-of,
   higher_count-le-forests,
@@ -108,4 +109,5 @@ module _ (net : Net) (ok : IsNetwork net) where
     apart = λ f v w e same. let above : id_of net v < id_of net w = parent-higher net f v w e in omega arith;
     small = id-small net ok;
     few = degree-within net ok;
+    few_bars = bars-within net ok;
   }

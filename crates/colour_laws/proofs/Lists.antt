@@ -1,10 +1,9 @@
 -- Walks over lists that are made of the neighbours of a node.
-use Rattle.std.proofs.Common.{◌≡◌, ℕ, zero, suc, ◌+◌, ◌<◌, ◌≤◌, ◌==◌, Bool, true, false, List, [], ◌∷◌, length, refl, ap, ◌∙◌, arith, get_or}
+use Rattle.std.proofs.Common.{◌≡◌, ℕ, zero, suc, ◌+◌, ◌<◌, ◌≤◌, Bool, false, List, [], ◌∷◌, length, refl, ap, ◌∙◌, arith, get_or}
 use Rattle.std.specs.Prelude.{if◌then◌else◌, map, Option, None, count_by}
 use Rattle.std.specs.List.{range_with_len, fold}
-use Rattle.std.proofs.lemmas.Bool.Decides.{nat_tests}
 use Rattle.std.proofs.lemmas.List.{get_or-map}
-use Rattle.node_api.specs.interference.Net.{Net, IsNetwork, IsVertex, degree_of, neighbours, neighbour_of, place_of, port_to}
+use Rattle.node_api.specs.interference.Net.{Net, IsNetwork, IsVertex, degree_of, neighbours, neighbour_of, port_to}
 use Rattle.node_api.proofs.interference.Members.{place_of-is}
 use Rattle.node_api.specs.Boxes.{at_port}
 use Rattle.std.specs.List.{list_any}

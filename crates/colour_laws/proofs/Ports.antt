@@ -1,5 +1,5 @@
 -- What is fine at each port is not refused, and what comes from a parent is found.
-use Rattle.std.proofs.Common.{◌≡◌, ℕ, zero, suc, ◌<◌, ◌≤◌, ◌==◌, Bool, true, false, List, [], ◌∷◌, length, refl, ap, sym, arith, get_or}
+use Rattle.std.proofs.Common.{◌≡◌, ℕ, zero, suc, ◌<◌, ◌≤◌, ◌==◌, Bool, true, false, List, [], ◌∷◌, length, refl, ap, arith, get_or}
 use Rattle.std.specs.Prelude.{if◌then◌else◌, map, Option, Some, None, Ok, nat_lt, slice_index}
 use Rattle.std.proofs.lemmas.Bool.Decides.{nat_tests}
 use Rattle.std.proofs.lemmas.Bool.{lt-ltb}
@@ -10,7 +10,7 @@ use Rattle.node_api.specs.Program.{Sizes}
 use Rattle.colour_rules.specs.declared.payload.Payload.{Payload}
 use Rattle.colour_rules.specs.declared.payload.Payload.TheVariants.{Colour}
 use Rattle.forests.specs.declared.numbering.Role.{Role}
-use Rattle.forests.specs.declared.numbering.Role.TheVariants.{Unknown, Up, Down}
+use Rattle.forests.specs.declared.numbering.Role.TheVariants.{Up}
 use Rattle.colour_rules.specs.Node.{Node, reduction_of, phase_of}
 use Rattle.colour_rules.specs.Table.{is_above}
 use Rattle.colour_rules.specs.Refusals.{first_refusal, port_rule, ports_refusal, own_rule, refusal}

@@ -12,7 +12,7 @@ use Rattle.shift_down.proofs.StepLemmas.{three-proper}
 use Rattle.cole_vishkin.proofs.StepLemmas.{bit_steps-proper}
 use Rattle.cole_vishkin.specs.BitStep.{six}
 use Rattle.forests.specs.Forests.{number}
-use Rattle.colour_laws.proofs.Choices.{number_up, number_down, number-same}
+use Rattle.colour_laws.proofs.Choices.{few_taken, number_up, number_down, number-same}
 use Rattle.forests.specs.declared.numbering.Role.{Role}
 use Rattle.forests.specs.declared.numbering.Role.TheVariants.{Unknown, Up, Down}
 use Rattle.colour_laws.specs.Colours.{merging, colours_after, colours}
@@ -47,7 +47,7 @@ module _ (net : Net) (ok : IsNetwork net) where
     );
     same_number = λ v w is_vertex near. subst (λ (u : ℕ). number net v u ≡ number net u v) (at_port_of v w near)
         (number-same net forest v near.0 is_vertex near.1);
-    few = λ v is_vertex. forest.few v;
+    few = λ v is_vertex. few_taken net forest v;
   }
 
   three_apart : (f v k : ℕ) → IsVertex net v → k < degree_of net v → (role : Role) → role_of net v (neighbour_of net v k) ≡ role →

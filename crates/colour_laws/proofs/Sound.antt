@@ -49,19 +49,19 @@ module _ (net : Net) (forest : IsForest net) (f : ℕ) where
   bits_kept : (k most : ℕ) → IsWithin most (bit_steps k (parent net f) (id_of net)) → IsKept most (bit_steps k (parent net f) (id_of net))
   bits_kept k most within = record { proper = bit_steps-proper k (parent net f) (id_of net) (forest.apart f); within = within }
 
-  kept1 : IsKept 127 (stages net f 1).0
+  kept1 : IsKept 255 (stages net f 1).0
   unfolding stages
-  kept1 = bits_kept 1 127 (λ v. omega (
+  kept1 = bits_kept 1 255 (λ v. omega (
     arith,
     one-small IDENTIFIER_DIGITS 8 (omega arith) (omega arith) (omega arith) (omega arith) (parent net f) (id_of net)
         (forest.apart f) forest.small v,
   ))
 
-  kept2 : IsKept 13 (stages net f 2).0
+  kept2 : IsKept 15 (stages net f 2).0
   unfolding stages
-  kept2 = bits_kept 2 13 (λ v. omega (
+  kept2 = bits_kept 2 15 (λ v. omega (
     arith,
-    two-small IDENTIFIER_DIGITS 7 (omega arith) (omega arith) (omega arith) (omega arith) (parent net f) (id_of net)
+    two-small IDENTIFIER_DIGITS 8 (omega arith) (omega arith) (omega arith) (omega arith) (parent net f) (id_of net)
         (forest.apart f) forest.small v,
   ))
 
@@ -114,8 +114,8 @@ module _ (net : Net) (forest : IsForest net) (f : ℕ) where
 
   pub sound : (q : ℕ) → q < 10 → Sound net f q
   sound zero h = sound0
-  sound (suc zero) h = sound_within 1 127 (λ c. refl) kept1
-  sound (suc (suc zero)) h = sound_within 2 13 (λ c. refl) kept2
+  sound (suc zero) h = sound_within 1 255 (λ c. refl) kept1
+  sound (suc (suc zero)) h = sound_within 2 15 (λ c. refl) kept2
   sound (suc (suc (suc zero))) h = sound_within 3 7 (λ c. refl) kept3
   sound (suc (suc (suc (suc zero)))) h = sound_within 4 5 (λ c. refl) kept4
   sound (suc (suc (suc (suc (suc zero))))) h = sound_within 5 5 (λ c. refl) kept5

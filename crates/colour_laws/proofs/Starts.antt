@@ -1,23 +1,39 @@
 -- The first two pulses: numbering the ports.
 use Rattle.std.proofs.Common.{◌≡◌, ◌≢◌, ℕ, zero, suc, ◌+◌, ◌<◌, ◌==◌, true, false, List, [], ◌∷◌, ◌++◌, length, refl, ap, sym, ◌∙◌, arith, get_or, inl, inr}
-use Rattle.std.specs.Prelude.{if◌then◌else◌, map, replicate, Option, Some, None, Ok, nat_lt, count_by}
+use Rattle.std.specs.Prelude.{if◌then◌else◌, map, not, replicate, Option, Some, None, Ok, nat_lt, count_by}
 use Rattle.std.specs.List.{range_with_len}
 use Rattle.std.proofs.lemmas.Bool.Decides.{nat_tests}
 use Rattle.std.proofs.lemmas.Bool.{cases_order}
-use Rattle.node_api.specs.interference.Net.{Net, IsNetwork, IsVertex, id_of, neighbours, degree_of, neighbour_of, forest_count_of, place_of}
+use Rattle.node_api.specs.interference.Net.{
+  Net,
+  IsNetwork,
+  IsVertex,
+  bars_of,
+  id_of,
+  neighbours,
+  degree_of,
+  neighbour_of,
+  forest_count_of,
+  place_of,
+  span_of,
+}
 use Rattle.node_api.specs.Program.{own_of, sizes_of}
 use Rattle.node_api.proofs.Runs.{node_at-none}
 use Rattle.colour_rules.specs.declared.payload.Payload.{Payload}
 use Rattle.colour_rules.specs.declared.payload.Payload.TheVariants.{Hello}
 use Rattle.forests.specs.declared.numbering.Role.{Role}
 use Rattle.forests.specs.declared.numbering.Role.TheVariants.{Unknown, Up}
-use Rattle.colour_rules.specs.Node.{Node, made, last}
+use Rattle.std.specs.FinSet.{contains}
+use Rattle.colour_base.proofs.LeastKnown.{least-same}
+use Rattle.forest_merge.specs.Free.{least_free_colour}
+use Rattle.colour_rules.specs.Node.{Node, made, last, up_to}
+use Rattle.colour_rules.proofs.Barring.{contains-up_to_low}
 use Rattle.colour_rules.specs.Refusals.{ports_refusal, port_rule, own_rule, ids_in}
 use Rattle.colour_rules.specs.Program.{colouring, next, oriented_slot, tells_label, labelled, all_labelled, tells_colour, with_orient}
 use Rattle.colour_rules.specs.declared.phase.Phase.TheVariants.{Orient, Seed}
 use Rattle.colour_rules.proofs.Greets.{same-for_all}
-use Rattle.colour_laws.specs.Colours.{colours}
-use Rattle.colour_laws.proofs.Expected.{stages, by_forest, state_while_reducing, tells, IsForest, IsOriented, Fresh}
+use Rattle.colour_laws.specs.Colours.{colours, colours_after, is_barred}
+use Rattle.colour_laws.proofs.Expected.{barred_of, stages, by_forest, state_while_reducing, tells, IsForest, IsOriented, Fresh}
 use Rattle.forests.specs.Forests.{role_of}
 use Rattle.colour_laws.proofs.Lists.{map-members}
 use Rattle.std.proofs.lemmas.Simd.{map-map}
@@ -27,6 +43,13 @@ use Rattle.colour_laws.proofs.Forests.{role_by-is}
 use Rattle.colour_laws.proofs.Ports.{accepted, ports_none}
 use Rattle.colour_laws.proofs.Stands.{at, HoldsAfter, NothingRefused, stand_next, fine_next, comes}
 use Rattle.colour_laws.proofs.Runs.{all_fine, colour_is}
+
+-- before the first forest a node has the least colour that isn't barred
+first_is : (net : Net) (v : ℕ) → least_free_colour (span_of net) (contains (up_to (span_of net) (bars_of net v))) ≡ colours_after net 0 v
+unfolding colours_after
+first_is net v =
+    least-same (λ c. not (contains (up_to (span_of net) (bars_of net v)) c)) (λ c. not (is_barred net v c)) (suc (span_of net))
+    (λ c below. ap not (contains-up_to_low (span_of net) (bars_of net v) c (omega arith)))
 
 abbrev pub orient : Net → ℕ → ℕ → Role
 orient net v w = if nat_lt (id_of net v) (id_of net w) then Up (number net v w) else Unknown
@@ -129,6 +152,7 @@ module _ (net : Net) (ok : IsNetwork net) (forest : IsForest net) (start : IsOri
   )
   unfolding stages
   seed_next v is_vertex =
+      let first : ℕ = least_free_colour (span_of net) (contains (barred_of net v)) in
       let inbox : List (Option Payload) = map (λ w. tells_label (orient net w v)) (neighbours net v) in
       let ports : ports_refusal (oriented_node net v) Seed 0 [] (map (orient net v) (neighbours net v)) inbox ≡ None =
       ports_none (oriented_node net v) Seed (orient net v) (λ w. tells_label (orient net w v)) (neighbours net v)
@@ -146,11 +170,15 @@ module _ (net : Net) (ok : IsNetwork net) (forest : IsForest net) (start : IsOri
         map (tells_colour cs) (map (role_of net v) (neighbours net v)),
       )) (same-range (id_of net v) 0 (forest_count_of net))
       ∙ (ap (λ (bs : List ℕ). Ok (
-        record (state_while_reducing net 0 v) { before = bs },
+        record (state_while_reducing net 0 v) { before = bs; merged = first },
         map (tells_colour (by_forest net (λ f. (stages net f 0).0 v))) (map (role_of net v) (neighbours net v)),
       )) (same-range 0 0 (forest_count_of net))
+      ∙ (ap (λ (m : ℕ). Ok (
+        record (state_while_reducing net 0 v) { merged = m },
+        map (tells_colour (by_forest net (λ f. (stages net f 0).0 v))) (map (role_of net v) (neighbours net v)),
+      )) (first_is net v)
       ∙ ap (λ (out : List (Option Payload)). Ok (state_while_reducing net 0 v, out)) (map-map (tells_colour (by_forest net (λ f. (stages net f 0).0 v)))
-      (role_of net v) (neighbours net v)))))
+      (role_of net v) (neighbours net v))))))
 
   pub seeded : HoldsAfter net 2 (state_while_reducing net 0) (tells net 0)
   seeded = stand_next net 1 (state_while_reducing net 0) (tells net 0) (λ v is_vertex. comes net ok 1 (oriented_node net) tells_one oriented_stand 2 refl v

@@ -1,15 +1,13 @@
 -- The steps of merging one after another: the first of a forest, where nothing comes, and each further one.
 use Rattle.std.proofs.Common.{◌≡◌, ℕ, suc, ◌+◌, ◌*◌, ◌<◌, ◌==◌, Bool, true, false, List, [], refl, ap, sym, ◌∙◌, arith}
-use Rattle.std.specs.Prelude.{if◌then◌else◌, map, Option, Some, None, Ok, nat_le, nat_lt}
+use Rattle.std.specs.Prelude.{if◌then◌else◌, map, Option, None, Ok, nat_le}
 use Rattle.std.proofs.lemmas.Bool.Decides.{nat_tests}
 use Rattle.std.specs.Ordering.{nat_cmp}
 use Rattle.std.specs.FinSet.{FinSet, empty}
-use Rattle.node_api.specs.interference.Net.{Net, IsNetwork, IsVertex, id_of, neighbours, degree_of, neighbour_of, forest_count_of}
+use Rattle.node_api.specs.interference.Net.{Net, IsNetwork, IsVertex, neighbours, degree_of, neighbour_of, forest_count_of}
 use Rattle.node_api.specs.Program.{sizes_of}
 use Rattle.colour_rules.specs.declared.phase.TheConstants.{FIRST_MERGE}
 use Rattle.colour_rules.specs.declared.payload.Payload.{Payload}
-use Rattle.colour_rules.specs.declared.payload.Payload.TheVariants.{Chosen}
-use Rattle.forests.specs.declared.numbering.Role.TheVariants.{Up, Down}
 use Rattle.colour_rules.specs.Node.{Node, steps}
 use Rattle.colour_rules.specs.Choice.{gathered, with_chosen}
 use Rattle.colour_rules.specs.Refusals.{ports_refusal}

@@ -46,8 +46,8 @@ module _ (net : Net) (ok : IsNetwork net) (forest : IsForest net) where
       ∙ further_next net ok forest f in_range s below v is_vertex
 
   first_gathered : (v : ℕ) → gathered (state_while_reducing net 10 v) 0 (map (λ (w : ℕ). None) (neighbours net v)) ≡ state_before_choice net 0 0 v
-  unfolding colours_after
-  first_gathered v = ap (λ (m : ℕ). record (state_while_reducing net 10 v) { merged = m; chosen = empty }) (sym (nothing_merged net 0 v)) ∙
+  first_gathered v = ap (λ (m : ℕ). record (state_while_reducing net 10 v) { colour_before = colours_after net 0 v; merged = m; chosen = empty })
+      (sym (nothing_merged net 0 v)) ∙
       ap (λ (set : FinSet nat_cmp). record (state_before_choice net 0 0 v) { chosen = set }) (empty_set net 0 v)
 
   pub first_goes : (p : ℕ) → p ≡ 12 → 0 < forest_count_of net → HoldsAfter net p (state_while_reducing net 10) (tells net 10) →

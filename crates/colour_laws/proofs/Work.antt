@@ -2,7 +2,7 @@
 -- and nobody else does (told_down, told_up); that is fine at its port (port_fine); in each forest the
 -- parent's colour is what came (parent_is); so the colours are the definition's (colours_are).
 use Rattle.std.proofs.Common.{◌≡◌, ℕ, zero, suc, ◌+◌, ◌<◌, ◌==◌, false, List, [], refl, ap, sym, ◌∙◌, arith}
-use Rattle.std.specs.Prelude.{map, Option, Some, None, Ok, slice_index}
+use Rattle.std.specs.Prelude.{map, Option, Some, None, Ok}
 use Rattle.std.specs.List.{range_with_len}
 use Rattle.std.proofs.lemmas.Bool.Decides.{nat_tests}
 use Rattle.node_api.specs.interference.Net.{Net, IsNetwork, IsVertex, degree_of, neighbours, neighbour_of, forest_count_of}

@@ -2,9 +2,9 @@
 ghost use Rattle.std.specs.Prelude.{◌≡◌, ◌≢◌, ◌<◌, ◌≤◌, ◌↔◌, ◌*◌, ◌+◌, ◌%◌, ℕ, List, Option, None, Some};
 ghost use Rattle.std.specs.Prelude.{IsTrue, false, length, map, nat_lt, slice_index};
 ghost use Rattle.std.specs.List.{range_with_len};
-ghost use Rattle.node_api.specs.interference.Net.{IsEdge, IsNetwork, IsVertex, Net, greatest_degree_of, id_of};
+ghost use Rattle.node_api.specs.interference.Net.{IsBarred, IsEdge, IsNetwork, IsVertex, Net, id_of, span_of};
 ghost use Rattle.node_api.specs.Laws.{IsProgram};
-ghost use Rattle.node_api.specs.Program.{Sizes, last_pulse_on};
+ghost use Rattle.node_api.specs.Program.{Sizes, last_pulse_on, span};
 ghost use Rattle.node_api.specs.Run.{state_at};
 ghost use Rattle.colour_rules.specs.Program.{colouring};
 ghost use Rattle.colour_rules.specs.declared.payload.Payload.{Payload};
@@ -25,6 +25,15 @@ ghost use Rattle.colour_laws.specs.FirstRefusal.{BreakNone, IsLeastBreaking, by_
 ghost use Rattle.colour_laws.specs.Rows.{AreRows, after_halt, due, first_phases, wrong_kind, wrong_role};
 ghost use Rattle.forest_merge.specs.Merge.{merge};
 ghost use Rattle.forest_merge.specs.Step.{step_of};
+ghost use Rattle.colour_laws.specs.declared.laws.TheConstants.{MAX_LAST_PULSE};
+
+use colour_rules::FIRST_MERGE;
+use node_api::{MAX_BARS, MAX_DEGREE};
+
+/// The last pulse in a network of the greatest degree, the most bars and the most forests that a network may have.
+pub const MAX_LAST_PULSE: u32 = FIRST_MERGE - 1 + MAX_DEGREE * 3 * (MAX_DEGREE + MAX_BARS + 1);
+
+const _: () = prove!(MAX_LAST_PULSE == 6_285_324);
 
 /// In each forest of a network the six colours and the three colours of the nodes are proper, 0 to 5
 /// and 0 to 2.
@@ -36,25 +45,33 @@ pub fn forest_colours_are_proper()
 {}
 
 /// If old colours differ on the edges of the forests before forest f, its merge with them differs on
-/// those up to f, and is 0 to Δ.
+/// those up to f, is 0 to the span, and gives no vertex a colour that is barred at it.
 pub fn merge_keeps_forests_proper()
     ensures proper { (net : Net) → IsNetwork net → (f : ℕ) (old : ℕ → ℕ) →
         ((v w : ℕ) → IsEdge net v w → number net v w < f → old v ≢ old w) →
         (v w : ℕ) → IsEdge net v w → number net v w ≤ f → merge (merging net f old) v ≢ merge (merging net f old) w }
     ensures within { (net : Net) → IsNetwork net → (f : ℕ) (old : ℕ → ℕ) (v : ℕ) →
-        merge (merging net f old) v ≤ greatest_degree_of net }
+        merge (merging net f old) v ≤ span_of net }
+    ensures unbarred { (net : Net) → IsNetwork net → (f : ℕ) (old : ℕ → ℕ) (v : ℕ) →
+        IsBarred net v (merge (merging net f old) v) → ⊥ }
 {}
 
-/// The colours of a network differ on its edges, and are 0 to Δ.
+/// The colours of a network differ on its edges, are 0 to the span, and none is barred at its vertex.
 pub fn colours_are_proper()
     ensures proper { (net : Net) → IsNetwork net → (v w : ℕ) → IsEdge net v w → colours net v ≢ colours net w }
-    ensures within { (net : Net) → IsNetwork net → (v : ℕ) → colours net v ≤ greatest_degree_of net }
+    ensures within { (net : Net) → IsNetwork net → (v : ℕ) → colours net v ≤ span_of net }
+    ensures unbarred { (net : Net) → IsNetwork net → (v : ℕ) → IsBarred net v (colours net v) → ⊥ }
 {}
 
 /// The rounds are a node program: in the synchronous run of every network nothing is refused, and
 /// nothing is sent at the last pulse.
 pub fn rounds_are_a_program()
     ensures { IsProgram colouring }
+{}
+
+/// In no network is the last pulse greater.
+pub fn last_pulse_is_limited()
+    ensures { (net : Net) → IsNetwork net → last_pulse_on colouring net ≤ MAX_LAST_PULSE }
 {}
 
 /// At the last pulse of the synchronous run each node has its colour.
@@ -81,8 +98,8 @@ pub fn first_refusal_is_of_the_least_port()
 /// at the step of the pair of its three-colour and its old colour.
 pub fn merging_takes_the_steps_in_order()
     ensures phase { (sizes : Sizes) (t : ℕ) → t < sizes.forests * steps sizes →
-        phase_of sizes (FIRST_MERGE + t) ≡ Merge (step_of t sizes.greatest_degree).0 (t % steps sizes) }
-    ensures turn { (node : Node) (t : ℕ) → let step = step_of t node.sizes.greatest_degree in
+        phase_of sizes (FIRST_MERGE + t) ≡ Merge (step_of t (span sizes)).0 (t % steps sizes) }
+    ensures turn { (node : Node) (t : ℕ) → let step = step_of t (span node.sizes) in
         IsTrue (chooses node step.0 (t % steps node.sizes))
         ↔ ((slice_index node.colours step.0 ≡ step.1) × (node.colour_before ≡ step.2)) }
 {}
@@ -104,8 +121,8 @@ pub fn table_has_these_rows()
 pub fn work_has_these_phases_and_bounds()
     ensures phases { (sizes : Sizes) → map (phase_of sizes) (range_with_len 0 FIRST_MERGE) ≡ first_phases }
     ensures first_step { (c : ℕ) → is_above (Step 0) c ≡ false }
-    ensures second_step { (c : ℕ) → is_above (Step 1) c ≡ nat_lt 127 c }
-    ensures third_step { (c : ℕ) → is_above (Step 2) c ≡ nat_lt 13 c }
+    ensures second_step { (c : ℕ) → is_above (Step 1) c ≡ nat_lt 255 c }
+    ensures third_step { (c : ℕ) → is_above (Step 2) c ≡ nat_lt 15 c }
     ensures fourth_step { (c : ℕ) → is_above (Step 3) c ≡ nat_lt 7 c }
     ensures shift { (x c : ℕ) → is_above (Shift x) c ≡ nat_lt x c }
     ensures drop { (x c : ℕ) → is_above (Drop x) c ≡ nat_lt x c }

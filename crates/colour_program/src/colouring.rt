@@ -84,7 +84,8 @@ impl NodeProgram for Colouring {
 
     fn last_pulse(net: &Network) -> u32 {
         net.is_network();
-        FIRST_MERGE - 1 + net.forest_count() * (3 * (net.greatest_degree() + 1))
+        FIRST_MERGE - 1
+            + net.forest_count() * (3 * (net.greatest_degree() + net.greatest_bars() + 1))
     }
 
     fn make(alloc: Global, net: &Network, v: u32) -> Result<Self, Memory> {

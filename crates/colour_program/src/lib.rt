@@ -2,8 +2,8 @@
 //! the trait of `node_api`. `forestplan` prints its last colours as channels.
 //!
 //! Any engine of node programs runs it, as `run_rounds` of `sync_rounds` does. That its nodes end with
-//! the colours of the network, which differ on every edge and are 0 to Δ, is proved in `laws`. The rule
-//! of a refusal is one of `rules`.
+//! the colours of the network, which differ on every edge, are 0 to the span, and none barred at its node, is
+//! proved in `laws`. The rule of a refusal is one of `rules`.
 //!
 //! ```text
 //! for node in &run_rounds::<Colouring>(alloc, &net)? {

@@ -8,6 +8,7 @@ use Prim.{yes, no}
 use Rattle.node_api.specs.Boxes.{at_port}
 use Rattle.forests.specs.declared.numbering.Role.{Role}
 use Rattle.forests.specs.declared.numbering.Role.TheVariants.{Unknown, Up, Down}
+use Rattle.node_api.specs.Program.{span}
 use Rattle.colour_rules.specs.declared.payload.Payload.{Payload}
 use Rattle.colour_rules.specs.declared.payload.Payload.TheVariants.{Label, Chosen}
 use Rattle.colour_rules.specs.declared.phase.Phase.{Phase}
@@ -67,14 +68,14 @@ chosen_test limit c false false high e h = absurd (cc)
 chosen_test limit c true merged high e h = absurd (cc)
 
 chosen_fine : (node : Node) (f s : ℕ) (heard : List ℕ) (role : Role) (c : ℕ) → port_rule node heard (Merge f s) role (Some (Chosen c)) ≡ None →
-    c ≤ node.sizes.greatest_degree
+    c ≤ span node.sizes
 chosen_fine node f s heard Unknown c h = absurd (cc)
-chosen_fine node f s heard (Up g) c h = chosen_test node.sizes.greatest_degree c (s == 0) (is_merged f (Up g)) (nat_lt node.sizes.greatest_degree c) refl h
-chosen_fine node f s heard (Down g) c h = chosen_test node.sizes.greatest_degree c (s == 0) (is_merged f (Down g)) (nat_lt node.sizes.greatest_degree c) refl h
+chosen_fine node f s heard (Up g) c h = chosen_test (span node.sizes) c (s == 0) (is_merged f (Up g)) (nat_lt (span node.sizes) c) refl h
+chosen_fine node f s heard (Down g) c h = chosen_test (span node.sizes) c (s == 0) (is_merged f (Down g)) (nat_lt (span node.sizes) c) refl h
 
--- in the merging a colour that came as chosen is no greater than the greatest degree
+-- in the merging a colour that came as chosen is no greater than the span
 pub chosen-within : (node : Node) (f s : ℕ) (slots : List (Option Payload)) → length slots ≡ ports node → first_refusal node (Merge f s) slots ≡ None →
-    (port c : ℕ) → at_port slots port ≡ Some (Chosen c) → c ≤ node.sizes.greatest_degree
+    (port c : ℕ) → at_port slots port ≡ Some (Chosen c) → c ≤ span node.sizes
 chosen-within node f s slots size none port c here =
     let r = came node (Merge f s) slots size none port (Chosen c) here in
     chosen_fine node f s r.0 (get_or node.roles port Unknown) c r.1

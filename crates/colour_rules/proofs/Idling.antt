@@ -1,9 +1,13 @@
 -- A node whose turn it isn't, and that hears nothing, does nothing.
 use Rattle.std.proofs.Common.{◌≡◌, ◌≢◌, ℕ, zero, suc, ◌+◌, ◌-◌, ◌*◌, ◌<◌, ◌≤◌, ◌==◌, Bool, true, false, List, [], ◌∷◌, length, refl, ap, subst, sym, ◌∙◌, arith}
 use Rattle.std.specs.Prelude.{Option, None, Ok, slice_index, if◌then◌else◌}
+use Rattle.node_api.specs.Program.{span}
 use Rattle.colour_rules.specs.declared.idle.IdlePulses.{IdlePulses}
 use Rattle.colour_rules.specs.Idle.{IsIdle, IsWaiting, no_pulses}
 use Rattle.std.proofs.lemmas.Bool.Decides.{nat_tests}
+use Rattle.std.proofs.Math.Nat.{mul-le-mul_right}
+use native.Mathlib.Decide.{dec_lt}
+use Prim.{yes, no}
 use Rattle.node_api.specs.Boxes.{nothing}
 use Rattle.forests.specs.declared.numbering.Role.{Role}
 use Rattle.colour_rules.specs.declared.payload.Payload.{Payload}
@@ -18,11 +22,24 @@ use Rattle.colour_rules.proofs.Phases.{merge-pulse, phase-real}
 use Rattle.colour_rules.proofs.Steps.{waits-is}
 
 -- it is a node's turn at one step of a forest alone
-pub no-turn : (node : Node) (f s : ℕ) → node.colour_before ≤ node.sizes.greatest_degree →
-    slice_index node.colours f * (node.sizes.greatest_degree + 1) + node.colour_before ≢ s → chooses node f s ≡ false
+pub no-turn : (node : Node) (f s : ℕ) → node.colour_before ≤ span node.sizes →
+    slice_index node.colours f * (span node.sizes + 1) + node.colour_before ≢ s → chooses node f s ≡ false
 no-turn node f s low other =
-    pair_test (slice_index node.colours f) node.colour_before (node.sizes.greatest_degree + 1) s (omega arith)
-    ∙ (let e : (slice_index node.colours f * (node.sizes.greatest_degree + 1) + node.colour_before == s) ≡ false = grind (arith, nat_tests) in e)
+    pair_test (slice_index node.colours f) node.colour_before (span node.sizes + 1) s (omega arith)
+    ∙ (let e : (slice_index node.colours f * (span node.sizes + 1) + node.colour_before == s) ≡ false = grind (arith, nat_tests) in e)
+
+-- once its turn is over, a node has none up to the end of the forest
+pub no-turn-after : (node : Node) (f step s : ℕ) → node.colour_before ≤ span node.sizes →
+    (slice_index node.colours f ≤ 2 → slice_index node.colours f * (span node.sizes + 1) + node.colour_before ≤ step) → step < s → s < steps node.sizes →
+    chooses node f s ≡ false
+no-turn-after node f step s low over later below =
+    no-turn node f s low (λ here.
+    elim (dec_lt 2 (slice_index node.colours f)) [
+      | yes many ↦
+          let products : 3 * (span node.sizes + 1) ≤ slice_index node.colours f * (span node.sizes + 1) = mul-le-mul_right (span node.sizes + 1) (omega arith) in
+          omega (arith, products)
+      | no few ↦ omega (arith, over (omega arith))
+    ])
 
 none_refused : (node : Node) (f s port : ℕ) (earlier : List ℕ) (roles : List Role) →
     ports_refusal node (Merge f s) port earlier roles (nothing (length roles)) ≡ None

@@ -23,3 +23,4 @@ mod Valid
 pub mod Walking
 mod Worked
 pub mod Working
+pub mod Barring

@@ -21,6 +21,10 @@ pub told-if : (b : Bool) (out x y : Sent) → b ≡ true → out ≡ x → out �
 told-if true out x y e h = h
 told-if false out x y e h = absurd (cc)
 
+pub told-else : (b : Bool) (out x y : Sent) → b ≡ false → out ≡ y → out ≡ (if b then x else y)
+told-else true out x y e h = absurd (cc)
+told-else false out x y e h = h
+
 module _ (node : Node) (f s : ℕ) (inbox out : Sent) (here : Node) (is : here ≡ gathered node s inbox) where
   -- a node whose turn it isn't has gathered, and is silent
   pub waits-is : false ≡ chooses (gathered node s inbox) f s → out ≡ nothing (ports node) → (here, out) ≡ done node (Merge f s) inbox

@@ -8,6 +8,7 @@ use Rattle.node_api.specs.Boxes.{HasFrom, Mail, Reads, at_port, fold_rest, unrea
 use Rattle.node_api.proofs.Reading.{fold_rest-read, fold_rest-end}
 use Rattle.forests.specs.declared.numbering.Role.{Role}
 use Rattle.forests.specs.declared.numbering.Role.TheVariants.{Unknown, Up, Down}
+use Rattle.node_api.specs.Program.{span}
 use Rattle.colour_rules.specs.declared.payload.Payload.{Payload}
 use Rattle.colour_rules.specs.declared.payload.Payload.TheVariants.{Chosen}
 use Rattle.colour_rules.specs.declared.phase.Phase.{Phase}
@@ -21,22 +22,22 @@ use Rattle.colour_rules.proofs.Reading.{Next, next-is, none-left, taken_in, with
 use Rattle.colour_rules.proofs.Walking.{looked-end, looked-first, looked-more, looked-to}
 
 -- a colour that is low enough, from a port of the forests merged so far, breaks no rule
-chosen-comes : (node : Node) (f s c : ℕ) (earlier : List ℕ) (role : Role) → 0 < s → c ≤ node.sizes.greatest_degree → is_merged f role ≡ true →
+chosen-comes : (node : Node) (f s c : ℕ) (earlier : List ℕ) (role : Role) → 0 < s → c ≤ span node.sizes → is_merged f role ≡ true →
     port_rule node earlier (Merge f s) role (Some (Chosen c)) ≡ None
 chosen-comes node f s c earlier Unknown some low merged = absurd (cc)
 chosen-comes node f s c earlier (Up g) some low merged =
     let later : (s == 0) ≡ false = grind (arith, nat_tests) in
-    let fits : nat_lt node.sizes.greatest_degree c ≡ false = grind (arith, nat_tests) in
+    let fits : nat_lt (span node.sizes) c ≡ false = grind (arith, nat_tests) in
     rw (later, merged, fits) refl
 chosen-comes node f s c earlier (Down g) some low merged =
     let later : (s == 0) ≡ false = grind (arith, nat_tests) in
-    let fits : nat_lt node.sizes.greatest_degree c ≡ false = grind (arith, nat_tests) in
+    let fits : nat_lt (span node.sizes) c ≡ false = grind (arith, nat_tests) in
     rw (later, merged, fits) refl
 
 module _ (node : Node) (f : ℕ) (slots : List (Option Payload)) (same : length slots ≡ ports node) where
   -- so the ports up to its own are passed
   pub passed-more : (old new : Mail Payload) (port c : ℕ) → old.slots ≡ slots → port + 1 ≡ new.cursor → Reads old (Chosen c) new →
-      c ≤ node.sizes.greatest_degree → is_merged f (slice_index_or node.roles port Unknown) ≡ true → IsPassed node f slots old.cursor →
+      c ≤ span node.sizes → is_merged f (slice_index_or node.roles port Unknown) ≡ true → IsPassed node f slots old.cursor →
       IsPassed node f slots new.cursor
   passed-more old new port c here at reads low merged passed s some =
       let phase : Phase = Merge f s in

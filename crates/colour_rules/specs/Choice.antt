@@ -1,9 +1,10 @@
 -- How a node chooses its colour when a forest is merged with those before it.
-use Rattle.std.specs.Prelude.{◌≡◌, ◌≤◌, ℕ, ◌+◌, ◌/◌, ◌%◌, ◌==◌, Bool, false, List, []}
+use Rattle.std.specs.Prelude.{◌≡◌, ◌≤◌, ℕ, ◌+◌, ◌/◌, ◌%◌, ◌==◌, ◌||◌, Bool, false, List, []}
 use Rattle.std.specs.Prelude.{◌∷◌, Option, Some, if◌then◌else◌, slice_index}
 use Rattle.std.specs.Ordering.{nat_cmp}
 use Rattle.std.specs.FinSet.{FinSet, empty, insert, contains}
 use Rattle.node_api.specs.Boxes.{at_port}
+use Rattle.node_api.specs.Program.{span}
 use Rattle.forest_merge.specs.Free.{least_free_colour}
 use Rattle.colour_rules.specs.declared.payload.Payload.{Payload}
 use Rattle.colour_rules.specs.declared.payload.Payload.TheVariants.{Chosen}
@@ -35,9 +36,13 @@ gathered node s inbox =
 -- whether a node chooses at step s of forest f: its three-colour and its old colour are the pair of the step
 abbrev pub chooses : Node → ℕ → ℕ → Bool
 chooses node f s =
-    let colours : ℕ = node.sizes.greatest_degree + 1 in
+    let colours : ℕ = span node.sizes + 1 in
     if slice_index node.colours f == s / colours then node.colour_before == s % colours else false
 
--- the colour that a node chooses: the least that no neighbour before it chose
+-- whether a colour is taken for a node: a neighbour before it chose it, or it is barred
+abbrev pub is_taken : Node → ℕ → Bool
+is_taken node = λ c. contains node.chosen c || contains node.barred c
+
+-- the colour that a node chooses: the least that isn't taken
 abbrev pub free_for : Node → ℕ
-free_for node = least_free_colour node.sizes.greatest_degree (contains node.chosen)
+free_for node = least_free_colour (span node.sizes) (is_taken node)

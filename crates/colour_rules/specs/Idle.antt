@@ -1,6 +1,7 @@
 -- Pulses in which a node does nothing unless something comes.
 use Rattle.std.specs.Prelude.{◌≡◌, ℕ, ◌<◌, ◌≤◌, Ok, false, List, [], Option}
 use Rattle.node_api.specs.Boxes.{Mail, Reads, nothing}
+use Rattle.node_api.specs.Program.{span}
 use Rattle.colour_rules.specs.declared.idle.IdlePulses.{IdlePulses}
 use Rattle.colour_rules.specs.declared.phase.Phase.TheVariants.{Merge}
 use Rattle.colour_rules.specs.Node.{Node, phase_of, ports}
@@ -27,7 +28,7 @@ IsPassed node f slots port = (s : ℕ) → 0 < s → Looked node (Merge f s) slo
 -- Reading on from old gives a colour which may come at every step of forest f after its first.
 pub record IsTaken (node : Node) (f : ℕ) (old : Mail Payload) (c : ℕ) (new : Mail Payload) : Type 0 where
   pub reads : Reads old (Chosen c) new
-  pub low : c ≤ node.sizes.greatest_degree
+  pub low : c ≤ span node.sizes
   pub passed : IsPassed node f old.slots new.cursor
 
 -- no pulse at all

@@ -6,5 +6,5 @@ pub mod Program
 pub mod Stored
 pub mod Words
 pub mod Idle
-pub mod Chosen
+pub mod Taken
 pub mod InForests

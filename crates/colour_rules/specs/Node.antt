@@ -1,9 +1,10 @@
 -- What a node of the colouring keeps, and which phase of the rounds a pulse is in.
 use Rattle.std.specs.Prelude.{ℕ, ◌+◌, ◌-◌, ◌*◌, ◌/◌, ◌%◌, ◌<◌, ◌≤◌, ◌==◌, ⊤, if◌then◌else◌, nat_le, nat_lt}
-use Rattle.std.specs.Prelude.{List, length, map, replicate, Option, Some, IfSome, slice_index, slice_index_or}
+use Rattle.std.specs.Prelude.{List, filter, length, map, replicate, Option, Some, IfSome, slice_index, slice_index_or}
 use Rattle.std.specs.Ordering.{nat_cmp}
-use Rattle.std.specs.FinSet.{FinSet, empty}
-use Rattle.node_api.specs.Program.{Own, Sizes}
+use Rattle.std.specs.FinSet.{FinSet, contains, empty, from_list}
+use Rattle.node_api.specs.Program.{Own, Sizes, span}
+use Rattle.forest_merge.specs.Free.{least_free_colour}
 use Rattle.forests.specs.Forests.{forest}
 use Rattle.forests.specs.declared.numbering.Role.{Role}
 use Rattle.forests.specs.declared.numbering.Role.TheVariants.{Unknown}
@@ -29,10 +30,17 @@ pub record Node : Type 0 where
   pub merged : ℕ
   -- the colours that neighbours chose in that forest
   pub chosen : FinSet nat_cmp
+  -- the colours of 0 to the span that are barred at the node
+  pub barred : FinSet nat_cmp
 
--- a node before it greets: it knows no port, and every colour is 0
+-- those of these colours that are at most the limit
+abbrev pub up_to : ℕ → List ℕ → FinSet nat_cmp
+up_to limit bars = from_list (filter (λ c. nat_le c limit) bars)
+
+-- a node before it greets: it knows no port, its merged colour is the least that isn't barred, every other colour is 0
 abbrev pub made : Own → Node
 made own =
+    let barred : FinSet nat_cmp = up_to (span own.sizes) own.bars in
     record {
       id = own.id;
       sizes = own.sizes;
@@ -40,8 +48,9 @@ made own =
       colours = replicate own.sizes.forests 0;
       before = replicate own.sizes.forests 0;
       colour_before = 0;
-      merged = 0;
+      merged = least_free_colour (span own.sizes) (contains barred);
       chosen = empty;
+      barred = barred;
     }
 
 -- pulse 0: every neighbour is told the identifier
@@ -66,7 +75,7 @@ AreBelow n numbers = (i : ℕ) → i < length numbers → slice_index numbers i 
 
 -- how many steps the merging of one forest takes: one for each pair of a three-colour and an old colour
 abbrev pub steps : Sizes → ℕ
-steps sizes = 3 * (sizes.greatest_degree + 1)
+steps sizes = 3 * (span sizes + 1)
 
 -- the last pulse: after the colouring of the forests, the steps of each
 abbrev pub last : Sizes → ℕ

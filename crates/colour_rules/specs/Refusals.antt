@@ -4,6 +4,7 @@ use Rattle.std.specs.Prelude.{if◌then◌else◌, nat_lt, count_by, slice_index
 use Rattle.std.specs.List.{list_any}
 use Rattle.std.specs.Option.{option_or}
 use Rattle.node_api.specs.declared.program.Refused.{Refused}
+use Rattle.node_api.specs.Program.{span}
 use Rattle.forests.specs.declared.numbering.Role.{Role}
 use Rattle.forests.specs.declared.numbering.Role.TheVariants.{Unknown}
 use Rattle.colour_rules.specs.declared.phase.Reduction.TheVariants.{Shift, Drop}
@@ -77,7 +78,7 @@ own_rule node (Work (Shift x)) inbox = if list_any (is_above (Shift x)) node.col
 own_rule node (Work (Drop x)) inbox = if list_any (is_above (Drop x)) node.colours then Some COLOUR_RANGE else None
 own_rule node (Merge f s) inbox =
     let here : Node = gathered node s inbox in
-    if chooses here f s then (if nat_lt node.sizes.greatest_degree (free_for here) then Some COLOUR_RANGE else None)
+    if chooses here f s then (if nat_lt (span node.sizes) (free_for here) then Some COLOUR_RANGE else None)
     else None
 own_rule node phase inbox = None
 

@@ -8,35 +8,39 @@ use Rattle.forests.specs.declared.numbering.Role.{Role}
 use Rattle.colour_rules.specs.Node.{Node}
 
 abbrev Fields : Type 0
-Fields = ℕ × ((ℕ × (ℕ × ℕ)) × (List Role × (List ℕ × (List ℕ × (ℕ × (ℕ × set.FinSet nat_cmp))))))
+Fields =
+    ℕ × ((ℕ × (ℕ × (ℕ × ℕ)))
+    × (List Role × (List ℕ × (List ℕ × (ℕ × (ℕ × (set.FinSet nat_cmp × set.FinSet nat_cmp)))))))
 
 abbrev fields_of : Node → Fields
 fields_of node = (
   node.id,
   (
-    (node.sizes.nodes, (node.sizes.greatest_degree, node.sizes.forests)),
-    (node.roles, (node.colours, (node.before, (node.colour_before, (node.merged, node.chosen))))),
+    (node.sizes.nodes, (node.sizes.greatest_degree, (node.sizes.greatest_bars, node.sizes.forests))),
+    (node.roles, (node.colours, (node.before, (node.colour_before, (node.merged, (node.chosen, node.barred)))))),
   ),
 )
 
 abbrev node_of : Fields → Node
-node_of (id, (sizes, (roles, (colours, (before, (colour_before, (merged, chosen))))))) =
+node_of (id, (sizes, (roles, (colours, (before, (colour_before, (merged, (chosen, barred)))))))) =
     record {
       id = id;
-      sizes = record { nodes = sizes.0; greatest_degree = sizes.1.0; forests = sizes.1.1 };
+      sizes =
+          record { nodes = sizes.0; greatest_degree = sizes.1.0; greatest_bars = sizes.1.1.0; forests = sizes.1.1.1 };
       roles = roles;
       colours = colours;
       before = before;
       colour_before = colour_before;
       merged = merged;
       chosen = chosen;
+      barred = barred;
     }
 
 -- how a node is stored
 abbrev pub node_code : Coded Node
 node_code =
     code_by Fields
-    (coded× coded_ℕ (coded× (coded× coded_ℕ (coded× coded_ℕ coded_ℕ))
+    (coded× coded_ℕ (coded× (coded× coded_ℕ (coded× coded_ℕ (coded× coded_ℕ coded_ℕ)))
     (coded× (coded_list the_row.coded) (coded× (coded_list coded_ℕ) (coded× (coded_list coded_ℕ)
-    (coded× coded_ℕ (coded× coded_ℕ (set.code coded_ℕ))))))))
+    (coded× coded_ℕ (coded× coded_ℕ (coded× (set.code coded_ℕ) (set.code coded_ℕ)))))))))
     fields_of node_of (λ _. refl)

@@ -2,6 +2,7 @@
 use Rattle.std.specs.Prelude.{ℕ, ◌==◌, Bool, true, false, if◌then◌else◌, nat_lt, nat_le}
 use Rattle.std.specs.Prelude.{List, Option, Some, None, slice_index}
 use Rattle.forest_merge.specs.Free.{is_among}
+use Rattle.node_api.specs.Program.{span}
 use Rattle.forests.specs.Forests.{forest}
 use Rattle.forests.specs.declared.numbering.Role.{Role}
 use Rattle.forests.specs.declared.numbering.Role.TheVariants.{Unknown, Up, Down}
@@ -60,7 +61,7 @@ is_due Halted role = false
 
 -- the greatest colour that may come into bit step k, which is not the first: what the steps before it leave
 abbrev pub step_bound : ℕ → ℕ
-step_bound k = if k == 1 then 127 else if k == 2 then 13 else 7
+step_bound k = if k == 1 then 255 else if k == 2 then 15 else 7
 
 -- whether a colour is too high: any may come into the first bit step, and a class is dropped as the greatest colour
 abbrev pub is_above : Reduction → ℕ → Bool
@@ -88,5 +89,5 @@ value_rule node earlier (Work reduction) (Up f) (Colour c) =
     else if c == slice_index node.colours f then Some COLOUR_RANGE else None
 value_rule node earlier (Merge f s) role (Chosen c) =
     if s == 0 then Some FOREST_RANGE else if is_merged f role
-    then (if nat_lt node.sizes.greatest_degree c then Some COLOUR_RANGE else None) else Some FOREST_RANGE
+    then (if nat_lt (span node.sizes) c then Some COLOUR_RANGE else None) else Some FOREST_RANGE
 value_rule node earlier phase role payload = None

@@ -5,14 +5,15 @@ use Rattle.std.specs.Cmp.Lexicographic.{pointwise}
 use Rattle.std.proofs.Common.{arith, rules}
 use Rattle.std.proofs.lemmas.Bool.Decides.{nat_tests}
 use Rattle.std.specs.Char.{IsAsciiAlphabetic}
+use Rattle.cole_vishkin.specs.declared.step.TheConstants.{IDENTIFIER_DIGITS}
 use Rattle.colour_rules.specs.declared.payload.Payload.{Payload}
 use Rattle.colour_rules.specs.declared.payload.Payload.TheVariants.{Hello, Label, Colour, Chosen}
 
--- identifiers and the colours made of them have 64 binary digits, forests and chosen colours 16
+-- identifiers and the colours made of them have 128 binary digits, forests and chosen colours 16
 abbrev pub IsPayload : Payload → Type 0
-IsPayload (Hello id) = id < 2 ^ 64
+IsPayload (Hello id) = id < 2 ^ IDENTIFIER_DIGITS
 IsPayload (Label forest) = forest < 2 ^ 16
-IsPayload (Colour colour) = colour < 2 ^ 64
+IsPayload (Colour colour) = colour < 2 ^ IDENTIFIER_DIGITS
 IsPayload (Chosen colour) = colour < 2 ^ 16
 
 -- the word of its kind
@@ -32,9 +33,9 @@ number_in (Chosen colour) = colour
 -- what a word and a number say: a number of so many binary digits, after its word
 abbrev pub payload_from : List ℕ → ℕ → Option Payload
 payload_from word number =
-    if pointwise nat_eq word (codes "hello") && nat_lt number (2 ^ 64) then Some (Hello number)
+    if pointwise nat_eq word (codes "hello") && nat_lt number (2 ^ IDENTIFIER_DIGITS) then Some (Hello number)
     else if pointwise nat_eq word (codes "label") && nat_lt number (2 ^ 16) then Some (Label number)
-    else if pointwise nat_eq word (codes "colour") && nat_lt number (2 ^ 64) then Some (Colour number)
+    else if pointwise nat_eq word (codes "colour") && nat_lt number (2 ^ IDENTIFIER_DIGITS) then Some (Colour number)
     else if pointwise nat_eq word (codes "chosen") && nat_lt number (2 ^ 16) then Some (Chosen number)
     else None
 

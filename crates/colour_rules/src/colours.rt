@@ -8,7 +8,7 @@ ghost use Rattle.colour_rules.specs.Table.{is_above};
 
 use crate::phase::Reduction;
 use crate::ports::is_above;
-use cole_vishkin::bit_step;
+use cole_vishkin::{Identifier, bit_step};
 use node_api::Memory;
 use shift_down::{drop_class, shift};
 use std::alloc::Global;
@@ -31,13 +31,13 @@ pub(crate) struct InForests {
 
 impl InForest {
     // The colour, which is the identifier where the forests are seeded.
-    fn own(self, id: u64, is_seeded: bool) -> u64
+    fn own(self, id: Identifier, is_seeded: bool) -> Identifier
         ensures { result ≡ colour_by id is_seeded self }
     {
         if is_seeded {
             id
         } else {
-            u64::from(self.colour)
+            Identifier::from(self.colour)
         }
     }
 }
@@ -60,7 +60,7 @@ impl InForests {
     }
 
     // The colour in a forest.
-    pub(crate) fn own(&self, id: u64, forest: u16) -> u64
+    pub(crate) fn own(&self, id: Identifier, forest: u16) -> Identifier
         requires { forest < length (before_in self.now) }
         ensures { result ≡ slice_index (colours_in id self.now) forest }
     {
@@ -76,7 +76,7 @@ impl InForests {
     }
 
     // Whether a colour is too high.
-    pub(crate) fn has_above(&self, id: u64, reduction: Reduction) -> bool
+    pub(crate) fn has_above(&self, id: Identifier, reduction: Reduction) -> bool
         ensures { result ≡ list_any (is_above reduction) (colours_in id self.now) }
     {
         for forest in 0..self.each.len() {
@@ -88,7 +88,12 @@ impl InForests {
     }
 
     // Takes the next colour in each forest, by the colours of the parents.
-    pub(crate) fn turn_all(&mut self, reduction: Reduction, id: u64, parent_colours: &[Option<u64>])
+    pub(crate) fn turn_all(
+        &mut self,
+        reduction: Reduction,
+        id: Identifier,
+        parent_colours: &[Option<Identifier>],
+    )
         requires parent_colours { length parent_colours.now ≡ length (before_in self.old) }
         requires ready { AreReady reduction (colours_in id self.old) (before_in self.old) parent_colours.now }
         ensures colours { colours_in id self.new
@@ -109,10 +114,10 @@ impl InForests {
 // Takes the next colour in each forest, by the colours of the parents, and writes it down.
 fn turn_all(
     reduction: Reduction,
-    id: u64,
+    id: Identifier,
     is_seeded: bool,
     each: &mut [InForest],
-    parent_colours: &[Option<u64>],
+    parent_colours: &[Option<Identifier>],
 )
     requires parent_colours { length parent_colours.now ≡ length each.old }
     requires ready { AreReady reduction (colours_by id is_seeded each.old) (befores_of each.old) parent_colours.now }
@@ -129,7 +134,7 @@ fn turn_all(
 }
 
 // What is written down of the next colour in a forest.
-fn turned(reduction: Reduction, own: u64, before: u8, parent: Option<u64>) -> InForest
+fn turned(reduction: Reduction, own: Identifier, before: u8, parent: Option<Identifier>) -> InForest
     requires ready { IsReady reduction own before parent }
     ensures colour { result.colour ≡ turned reduction own before parent }
     ensures before { result.before ≡ kept reduction own before }
@@ -151,7 +156,7 @@ fn turned(reduction: Reduction, own: u64, before: u8, parent: Option<u64>) -> In
 }
 
 // The colour after a bit step: that of a place, and so low.
-fn stepped(own: u64, parent: Option<u64>) -> u8
+fn stepped(own: Identifier, parent: Option<Identifier>) -> u8
     requires { parent ≢ Some own }
     ensures { result ≡ bit_by own parent }
 {
@@ -163,7 +168,7 @@ fn stepped(own: u64, parent: Option<u64>) -> u8
 
 // The same, below a parent: a function of its own, since the checker knows the range of a parameter, and not of what
 // an `Option` holds.
-fn stepped_below(own: u64, parent: u64) -> u8
+fn stepped_below(own: Identifier, parent: Identifier) -> u8
     requires { parent ≢ own }
     ensures { result ≡ bit_by own (Some parent) }
 {
@@ -171,7 +176,7 @@ fn stepped_below(own: u64, parent: u64) -> u8
 }
 
 // A colour below 6, if there is one, as a byte.
-fn small(colour: Option<u64>) -> Option<u8>
+fn small(colour: Option<Identifier>) -> Option<u8>
     requires { IfSome colour (λ c. c < 6) }
     ensures { result ≡ colour }
 {

@@ -2,6 +2,7 @@
 ghost use Rattle.std.specs.Prelude.{◌≡◌, ◌<◌, ◌≤◌, IfSome, IsTrue, Ok, false, if◌then◌else◌, length, true};
 ghost use Rattle.std.specs.Prelude.{slice_index_or};
 ghost use Rattle.node_api.specs.Boxes.{HasFrom, nothing, unread};
+ghost use Rattle.node_api.specs.Program.{span};
 ghost use Rattle.forests.specs.declared.numbering.Role.TheVariants.{Unknown};
 ghost use Rattle.colour_rules.specs.Idle.{IsPassed, IsTaken, IsWaiting};
 ghost use Rattle.colour_rules.specs.Choice.{with_taken};
@@ -49,14 +50,14 @@ impl ColourNode {
         };
         // Most payloads come alone.
         if !inbox.has_next() {
-            self.chosen.add(first);
+            self.taken.add(first);
             return true;
         }
         if !self.takes_rest(forest, inbox) {
             return false;
         }
         inbox.rewind();
-        self.chosen.add_all(inbox);
+        self.taken.add_all(inbox);
         true
     }
 
@@ -95,9 +96,9 @@ impl ColourNode {
     // Whether a colour may come from a port at each step of a forest after the first.
     fn takes(&self, forest: u16, port: u32, colour: u16) -> bool
         requires { port < ports self.now }
-        ensures low { IsTrue result → colour ≤ self.now.sizes.greatest_degree }
+        ensures low { IsTrue result → colour ≤ span self.now.sizes }
         ensures merged { IsTrue result → is_merged forest (slice_index_or self.now.roles port Unknown) ≡ true }
     {
-        colour <= self.greatest_degree && is_merged(forest, self.roles[port as usize])
+        colour <= self.span() && is_merged(forest, self.roles[port as usize])
     }
 }

@@ -65,7 +65,7 @@ impl ColourNode {
         ensures idle { (s : ℕ) → step < s → s < result → chooses self.now forest s ≡ false }
     {
         let three = self.colours.own(self.id, forest);
-        let width = u32::from(self.greatest_degree) + 1;
+        let width = u32::from(self.span()) + 1;
         if three <= 2 {
             let turn = three as u32 * width + u32::from(self.colour_before);
             if step < turn {

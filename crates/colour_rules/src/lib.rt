@@ -18,10 +18,10 @@
 //! The forests are those of A. Panconesi and R. Rizzi, Some simple distributed algorithms for sparse
 //! networks, 2001. Merging them is this project's own.
 //!
-//! Limits: degree 1,023, and so 1,023 forests and colours 0 to 1,023. Only `make` is given an allocator.
+//! Limits: degree 1,023, and so 1,023 forests; 1,024 barred channels a node, and so colours 0 to 2,047. Only `make`
+//! is given an allocator.
 #![tactic(auto)]
 
-mod chosen;
 mod colours;
 mod hear;
 mod idle;
@@ -35,6 +35,7 @@ mod pulse;
 pub mod rules;
 mod shown;
 mod table;
+mod taken;
 mod tell;
 mod work;
 

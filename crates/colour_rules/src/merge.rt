@@ -1,12 +1,12 @@
 //! A step of the merging of a forest with those before it.
 ghost use Rattle.std.specs.Prelude.{◌≡◌, ◌<◌, ◌≤◌, ◌*◌, ◌↔◌, ℕ, IsTrue, Some, None, [], true, if◌then◌else◌, length};
-ghost use Rattle.std.specs.FinSet.{contains};
 ghost use Rattle.forest_merge.specs.Free.{HasFree};
 ghost use Rattle.node_api.specs.Boxes.{at_port, nothing, unread};
+ghost use Rattle.node_api.specs.Program.{span};
 ghost use Rattle.colour_rules.specs.declared.payload.Payload.TheVariants.{Chosen};
 ghost use Rattle.colour_rules.specs.declared.phase.Phase.TheVariants.{Merge};
 ghost use Rattle.colour_rules.specs.Node.{IsPhase, ports, steps};
-ghost use Rattle.colour_rules.specs.Choice.{ChosenWithin, chooses, free_for, gathered, with_chosen};
+ghost use Rattle.colour_rules.specs.Choice.{ChosenWithin, chooses, free_for, gathered, is_taken, with_chosen};
 ghost use Rattle.colour_rules.specs.Refusals.{own_rule};
 ghost use Rattle.colour_rules.specs.Program.{done};
 
@@ -44,7 +44,7 @@ impl ColourNode {
             self.colour_before
         };
         let three = self.colours.own(self.id, forest);
-        let width = u32::from(self.greatest_degree) + 1;
+        let width = u32::from(self.span()) + 1;
         three <= 2 && three as u32 * width + u32::from(old) == step
     }
 
@@ -53,7 +53,7 @@ impl ColourNode {
         requires forest { forest < self.now.sizes.forests }
         requires step { step < steps self.now.sizes }
         requires unread { inbox.old ≡ unread inbox.old.slots }
-        requires colours { ChosenWithin self.now.sizes.greatest_degree inbox.old.slots }
+        requires colours { ChosenWithin (span self.now.sizes) inbox.old.slots }
         ensures refused { let rule = own_rule self.now (Merge forest step) inbox.old.slots in
             rule ≡ (if result then Some COLOUR_RANGE else None) }
         ensures slots { inbox.new.slots ≡ inbox.old.slots }
@@ -67,12 +67,12 @@ impl ColourNode {
     // Whether neighbours have left a colour free in the forest, with what came at this step of it.
     fn has_free_at(&self, step: u32, inbox: &mut Inbox<Payload>) -> bool
         requires unread { inbox.old ≡ unread inbox.old.slots }
-        requires colours { ChosenWithin self.now.sizes.greatest_degree inbox.old.slots }
+        requires colours { ChosenWithin (span self.now.sizes) inbox.old.slots }
         ensures free { let here = gathered self.now step inbox.old.slots in
-            IsTrue result ↔ HasFree self.now.sizes.greatest_degree (contains here.chosen) }
+            IsTrue result ↔ HasFree (span self.now.sizes) (is_taken here) }
         ensures slots { inbox.new.slots ≡ inbox.old.slots }
     {
-        step == 0 || self.chosen.has_free_with(self.greatest_degree, inbox)
+        step == 0 || self.taken.has_free_with(self.span(), inbox)
     }
 
     // A step of the merging: the first of a forest begins with the colour so far, the others take in what
@@ -88,16 +88,16 @@ impl ColourNode {
         requires unread { inbox.old ≡ unread inbox.old.slots }
         requires ports { length inbox.old.slots ≡ ports self.old }
         requires out { out.old ≡ nothing (ports self.old) }
-        requires colours { ChosenWithin self.old.sizes.greatest_degree inbox.old.slots }
+        requires colours { ChosenWithin (span self.old.sizes) inbox.old.slots }
         requires free { let here = gathered self.old step inbox.old.slots in
-            chooses here forest step ≡ true → free_for here ≤ self.old.sizes.greatest_degree }
+            chooses here forest step ≡ true → free_for here ≤ span self.old.sizes }
         ensures node { (self.new, out.new) ≡ done self.old (Merge forest step) inbox.old.slots }
         ensures slots { inbox.new.slots ≡ inbox.old.slots }
     {
         let is_turn = self.chooses(forest, step);
         self.gather(step, inbox);
         if is_turn {
-            self.merged = self.chosen.least_free(self.greatest_degree);
+            self.merged = self.taken.least_free(self.span());
             if step + 1 != self.steps() {
                 self.tell_chosen(forest, out);
             }
@@ -107,15 +107,15 @@ impl ColourNode {
     // Hears what was chosen; at the first step of a forest, begins with the colour so far.
     fn gather(&mut self, step: u32, inbox: &mut Inbox<Payload>)
         requires unread { inbox.old ≡ unread inbox.old.slots }
-        requires colours { ChosenWithin self.old.sizes.greatest_degree inbox.old.slots }
+        requires colours { ChosenWithin (span self.old.sizes) inbox.old.slots }
         ensures node { self.new ≡ gathered self.old step inbox.old.slots }
         ensures slots { inbox.new.slots ≡ inbox.old.slots }
     {
         if step == 0 {
             self.colour_before = self.merged;
-            self.chosen.clear();
+            self.taken.clear();
         } else {
-            self.chosen.add_all(inbox);
+            self.taken.add_all(inbox);
         }
     }
 }

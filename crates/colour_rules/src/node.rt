@@ -5,9 +5,10 @@ ghost use Rattle.node_api.specs.Boxes.{nothing};
 ghost use Rattle.node_api.specs.Program.{own_of};
 ghost use Rattle.colour_rules.specs.Node.{greet, made, ports};
 
-use crate::chosen::ChosenColours;
 use crate::colours::InForests;
 use crate::payload::Payload;
+use crate::taken::TakenColours;
+use cole_vishkin::Identifier;
 use forests::Role;
 use node_api::{Memory, Network, Outbox};
 use std::alloc::Global;
@@ -16,28 +17,32 @@ use std::marker::Model;
 /// A node of the colouring. Contracts see the `Node` of `specs/Node.antt`.
 #[derive(Drop)]
 pub struct ColourNode {
-    pub(crate) id: u64,
+    pub(crate) id: Identifier,
     pub(crate) nodes: u32,
     pub(crate) greatest_degree: u16,
+    pub(crate) greatest_bars: u16,
     pub(crate) forests: u16,
     // By port. A known role names one of the forests.
     pub(crate) roles: Vec<Role>,
     // The colours before the last shift are 0 to 5.
     pub(crate) colours: InForests,
-    // The merged colour before the forest that is being merged, and now: 0 to the greatest degree.
+    // The merged colour before the forest that is being merged, and now: 0 to the span.
     pub(crate) colour_before: u16,
     pub(crate) merged: u16,
-    // With room for the colours 0 to the greatest degree.
-    pub(crate) chosen: ChosenColours,
+    // With room for the colours 0 to the span. Of these the barred ones leave one free.
+    pub(crate) taken: TakenColours,
 }
 
 impl Model for ColourNode {
-    ghost use Rattle.std.specs.Prelude.{◌≡◌, ◌<◌, ◌≤◌, length};
+    ghost use Rattle.std.specs.Prelude.{◌≡◌, ◌+◌, ◌<◌, ◌≤◌, length};
+    ghost use Rattle.std.specs.FinSet.{contains};
+    ghost use Rattle.forest_merge.specs.Free.{HasFree};
+    ghost use Rattle.node_api.below.dimacs_col.specs.declared.limits.TheConstants.{MAX_BARS};
     ghost use Rattle.node_api.below.interference.specs.declared.limits.TheConstants.{MAX_DEGREE};
-    ghost use Rattle.colour_rules.specs.Chosen.{chosen_in, room_of};
     ghost use Rattle.colour_rules.specs.InForests.{before_in, colours_in};
     ghost use Rattle.colour_rules.specs.Node.{AreBelow, HasForests, Node};
     ghost use Rattle.colour_rules.specs.Stored.{node_code};
+    ghost use Rattle.colour_rules.specs.Taken.{barred_in, chosen_in, room_of};
 
     ghost Value = { Node };
 
@@ -45,26 +50,33 @@ impl Model for ColourNode {
 
     ghost view = { λ a. record {
       id = a.id;
-      sizes = record { nodes = a.nodes; greatest_degree = a.greatest_degree; forests = a.forests };
+      sizes = record {
+        nodes = a.nodes;
+        greatest_degree = a.greatest_degree;
+        greatest_bars = a.greatest_bars;
+        forests = a.forests;
+      };
       roles = a.roles.items;
       colours = colours_in a.id a.colours;
       before = before_in a.colours;
       colour_before = a.colour_before;
       merged = a.merged;
-      chosen = chosen_in a.chosen;
+      chosen = chosen_in a.taken;
+      barred = barred_in a.taken;
     } };
 
     ghost invariant = { λ a. (a.greatest_degree ≤ MAX_DEGREE) × (a.forests ≤ MAX_DEGREE)
         × (length a.roles.items ≤ MAX_DEGREE)
         × (length (colours_in a.id a.colours) ≡ a.forests) × (length (before_in a.colours) ≡ a.forests)
         × HasForests a.forests a.roles.items × AreBelow 6 (before_in a.colours)
-        × (a.colour_before ≤ a.greatest_degree) × (a.merged ≤ a.greatest_degree)
-        × (a.greatest_degree < room_of a.chosen) };
+        × (a.colour_before ≤ a.greatest_degree + a.greatest_bars) × (a.merged ≤ a.greatest_degree + a.greatest_bars)
+        × HasFree (a.greatest_degree + a.greatest_bars) (contains (barred_in a.taken)) × (a.greatest_bars ≤ MAX_BARS)
+        × (a.greatest_degree + a.greatest_bars < room_of a.taken) };
 }
 
 impl ColourNode {
-    /// The node of vertex `v`, before it greets: every role is unknown, every colour is 0, and nothing
-    /// is chosen.
+    /// The node of vertex `v`, before it greets: every role is unknown, its merged colour is the least that
+    /// isn't barred, every other colour is 0, and nothing is chosen.
     ///
     /// # Errors
     ///
@@ -76,20 +88,23 @@ impl ColourNode {
         net.is_network();
         let degree = net.degree(v) as usize;
         let greatest_degree = net.greatest_degree() as u16;
+        let greatest_bars = net.greatest_bars() as u16;
+        let span = greatest_degree + greatest_bars;
         let forests = net.forest_count() as u16;
         let roles = vec![in alloc; Role::Unknown; degree]?;
         let colours = InForests::make(alloc, forests)?;
-        let chosen = ChosenColours::make(alloc, greatest_degree)?;
+        let taken = TakenColours::make(alloc, net.bars(v), span)?;
         Ok(ColourNode {
             id: net.id(v),
             nodes: net.nodes(),
             greatest_degree,
+            greatest_bars,
             forests,
             roles,
             colours,
             colour_before: 0,
-            merged: 0,
-            chosen,
+            merged: taken.least_free(span),
+            taken,
         })
     }
 
@@ -101,7 +116,7 @@ impl ColourNode {
         out.broadcast(Payload::Hello(self.id));
     }
 
-    /// The node's colour so far: 0 before its first choice, and its colour once the rounds are over.
+    /// The node's colour so far: the least that isn't barred before its first choice, and its colour once the rounds are over.
     pub fn colour(&self) -> u16
         ensures { result ≡ self.now.merged }
     {

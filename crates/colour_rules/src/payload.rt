@@ -1,5 +1,6 @@
 //! What the nodes of the colouring tell one another, and its text.
 
+use cole_vishkin::Identifier;
 use node_api::PayloadText;
 
 ///! What the nodes of the colouring tell one another. Its words are `hello`, `label`, `colour` and
@@ -7,11 +8,11 @@ use node_api::PayloadText;
 #[derive(Debug, Clone, Copy, PartialEq, Eq)]
 pub enum Payload {
     /// The sender's identifier.
-    Hello(u64),
+    Hello(Identifier),
     /// The receiver is the sender's parent in this forest.
     Label(u16),
     /// The sender's colour in the forest in which it is the receiver's parent.
-    Colour(u64),
+    Colour(Identifier),
     /// The colour that the sender chose in the merge.
     Chosen(u16),
 }
@@ -34,22 +35,21 @@ impl PayloadText for Payload {
 
     fn words(self) -> (&'static str, u128) {
         match self {
-            Payload::Hello(id) => ("hello", u128::from(id)),
+            Payload::Hello(id) => ("hello", id),
             Payload::Label(forest) => ("label", u128::from(forest)),
-            Payload::Colour(colour) => ("colour", u128::from(colour)),
+            Payload::Colour(colour) => ("colour", colour),
             Payload::Chosen(colour) => ("chosen", u128::from(colour)),
         }
     }
 
     fn from_words(word: &str, number: u128) -> Option<Self> {
-        let is_long = number <= u128::from(u64::MAX);
         let is_short = number <= u128::from(u16::MAX);
-        if word == "hello" && is_long {
-            Some(Payload::Hello(number as u64))
+        if word == "hello" {
+            Some(Payload::Hello(number))
         } else if word == "label" && is_short {
             Some(Payload::Label(number as u16))
-        } else if word == "colour" && is_long {
-            Some(Payload::Colour(number as u64))
+        } else if word == "colour" {
+            Some(Payload::Colour(number))
         } else if word == "chosen" && is_short {
             Some(Payload::Chosen(number as u16))
         } else {

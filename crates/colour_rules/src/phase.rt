@@ -1,6 +1,6 @@
 //! The phase of a pulse: the one place where the number of a pulse means something.
 ghost use Rattle.std.specs.Prelude.{◌≡◌, ◌≤◌, ◌+◌, ◌/◌, ◌%◌};
-ghost use Rattle.node_api.specs.Program.{sizes_of};
+ghost use Rattle.node_api.specs.Program.{sizes_of, span};
 ghost use Rattle.colour_rules.specs.Node.{IsPhase, phase_of, steps};
 ghost use Rattle.colour_rules.specs.Program.{is_last};
 
@@ -48,19 +48,26 @@ pub enum Phase {
 pub struct Schedule {
     pub(crate) nodes: u32,
     pub(crate) greatest_degree: u16,
+    pub(crate) greatest_bars: u16,
     pub(crate) forests: u16,
 }
 
 impl Model for Schedule {
     ghost use Rattle.std.specs.Prelude.{◌≤◌};
+    ghost use Rattle.node_api.below.dimacs_col.specs.declared.limits.TheConstants.{MAX_BARS};
     ghost use Rattle.node_api.below.interference.specs.declared.limits.TheConstants.{MAX_DEGREE};
     ghost use Rattle.node_api.specs.Program.{Sizes};
 
     ghost Value = { Sizes };
 
-    ghost view = { λ a. record { nodes = a.nodes; greatest_degree = a.greatest_degree; forests = a.forests } };
+    ghost view = { λ a. record {
+      nodes = a.nodes;
+      greatest_degree = a.greatest_degree;
+      greatest_bars = a.greatest_bars;
+      forests = a.forests;
+    } };
 
-    ghost invariant = { λ a. (a.greatest_degree ≤ MAX_DEGREE) × (a.forests ≤ MAX_DEGREE) };
+    ghost invariant = { λ a. (a.greatest_degree ≤ MAX_DEGREE) × (a.greatest_bars ≤ MAX_BARS) × (a.forests ≤ MAX_DEGREE) };
 }
 
 impl Schedule {
@@ -72,15 +79,23 @@ impl Schedule {
         Schedule {
             nodes: net.nodes(),
             greatest_degree: net.greatest_degree() as u16,
+            greatest_bars: net.greatest_bars() as u16,
             forests: net.forest_count() as u16,
         }
+    }
+
+    // The greatest colour.
+    fn span(&self) -> u16
+        ensures { result ≡ span self.now }
+    {
+        self.greatest_degree + self.greatest_bars
     }
 
     // How many steps the merging of a forest takes.
     fn steps(&self) -> u32
         ensures { result ≡ steps self.now }
     {
-        3 * (u32::from(self.greatest_degree) + 1)
+        3 * (u32::from(self.span()) + 1)
     }
 
     /// The phase of a pulse: greeting, orienting, seeding, ten pulses of work on the colours of the
@@ -120,10 +135,10 @@ impl Schedule {
 
     /// The three-colour and the old colour of the nodes that choose at a step of the merging of a forest.
     pub fn pair(&self, step: u32) -> (u32, u32)
-        ensures three { result.0 ≡ step / (self.now.greatest_degree + 1) }
-        ensures old { result.1 ≡ step % (self.now.greatest_degree + 1) }
+        ensures three { result.0 ≡ step / (span self.now + 1) }
+        ensures old { result.1 ≡ step % (span self.now + 1) }
     {
-        let colours = u32::from(self.greatest_degree) + 1;
+        let colours = u32::from(self.span()) + 1;
         (step / colours, step % colours)
     }
 }
@@ -136,8 +151,16 @@ impl ColourNode {
         Schedule {
             nodes: self.nodes,
             greatest_degree: self.greatest_degree,
+            greatest_bars: self.greatest_bars,
             forests: self.forests,
         }
+    }
+
+    // The greatest colour.
+    pub(crate) fn span(&self) -> u16
+        ensures { result ≡ span self.now.sizes }
+    {
+        self.schedule().span()
     }
 
     // How many steps the merging of a forest takes.

@@ -16,6 +16,7 @@ use crate::payload::Payload;
 use crate::phase::{Phase, Reduction};
 use crate::rules::{COLOUR_RANGE, FOREST_RANGE, MISSING};
 use crate::table::cell;
+use cole_vishkin::Identifier;
 use forests::Role;
 use node_api::{Inbox, Refused};
 
@@ -32,15 +33,15 @@ fn is_due(phase: Phase, role: Role) -> bool
 }
 
 // Whether a colour is too high: each bit step has a bound, and a class is dropped as the greatest colour.
-pub(crate) fn is_above(reduction: Reduction, colour: u64) -> bool
+pub(crate) fn is_above(reduction: Reduction, colour: Identifier) -> bool
     ensures { result ≡ is_above reduction colour }
 {
     match reduction {
         Reduction::Step(0) => false,
-        Reduction::Step(1) => 127 < colour,
-        Reduction::Step(2) => 13 < colour,
+        Reduction::Step(1) => 255 < colour,
+        Reduction::Step(2) => 15 < colour,
         Reduction::Step(_) => 7 < colour,
-        Reduction::Shift(class) | Reduction::Drop(class) => u64::from(class) < colour,
+        Reduction::Shift(class) | Reduction::Drop(class) => Identifier::from(class) < colour,
     }
 }
 
@@ -61,7 +62,13 @@ fn waits(phase: Phase) -> bool
 impl ColourNode {
     // The rule that a due payload breaks by its value; `earlier` are the identifiers that the ports
     // before brought.
-    fn value_rule(&self, phase: Phase, earlier: &[u64], role: Role, payload: Payload) -> Option<u16>
+    fn value_rule(
+        &self,
+        phase: Phase,
+        earlier: &[Identifier],
+        role: Role,
+        payload: Payload,
+    ) -> Option<u16>
         requires { IsIn self.now.sizes.forests role }
         ensures { result ≡ value_rule self.now earlier.now phase role payload }
     {
@@ -80,7 +87,7 @@ impl ColourNode {
                 if step == 0 || !is_merged(forest, role) {
                     Some(FOREST_RANGE)
                 } else {
-                    (self.greatest_degree < colour).then_some(COLOUR_RANGE)
+                    (self.span() < colour).then_some(COLOUR_RANGE)
                 }
             }
             _ => None,
@@ -91,7 +98,7 @@ impl ColourNode {
     fn look_at(
         &self,
         phase: Phase,
-        earlier: &[u64],
+        earlier: &[Identifier],
         port: u32,
         payload: Payload,
     ) -> Result<(), Refused>
@@ -139,7 +146,7 @@ impl ColourNode {
         &self,
         phase: Phase,
         from: u32,
-        earlier: &[u64],
+        earlier: &[Identifier],
         inbox: &mut Inbox<Payload>,
     ) -> Result<Payload, Refused>
         requires more { HasFrom inbox.old.slots inbox.old.cursor }
@@ -165,7 +172,7 @@ impl ColourNode {
     pub(crate) fn look_at_ports(
         &self,
         phase: Phase,
-        identifiers: &mut [u64],
+        identifiers: &mut [Identifier],
         inbox: &mut Inbox<Payload>,
     ) -> Result<usize, Refused>
         requires unread { inbox.old ≡ unread inbox.old.slots }

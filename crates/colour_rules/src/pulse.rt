@@ -15,6 +15,7 @@ use crate::node::ColourNode;
 use crate::payload::Payload;
 use crate::phase::{Phase, Reduction};
 use crate::rules::{COLOUR_RANGE, FOREST_RANGE};
+use cole_vishkin::Identifier;
 use node_api::{Inbox, MAX_DEGREE, Outbox, Refused};
 
 // How many ports a node has at most.
@@ -85,7 +86,7 @@ impl ColourNode {
     fn pulse_with(
         &mut self,
         pulse: u32,
-        identifiers: &mut [u64],
+        identifiers: &mut [Identifier],
         inbox: &mut Inbox<Payload>,
         out: &mut Outbox<Payload>,
     ) -> Result<IdlePulses, Refused>
@@ -112,7 +113,7 @@ impl ColourNode {
     fn do_work(
         &mut self,
         phase: Phase,
-        identifiers: &[u64],
+        identifiers: &[Identifier],
         inbox: &mut Inbox<Payload>,
         out: &mut Outbox<Payload>,
     )
@@ -136,7 +137,7 @@ impl ColourNode {
     fn look_at_own(
         &self,
         phase: Phase,
-        identifiers: &[u64],
+        identifiers: &[Identifier],
         inbox: &mut Inbox<Payload>,
     ) -> Result<(), Refused>
         requires real { IsPhase self.now.sizes phase }
@@ -164,7 +165,7 @@ impl ColourNode {
     }
 
     // Whether more identifiers are higher than the node's own than there are forests.
-    fn has_many_higher(&self, identifiers: &[u64]) -> bool
+    fn has_many_higher(&self, identifiers: &[Identifier]) -> bool
         ensures { result ≡ nat_lt self.now.sizes.forests (count_by (nat_lt self.now.id) identifiers.now) }
     {
         let higher = identifiers.iter().filter(|id| self.id < **id).count();

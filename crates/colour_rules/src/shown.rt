@@ -3,6 +3,7 @@ ghost use Rattle.std.specs.Prelude.{◌≡◌, ◌<◌, slice_index};
 ghost use Rattle.colour_rules.specs.Choice.{chooses};
 
 use crate::node::ColourNode;
+use cole_vishkin::Identifier;
 
 impl ColourNode {
     /// How many forests there are.
@@ -13,7 +14,7 @@ impl ColourNode {
     }
 
     /// The node's colour in a forest.
-    pub fn forest_colour(&self, forest: u16) -> u64
+    pub fn forest_colour(&self, forest: u16) -> Identifier
         requires forest { forest < self.now.sizes.forests }
         ensures { result ≡ slice_index self.now.colours forest }
     {
@@ -27,7 +28,7 @@ impl ColourNode {
         ensures { result ≡ chooses self.now forest step }
     {
         let (three, old) = self.schedule().pair(step);
-        self.colours.own(self.id, forest) == u64::from(three)
+        self.colours.own(self.id, forest) == Identifier::from(three)
             && u32::from(self.colour_before) == old
     }
 }

@@ -14,6 +14,7 @@ ghost use Rattle.colour_rules.specs.Program.{kept_all, tells_label, turned, turn
 use crate::node::ColourNode;
 use crate::payload::Payload;
 use crate::phase::Reduction;
+use cole_vishkin::Identifier;
 use forests::{Role, number_up};
 use node_api::{Inbox, MAX_DEGREE, Outbox};
 
@@ -31,7 +32,7 @@ impl ColourNode {
     // Numbers the ports to higher identifiers, and sends each parent the forest; `identifiers` are the
     // identifiers by port. Never inlined, so that other pulses don't pay for room on the stack.
     #[inline(never)]
-    pub(crate) fn orient(&mut self, identifiers: &[u64], out: &mut Outbox<Payload>)
+    pub(crate) fn orient(&mut self, identifiers: &[Identifier], out: &mut Outbox<Payload>)
         requires ports { length identifiers.now ≡ ports self.old }
         requires distinct { AllPairs (λ x y. x ≢ y) identifiers.now }
         requires others { All (λ id. id ≢ self.old.id) identifiers.now }
@@ -127,7 +128,7 @@ impl ColourNode {
     fn work_with(
         &mut self,
         reduction: Reduction,
-        parent_colours: &mut [Option<u64>],
+        parent_colours: &mut [Option<Identifier>],
         inbox: &mut Inbox<Payload>,
         out: &mut Outbox<Payload>,
     )
@@ -146,7 +147,7 @@ impl ColourNode {
     }
 
     // Writes the colour of the parent in each forest, if there is one.
-    fn hear_parents(&self, parent_colours: &mut [Option<u64>], inbox: &mut Inbox<Payload>)
+    fn hear_parents(&self, parent_colours: &mut [Option<Identifier>], inbox: &mut Inbox<Payload>)
         requires unread { inbox.old ≡ unread inbox.old.slots }
         requires ports { length inbox.old.slots ≡ ports self.now }
         requires room { length parent_colours.old ≡ self.now.sizes.forests }
@@ -179,7 +180,7 @@ fn labelled(role: Role, payload: Payload) -> Role
 }
 
 // The colour in a payload, if it has one.
-fn colour_of(payload: Payload) -> Option<u64>
+fn colour_of(payload: Payload) -> Option<Identifier>
     ensures { result ≡ colour_in (Some payload) }
 {
     match payload {

@@ -23,6 +23,8 @@ standard output holds a beginning of the answer.",
     format: "Input: a graph in the DIMACS format, a line each
   p edge NODES EDGES   before any e line: the number of vertices; any number
   e V W                an edge between two different vertices from 1 to NODES
+  i V NUMBER           the identifier of vertex V, below 2^128; else it is V
+  b V CHANNEL          a channel from 1 to 2048 that vertex V must not have
 Skipped are empty lines and those whose first field begins with c, or is one of
 n, d, v and x.
 
@@ -31,7 +33,12 @@ Faults of the input, reported as `forestplan: F6 line 2`, F1 without a line:
   F2  a second p line              F6  an edge from a vertex to itself
   F3  an e line before the p line  F7  above 20000 vertices or 400000 edges
   F4  a field is missing or wrong  F8  a line of an unknown kind
-and as `forestplan: N1 vertex 1` a vertex with more than 1023 neighbours.
+  F10 an i or a b line before the p line
+  F11 an identifier of 2^128 or more
+  F12 a second i line of a vertex  F13 a channel that is not from 1 to 2048
+  F14 more than 1024 channels barred at a vertex
+as `forestplan: N1 vertex 1` a vertex with more than 1023 neighbours, and as
+`forestplan: N2 vertices 1 2` two vertices with one identifier.
 
 Status, and what standard error then holds:
   0  done, or help was asked for    nothing
@@ -52,8 +59,9 @@ pub const FORESTS: Help = Help {
     about: "Prints the forests into which the edges are parted",
     long_about: "Prints the forests into which the edges are parted.
 
-Every vertex numbers its neighbours above it, ascending, from 0. The edges with
-number F are forest F, in which the higher end of an edge is the lower's parent.",
+Every vertex numbers its neighbours of higher identifier, ascending, from 0. The
+edges with number F are forest F, in which the end of higher identifier is the
+parent of the other.",
     format: "Input: a graph in the DIMACS format, as `p edge NODES EDGES` and then `e V W`.
 
 Output, a line each:
@@ -74,10 +82,11 @@ pub const PLAIN: Help = Help {
     about: "Prints a channel plan, in which neighbours have different channels",
     long_about: "Prints a channel plan, in which neighbours have different channels.
 
-Channels count from 1, and none is above the greatest number of neighbours, plus
-one. The vertices find them by messages to their neighbours, round by round on
-one thread: each forest gets three colours, and the forests are merged one by
-one. The plan depends on the graph alone.",
+Channels count from 1. No vertex gets one that is barred at it, and none is above
+the greatest number of neighbours plus the greatest number of barred channels of
+a vertex, plus one. The vertices find them by messages to their neighbours, round
+by round on one thread: each forest gets three colours, and the forests are merged
+one by one. The plan depends on the graph alone.",
     format: "Input: a graph in the DIMACS format, as `p edge NODES EDGES` and then `e V W`.
 
 Output, a line each:
@@ -126,9 +135,9 @@ for each other use up their turns.
 
 More workers are not faster on a small network: there is too little to do at
 once, and they wait for each other. A run grows with its rounds. With D as the
-greatest number of neighbours of a vertex, and U as that of neighbours above it,
-plain and plan make
-  R = 12 + 3 U (D + 1)
+greatest number of neighbours of a vertex, B as that of its barred channels, and U
+as that of its neighbours of higher identifier, plain and plan make
+  R = 12 + 3 U (D + B + 1)
 rounds, and plan sends for P messages on E edges in all
   2 P + 2 E (R + 1)
 wires. On the complete graph of 100 nodes R is 29712, and that is 296 million
@@ -178,9 +187,9 @@ the link, before its first pulse.
 
 Each wire has two lines, one where it was put and one where it was taken, and
 each node a line for each pulse. With D as the greatest number of neighbours of
-a vertex, and U as that of neighbours above it, N nodes and P messages on E edges
-make behind the first line
-  2 (2 P + 2 E (R + 1)) + N R    lines, where R = 12 + 3 U (D + 1)
+a vertex, B as that of its barred channels, U as that of its neighbours of higher
+identifier, N nodes and P messages on E edges make behind the first line
+  2 (2 P + 2 E (R + 1)) + N R    lines, where R = 12 + 3 U (D + B + 1)
 On the complete graph of 100 nodes that is 594 million lines, of 13 GB.
 A run that is cut off by --turns prints none: it reports `forestplan: stopped`
 (status 3).
@@ -209,7 +218,8 @@ pub const CHECK: Help = Help {
     long_about: "Checks a channel plan of a graph.
 
 A plan is proper if every vertex has one line, no line has another vertex, no
-channel is above the greatest number of neighbours, plus one, and no two
+channel is barred at its vertex, or above the greatest number of neighbours plus
+the greatest number of barred channels of a vertex, plus one, and no two
 neighbours share a channel. It does not matter who made the plan.",
     format: "Input: a graph in the DIMACS format, as `p edge NODES EDGES` and then `e V W`, and
 behind it a plan, a line each:
@@ -225,10 +235,13 @@ Faults of the plan, reported once the graph has none, each as
   C6  line N           line 1 isn't `plan` alone, or a later one not V CHANNEL
   C2  vertex V         a line of vertex 0 or of one above NODES
   C3  vertex V         a second line of a vertex
-  C5  vertex V         a channel above the greatest number of neighbours, plus 1
+  C5  vertex V         a channel above D + B + 1, where D is the greatest number
+                       of neighbours of a vertex, and B that of its barred channels
+  C8  vertex V         a channel that is barred at the vertex
   C1  vertex V         a vertex without a line
   C4  vertices V W     two neighbours that share a channel
-C2, C3 and C5 are looked for line by line. C6 is at line 1 if there is no plan.
+C2, C3, C5 and C8 are looked for line by line. C6 is at line 1 if there is no
+plan.
 If memory runs out (C7) it is reported as `forestplan: memory`.
 
 Example: a plan of the triangle
@@ -368,7 +381,9 @@ whatever the threads do: see `forestplan transcript`.",
 
 Output, a line each:
   rounds 1 N DELTA U R   how many vertices there are, neighbours of one at most,
-                         and forests, and the last pulse
+                         and forests, and the last pulse; if a channel is barred
+                         it is rounds 2 N DELTA BARS U R, where BARS is the
+                         greatest number of barred channels of a vertex
   pulse P PHASE          for each pulse from 0 to R: greet, orient, seed, step,
                          shift or drop, and from pulse 13 on merge F K J: now
                          those choose whose colour in forest F is K, and who had

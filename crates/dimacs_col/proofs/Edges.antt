@@ -31,7 +31,7 @@ use Rattle.std.specs.Set.{is_member, distinct_count}
 use Rattle.std.proofs.lemmas.Bool.{ltb-false}
 use Rattle.dimacs_col.specs.Lines.{Line, number_of, field_at}
 use Rattle.dimacs_col.specs.Kinds.{kind_of_word}
-use Rattle.dimacs_col.specs.Reading.{verdict, nodes_of, edges_of, edge_count, first_of, number_after}
+use Rattle.dimacs_col.specs.Reading.{verdict, nodes_of, edges_of, edge_count, first_of, id_in, ids_of, bars_of, number_after}
 use Rattle.dimacs_col.specs.Pairs.{same_pair, FitsIn}
 use Rattle.dimacs_col.specs.declared.limits.TheConstants.{MAX_NODES, MAX_EDGES}
 use Rattle.dimacs_col.specs.Bag.{SameMembers}
@@ -39,7 +39,7 @@ use Rattle.dimacs_col.specs.State.{Knows, kept_number}
 use Rattle.dimacs_col.specs.declared.reader.Reader.{Reader}
 use Rattle.dimacs_col.specs.declared.fault.ColFault.TheVariants.{VertexRange, TooLarge}
 use Rattle.dimacs_col.specs.declared.kind.Kind.TheVariants.{Edge}
-use Rattle.dimacs_col.proofs.Lists.{AllGood-push, nodes_of-same, edges_of-push, edge_count-of}
+use Rattle.dimacs_col.proofs.Lists.{AllGood-push, nodes_of-same, edges_of-push, edge_count-of, ids_of-same, bars_of-same}
 use Rattle.dimacs_col.proofs.Members.{member-push, members-push, same_pair-exact}
 use Rattle.dimacs_col.proofs.Verdicts.{verdict-edge, outside-any, kept-from, kept-inside, inside, differ}
 
@@ -51,6 +51,14 @@ edge-edges : (word : List ℕ) (fields : Line) (m n : ℕ) → kind_of_word word
     number_of (field_at fields 1) ≡ Some n → edges_of ((word ∷ fields) ∷ []) ≡ (min m n, max m n) ∷ []
 unfolding edges_of
 edge-edges word fields m n e p q = simp (e, p, q)
+
+edge-ids : (word : List ℕ) (fields : Line) → kind_of_word word ≡ Edge → ids_of ((word ∷ fields) ∷ []) ≡ []
+unfolding ids_of
+edge-ids word fields e = rw e refl
+
+edge-bars : (word : List ℕ) (fields : Line) → kind_of_word word ≡ Edge → bars_of ((word ∷ fields) ∷ []) ≡ []
+unfolding bars_of
+edge-bars word fields e = rw e refl
 
 -- ---- an `e` line whose numbers the reader keeps as v and w
 pub record IsEdge (before : List Line) (word : List ℕ) (fields : Line) (r : Reader) (nodes v w : ℕ) : Type 0 where
@@ -145,14 +153,20 @@ told-large before word fields r nodes v w edges p h = put-verdict before word fi
 
 pub knows-put : (before : List Line) (word : List ℕ) (fields : Line) (r : Reader) (number nodes v w : ℕ) (edges : List (ℕ × ℕ)) →
     IsPut before word fields r nodes v w edges → nat_lt MAX_EDGES (distinct_count same_pair edges) ≡ false →
-    Knows (before ++ (word ∷ fields) ∷ []) (record { line = number; nodes = r.nodes; edges = edges })
+    Knows (before ++ (word ∷ fields) ∷ []) (record { line = number; nodes = r.nodes; ids = r.ids; edges = edges; bars = r.bars })
 knows-put before word fields r number nodes v w edges p h =
     let same = put-members before word fields r nodes v w edges p in record {
       good = AllGood-push before (word ∷ fields) p.edge.knows.good (put-verdict before word fields r nodes v w edges false p h);
       nodes_are = p.edge.knows.nodes_are ∙ sym (nodes_of-same before (word ∷ fields) (edge-nodes word fields p.edge.kind));
       nodes_fit = p.edge.knows.nodes_fit;
+      ids_are = λ v. p.edge.knows.ids_are v ∙ ap (λ xs. id_in xs v) (sym (ids_of-same before (word ∷ fields) (edge-ids word fields p.edge.kind)));
+      ids_fit = λ v id h. p.edge.knows.ids_fit v id (rw (ids_of-same before (word ∷ fields) (edge-ids word fields p.edge.kind)) at h);
       edges_are = same;
       edges_few = ltb-false MAX_EDGES (edge_count (before ++ (word ∷ fields) ∷ []))
           (ap (nat_lt MAX_EDGES) (sym (edge_count-of edges (before ++ (word ∷ fields) ∷ []) same)) ∙ h);
       edges_fit = put-fits before word fields r nodes v w edges p;
+      bars_are = λ bar. p.edge.knows.bars_are bar
+          ∙ ap (λ xs. is_member same_pair xs bar) (sym (bars_of-same before (word ∷ fields) (edge-bars word fields p.edge.kind)));
+      bars_fit = λ bar h. p.edge.knows.bars_fit bar (rw (bars_of-same before (word ∷ fields) (edge-bars word fields p.edge.kind)) at h);
+      bars_counted = p.edge.knows.bars_counted;
     }

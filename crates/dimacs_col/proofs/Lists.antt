@@ -3,8 +3,8 @@ use Rattle.std.proofs.Common.{◌≡◌, ◌++◌, ◌⊎◌, inl, inr, ℕ, Boo
 use Rattle.std.specs.List.Sorted.{IsStrictlySortedBy}
 use Rattle.std.specs.Set.{distinct_count}
 use Rattle.dimacs_col.specs.Lines.{Line, value_at}
-use Rattle.dimacs_col.specs.Kinds.{kind_of, is_problem_kind, is_edge_kind}
-use Rattle.dimacs_col.specs.Reading.{AllGood, verdict, nodes_of, edges_of, edge_count}
+use Rattle.dimacs_col.specs.Kinds.{kind_of, is_problem_kind, is_edge_kind, is_identifier_kind, is_bar_kind}
+use Rattle.dimacs_col.specs.Reading.{AllGood, verdict, nodes_of, edges_of, edge_count, ids_of, bars_of}
 use Rattle.dimacs_col.specs.Pairs.{pair_cmp, same_pair}
 use Rattle.dimacs_col.specs.Bag.{SameMembers}
 use Rattle.dimacs_col.proofs.Members.{count-same, count-ascending}
@@ -78,6 +78,35 @@ edges_of-push (b ∷ bs) line = push-by (is_edge_kind (kind_of b)) refl (edges_o
 pub edges_of-same : (before : List Line) (line : Line) → edges_of (line ∷ []) ≡ [] → edges_of (before ++ line ∷ []) ≡ edges_of before
 edges_of-same before line none = rw (edges_of-push before line, none, append-nil) refl
 
+-- ---- identifiers
+pub ids_of-push : (before : List Line) (line : Line) → ids_of (before ++ line ∷ []) ≡ ids_of before ++ ids_of (line ∷ [])
+unfolding ids_of
+ids_of-push [] line = refl
+ids_of-push (b ∷ bs) line = push-by (is_identifier_kind (kind_of b)) refl (ids_of-push bs line)
+  where
+    push-by : (t : Bool) → is_identifier_kind (kind_of b) ≡ t → ids_of (bs ++ line ∷ []) ≡ ids_of bs ++ ids_of (line ∷ []) →
+        ids_of (b ∷ (bs ++ line ∷ [])) ≡ ids_of (b ∷ bs) ++ ids_of (line ∷ [])
+    push-by true t more = simp (t, more)
+    push-by false t more = simp (t, more)
+
+pub ids_of-same : (before : List Line) (line : Line) → ids_of (line ∷ []) ≡ [] → ids_of (before ++ line ∷ []) ≡ ids_of before
+ids_of-same before line none = rw (ids_of-push before line, none, append-nil) refl
+
+-- ---- bars
+pub bars_of-push : (before : List Line) (line : Line) → bars_of (before ++ line ∷ []) ≡ bars_of before ++ bars_of (line ∷ [])
+unfolding bars_of
+bars_of-push [] line = refl
+bars_of-push (b ∷ bs) line = push-by (is_bar_kind (kind_of b)) refl (bars_of-push bs line)
+  where
+    push-by : (t : Bool) → is_bar_kind (kind_of b) ≡ t → bars_of (bs ++ line ∷ []) ≡ bars_of bs ++ bars_of (line ∷ []) →
+        bars_of (b ∷ (bs ++ line ∷ [])) ≡ bars_of (b ∷ bs) ++ bars_of (line ∷ [])
+    push-by true t more = simp (t, more)
+    push-by false t more = simp (t, more)
+
+pub bars_of-same : (before : List Line) (line : Line) → bars_of (line ∷ []) ≡ [] → bars_of (before ++ line ∷ []) ≡ bars_of before
+bars_of-same before line none = rw (bars_of-push before line, none, append-nil) refl
+
+-- ---- how many edges
 pub edge_count-same : (before : List Line) (line : Line) → edges_of (line ∷ []) ≡ [] → edge_count (before ++ line ∷ []) ≡ edge_count before
 unfolding edge_count
 edge_count-same before line none = ap (distinct_count same_pair) (edges_of-same before line none)

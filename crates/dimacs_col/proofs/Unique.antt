@@ -1,15 +1,21 @@
 -- A text has one reading.
 -- Two ascending lists with the same members are one list: their heads are each other's least member.
 -- Two places in a list are one, or one stands among the lines before the other, and is good.
-use Rattle.std.proofs.Common.{◌≡◌, ◌≢◌, ◌++◌, ◌⊎◌, inl, inr, ◌||◌, ℕ, Bool, true, false, Some, None, List, [], ◌∷◌, refl, sym, ◌∙◌, ap, subst}
+use Rattle.std.proofs.Common.{◌≡◌, ◌≢◌, ◌++◌, ◌⊎◌, inl, inr, ◌||◌, ◌==◌, ℕ, Bool, true, false, Some, None, List, [], ◌∷◌, refl, sym, ◌∙◌, ap, subst}
 use Rattle.std.specs.Set.{is_member}
 use Rattle.std.specs.List.{Contains, AllByRecursion}
 use Rattle.std.specs.List.Sorted.{IsStrictlySortedBy}
 use Rattle.std.specs.Cmp.{both_ways}
-use Rattle.std.specs.Ordering.{ordering_reverse}
-use Rattle.std.specs.declared.cmp.Ordering.TheVariants.{Less}
+use Rattle.std.specs.Map.{keys_of}
+use Rattle.std.specs.Ordering.{is_eq, nat_cmp, ordering_reverse}
+use Rattle.std.specs.Cmp.{unsigned_ties}
+use Rattle.std.proofs.lemmas.Bool.{cases_eq, eq-eqb, ne_eqb}
+use Rattle.std.proofs.lemmas.Cmp.{nat_cmp_total}
+use Rattle.std.proofs.lemmas.Map.Lookups.{exact_unsigned}
+use Rattle.std.specs.declared.cmp.Ordering.{Ordering}
+use Rattle.std.specs.declared.cmp.Ordering.TheVariants.{Less, Equal, Greater}
 use Rattle.dimacs_col.specs.Lines.{Line}
-use Rattle.dimacs_col.specs.Reading.{AllGood, nodes_of, verdict, IsFirstFault, IsFault, IsGraph}
+use Rattle.dimacs_col.specs.Reading.{AllGood, Graph, id_in, nodes_of, verdict, IsFirstFault, IsFault, IsGraph}
 use Rattle.dimacs_col.specs.Pairs.{pair_cmp, same_pair}
 use Rattle.dimacs_col.specs.Bag.{SameMembers}
 use Rattle.dimacs_col.specs.declared.fault.ColFault.{ColFault}
@@ -22,6 +28,11 @@ use Rattle.dimacs_col.specs.declared.fault.ColFault.TheVariants.{
   SelfLoop,
   TooLarge,
   UnknownLine,
+  EarlyLine,
+  NumberRange,
+  IdTwice,
+  ChannelRange,
+  TooManyBars,
   Memory,
 }
 use Rattle.dimacs_col.proofs.Members.{pair_total, same_pair-laws, same_pair-exact, members-from_Contains}
@@ -84,15 +95,81 @@ same-list (x ∷ xs) (y ∷ ys) f g same =
     (λ h. tail-in x ys xs q low (λ p. sym (both p)) h)) in
     ap (λ zs. x ∷ zs) rest ∙ ap (λ z. z ∷ ys) is
 
--- ---- graphs
-pub one-nodes : (lines : List Line) (m n : ℕ) (edges others : List (ℕ × ℕ)) → IsGraph lines m edges → IsGraph lines n others → m ≡ n
-one-nodes lines m n edges others f g = let e : Some m ≡ Some n = sym f.nodes_are ∙ g.nodes_are in cc
+-- ---- identifiers: two ascending lists that give each vertex the same are one list
+-- a vertex below all those of a list has none there
+below-all : (v : ℕ) (ids : List (ℕ × ℕ)) → AllByRecursion (λ k. nat_cmp v k ≡ Less) (keys_of ids) → id_in ids v ≡ None
+below-all v [] low = refl
+below-all v (e ∷ es) low = let apart : (v == e.0) ≡ false = unsigned_ties v e.0 ∙ ap is_eq low.0 in rw apart (below-all v es low.1)
 
-pub one-edges : (lines : List Line) (m n : ℕ) (edges others : List (ℕ × ℕ)) → IsGraph lines m edges → IsGraph lines n others → edges ≡ others
-one-edges lines m n edges others f g =
-    let there = λ (pair : ℕ × ℕ) (h : Contains edges pair). (g.edges_are pair).1 ((f.edges_are pair).0 h) in
-    let back = λ (pair : ℕ × ℕ) (h : Contains others pair). (f.edges_are pair).1 ((g.edges_are pair).0 h) in
-    same-list edges others f.ascending g.ascending (members-from_Contains edges others there back)
+further-below : (a b : ℕ) (ks : List ℕ) → nat_cmp a b ≡ Less → AllByRecursion (λ k. nat_cmp b k ≡ Less) ks → AllByRecursion (λ k. nat_cmp a k ≡ Less) ks
+further-below a b [] h low = tt
+further-below a b (k ∷ ks) h low = (nat_cmp_total.trans a b k h low.0, further-below a b ks h low.1)
+
+id-here : (x : ℕ × ℕ) (xs : List (ℕ × ℕ)) → id_in (x ∷ xs) x.0 ≡ Some x.1
+id-here x xs = rw (eq-eqb x.0 x.0 refl) refl
+
+id-there : (v : ℕ) (x : ℕ × ℕ) (xs : List (ℕ × ℕ)) → (v ≡ x.0 → ⊥) → id_in (x ∷ xs) v ≡ id_in xs v
+id-there v x xs apart = rw (ne_eqb v x.0 apart) refl
+
+no-less : (x y : ℕ × ℕ) (xs ys : List (ℕ × ℕ)) → nat_cmp x.0 y.0 ≡ Less → AllByRecursion (λ k. nat_cmp y.0 k ≡ Less) (keys_of ys) →
+    id_in (x ∷ xs) x.0 ≡ id_in (y ∷ ys) x.0 → ⊥
+no-less x y xs ys h low same =
+    let none : id_in (y ∷ ys) x.0 ≡ None = below-all x.0 (y ∷ ys) (h, further-below x.0 y.0 (keys_of ys) h low) in
+    let e : Some x.1 ≡ None = sym (id-here x xs) ∙ same ∙ none in absurd cc
+
+same-keys : (x y : ℕ × ℕ) (xs ys : List (ℕ × ℕ)) → AllByRecursion (λ k. nat_cmp x.0 k ≡ Less) (keys_of xs) →
+    AllByRecursion (λ k. nat_cmp y.0 k ≡ Less) (keys_of ys) → ((v : ℕ) → id_in (x ∷ xs) v ≡ id_in (y ∷ ys) v) → x.0 ≡ y.0
+same-keys x y xs ys f g same = by-order (nat_cmp x.0 y.0) refl
+  where
+    by-order : (o : Ordering) → nat_cmp x.0 y.0 ≡ o → x.0 ≡ y.0
+    by-order Less o = absurd (no-less x y xs ys o g (same x.0))
+    by-order Equal o = exact_unsigned x.0 y.0 o
+    by-order Greater o = absurd (no-less y x ys xs (nat_cmp_total.antisymm y.0 x.0 ∙ ap ordering_reverse o) f (sym (same y.0)))
+
+same-tails : (x y : ℕ × ℕ) (xs ys : List (ℕ × ℕ)) → x.0 ≡ y.0 → AllByRecursion (λ k. nat_cmp x.0 k ≡ Less) (keys_of xs) →
+    AllByRecursion (λ k. nat_cmp y.0 k ≡ Less) (keys_of ys) → ((v : ℕ) → id_in (x ∷ xs) v ≡ id_in (y ∷ ys) v) →
+    (v : ℕ) → (v ≡ x.0) ⊎ (v ≡ x.0 → ⊥) → id_in xs v ≡ id_in ys v
+same-tails x y xs ys key f g same v (inl is) =
+    ap (λ q. id_in xs q) is ∙ below-all x.0 xs f ∙ sym (ap (λ q. id_in ys q) (is ∙ key) ∙ below-all y.0 ys g)
+same-tails x y xs ys key f g same v (inr apart) = sym (id-there v x xs apart) ∙ same v ∙ id-there v y ys (λ e. apart (e ∙ sym key))
+
+same-entry : (x y : ℕ × ℕ) → x.0 ≡ y.0 → x.1 ≡ y.1 → x ≡ y
+same-entry (a, b) (c, d) p q = ap (λ k. (k, b)) p ∙ ap (λ n. (c, n)) q
+
+same-ids : (ids others : List (ℕ × ℕ)) → IsStrictlySortedBy nat_cmp (keys_of ids) → IsStrictlySortedBy nat_cmp (keys_of others) →
+    ((v : ℕ) → id_in ids v ≡ id_in others v) → ids ≡ others
+unfolding IsStrictlySortedBy
+same-ids [] [] f g same = refl
+same-ids [] (y ∷ ys) f g same = let e : None ≡ Some y.1 = same y.0 ∙ id-here y ys in absurd cc
+same-ids (x ∷ xs) [] f g same = let e : None ≡ Some x.1 = sym (same x.0) ∙ id-here x xs in absurd cc
+same-ids (x ∷ xs) (y ∷ ys) f g same =
+    let key : x.0 ≡ y.0 = same-keys x y xs ys f.0 g.0 same in
+    let e : Some x.1 ≡ Some y.1 = sym (id-here x xs) ∙ same x.0 ∙ ap (λ q. id_in (y ∷ ys) q) key ∙ id-here y ys in
+    let value : x.1 ≡ y.1 = cc in
+    let rest : xs ≡ ys = same-ids xs ys f.1 g.1 (λ v. same-tails x y xs ys key f.0 g.0 same v (cases_eq v x.0)) in
+    ap (λ zs. x ∷ zs) rest ∙ ap (λ z. z ∷ ys) (same-entry x y key value)
+
+-- ---- graphs
+abbrev graph-with : ℕ → List (ℕ × ℕ) → List (ℕ × ℕ) → List (ℕ × ℕ) → Graph
+graph-with nodes ids edges bars = record { nodes = nodes; ids = ids; edges = edges; bars = bars }
+
+same-graph : (f g : Graph) → f.nodes ≡ g.nodes → f.ids ≡ g.ids → f.edges ≡ g.edges → f.bars ≡ g.bars → f ≡ g
+same-graph f g a b d e =
+    ap (λ k. graph-with k f.ids f.edges f.bars) a ∙ ap (λ xs. graph-with g.nodes xs f.edges f.bars) b ∙ ap (λ xs. graph-with g.nodes g.ids xs f.bars) d
+    ∙ ap (graph-with g.nodes g.ids g.edges) e
+
+pub one-graph : (lines : List Line) (graph other : Graph) → IsGraph lines graph → IsGraph lines other → graph ≡ other
+one-graph lines graph other f g =
+    let e : Some graph.nodes ≡ Some other.nodes = sym f.nodes_are ∙ g.nodes_are in
+    let nodes : graph.nodes ≡ other.nodes = cc in
+    let ids = same-ids graph.ids other.ids f.ids_ascend g.ids_ascend (λ v. f.ids_are v ∙ sym (g.ids_are v)) in
+    let there = λ (pair : ℕ × ℕ) (h : Contains graph.edges pair). (g.edges_are pair).1 ((f.edges_are pair).0 h) in
+    let back = λ (pair : ℕ × ℕ) (h : Contains other.edges pair). (f.edges_are pair).1 ((g.edges_are pair).0 h) in
+    let edges = same-list graph.edges other.edges f.edges_ascend g.edges_ascend (members-from_Contains graph.edges other.edges there back) in
+    let bar_there = λ (bar : ℕ × ℕ) (h : Contains graph.bars bar). (g.bars_are bar).1 ((f.bars_are bar).0 h) in
+    let bar_back = λ (bar : ℕ × ℕ) (h : Contains other.bars bar). (f.bars_are bar).1 ((g.bars_are bar).0 h) in
+    let bars = same-list graph.bars other.bars f.bars_ascend g.bars_ascend (members-from_Contains graph.bars other.bars bar_there bar_back) in
+    same-graph graph other nodes ids edges bars
 
 -- ---- faults
 -- what a fault is, with the faults of a line taken together
@@ -111,14 +188,19 @@ told lines (VertexRange n) h = at_line h
 told lines (SelfLoop n) h = at_line h
 told lines (TooLarge n) h = at_line h
 told lines (UnknownLine n) h = at_line h
+told lines (EarlyLine n) h = at_line h
+told lines (NumberRange n) h = at_line h
+told lines (IdTwice n) h = at_line h
+told lines (ChannelRange n) h = at_line h
+told lines (TooManyBars n) h = at_line h
 
 not-good : (lines : List Line) (fault : ColFault) → AllGood lines → IsFirstFault lines fault → ⊥
 not-good lines fault good h = let e : Some fault ≡ None = sym h.told ∙ good h.before h.line h.after h.place in absurd cc
 
-pub graph-or_fault : (lines : List Line) (n : ℕ) (edges : List (ℕ × ℕ)) (fault : ColFault) → IsGraph lines n edges → IsFault lines fault → fault ≡ Memory
-graph-or_fault lines n edges fault g h = elim (told lines fault h) [
+pub graph-or_fault : (lines : List Line) (graph : Graph) (fault : ColFault) → IsGraph lines graph → IsFault lines fault → fault ≡ Memory
+graph-or_fault lines graph fault g h = elim (told lines fault h) [
   | no_memory is ↦ is
-  | no_problem is good none ↦ let e : Some n ≡ None = sym g.nodes_are ∙ none in absurd cc
+  | no_problem is good none ↦ let e : Some graph.nodes ≡ None = sym g.nodes_are ∙ none in absurd cc
   | at_line first ↦ absurd (not-good lines fault g.good first)
 ]
 

@@ -27,18 +27,19 @@ use Rattle.std.proofs.Common.{
   drop,
 }
 use Rattle.std.proofs.lemmas.Bool.Decides.{nat_tests}
-use Rattle.dimacs_col.specs.declared.limits.TheConstants.{MAX_NODES, MAX_EDGES}
-use Rattle.dimacs_col.specs.Lines.{Line, number_of}
+use Rattle.dimacs_col.specs.declared.limits.TheConstants.{MAX_NODES, MAX_EDGES, MAX_CHANNEL, MAX_BARS}
+use Rattle.dimacs_col.specs.Lines.{Line, is_channel, is_identifier, number_of}
 use Rattle.dimacs_col.specs.Lines.{field_at}
 use Rattle.dimacs_col.specs.Kinds.{kind_of_word, kind_of, is_format}
-use Rattle.dimacs_col.specs.Reading.{verdict, first_of, nodes_of, edge_count, number_after}
+use Rattle.dimacs_col.specs.Reading.{verdict, first_of, nodes_of, edge_count, has_id, bar_count, number_after}
 use Rattle.std.specs.List.{slice_get}
 use Rattle.std.proofs.lemmas.List.{get_or-drop}
 use Rattle.std.proofs.lemmas.Bool.{le-ltb, ne_eqb}
 use Rattle.std.specs.Option.{is_some}
 use Rattle.dimacs_col.specs.State.{kept, kept_number}
-use Rattle.dimacs_col.specs.declared.kind.Kind.TheVariants.{Skipped, Problem, Edge, Unknown}
-use Rattle.dimacs_col.specs.declared.fault.ColFault.TheVariants.{VertexRange, SelfLoop, TooLarge, UnknownLine}
+use Rattle.dimacs_col.specs.declared.kind.Kind.TheVariants.{Skipped, Problem, Edge, Identifier, Bar, Unknown}
+use Rattle.dimacs_col.specs.declared.fault.ColFault.TheVariants.{VertexRange, SelfLoop, TooLarge, UnknownLine, NumberRange, IdTwice}
+use Rattle.dimacs_col.specs.declared.fault.ColFault.TheVariants.{ChannelRange, TooManyBars}
 
 pub verdict-skipped : (before : List Line) (line : Line) → kind_of line ≡ Skipped → verdict before line ≡ None
 unfolding verdict
@@ -73,6 +74,42 @@ pub verdict-edge : (before : List Line) (word : List ℕ) (fields : Line) (nodes
     ) ∷ [])
 unfolding verdict
 verdict-edge before word fields nodes m n b1 b2 b3 k o p q e1 e2 e3 = simp (k, o, p, q, e1, e2, e3)
+
+pub verdict-identifier : (before : List Line) (word : List ℕ) (fields : Line) (nodes m n : ℕ) (b1 b2 b3 : Bool) → kind_of_word word ≡ Identifier →
+    nodes_of before ≡ Some nodes → number_of (field_at fields 0) ≡ Some m → number_of (field_at fields 1) ≡ Some n →
+    is_outside nodes m ≡ b1 → is_identifier n ≡ b2 → has_id before m ≡ b3 →
+    verdict before (word ∷ fields) ≡ first_of ((b1, VertexRange (number_after before)) ∷ (not b2, NumberRange (number_after before)) ∷ (
+      b3,
+      IdTwice (number_after before),
+    ) ∷ [])
+unfolding verdict
+verdict-identifier before word fields nodes m n b1 b2 b3 k o p q e1 e2 e3 = simp (k, o, p, q, e1, e2, e3)
+
+pub verdict-bar : (before : List Line) (word : List ℕ) (fields : Line) (nodes m n : ℕ) (b1 b2 b3 : Bool) → kind_of_word word ≡ Bar →
+    nodes_of before ≡ Some nodes → number_of (field_at fields 0) ≡ Some m → number_of (field_at fields 1) ≡ Some n →
+    is_outside nodes m ≡ b1 → is_channel n ≡ b2 → nat_lt MAX_BARS (bar_count (before ++ (word ∷ fields) ∷ []) m) ≡ b3 →
+    verdict before (word ∷ fields) ≡ first_of ((b1, VertexRange (number_after before)) ∷ (not b2, ChannelRange (number_after before)) ∷ (
+      b3,
+      TooManyBars (number_after before),
+    ) ∷ [])
+unfolding verdict
+verdict-bar before word fields nodes m n b1 b2 b3 k o p q e1 e2 e3 = simp (k, o, p, q, e1, e2, e3)
+
+-- what is kept of a channel is in range just as the number is
+pub channel-outside : (n w : ℕ) → w ≡ kept n → (0 < w → w ≤ MAX_CHANNEL → ⊥) → is_channel n ≡ false
+channel-outside n w k bad = grind (arith, nat_tests)
+
+pub channel-inside : (w : ℕ) → 0 < w → w ≤ MAX_CHANNEL → is_channel w ≡ true
+channel-inside w low high = grind (arith, nat_tests)
+
+pub kept-channel : (n w : ℕ) → w ≡ kept n → w ≤ MAX_CHANNEL → n ≡ w
+kept-channel n w k high = grind arith
+
+pub outside-one : (nodes m v : ℕ) → nodes ≤ MAX_NODES → v ≡ kept m → (0 < v → v ≤ nodes → ⊥) → is_outside nodes m ≡ true
+outside-one nodes m v small k bad = grind (arith, nat_tests)
+
+pub inside-one : (nodes m : ℕ) → 0 < m → m ≤ nodes → is_outside nodes m ≡ false
+inside-one nodes m a b = grind (arith, nat_tests)
 
 pub outside-first : (nodes m n v : ℕ) → nodes ≤ MAX_NODES → v ≡ kept m → (v ≡ 0) ⊎ (nodes < v) → (is_outside nodes m || is_outside nodes n) ≡ true
 outside-first nodes m n v small k h = grind (arith, nat_tests)

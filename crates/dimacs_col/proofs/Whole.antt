@@ -16,6 +16,11 @@ use Rattle.dimacs_col.specs.declared.fault.ColFault.TheVariants.{
   SelfLoop,
   TooLarge,
   UnknownLine,
+  EarlyLine,
+  NumberRange,
+  IdTwice,
+  ChannelRange,
+  TooManyBars,
   Memory,
 }
 
@@ -50,6 +55,11 @@ fault-told lines before line after (VertexRange n) place good told = first-fault
 fault-told lines before line after (SelfLoop n) place good told = first-fault lines before line after (SelfLoop n) place good told
 fault-told lines before line after (TooLarge n) place good told = first-fault lines before line after (TooLarge n) place good told
 fault-told lines before line after (UnknownLine n) place good told = first-fault lines before line after (UnknownLine n) place good told
+fault-told lines before line after (EarlyLine n) place good told = first-fault lines before line after (EarlyLine n) place good told
+fault-told lines before line after (NumberRange n) place good told = first-fault lines before line after (NumberRange n) place good told
+fault-told lines before line after (IdTwice n) place good told = first-fault lines before line after (IdTwice n) place good told
+fault-told lines before line after (ChannelRange n) place good told = first-fault lines before line after (ChannelRange n) place good told
+fault-told lines before line after (TooManyBars n) place good told = first-fault lines before line after (TooManyBars n) place good told
 
 -- `YieldsList-end` and its kin, with the road last
 pub items-at_end : {S A B : Type 0} {steps : S → Option A → S → Type 0} {v : A → B} {s : S} {all : List B} (xs : List A) (t : S) (y : Yields steps s xs t)

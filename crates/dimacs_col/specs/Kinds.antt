@@ -3,13 +3,15 @@ use Rattle.std.specs.Prelude.{ℕ, Bool, true, false, List, [], ◌∷◌, ◌==
 use Rattle.std.specs.Str.{bytes_eq}
 use Rattle.dimacs_col.specs.Lines.{Line}
 use Rattle.dimacs_col.specs.declared.kind.Kind.{Kind}
-use Rattle.dimacs_col.specs.declared.kind.Kind.TheVariants.{Skipped, Problem, Edge, Unknown}
+use Rattle.dimacs_col.specs.declared.kind.Kind.TheVariants.{Skipped, Problem, Edge, Identifier, Bar, Unknown}
 
 -- the words that a line can begin with
 abbrev pub words : List (List ℕ × Kind)
 words =
     (codes "p", Problem)
     ∷ (codes "e", Edge)
+    ∷ (codes "i", Identifier)
+    ∷ (codes "b", Bar)
     ∷ (codes "n", Skipped)
     ∷ (codes "d", Skipped)
     ∷ (codes "v", Skipped)
@@ -40,6 +42,14 @@ is_problem_kind _ = false
 abbrev pub is_edge_kind : Kind → Bool
 is_edge_kind Edge = true
 is_edge_kind _ = false
+
+abbrev pub is_identifier_kind : Kind → Bool
+is_identifier_kind Identifier = true
+is_identifier_kind _ = false
+
+abbrev pub is_bar_kind : Kind → Bool
+is_bar_kind Bar = true
+is_bar_kind _ = false
 
 -- the FORMAT of a problem line
 unfoldable pub is_format : List ℕ → Bool

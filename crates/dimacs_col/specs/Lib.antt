@@ -1,6 +1,7 @@
 pub mod Pairs
 pub mod Lines
 pub mod Bag
+pub mod BarSets
 pub mod Kinds
 pub mod Reading
 pub mod State

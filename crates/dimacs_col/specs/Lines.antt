@@ -1,10 +1,11 @@
 -- How a text is cut into lines and a line into fields, and which number a field is.
-use Rattle.std.specs.Prelude.{ℕ, Bool, nat_lt, not, ◌==◌, ◌||◌, if◌then◌else◌, List, [], map, filter, length}
-use Rattle.std.specs.Prelude.{Option, Some, None, is_none, unwrap_or}
+use Rattle.std.specs.Prelude.{ℕ, ◌^◌, Bool, nat_lt, not, ◌==◌, ◌&&◌, ◌||◌, if◌then◌else◌, List, [], map, filter, length}
+use Rattle.std.specs.Prelude.{Option, Some, None, is_none, option_and_then, unwrap_or}
 use Rattle.std.specs.List.{slice_split, slice_index_or}
 use Rattle.std.specs.Str.{all_ascii_digits}
 use Rattle.std.specs.Str.Lines.{strip_carriage_return}
 use Rattle.std.specs.Str.Parse.{digits_value}
+use Rattle.dimacs_col.specs.declared.limits.TheConstants.{IDENTIFIER_DIGITS, MAX_CHANNEL}
 
 -- a line is the list of its fields, each a list of bytes
 abbrev pub Line : Type 0
@@ -36,6 +37,22 @@ lines_of text = map line_of (slice_split (λ byte. byte == 10) text)
 unfoldable pub number_of : List ℕ → Option ℕ
 number_of field =
     if is_field field then (if all_ascii_digits field then Some (digits_value 10 field) else None) else None
+
+-- whether a number has at most so many binary digits as an identifier
+abbrev pub is_identifier : ℕ → Bool
+is_identifier n = nat_lt n (2 ^ IDENTIFIER_DIGITS)
+
+-- whether a number is a channel that can be barred
+abbrev pub is_channel : ℕ → Bool
+is_channel n = nat_lt 0 n && not (nat_lt MAX_CHANNEL n)
+
+-- a number that is an identifier
+abbrev pub fitting : ℕ → Option ℕ
+fitting n = if is_identifier n then Some n else None
+
+-- the identifier that a field spells
+abbrev pub wide_number : List ℕ → Option ℕ
+wide_number field = option_and_then fitting (number_of field)
 
 -- the field at a place of a line, counted from 0; if it is missing, the empty one, which is no number
 abbrev pub field_at : Line → ℕ → List ℕ

@@ -26,6 +26,16 @@ pub enum ColFault {
     TooLarge(usize),
     #[error("F8 line {0}: the first field is unknown")]
     UnknownLine(usize),
+    #[error("F10 line {0}: an identifier or a bar before the problem line")]
+    EarlyLine(usize),
+    #[error("F11 line {0}: an identifier of more than 128 binary digits")]
+    NumberRange(usize),
+    #[error("F12 line {0}: a second identifier of a vertex")]
+    IdTwice(usize),
+    #[error("F13 line {0}: a barred channel is 0 or above 2048")]
+    ChannelRange(usize),
+    #[error("F14 line {0}: more barred channels of a vertex than the limit allows")]
+    TooManyBars(usize),
     #[error("F9: out of memory")]
     Memory,
 }

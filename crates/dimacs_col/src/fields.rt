@@ -1,12 +1,13 @@
 //! The fields of a line, and the numbers in them.
 
-ghost use Rattle.std.specs.Prelude.{◌≡◌, ◌≤◌, drop, length, slice_get};
+ghost use Rattle.std.specs.Prelude.{◌≡◌, ◌≢◌, ◌≤◌, MatchOption, Option, drop, get_or, length, slice_get};
 ghost use Rattle.std.specs.List.{prefix_len};
-ghost use Rattle.std.specs.Option.{option_copied};
-ghost use Rattle.dimacs_col.specs.Lines.{fields_of, field_at, is_blank, is_part};
+ghost use Rattle.std.specs.Option.{option_copied, option_map};
+ghost use Rattle.dimacs_col.specs.Lines.{fields_of, field_at, fitting, is_blank, is_part, number_of, wide_number};
 ghost use Rattle.dimacs_col.specs.State.{kept_number};
 
 use std::marker::Model;
+use std::str::from_utf8;
 
 /// The fields of a line that haven't been taken yet. A contract sees their list.
 #[derive(Drop)]
@@ -72,6 +73,17 @@ impl<'a> Fields<'a> {
     {
         number(self.next()?)
     }
+
+    /// Takes the next field as an identifier; `None` if it is missing or no number, `Some(None)` if the
+    /// number is too great.
+    pub fn next_identifier(&mut self) -> Option<Option<u128>>
+        ensures first { result ≡ option_map fitting (number_of (field_at self.old 0)) }
+        ensures rest { self.new ≡ drop 1 self.old }
+    {
+        let field = self.next()?;
+        number(field)?;
+        Some(wide_number(field))
+    }
 }
 
 /// The number that the digits of a field spell, or the greatest `u32` if it is above that; `None` if
@@ -92,4 +104,25 @@ pub fn number(field: &[u8]) -> Option<u32>
             .saturating_add(u32::from(*digit - b'0'));
     }
     Some(value)
+}
+
+// The text of a field, which has no sign before it; `None` only if the field is no number.
+fn unsigned(field: &[u8]) -> Option<&str>
+    ensures { MatchOption result (number_of field.now ≡ Option.None)
+        (λ text. (text.now ≡ field.now) × (get_or field.now 0 0 ≢ 43)) }
+{
+    if field.is_empty() {
+        return None;
+    }
+    if field[0] == b'+' {
+        return None;
+    }
+    from_utf8(field).ok()
+}
+
+/// The number that a field spells, if it has at most `IDENTIFIER_DIGITS` binary digits.
+pub fn wide_number(field: &[u8]) -> Option<u128>
+    ensures { result ≡ wide_number field.now }
+{
+    unsigned(field)?.parse().ok()
 }

@@ -9,6 +9,8 @@ pub enum Kind {
     Skipped,
     Problem,
     Edge,
+    Identifier,
+    Bar,
     Unknown,
 }
 
@@ -22,6 +24,8 @@ impl Kind {
             [b'c', ..] | b"n" | b"d" | b"v" | b"x" => Kind::Skipped,
             b"p" => Kind::Problem,
             b"e" => Kind::Edge,
+            b"i" => Kind::Identifier,
+            b"b" => Kind::Bar,
             _ => Kind::Unknown,
         }
     }

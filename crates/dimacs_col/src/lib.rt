@@ -1,5 +1,5 @@
-//! Reads a graph in the DIMACS colouring format: its number of vertices and its set of edges, or
-//! the first fault of the text.
+//! Reads a graph in the DIMACS colouring format: its number of vertices, the identifiers that lines give
+//! them, its set of edges and the channels that lines bar at its vertices, or the first fault of the text.
 //!
 //! `interference` builds its network from what `read` returns, and `forestplan` reads its input with
 //! it.
@@ -7,17 +7,21 @@
 //! ```text
 //! c a path on three vertices
 //! p edge 3 2
+//! i 2 70
 //! e 1 2
 //! e 3 2
+//! b 3 1
 //! ```
 //!
-//! reads as `ColFile { nodes: 3, edges: [(1, 2), (2, 3)] }`.
+//! reads as `ColFile { nodes: 3, ids: [(2, 70)], edges: [(1, 2), (2, 3)], bars: [(3, 1)] }`.
 //!
-//! Limits: `MAX_NODES` (20,000) vertices and `MAX_EDGES` (400,000) distinct edges. The text is read
-//! from memory as a whole.
+//! Limits: `MAX_NODES` (20,000) vertices, `MAX_EDGES` (400,000) distinct edges, identifiers of
+//! `IDENTIFIER_DIGITS` (128) binary digits, channels up to `MAX_CHANNEL` (2,048) and `MAX_BARS` (1,024)
+//! distinct bars of a vertex. The text is read from memory as a whole.
 #![tactic(auto)]
 
 mod bag;
+mod bars;
 mod fault;
 mod fields;
 mod kind;
@@ -29,6 +33,6 @@ mod reader;
 pub use fault::ColFault;
 pub use fields::Fields;
 pub use laws::reading_is_one;
-pub use limits::{MAX_EDGES, MAX_NODES};
+pub use limits::{IDENTIFIER_DIGITS, MAX_BARS, MAX_CHANNEL, MAX_EDGES, MAX_NODES};
 pub use lines::Lines;
 pub use reader::{ColFile, read, without_carriage_return};

@@ -1,8 +1,10 @@
 pub mod Sets
 pub mod Words
+pub mod Joined
 pub mod Leasts
 pub mod FirstClear
 pub mod Taken
+pub mod Barred
 pub mod Pairs
 pub mod Merges
 pub mod Proper

@@ -1,17 +1,17 @@
-//! The set of colours that neighbours have chosen.
+//! Sets of colours: those that neighbours have chosen, and those that are barred.
 
-ghost use Rattle.std.specs.Prelude.{◌≡◌, ◌<◌, ◌≤◌, ◌*◌, ℕ, true, false};
+ghost use Rattle.std.specs.Prelude.{◌≡◌, ◌<◌, ◌≤◌, ◌*◌, ◌||◌, ℕ, true, false};
 ghost use Rattle.std.specs.FinSet.{contains, empty, insert};
 
 use std::marker::Model;
 
 /// How many colours a `ChosenSet` has room for: the colours from 0 and below this.
-pub const COLOURS: u16 = 1024;
+pub const COLOURS: u16 = 2048;
 
 /// How many words hold one bit for each colour.
 pub const WORDS: usize = COLOURS as usize / 64;
 
-/// A set of all colours that a node may choose, 0 to 1,023.
+/// A set of all colours that a node may choose, 0 to 2,047.
 pub type ChosenSet = ColourSet<WORDS>;
 
 /// A set of colours from 0 and below 64 times `N`, in fixed bits: it takes no memory of its own. `N` is at most
@@ -44,7 +44,7 @@ impl<const N: usize> ColourSet<N> {
     pub fn new() -> Self
         requires room { N ≤ WORDS }
         ensures empty { result ≡ empty }
-        ensures most { COLOURS ≡ 1024 }
+        ensures most { COLOURS ≡ 2048 }
     {
         Self { words: [0; N] }
     }
@@ -77,6 +77,17 @@ impl<const N: usize> ColourSet<N> {
         ensures { result ≡ contains self.now colour }
     {
         self.words[colour as usize / 64] & (1 << (colour % 64)) != 0
+    }
+
+    // The colours that are in either set.
+    pub(crate) fn joined(&self, other: &Self) -> Self
+        ensures { (c : ℕ) → contains result c ≡ (contains self.now c || contains other.now c) }
+    {
+        let mut words = self.words;
+        for i in 0..N {
+            words[i] |= other.words[i];
+        }
+        Self { words }
     }
 
     // The least colour that is not in the set: the first that it has no room for if it is full.

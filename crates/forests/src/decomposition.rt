@@ -14,7 +14,7 @@ use std::alloc::Global;
 type Edge = (u16, u32, u32);
 
 // Makes `parents` the neighbours of `v` that have a higher identifier, each with it, by port.
-fn gather_parents(net: &Network, v: u32, parents: &mut Vec<(u64, u32)>) -> Result<(), Memory>
+fn gather_parents(net: &Network, v: u32, parents: &mut Vec<(u128, u32)>) -> Result<(), Memory>
     requires { IsVertex net.now v }
     ensures { OnOk result (parents.new.items ≡ map (with_id net.now) (higher net.now v)) }
 {
@@ -31,7 +31,7 @@ fn gather_parents(net: &Network, v: u32, parents: &mut Vec<(u64, u32)>) -> Resul
 }
 
 // The same, by ascending identifier.
-fn order_parents(net: &Network, v: u32, parents: &mut Vec<(u64, u32)>) -> Result<(), Memory>
+fn order_parents(net: &Network, v: u32, parents: &mut Vec<(u128, u32)>) -> Result<(), Memory>
     requires { IsVertex net.now v }
     ensures { OnOk result (parents.new.items ≡ map (with_id net.now) (up net.now v)) }
 {
@@ -42,7 +42,7 @@ fn order_parents(net: &Network, v: u32, parents: &mut Vec<(u64, u32)>) -> Result
 }
 
 // Adds the edge from `v` to each of its parents to the forest of that number.
-fn deal(v: u32, parents: &[(u64, u32)], forests: &mut [Vec<Edge>]) -> Result<(), Memory>
+fn deal(v: u32, parents: &[(u128, u32)], forests: &mut [Vec<Edge>]) -> Result<(), Memory>
     requires room { length parents.now ≤ length forests.old }
     requires few { length forests.old ≤ MAX_DEGREE }
     ensures same_count { length forests.new ≡ length forests.old }

@@ -38,7 +38,7 @@ const MAX_PORTS: usize = MAX_DEGREE as usize;
 const FEW_PORTS: usize = 16;
 
 // Writes the identifiers above `own` to the front, in their order, and returns how many they are.
-fn gather_higher(own: u64, ids: &[u64], higher: &mut [u64]) -> usize
+fn gather_higher(own: u128, ids: &[u128], higher: &mut [u128]) -> usize
     requires { length ids.now ≤ length higher.old }
     ensures few { result ≤ length ids.now }
     ensures gathered { take result higher.new ≡ filter (nat_lt own) ids.now }
@@ -55,7 +55,7 @@ fn gather_higher(own: u64, ids: &[u64], higher: &mut [u64]) -> usize
 }
 
 // Writes the identifiers above `own` to the front, ascending, and returns how many they are.
-fn order_higher(own: u64, ids: &[u64], higher: &mut [u64]) -> usize
+fn order_higher(own: u128, ids: &[u128], higher: &mut [u128]) -> usize
     requires room { length ids.now ≤ length higher.old }
     requires distinct { AllPairs (λ x y. x ≢ y) ids.now }
     ensures few { result ≤ length ids.now }
@@ -69,7 +69,7 @@ fn order_higher(own: u64, ids: &[u64], higher: &mut [u64]) -> usize
 }
 
 // The role of the port to the identifier `id`; `higher` has the higher identifiers in order.
-fn role_among(higher: &[u64], id: u64) -> Role
+fn role_among(higher: &[u128], id: u128) -> Role
     requires few { length higher.now ≤ MAX_DEGREE }
     requires ascending { IsAscendingBy (λ i. i) higher.now }
     ensures up { Contains higher.now id → result ≡ Role.Up (place_of id higher.now) }
@@ -82,7 +82,7 @@ fn role_among(higher: &[u64], id: u64) -> Role
 }
 
 // Numbers the ports that lead to higher identifiers; there is room for these in `higher`.
-fn number_with(own: u64, ids: &[u64], higher: &mut [u64], roles: &mut [Role])
+fn number_with(own: u128, ids: &[u128], higher: &mut [u128], roles: &mut [Role])
     requires same_ports { length roles.old ≡ length ids.now }
     requires few { length ids.now ≤ MAX_DEGREE }
     requires room { length ids.now ≤ length higher.old }
@@ -101,7 +101,7 @@ fn number_with(own: u64, ids: &[u64], higher: &mut [u64], roles: &mut [Role])
 /// `ids` and `roles` go by port, at most `MAX_DEGREE` of them; forests count from 0. No memory is taken: the
 /// higher identifiers are sorted on the stack, and each port looks its own up (Panconesi and Rizzi,
 /// 2001).
-pub fn number_up(own: u64, ids: &[u64], roles: &mut [Role])
+pub fn number_up(own: u128, ids: &[u128], roles: &mut [Role])
     requires same_ports { length roles.old ≡ length ids.now }
     requires few { length ids.now ≤ MAX_DEGREE }
     requires distinct { AllPairs (λ x y. x ≢ y) ids.now }

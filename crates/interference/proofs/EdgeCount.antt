@@ -45,17 +45,17 @@ all_ends n edges fit =
     ∙ sum_by-const 2 edges
     ∙ mul_comm (length edges) 2
 
-module _ (ids : List ℕ) (edges : List (ℕ × ℕ)) (fit : EdgesFit (length ids) edges) where
-  degree-is : (v : ℕ) → 1 ≤ v → v ≤ length ids → degree_of (network_of ids edges) v ≡ degree_in edges v
+module _ (ids : List ℕ) (edges bars : List (ℕ × ℕ)) (fit : EdgesFit (length ids) edges) where
+  degree-is : (v : ℕ) → 1 ≤ v → v ≤ length ids → degree_of (network_of ids edges bars) v ≡ degree_in edges v
   degree-is v low high =
-      ap length (neighbours-network_of ids edges v low high ∙ sym (same_row (length ids) edges fit v)) ∙ length-row_in edges v
+      ap length (neighbours-network_of ids edges bars v low high ∙ sym (same_row (length ids) edges fit v)) ∙ length-row_in edges v
 
-  degree_sum-is : degree_sum_of (network_of ids edges) ≡ sum_by (λ v. degree_in edges v) (range_with_len 1 (length ids))
+  degree_sum-is : degree_sum_of (network_of ids edges bars) ≡ sum_by (λ v. degree_in edges v) (range_with_len 1 (length ids))
   degree_sum-is =
-      ap (λ ks. sum_by (degree_of (network_of ids edges)) (range_with_len 1 (length ks))) (ids-network_of ids edges)
+      ap (λ ks. sum_by (degree_of (network_of ids edges bars)) (range_with_len 1 (length ks))) (ids-network_of ids edges bars)
       ∙ sum_by-same _ _ (range_with_len 1 (length ids)) (λ k d lt.
       let bounds = range-bounds 1 (length ids) k d lt in
       degree-is _ bounds.0 (omega (arith, bounds.1)))
 
-  pub edge_count-is : IsNetwork (network_of ids edges) → edge_count_of (network_of ids edges) ≡ length edges
-  edge_count-is ok = omega (arith, degrees-are_twice_edges (network_of ids edges) ok, degree_sum-is, all_ends (length ids) edges fit)
+  pub edge_count-is : IsNetwork (network_of ids edges bars) → edge_count_of (network_of ids edges bars) ≡ length edges
+  edge_count-is ok = omega (arith, degrees-are_twice_edges (network_of ids edges bars) ok, degree_sum-is, all_ends (length ids) edges fit)

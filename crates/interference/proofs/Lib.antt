@@ -9,6 +9,9 @@ pub mod Packed
 pub mod Backs
 pub mod Members
 pub mod Joined
+pub mod BarCounts
+pub mod BarLists
+pub mod BarRows
 pub mod Made
 pub mod Greatest
 pub mod Counts

@@ -19,9 +19,13 @@ use Rattle.interference.specs.Net.{
   port_to,
   back_port_of,
   greatest_degree_of,
+  bar_count_of,
+  bars_of,
+  greatest_bars_of,
   higher_count,
   forest_count_of,
 }
+use Rattle.dimacs_col.specs.declared.limits.TheConstants.{MAX_BARS}
 use Rattle.interference.specs.declared.limits.TheConstants.{MAX_DEGREE}
 use Rattle.interference.proofs.Members.{place_of-below, place_of-is, Contains-place_of}
 use Rattle.interference.proofs.Greatest.{longest-holds, longest-within, longest-reached, greatest-holds, greatest-within, greatest-reached}
@@ -100,6 +104,30 @@ module _ (net : Net) (ok : IsNetwork net) where
       let (i, below, is) = longest-reached net.ports (omega (arith, ok.sizes)) in
       let e : i ≡ i + 1 - 1 = omega arith in
       (i + 1, (omega arith, omega (arith, ok.sizes)), subst (λ (k : ℕ). length (get_or net.ports k []) ≡ greatest_degree_of net) e is)
+
+  -- ---- bars
+  pub bars-within : (v : ℕ) → bar_count_of net v ≤ greatest_bars_of net
+  bars-within v = longest-holds net.bars (v - 1)
+
+  pub bars-rise : (v i j : ℕ) → IsVertex net v → i ≤ j → j < bar_count_of net v → get_or (bars_of net v) i 0 ≤ get_or (bars_of net v) j 0
+  bars-rise v i j vertex le below = elim (cases_order i j) [
+    | inl same ↦ let e : get_or (bars_of net v) i 0 ≡ get_or (bars_of net v) j 0 = ap (λ k. get_or (bars_of net v) k 0) same in omega arith
+    | inr side ↦ elim side [
+      | inl lt ↦ let less : get_or (bars_of net v) i 0 < get_or (bars_of net v) j 0 = ok.ascending_bars v i j vertex lt below in omega arith
+      | inr gt ↦ absurd (omega arith)
+    ]
+  ]
+
+  pub greatest_bars-within : greatest_bars_of net ≤ MAX_BARS
+  greatest_bars-within = longest-within net.bars MAX_BARS (λ i below.
+      let e : i + 1 - 1 ≡ i = omega arith in
+      subst (λ (k : ℕ). length (get_or net.bars k []) ≤ MAX_BARS) e (ok.few_bars (i + 1) (omega arith, omega (arith, ok.bar_lists))))
+
+  pub greatest_bars-reached : 0 < count_of net → (v : ℕ) × IsVertex net v × (bar_count_of net v ≡ greatest_bars_of net)
+  greatest_bars-reached some =
+      let (i, below, is) = longest-reached net.bars (omega (arith, ok.bar_lists)) in
+      let e : i ≡ i + 1 - 1 = omega arith in
+      (i + 1, (omega arith, omega (arith, ok.bar_lists)), subst (λ (k : ℕ). length (get_or net.bars k []) ≡ greatest_bars_of net) e is)
 
   pub higher_count-within : (v : ℕ) → higher_count net v ≤ degree_of net v
   higher_count-within v = count_by-le-length (λ w. nat_lt (id_of net v) (id_of net w)) (neighbours net v)

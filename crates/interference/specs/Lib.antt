@@ -1,5 +1,5 @@
 pub mod Net
-pub mod Making
 pub mod Rows
+pub mod Making
 pub mod Filling
 pub mod Counts

@@ -1,14 +1,15 @@
--- The network: numbered vertices with identifiers, each with its neighbours, ascending.
+-- The network: numbered vertices with identifiers, each with its neighbours and its barred colours, ascending.
 use Rattle.std.specs.Prelude.{◌≡◌, ◌≢◌, ℕ, zero, suc, ◌+◌, ◌-◌, ◌^◌, ◌<◌, ◌≤◌, ◌==◌, nat_lt, max, if◌then◌else◌}
 use Rattle.std.specs.Prelude.{List, [], ◌∷◌, length, slice_index, slice_index_or, count_by, Contains}
 use Rattle.std.specs.List.{range_with_len}
-use Rattle.dimacs_col.specs.declared.limits.TheConstants.{MAX_NODES}
+use Rattle.dimacs_col.specs.declared.limits.TheConstants.{IDENTIFIER_DIGITS, MAX_NODES, MAX_CHANNEL, MAX_BARS}
 use Rattle.interference.specs.declared.limits.TheConstants.{MAX_DEGREE}
 
 -- The value of a network. Entry `v - 1` of each list is of vertex v.
 pub record Net : Type 0 where
   pub ids : List ℕ
   pub ports : List (List ℕ)
+  pub bars : List (List ℕ)
 
 -- how many nodes there are
 abbrev pub count_of : Net → ℕ
@@ -60,6 +61,26 @@ longest (xs ∷ rest) = max (length xs) (longest rest)
 abbrev pub greatest_degree_of : Net → ℕ
 greatest_degree_of net = longest net.ports
 
+-- the colours that are barred at a vertex, ascending; a colour is its channel less one
+abbrev pub bars_of : Net → ℕ → List ℕ
+bars_of net v = slice_index_or net.bars (v - 1) []
+
+-- a colour is barred at a vertex
+abbrev pub IsBarred : Net → ℕ → ℕ → Type 0
+IsBarred net v colour = Contains (bars_of net v) colour
+
+-- how many colours are barred at a vertex
+abbrev pub bar_count_of : Net → ℕ → ℕ
+bar_count_of net v = length (bars_of net v)
+
+-- B: the greatest number of bars of any node, 0 for no nodes
+abbrev pub greatest_bars_of : Net → ℕ
+greatest_bars_of net = longest net.bars
+
+-- Δ and B together: each vertex has a colour of 0 to this that is neither a neighbour's nor barred
+abbrev pub span_of : Net → ℕ
+span_of net = greatest_degree_of net + greatest_bars_of net
+
 -- how many neighbours of higher identifier a vertex has
 abbrev pub higher_count : Net → ℕ → ℕ
 higher_count net v = count_by (λ w. nat_lt (id_of net v) (id_of net w)) (neighbours net v)
@@ -75,7 +96,7 @@ forest_count_of net = greatest_from (higher_count net) 1 (count_of net)
 
 -- every identifier is below this
 abbrev pub id_bound : ℕ
-id_bound = 2 ^ 64
+id_bound = 2 ^ IDENTIFIER_DIGITS
 
 -- What every network keeps.
 pub record IsNetwork (net : Net) : Type 0 where
@@ -90,3 +111,8 @@ pub record IsNetwork (net : Net) : Type 0 where
   pub other : (v port : ℕ) → IsVertex net v → port < degree_of net v → neighbour_of net v port ≢ v
   pub symmetric : (v port : ℕ) → IsVertex net v → port < degree_of net v →
       back_port_of net v port < degree_of net (neighbour_of net v port)
+  pub bar_lists : length net.bars ≡ length net.ids
+  pub few_bars : (v : ℕ) → IsVertex net v → bar_count_of net v ≤ MAX_BARS
+  pub barred_colours : (v colour : ℕ) → IsVertex net v → IsBarred net v colour → colour < MAX_CHANNEL
+  pub ascending_bars : (v i j : ℕ) → IsVertex net v → i < j → j < bar_count_of net v →
+      slice_index (bars_of net v) i < slice_index (bars_of net v) j

@@ -1,4 +1,4 @@
--- Lists of neighbours, packed into one list.
+-- Lists of neighbours and of barred colours, each packed into one list.
 use Rattle.std.specs.Prelude.{◌≡◌, ℕ, ◌+◌, ◌-◌, ◌*◌, ◌<◌, ◌≤◌, List, [], ◌∷◌, length, slice_index, take, drop}
 use Rattle.dimacs_col.specs.declared.limits.TheConstants.{MAX_EDGES}
 use Rattle.interference.specs.Net.{Net, IsNetwork, IsVertex, degree_of, back_port_of}
@@ -9,16 +9,26 @@ rows [] xs = []
 rows (a ∷ []) xs = []
 rows (a ∷ b ∷ starts) xs = take (b - a) (drop a xs) ∷ rows (b ∷ starts) xs
 
-abbrev pub net_from : List ℕ → List ℕ → List ℕ → Net
-net_from ids starts ports = record { ids = ids; ports = rows starts ports }
+abbrev pub net_from : List ℕ → List ℕ → List ℕ → List ℕ → List ℕ → Net
+net_from ids starts ports bar_starts bars =
+    record { ids = ids; ports = rows starts ports; bars = rows bar_starts bars }
 
--- the starts rise, from the first entry to the last one of the packed list
-pub record IsPacked (ids starts ports : List ℕ) : Type 0 where
-  pub sizes : length starts ≡ length ids + 1
-  pub rising : (i : ℕ) → i < length ids → slice_index starts i ≤ slice_index starts (i + 1)
-  pub within : (i : ℕ) → i ≤ length ids → slice_index starts i ≤ length ports
+-- so many starts and one more rise, from the first entry to the last one of the packed list
+pub record AreRows (count : ℕ) (starts xs : List ℕ) : Type 0 where
+  pub sizes : length starts ≡ count + 1
+  pub rising : (i : ℕ) → i < count → slice_index starts i ≤ slice_index starts (i + 1)
+  pub within : (i : ℕ) → i ≤ count → slice_index starts i ≤ length xs
+
+-- packed lists of a network
+pub record IsPacked (ids starts ports bar_starts bars : List ℕ) : Type 0 where
+  pub neighbours : AreRows (length ids) starts ports
   pub limit : length ports ≤ 2 * MAX_EDGES
-  pub network : IsNetwork (net_from ids starts ports)
+  pub barred : AreRows (length ids) bar_starts bars
+  pub network : IsNetwork (net_from ids starts ports bar_starts bars)
+
+-- packed neighbours of a network, whatever is barred in it
+abbrev pub ArePorts : List ℕ → List ℕ → List ℕ → Type 0
+ArePorts ids starts ports = (bar_starts : List ℕ) × (bars : List ℕ) × IsPacked ids starts ports bar_starts bars
 
 -- beside each neighbour stands the port that leads back
 pub record HasBacks (starts backs : List ℕ) (net : Net) : Type 0 where

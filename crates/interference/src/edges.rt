@@ -29,7 +29,7 @@ fn all_fit(nodes: u32, edges: &[(u32, u32)]) -> bool
 }
 
 // Whether a pair is strictly before another, by first vertex and then by second.
-fn comes_before(low: (u32, u32), high: (u32, u32)) -> bool
+pub(crate) fn comes_before(low: (u32, u32), high: (u32, u32)) -> bool
     ensures { IsTrue result ↔ (pair_cmp low high ≡ Less) }
 {
     low.0 < high.0 || low.0 == high.0 && low.1 < high.1

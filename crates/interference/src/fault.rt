@@ -47,6 +47,8 @@ impl From<Memory> for NetFault {
 pub enum TryFault {
     /// `edges_fit` refuses the edges, or there are more than `MAX_NODES` identifiers.
     Edges,
+    /// `bars_fit` refuses the bars.
+    Bars,
     /// `Network::new` refuses the network.
     Refused(NetFault),
 }

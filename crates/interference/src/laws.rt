@@ -5,7 +5,9 @@ ghost use Rattle.interference.specs.Counts.{degree_sum_of, edge_count_of, sum_ov
 ghost use Rattle.interference.specs.Making.{EdgesFit, network_of};
 ghost use Rattle.interference.specs.Net.{IsEdge, IsNetwork, IsVertex, Net};
 ghost use Rattle.interference.specs.Net.{back_port_of, degree_of, neighbour_of, port_to};
-ghost use Rattle.interference.specs.Net.{count_of, forest_count_of, greatest_degree_of, higher_count};
+ghost use Rattle.interference.specs.Net.{bar_count_of, count_of, forest_count_of, greatest_bars_of};
+ghost use Rattle.interference.specs.Net.{greatest_degree_of, higher_count};
+ghost use Rattle.dimacs_col.specs.declared.limits.TheConstants.{MAX_BARS};
 ghost use Rattle.interference.specs.declared.limits.TheConstants.{MAX_DEGREE};
 
 /// If w is a neighbour of v, then v is a neighbour of w.
@@ -38,6 +40,15 @@ pub fn greatest_degree_is_the_greatest()
     ensures limit { (net : Net) → IsNetwork net → greatest_degree_of net ≤ MAX_DEGREE }
 {}
 
+/// No vertex has more than B bars; if there are vertices, one of them has B bars; and B is at most
+/// `MAX_BARS`.
+pub fn greatest_bars_is_the_greatest()
+    ensures bound { (net : Net) → IsNetwork net → (v : ℕ) → IsVertex net v → bar_count_of net v ≤ greatest_bars_of net }
+    ensures reached { (net : Net) → IsNetwork net → 0 < count_of net →
+        (v : ℕ) × IsVertex net v × (bar_count_of net v ≡ greatest_bars_of net) }
+    ensures limit { (net : Net) → IsNetwork net → greatest_bars_of net ≤ MAX_BARS }
+{}
+
 /// No vertex has more than U neighbours of higher identifier; if there are vertices, one of them has
 /// as many; and U is at most Δ.
 pub fn forest_count_is_the_greatest()
@@ -54,6 +65,6 @@ pub fn each_edge_has_two_ends()
     ensures either_end { (net : Net) → IsNetwork net → (f : ℕ → ℕ → ℕ) →
         sum_over_ports net (λ v i. f v (neighbour_of net v i)) ≡
         sum_over_ports net (λ v i. f (neighbour_of net v i) v) }
-    ensures made { (ids : List ℕ) (edges : List (ℕ × ℕ)) → EdgesFit (length ids) edges →
-        IsNetwork (network_of ids edges) → edge_count_of (network_of ids edges) ≡ length edges }
+    ensures made { (ids : List ℕ) (edges bars : List (ℕ × ℕ)) → EdgesFit (length ids) edges →
+        IsNetwork (network_of ids edges bars) → edge_count_of (network_of ids edges bars) ≡ length edges }
 {}

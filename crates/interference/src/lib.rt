@@ -1,19 +1,22 @@
-//! The interference network: vertices with unique identifiers, and the neighbours of each by port.
+//! The interference network: vertices with unique identifiers, the neighbours of each by port, and the
+//! colours that are barred at it.
 //!
 //! Vertices count from 1 and ports from 0; the ports of a vertex ascend by the neighbour's number.
 //! `forests`, `node_api` and `channel_plan` use it. Contracts see a network as the record
 //! `Net` of `specs/Net.antt`: the list of identifiers, and for each vertex the list of its
-//! neighbours.
+//! neighbours and that of its barred colours. A colour counts from 0: it is the channel less one.
 //!
 //! ```
-//! let net = Network::new(alloc, 3, &[7, 9, 8], &[(1, 2), (1, 3), (2, 3)])?;
+//! let net = Network::new(alloc, 3, &[7, 9, 8], &[(1, 2), (1, 3), (2, 3)], &[(3, 1)])?;
 //! net.neighbour(3, 1) // 2, the greater neighbour of vertex 3
+//! net.bars(3) // [0], the colour of channel 1
 //! ```
 //!
 //! Limits: `MAX_NODES` (20,000) nodes and `MAX_EDGES` (400,000) edges, both of `dimacs_col`; `MAX_DEGREE` (1,023)
-//! neighbours a node; identifiers below 2^64.
+//! neighbours a node; `MAX_BARS` (1,024) bars a node, of channels up to `MAX_CHANNEL` (2,048); identifiers below 2^128.
 #![tactic(auto)]
 
+mod bars;
 mod degrees;
 mod edges;
 mod fault;
@@ -25,6 +28,8 @@ mod network;
 mod rows;
 mod same_ids;
 
+pub use bars::bars_fit;
+pub use dimacs_col::{MAX_BARS, MAX_CHANNEL};
 pub use edges::edges_fit;
 pub use fault::{Memory, NetFault, TryFault};
 pub use limits::MAX_DEGREE;

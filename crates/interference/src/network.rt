@@ -1,64 +1,79 @@
 //! A network in packed lists, and how it is read.
 
-ghost use Rattle.std.specs.Prelude.{◌≡◌, ◌<◌, ◌≤◌, ◌+◌, ◌-◌, IfOk, length};
-ghost use Rattle.interference.specs.Net.{Net, IsNetwork, IsVertex, count_of, id_of, neighbours, degree_of};
-ghost use Rattle.interference.specs.Net.{neighbour_of, back_port_of, greatest_degree_of, forest_count_of};
+ghost use Rattle.std.specs.Prelude.{◌≡◌, ◌↔◌, ◌<◌, ◌≤◌, ◌+◌, ◌-◌, IfOk, IsTrue, length};
+ghost use Rattle.interference.specs.Net.{Net, IsBarred, IsNetwork, IsVertex, bars_of, count_of};
+ghost use Rattle.interference.specs.Net.{degree_of, id_of, neighbours};
+ghost use Rattle.interference.specs.Net.{back_port_of, neighbour_of};
+ghost use Rattle.interference.specs.Net.{forest_count_of, greatest_bars_of, greatest_degree_of};
 ghost use Rattle.interference.specs.Rows.{IsPacked, HasBacks, net_from};
 
+use crate::bars::PackedBars;
 use crate::fault::Memory;
 use crate::limits::MAX_DEGREE;
 use std::alloc::Global;
 use std::marker::Model;
 
-/// A network. Contracts see its `Net`: identifiers and neighbours.
+/// A network. Contracts see its `Net`: identifiers, neighbours and barred colours.
 #[derive(Drop)]
 pub struct Network {
-    ids: Vec<u64>,
+    ids: Vec<u128>,
     // Entry v - 1 is where the neighbours of v begin, entry v where they end.
     starts: Vec<u32>,
     ports: Vec<u32>,
     // Beside each neighbour the port of it that leads back.
     backs: Vec<u32>,
+    bars: PackedBars,
     greatest_degree: u32,
     forest_count: u32,
 }
 
 impl Model for Network {
-    ghost use Rattle.std.specs.Prelude.{◌≡◌};
-    ghost use Rattle.interference.specs.Net.{Net, greatest_degree_of, forest_count_of};
+    ghost use Rattle.std.specs.Prelude.{◌≡◌, List, ℕ};
+    ghost use Rattle.interference.specs.Net.{Net, forest_count_of, greatest_bars_of, greatest_degree_of};
     ghost use Rattle.interference.specs.Rows.{IsPacked, HasBacks, net_from};
 
     ghost Value = { Net };
 
-    ghost view = { λ a. net_from a.ids.items a.starts.items a.ports.items };
+    ghost view = { λ a. net_from a.ids.items a.starts.items a.ports.items
+        a.bars.starts.items a.bars.colours.items };
 
-    ghost invariant = { λ a. IsPacked a.ids.items a.starts.items a.ports.items
-        × HasBacks a.starts.items a.backs.items (net_from a.ids.items a.starts.items a.ports.items)
-        × (a.greatest_degree ≡ greatest_degree_of (net_from a.ids.items a.starts.items a.ports.items))
-        × (a.forest_count ≡ forest_count_of (net_from a.ids.items a.starts.items a.ports.items)) };
+    ghost invariant = { λ a.
+        let net = net_from a.ids.items a.starts.items a.ports.items a.bars.starts.items a.bars.colours.items in
+        IsPacked a.ids.items a.starts.items a.ports.items a.bars.starts.items a.bars.colours.items
+        × HasBacks a.starts.items a.backs.items net
+        × (a.greatest_degree ≡ greatest_degree_of net)
+        × (a.forest_count ≡ forest_count_of net)
+        × (a.bars.greatest ≡ greatest_bars_of net) };
 }
 
 impl Network {
     // A network of its packed parts.
     pub(crate) fn from_parts(
-        ids: Vec<u64>,
+        ids: Vec<u128>,
         starts: Vec<u32>,
         ports: Vec<u32>,
         backs: Vec<u32>,
+        bars: PackedBars,
         greatest_degree: u32,
         forest_count: u32,
     ) -> Network
-        requires packed { IsPacked ids.items starts.items ports.items }
-        requires backs { HasBacks starts.items backs.items (net_from ids.items starts.items ports.items) }
-        requires greatest { greatest_degree ≡ greatest_degree_of (net_from ids.items starts.items ports.items) }
-        requires forests { forest_count ≡ forest_count_of (net_from ids.items starts.items ports.items) }
-        ensures { result ≡ net_from ids.items starts.items ports.items }
+        requires packed { IsPacked ids.items starts.items ports.items bars.starts.items bars.colours.items }
+        requires backs { HasBacks starts.items backs.items
+            (net_from ids.items starts.items ports.items bars.starts.items bars.colours.items) }
+        requires degree { greatest_degree ≡ greatest_degree_of
+            (net_from ids.items starts.items ports.items bars.starts.items bars.colours.items) }
+        requires forests { forest_count ≡ forest_count_of
+            (net_from ids.items starts.items ports.items bars.starts.items bars.colours.items) }
+        requires bars { bars.greatest ≡ greatest_bars_of
+            (net_from ids.items starts.items ports.items bars.starts.items bars.colours.items) }
+        ensures { result ≡ net_from ids.items starts.items ports.items bars.starts.items bars.colours.items }
     {
         Network {
             ids,
             starts,
             ports,
             backs,
+            bars,
             greatest_degree,
             forest_count,
         }
@@ -93,8 +108,15 @@ impl Network {
         self.forest_count
     }
 
+    /// B: the greatest number of bars of any node, 0 for no nodes.
+    pub fn greatest_bars(&self) -> u32
+        ensures { result ≡ greatest_bars_of self.now }
+    {
+        self.bars.greatest
+    }
+
     /// The identifier of vertex `v`.
-    pub fn id(&self, v: u32) -> u64
+    pub fn id(&self, v: u32) -> u128
         requires { IsVertex self.now v }
         ensures { result ≡ id_of self.now v }
     {
@@ -138,6 +160,24 @@ impl Network {
         &self.ports[self.starts[(v - 1) as usize] as usize..self.starts[v as usize] as usize]
     }
 
+    /// The colours that are barred at vertex `v`, ascending; a colour is its channel less one.
+    pub fn bars(&self, v: u32) -> &[u16]
+        requires { IsVertex self.now v }
+        ensures { result.now ≡ bars_of self.now v }
+    {
+        let starts = &self.bars.starts;
+        &self.bars.colours[starts[(v - 1) as usize] as usize..starts[v as usize] as usize]
+    }
+
+    /// Whether a colour is barred at vertex `v`.
+    pub fn is_barred(&self, v: u32, colour: u16) -> bool
+        requires { IsVertex self.now v }
+        ensures { IsTrue result ↔ IsBarred self.now v colour }
+    {
+        self.is_network();
+        self.bars(v).binary_search(&colour).is_ok()
+    }
+
     /// An equal network, in memory of its own.
     ///
     /// # Errors
@@ -150,11 +190,13 @@ impl Network {
         let starts = self.starts.to_vec(alloc)?;
         let ports = self.ports.to_vec(alloc)?;
         let backs = self.backs.to_vec(alloc)?;
+        let bars = self.bars.copy(alloc)?;
         Ok(Network {
             ids,
             starts,
             ports,
             backs,
+            bars,
             greatest_degree: self.greatest_degree,
             forest_count: self.forest_count,
         })

@@ -10,7 +10,7 @@ use std::alloc::Global;
 use std::collections::BTreeMap;
 
 // Whether the identifiers ascend, as they do in most networks; then no two are the same.
-fn rise(ids: &[u64]) -> bool
+fn rise(ids: &[u128]) -> bool
     ensures { IsTrue result ↔ IsStrictlyIncreasing ids.now }
 {
     for i in 1..ids.len() {
@@ -22,7 +22,7 @@ fn rise(ids: &[u64]) -> bool
 }
 
 // The first two vertices, the smaller first, that have one identifier.
-pub(crate) fn first_same_id(alloc: Global, ids: &[u64]) -> Result<Option<(u32, u32)>, Memory>
+pub(crate) fn first_same_id(alloc: Global, ids: &[u128]) -> Result<Option<(u32, u32)>, Memory>
     requires { length ids.now ≤ MAX_NODES }
     ensures { IfOk result (λ found. MatchOption found
         (HasNoSameId ids.now (length ids.now)) (IsFirstSameId ids.now (length ids.now))) }

@@ -1,30 +1,43 @@
 -- What a node program is to contracts: the functions that say all of its states and messages.
-use Rattle.std.specs.Prelude.{◌≡◌, ℕ, ◌<◌, List, Option, Result, Ok, Err, MatchResult}
-use Rattle.interference.specs.Net.{Net, count_of, id_of, degree_of, greatest_degree_of, forest_count_of}
+use Rattle.std.specs.Prelude.{◌≡◌, ℕ, ◌+◌, ◌<◌, List, Option, Result, Ok, Err, MatchResult}
+use Rattle.interference.specs.Net.{Net, bars_of, count_of, id_of, degree_of, greatest_bars_of, greatest_degree_of, forest_count_of}
 use Rattle.node_api.specs.Boxes.{nothing}
 
--- What every vertex knows of its network: n, Δ and U.
+-- What every vertex knows of its network: n, Δ, the greatest number of bars of a vertex, and U.
 pub record Sizes : Type 0 where
   pub nodes : ℕ
   pub greatest_degree : ℕ
+  pub greatest_bars : ℕ
   pub forests : ℕ
 
 abbrev pub sizes_of : Net → Sizes
-sizes_of net = record { nodes = count_of net; greatest_degree = greatest_degree_of net; forests = forest_count_of net }
+sizes_of net =
+    record {
+      nodes = count_of net;
+      greatest_degree = greatest_degree_of net;
+      greatest_bars = greatest_bars_of net;
+      forests = forest_count_of net;
+    }
+
+-- the greatest colour that a vertex may need: its neighbours and its bars are at most this many
+abbrev pub span : Sizes → ℕ
+span sizes = sizes.greatest_degree + sizes.greatest_bars
 
 -- A vertex's own data: all that its first state may look at.
 pub record Own : Type 0 where
   pub id : ℕ
   pub degree : ℕ
+  -- the colours that are barred at it, ascending
+  pub bars : List ℕ
   pub sizes : Sizes
 
 abbrev pub own_of : Net → ℕ → Own
-own_of net v = record { id = id_of net v; degree = degree_of net v; sizes = sizes_of net }
+own_of net v = record { id = id_of net v; degree = degree_of net v; bars = bars_of net v; sizes = sizes_of net }
 
 -- A program with states S, payloads M and refusals E. At a pulse above the last one `next` keeps the ports, and no law
 -- says more of it.
 pub record Program (S M E : Type 0) : Type 0 where
-  -- the last pulse: it depends on n, Δ and U alone
+  -- the last pulse: it depends on the sizes of the network alone
   pub last : Sizes → ℕ
   -- how many ports a node has
   pub ports : S → ℕ

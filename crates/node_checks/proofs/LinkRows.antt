@@ -33,11 +33,11 @@ use Rattle.colour_program.specs.colour_rules.Payload as colour
 use Rattle.colour_program.specs.colour_rules.Payload.TheVariants.{Hello}
 
 -- the network that `Network::new` makes
-pub pair_made : network_of (1 ∷ 2 ∷ []) ((1, 2) ∷ []) ≡ pair_net
+pub pair_made : network_of (1 ∷ 2 ∷ []) ((1, 2) ∷ []) [] ≡ pair_net
 unfolding network_of
 pair_made = refl
 
-pub pair_is : {E : Type 0} (r : Result Net E) → IfOk r (λ net. net ≡ network_of (1 ∷ 2 ∷ []) ((1, 2) ∷ [])) → IfOk r (λ net. net ≡ pair_net)
+pub pair_is : {E : Type 0} (r : Result Net E) → IfOk r (λ net. net ≡ network_of (1 ∷ 2 ∷ []) ((1, 2) ∷ []) []) → IfOk r (λ net. net ≡ pair_net)
 pair_is (Ok net) e = e ∙ pair_made
 pair_is (Err x) e = e
 

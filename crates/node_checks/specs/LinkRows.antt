@@ -6,7 +6,7 @@ use Rattle.alpha_core.specs.declared.wire.Wire.TheVariants.{Payload, Ack, Safe}
 use Rattle.sync_rounds.specs.declared.greatest.Best.{Best}
 
 abbrev pub pair_net : Net
-pair_net = record { ids = 1 ∷ 2 ∷ []; ports = (2 ∷ []) ∷ (1 ∷ []) ∷ [] }
+pair_net = record { ids = 1 ∷ 2 ∷ []; ports = (2 ∷ []) ∷ (1 ∷ []) ∷ []; bars = [] ∷ [] ∷ [] }
 
 -- of each pulse below n the payload of this number, an acknowledgement and the safe
 abbrev pub echoes : ℕ → ℕ → List (Wire Best)

@@ -5,7 +5,7 @@ ghost use Rattle.node_checks.specs.LinkRows.{pair_net};
 
 use crate::link_alone::{met_again, one_after_another};
 use crate::link_threads::hand_over;
-use alpha_core::{NetFault, Network, Wire, edges_fit};
+use alpha_core::{NetFault, Network, Wire, bars_fit, edges_fit};
 use colour_program::Payload;
 use run_options::MAX_CAPACITY;
 use std::alloc::Global;
@@ -21,7 +21,8 @@ fn pair(rt: &impl Abort, alloc: Global) -> Result<Network, NetFault>
     let ids = [1, 2];
     let edges = [(1, 2)];
     assert!(rt; edges_fit(2, &edges));
-    Network::new(alloc, 2, &ids, &edges)
+    assert!(rt; bars_fit(2, &[]));
+    Network::new(alloc, 2, &ids, &edges, &[])
 }
 
 #[test]

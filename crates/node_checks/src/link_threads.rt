@@ -47,7 +47,7 @@ fn put_round<const D: u32, R: Wait>(
     rt: &R,
     link: &Link<Greatest<D>>,
     end: &mut PutEnd<Greatest<D>>,
-    best: u64,
+    best: u128,
     pulse: u32,
 ) -> bool
     requires end { IsPutEndOf link.now end.old }
@@ -71,7 +71,7 @@ fn put_all<const D: u32, R: Wait>(
     rt: &R,
     link: &Link<Greatest<D>>,
     mut end: PutEnd<Greatest<D>>,
-    best: u64,
+    best: u128,
 ) -> (PutEnd<Greatest<D>>, bool)
     requires end { IsPutEndOf link.now end }
     requires fresh { put_list end ≡ [] }
@@ -131,7 +131,7 @@ pub fn hand_over<const D: u32, R: Threads + Wait + Sync>(
     alloc: Global,
     network: &Network,
     vertex: u32,
-    best: u64,
+    best: u128,
     capacity: usize,
     got: &mut [Option<Wire<Best>>],
 ) -> Result<(bool, usize), Memory>

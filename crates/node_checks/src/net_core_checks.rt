@@ -74,7 +74,7 @@ fn triangle_events(alloc: Global, later: usize) -> Result<Vec<Event>, Fail> {
 }
 
 fn triangle(alloc: Global) -> Result<Network, Fail> {
-    Ok(Network::try_new(alloc, &[1, 2, 3], &[(1, 2), (1, 3), (2, 3)])?)
+    Ok(Network::try_new(alloc, &[1, 2, 3], &[(1, 2), (1, 3), (2, 3)], &[])?)
 }
 
 fn pulses(state: &NetState<Colouring>) -> (u32, u32, u32)
@@ -130,7 +130,7 @@ fn a_refusal_has_the_index_of_its_event(rt: HostRuntime) -> Result<(), Fail> {
     let mut events = triangle_events(alloc, 1)?;
     events.push(Event::Pulse(1))?;
     assert!(rt; refusal(alloc, &net, &events) == Some(RunRefused::NotReady(31)));
-    let edge = Network::try_new(alloc, &[1, 2], &[(1, 2)])?;
+    let edge = Network::try_new(alloc, &[1, 2], &[(1, 2)], &[])?;
     let twice = [Event::Put(1, 0), Event::Put(1, 0)];
     assert!(rt; refusal(alloc, &edge, &twice) == Some(RunRefused::NothingToPut(1)));
     Ok(())

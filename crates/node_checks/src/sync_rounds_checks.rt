@@ -6,7 +6,7 @@ use std::alloc::Global;
 use std::test::Fail;
 use sync_rounds::{Best, Greatest, run_rounds};
 
-fn bests<const D: u32>(alloc: Global, net: &Network) -> Result<Vec<u64>, Fail> {
+fn bests<const D: u32>(alloc: Global, net: &Network) -> Result<Vec<u128>, Fail> {
     let mut bests = Vec::new(alloc);
     for node in &run_rounds::<Greatest<D>>(alloc, net)? {
         bests.push(node.best())?;
@@ -15,7 +15,7 @@ fn bests<const D: u32>(alloc: Global, net: &Network) -> Result<Vec<u64>, Fail> {
 }
 
 fn path(alloc: Global) -> Result<Network, Fail> {
-    Ok(Network::try_new(alloc, &[1, 2, 3], &[(1, 2), (2, 3)])?)
+    Ok(Network::try_new(alloc, &[1, 2, 3], &[(1, 2), (2, 3)], &[])?)
 }
 
 // This and the next test do the same but for the number of pulses: tests/allocations.py compares how
@@ -48,6 +48,7 @@ fn greatest_stays_in_its_part_of_the_network(rt: HostRuntime) -> Result<(), Fail
         alloc,
         &[9, 4, 20, 5, 8, 6, 7],
         &[(1, 2), (4, 5), (4, 6), (4, 7)],
+        &[],
     )?;
     assert_eq!(rt;
         bests::<0>(alloc, &net)?.as_slice(),
@@ -61,7 +62,7 @@ fn greatest_stays_in_its_part_of_the_network(rt: HostRuntime) -> Result<(), Fail
         bests::<3>(alloc, &net)?.as_slice(),
         [9, 9, 20, 8, 8, 8, 8].as_slice()
     );
-    let none = Network::try_new(alloc, &[], &[])?;
+    let none = Network::try_new(alloc, &[], &[], &[])?;
     assert_eq!(rt; bests::<1>(alloc, &none)?.len(), 0);
     let (word, number) = Best(7).words();
     assert!(rt; word == "best" && number == 7 && Best::from_words(word, number) == Some(Best(7)));

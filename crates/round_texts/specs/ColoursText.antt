@@ -1,7 +1,7 @@
 -- What the text of the rounds says of the colouring's own: its phases, colours and choices.
 use Rattle.std.specs.Prelude.{ℕ, ◌+◌, ◌/◌, ◌%◌, if◌then◌else◌, List, [], ◌++◌, codes, flat_map, slice_index}
 use Rattle.std.specs.List.{range_with_len}
-use Rattle.alpha_core.specs.node_api.Program.{Sizes}
+use Rattle.alpha_core.specs.node_api.Program.{Sizes, span}
 use Rattle.colour_program.specs.colour_rules.Reduction.{Reduction}
 use Rattle.colour_program.specs.colour_rules.Reduction.TheVariants.{Step, Shift, Drop}
 use Rattle.colour_program.specs.colour_rules.Phase.{Phase}
@@ -23,8 +23,8 @@ phase_text sizes Orient = codes " orient"
 phase_text sizes Seed = codes " seed"
 phase_text sizes (Work reduction) = reduction_text reduction
 phase_text sizes (Merge f s) =
-    numbered (codes " merge ") f ++ numbered (codes " ") (s / (sizes.greatest_degree + 1))
-    ++ numbered (codes " ") (s % (sizes.greatest_degree + 1))
+    numbered (codes " merge ") f ++ numbered (codes " ") (s / (span sizes + 1))
+    ++ numbered (codes " ") (s % (span sizes + 1))
 phase_text sizes Halted = codes " halted"
 
 -- `V colour F C`: a node's colour in a forest

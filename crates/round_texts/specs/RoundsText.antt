@@ -1,8 +1,8 @@
 -- The text of the synchronous run of the colouring.
-use Rattle.std.specs.Prelude.{ℕ, ◌+◌, List, [], ◌∷◌, ◌++◌, codes, flat_map}
+use Rattle.std.specs.Prelude.{ℕ, ◌+◌, ◌==◌, List, [], ◌∷◌, ◌++◌, codes, flat_map, if◌then◌else◌}
 use Rattle.std.specs.List.{range_with_len}
 use Rattle.number_rows.specs.Row.{row}
-use Rattle.alpha_core.specs.interference.Net.{Net, count_of, forest_count_of, greatest_degree_of, vertices}
+use Rattle.alpha_core.specs.interference.Net.{Net, count_of, forest_count_of, greatest_bars_of, greatest_degree_of, vertices}
 use Rattle.alpha_core.specs.node_api.Program.{last_pulse_on, sizes_of}
 use Rattle.alpha_core.specs.node_api.Run.{outbox_at, state_at}
 use Rattle.colour_program.specs.colour_rules.Node.{phase_of}
@@ -27,10 +27,13 @@ vertex_text net p v =
 abbrev pub pulse_text : Net → ℕ → List ℕ
 pulse_text net p = pulse_line net p ++ flat_map (vertex_text net p) (vertices net)
 
--- `rounds 1 N DELTA U R`
+-- `rounds 1 N DELTA U R`, or `rounds 2 N DELTA BARS U R` where a vertex has a bar
 abbrev pub head_line : Net → List ℕ
-head_line net = codes "rounds " ++ row (1 ∷ count_of net ∷ greatest_degree_of net ∷ forest_count_of net
-    ∷ last_pulse_on colouring net ∷ [])
+head_line net =
+    codes "rounds " ++ (if greatest_bars_of net == 0
+    then row (1 ∷ count_of net ∷ greatest_degree_of net ∷ forest_count_of net ∷ last_pulse_on colouring net ∷ [])
+    else row (2 ∷ count_of net ∷ greatest_degree_of net ∷ greatest_bars_of net ∷ forest_count_of net
+    ∷ last_pulse_on colouring net ∷ []))
 
 -- the synchronous run of the colouring on a network: the first line, and the pulses 0 to R
 abbrev pub rounds_text : Net → List ℕ

@@ -52,7 +52,7 @@ fn push_colour(text: &mut Vec<u8>, v: u32, node: &ColourNode, forest: u16) -> Re
 {
     push_numbered(text, b"", u128::from(v))?;
     push_numbered(text, b" colour ", u128::from(forest))?;
-    push_numbered(text, b" ", u128::from(node.forest_colour(forest)))?;
+    push_numbered(text, b" ", node.forest_colour(forest))?;
     text.push(b'\n')?;
     Ok(())
 }

@@ -16,21 +16,21 @@ use std::alloc::{AllocError, Global};
 use sync_rounds::Rounds;
 use wire_texts::push_numbered;
 
-// Appends the first line.
+// Appends the first line. Its edition is 2 where a vertex has a bar, for the merging then goes by Δ and the bars.
 fn push_head(text: &mut Vec<u8>, net: &Network) -> Result<(), AllocError>
     ensures { IfOk result (λ _. text.new.items ≡ text.old.items ++ head_line net.now) }
 {
     text.extend_from_slice(b"rounds ")?;
-    push_row(
-        text,
-        &[
-            1,
-            u64::from(net.nodes()),
-            u64::from(net.greatest_degree()),
-            u64::from(net.forest_count()),
-            u64::from(Colouring::last_pulse(net)),
-        ],
-    )
+    let nodes = u64::from(net.nodes());
+    let degree = u64::from(net.greatest_degree());
+    let bars = u64::from(net.greatest_bars());
+    let forests = u64::from(net.forest_count());
+    let last = u64::from(Colouring::last_pulse(net));
+    if bars == 0 {
+        push_row(text, &[1, nodes, degree, forests, last])
+    } else {
+        push_row(text, &[2, nodes, degree, bars, forests, last])
+    }
 }
 
 // Appends the line of a pulse, and returns its phase.
@@ -74,7 +74,8 @@ fn push_pulse(text: &mut Vec<u8>, rounds: &Rounds<'_, Colouring>) -> Result<(), 
     Ok(())
 }
 
-/// The synchronous run of the colouring on a network: `rounds 1 N DELTA U R`, and then for each pulse 0 to R a line
+/// The synchronous run of the colouring on a network: `rounds 1 N DELTA U R`, or `rounds 2 N DELTA BARS U R`
+/// where a vertex has a bar, and then for each pulse 0 to R a line
 /// `pulse P PHASE`, and behind it for each vertex its colours or its choice, and what it sends.
 ///
 /// # Errors

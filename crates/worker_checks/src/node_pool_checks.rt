@@ -114,7 +114,7 @@ fn options_out_of_range_are_refused_first(rt: HostRuntime) -> Result<(), Fail> {
     };
     let outcome = run_workers::<Greatest<1>, OpenGate, _>(&rt, alloc, &net, options, &OpenGate)?;
     assert!(rt; !outcome.is_whole());
-    let none = Network::try_new(alloc, &[], &[])?;
+    let none = Network::try_new(alloc, &[], &[], &[])?;
     let outcome = run_workers::<Greatest<1>, OpenGate, _>(&rt, alloc, &none, options, &OpenGate)?;
     assert!(rt; outcome.is_whole());
     Ok(())

@@ -11,6 +11,11 @@ const TRIANGLE: &[u8] = b"p edge 3 3\ne 1 2\ne 1 3\ne 2 3\n";
 
 const TRIANGLE_PLAN: &[u8] = b"plan\n1 2\n2 3\n3 1\n";
 
+// Channel 1 is barred at vertex 3.
+const BARRED: &[u8] = b"p edge 3 3\ne 1 2\ne 1 3\ne 2 3\nb 3 1\n";
+
+const BARRED_PLAN: &[u8] = b"plan\n1 1\n2 3\n3 2\n";
+
 // A graph with an edge from 1 to 1, in its line 2.
 const LOOP: &[u8] = b"p edge 2 1\ne 1 1\n";
 
@@ -42,6 +47,13 @@ fn plans_by_workers(rt: HostRuntime) -> Result<(), Fail> {
         (TRIANGLE, options(8, 4, AMPLE), Ok(TRIANGLE_PLAN)),
         (TRIANGLE, options(64, 1, AMPLE), Ok(TRIANGLE_PLAN)),
         (TRIANGLE, options(64, 4, AMPLE), Ok(TRIANGLE_PLAN)),
+        (BARRED, options(1, 1, AMPLE), Ok(BARRED_PLAN)),
+        (BARRED, options(8, 4, AMPLE), Ok(BARRED_PLAN)),
+        (
+            b"p edge 2 0\nb 1 1\nb 1 2\nb 2 2\n",
+            options(2, 1, AMPLE),
+            Ok(b"plan\n1 3\n2 1\n"),
+        ),
         (b"p edge 0 0\n", options(4, 4, 0), Ok(b"plan\n")),
         (TRIANGLE, options(1, 4, 1), Err(PlanFault::Stopped)),
         (TRIANGLE, options(4, 4, 0), Err(PlanFault::Stopped)),

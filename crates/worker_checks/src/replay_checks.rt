@@ -31,7 +31,7 @@ fn refusal(alloc: Global, net: &Network, row: (u32, Entry<Best>)) -> Option<Repl
 #[test]
 fn entries_are_replayed_or_refused_by_the_first_that_fails(rt: HostRuntime) -> Result<(), Fail> {
     let alloc = rt.alloc();
-    let net = Network::try_new(alloc, &[1, 2], &[(1, 2)])?;
+    let net = Network::try_new(alloc, &[1, 2], &[(1, 2)], &[])?;
     assert!(rt; net.nodes() == 2);
     let (nodes, rows) = read_transcript::<Best>(alloc, WHOLE)?;
     assert!(rt; nodes == 2);

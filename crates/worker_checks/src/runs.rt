@@ -13,16 +13,16 @@ use std::thread::Threads;
 use sync_rounds::Greatest;
 
 pub fn path(alloc: Global) -> Result<Network, Fail> {
-    Ok(Network::try_new(alloc, &[1, 2, 3], &[(1, 2), (2, 3)])?)
+    Ok(Network::try_new(alloc, &[1, 2, 3], &[(1, 2), (2, 3)], &[])?)
 }
 
 /// Three nodes without edges.
 pub fn apart(alloc: Global) -> Result<Network, Fail> {
-    Ok(Network::try_new(alloc, &[1, 2, 3], &[])?)
+    Ok(Network::try_new(alloc, &[1, 2, 3], &[], &[])?)
 }
 
 pub fn triangle(alloc: Global) -> Result<Network, Fail> {
-    Ok(Network::try_new(alloc, &[1, 2, 3], &[(1, 2), (1, 3), (2, 3)])?)
+    Ok(Network::try_new(alloc, &[1, 2, 3], &[(1, 2), (1, 3), (2, 3)], &[])?)
 }
 
 // Whether two vertices of a small network are neighbours: any bit that depends on all three numbers.
@@ -40,14 +40,14 @@ pub fn small(alloc: Global, number: u32) -> Result<Network, Fail> {
     let mut ids = Vec::new(alloc);
     let mut edges = Vec::new(alloc);
     for v in 1..count + 1 {
-        ids.push(u64::from((v * 37 + number % 101) % 101))?;
+        ids.push(u128::from((v * 37 + number % 101) % 101))?;
         for w in v + 1..count + 1 {
             if are_joined(number, v, w) {
                 edges.push((v, w))?;
             }
         }
     }
-    Ok(Network::try_new(alloc, ids.as_slice(), edges.as_slice())?)
+    Ok(Network::try_new(alloc, ids.as_slice(), edges.as_slice(), &[])?)
 }
 
 /// The greatest identifiers that nodes know at the end of a run, which has to be whole.
@@ -57,7 +57,7 @@ pub fn greatest<const D: u32, R: Threads + Wait + Sync>(
     net: &Network,
     workers: u32,
     capacity: u32,
-) -> Result<Option<Vec<u64>>, Fail> {
+) -> Result<Option<Vec<u128>>, Fail> {
     let options = Options {
         workers,
         capacity,

@@ -27,7 +27,7 @@ const WRONG: [(&[u8], usize); 17] = [
     (b"transcript 1 2\nc a comment\n", 2),
     (b"transcript 1 2\n1 put 2 close\n1 put 2 close 3\n", 3),
     (
-        b"transcript 1 2\n1 put 2 payload 0 hello 18446744073709551616\n",
+        b"transcript 1 2\n1 put 2 payload 0 hello 340282366920938463463374607431768211456\n",
         2,
     ),
     (b"transcript 1 2\n1 put 2 payload 0 label 65536\n", 2),

@@ -131,7 +131,7 @@ struct Fed {
     emitted: Option<Wire<Best>>,
     played: Played<Best>,
     drained: bool,
-    best: u64,
+    best: u128,
 }
 
 // Plays vertex 1, with another wire, if there is one, between two lists of acts.
@@ -223,7 +223,7 @@ fn first_wrong(alloc: Global, net: &Network, rows: &[Row]) -> Result<Option<Row>
 #[test]
 fn each_cell_that_calls_reach(rt: HostRuntime) -> Result<(), Fail> {
     let alloc = rt.alloc();
-    let net = Network::try_new(alloc, &[1, 2], &[(1, 2)])?;
+    let net = Network::try_new(alloc, &[1, 2], &[(1, 2)], &[])?;
     assert_eq!(rt; first_wrong(alloc, &net, &TABLE)?, None);
     assert_eq!(rt; first_wrong(alloc, &net, &CONDITIONS)?, None);
     Ok(())

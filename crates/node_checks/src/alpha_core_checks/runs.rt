@@ -10,7 +10,7 @@ use std::test::Fail;
 use sync_rounds::{Best, Greatest};
 
 pub fn edge(alloc: Global) -> Result<Network, Fail> {
-    Ok(Network::try_new(alloc, &[1, 2], &[(1, 2)])?)
+    Ok(Network::try_new(alloc, &[1, 2], &[(1, 2)], &[])?)
 }
 
 // Two nodes without pulses close their links. Before that nothing else comes, and after it nothing at all.

@@ -135,7 +135,7 @@ fn walk_all(rt: &impl Abort, alloc: Global, net: &Network, rows: &[Row]) -> Resu
 #[test]
 fn each_cell_of_the_table_has_its_rule(rt: HostRuntime) -> Result<(), Fail> {
     let alloc = rt.alloc();
-    let net = Network::try_new(alloc, &[1, 2], &[(1, 2)])?;
+    let net = Network::try_new(alloc, &[1, 2], &[(1, 2)], &[])?;
     let table = TABLE;
     walk_all(&rt, alloc, &net, &table)
 }

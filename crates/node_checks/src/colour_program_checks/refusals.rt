@@ -20,7 +20,7 @@ type Came = (u32, [Option<Payload>; 2]);
 
 // A triangle with identifiers 1, 2 and 30: two forests, degree 2, last pulse 30. Vertex 1 has two
 // parents, vertex 2 a child and a parent, vertex 3 two children.
-static IDS: [u64; 3] = [1, 2, 30];
+static IDS: [u128; 3] = [1, 2, 30];
 
 static EDGES: [(u32, u32); 3] = [(1, 2), (1, 3), (2, 3)];
 
@@ -153,8 +153,8 @@ struct Shown {
     answer: Result<(), Refused>,
     is_quiet: bool,
     colour: u16,
-    first_colour: Option<u64>,
-    second_colour: Option<u64>,
+    first_colour: Option<u128>,
+    second_colour: Option<u128>,
 }
 
 fn show(alloc: Global, node: &mut Colouring, came: Came) -> Result<Shown, Memory>
@@ -213,9 +213,9 @@ fn are_refused(rt: &impl Abort, alloc: Global, net: &Network, rows: &[Row]) -> R
 }
 
 // The greatest colour that may come from a parent at each pulse from 4 on.
-static BOUNDS: [(u32, u64); 9] = [
-    (4, 127),
-    (5, 13),
+static BOUNDS: [(u32, u128); 9] = [
+    (4, 255),
+    (5, 15),
     (6, 7),
     (7, 5),
     (8, 5),
@@ -230,7 +230,7 @@ fn are_bounds(
     rt: &impl Abort,
     alloc: Global,
     net: &Network,
-    rows: &[(u32, u64)],
+    rows: &[(u32, u128)],
 ) -> Result<(), Fail> {
     for (pulse, bound) in rows {
         assert!(rt; net.nodes() == 3 && *bound < 1000);
@@ -252,12 +252,12 @@ fn are_bounds(
 #[test]
 fn a_refusal_has_its_rule_and_its_port(rt: HostRuntime) -> Result<(), Fail> {
     let alloc = rt.alloc();
-    let net = Network::try_new(alloc, &IDS, &EDGES)?;
+    let net = Network::try_new(alloc, &IDS, &EDGES, &[])?;
     let refusals = REFUSALS;
     are_refused(&rt, alloc, &net, &refusals)?;
     are_bounds(&rt, alloc, &net, &BOUNDS)?;
     // On a path a node has one parent at most, and here both neighbours say that they are higher.
-    let path = Network::try_new(alloc, &[1, 2, 3], &[(1, 2), (2, 3)])?;
+    let path = Network::try_new(alloc, &[1, 2, 3], &[(1, 2), (2, 3)], &[])?;
     let higher = (1, [Some(Hello(5)), Some(Hello(6))]);
     is_refused(&rt, alloc, &path, &(2, 0, higher, FOREST_RANGE, None))
 }

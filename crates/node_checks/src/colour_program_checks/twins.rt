@@ -81,7 +81,7 @@ pub struct Shown {
     pub answer: Result<(), Refused>,
     is_quiet: bool,
     colour: u16,
-    forest_colour: Option<u64>,
+    forest_colour: Option<u128>,
 }
 
 /// Feeds a node at its one port.
@@ -189,7 +189,7 @@ fn rests(rt: &impl Abort, alloc: Global, net: &Network, v: u32) -> Result<(), Fa
 #[test]
 fn a_node_goes_on_after_a_refusal_as_its_twin(rt: HostRuntime) -> Result<(), Fail> {
     let alloc = rt.alloc();
-    let net = Network::try_new(alloc, &[1, 2], &[(1, 2)])?;
+    let net = Network::try_new(alloc, &[1, 2], &[(1, 2)], &[])?;
     rests(&rt, alloc, &net, 1)?;
     rests(&rt, alloc, &net, 2)?;
     all_go_on(&rt, alloc, &net, &REFUSALS)

@@ -38,9 +38,9 @@ type Pair = NetState<Greatest<1>>;
 fn edge(alloc: Global) -> Result<Network, Fail> {
     let ids = [1, 2];
     let edges = [(1, 2)];
-    match Network::try_new(alloc, &ids, &edges) {
+    match Network::try_new(alloc, &ids, &edges, &[]) {
         Ok(net) => Ok(net),
-        Err(_) => Ok(Network::try_new(alloc, &ids, &edges)?),
+        Err(_) => Ok(Network::try_new(alloc, &ids, &edges, &[])?),
     }
 }
 
@@ -57,7 +57,7 @@ fn seen(state: &Pair) -> (u32, u32, usize, usize)
 }
 
 // The greatest identifier that each node knows, if it is drained.
-fn bests(state: &Pair) -> (Option<u64>, Option<u64>)
+fn bests(state: &Pair) -> (Option<u128>, Option<u128>)
     requires pair { count_of state.now.net ≡ 2 }
 {
     let (one, two) = (state.node(1), state.node(2));

@@ -18,3 +18,4 @@ returns-clause-ok g c =
     planned c.args.input.now c.in_ok-text_of_nodes.field-0.items net outcome c.in_ok-network.ensures.ok
     (c.in_ok-text_of_nodes.ensures ∙ ap plan_of (sym (map-map merged gathered_of c.actors.result.now) ∙ ap (map merged) c.actors.ensures.nodes))
     is.each_once coloured.exact (c.colours_are_proper.ensures.proper net ok) (c.colours_are_proper.ensures.within net ok)
+    (c.colours_are_proper.ensures.unbarred net ok)

@@ -5,5 +5,5 @@ use Rattle.colour_rules.proofs.colours.stepped_below.Goals as goal
 
 pub overflow_cast-result : goal.overflow_cast-result
 overflow_cast-result c =
-    let low : bit_by c.args.own (Some c.args.parent) < 128 = bit-byte c.args.own c.args.parent c.ranges.own.fits c.ranges.parent.fits c.requires in
+    let low : bit_by c.args.own (Some c.args.parent) < 256 = bit-byte c.args.own c.args.parent c.ranges.own.fits c.ranges.parent.fits c.requires in
     omega (arith, low, c.bit_step.ensures)

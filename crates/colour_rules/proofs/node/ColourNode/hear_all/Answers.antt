@@ -5,10 +5,11 @@ use Rattle.std.specs.Prelude.{IsTrue, Option, Some, false}
 use Rattle.std.specs.Ordering.{nat_cmp}
 use Rattle.std.specs.FinSet.{FinSet}
 use Rattle.node_api.specs.Boxes.{Mail, at_port}
+use Rattle.node_api.specs.Program.{span}
 use Rattle.colour_rules.specs.declared.payload.Payload.{Payload}
 use Rattle.colour_rules.specs.declared.payload.Payload.TheVariants.{Chosen}
 use Rattle.colour_rules.specs.Choice.{with_taken}
-use Rattle.colour_rules.specs.Chosen.{chosen_in, room_of}
+use Rattle.colour_rules.specs.Taken.{chosen_in, room_of}
 use Rattle.colour_rules.specs.Idle.{IsPassed, IsTaken}
 use Rattle.colour_rules.specs.Node.{Node, ports}
 use Rattle.colour_rules.specs.contracts.node.ColourNode.{the_view}
@@ -25,8 +26,9 @@ returns-then-not-has_next-clause-accepted c alone =
 pub returns-then-not-has_next-clause-node : goal.returns-then-not-has_next-clause-node
 returns-then-not-has_next-clause-node c =
     let taken : IsTaken c.args.self.now c.args.forest c.args.inbox.now c.in-Some.first c.take_next.new.inbox = c.in-Some.ensures.taken in
-    ap (λ (set : FinSet nat_cmp). record (the_view c.self.inside) { chosen = set })
-    (c.add.ensures.added ∙ one-taken (chosen_in c.self.inside.chosen) c.args.inbox.now c.take_next.new.inbox c.in-Some.first c.requires.unread taken.reads
+    ap (λ (set : FinSet nat_cmp). record (the_view c.self.inside) { chosen = chosen_in c.add.new.self; barred = set }) c.add.ensures.barred
+    ∙ ap (λ (set : FinSet nat_cmp). record (the_view c.self.inside) { chosen = set })
+    (c.add.ensures.chosen ∙ one-taken (chosen_in c.self.inside.taken) c.args.inbox.now c.take_next.new.inbox c.in-Some.first c.requires.unread taken.reads
     (λ h. let e : IsTrue false = c.if-not-has_next.ensures.more.1 h in absurd (cc)))
     ∙ ap (λ (node : Node). with_taken node c.args.inbox.now.slots) c.self.view_is
 
@@ -41,9 +43,9 @@ add_all-requires-clause-colours c port colour came =
     ap (λ (mail : Mail Payload). mail.slots) c.rewind.ensures.unread ∙ (c.takes_rest.ensures.slots ∙ c.take_next.ensures.slots) in
     let here : at_port slots port ≡ Some (Chosen colour) =
     subst (λ (read : List (Option Payload)). at_port read port ≡ Some (Chosen colour)) same came in
-    let low : colour ≤ node.sizes.greatest_degree =
+    let low : colour ≤ span node.sizes =
     chosen-within node c.args.forest 1 slots c.requires.ports
     (passed-fine node c.args.forest slots c.requires.ports passed 1 (omega arith)) port colour here in
-    let most : node.sizes.greatest_degree < room_of c.self.inside.chosen =
-    subst (λ (n : Node). n.sizes.greatest_degree < room_of c.self.inside.chosen) c.self.view_is c.self.invariant.9 in
+    let most : span node.sizes < room_of c.self.inside.taken =
+    subst (λ (n : Node). span n.sizes < room_of c.self.inside.taken) c.self.view_is c.self.invariant.11 in
     omega (arith, low, most)

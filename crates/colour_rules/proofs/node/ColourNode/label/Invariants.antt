@@ -1,5 +1,5 @@
-use Rattle.std.proofs.Common.{◌≡◌, ◌-◌, ◌<◌, length}
-use Rattle.colour_rules.specs.Chosen.{room_of}
+use Rattle.std.proofs.Common.{◌≡◌, ◌+◌, ◌-◌, ◌<◌, length}
+use Rattle.colour_rules.specs.Taken.{room_of}
 use Rattle.colour_rules.specs.Program.{with_roles}
 use Rattle.colour_rules.specs.contracts.node.ColourNode.{the_view}
 use Rattle.colour_rules.proofs.Labelling.{Labelled}
@@ -9,7 +9,7 @@ abbrev pub invariant-loop-self : goal.invariant-loop-self
 invariant-loop-self l =
     record {
       same : l.inbox.slots ≡ l.fn.inbox.slots;
-      room : l.self-inside.greatest_degree < room_of l.self-inside.chosen;
+      room : l.self-inside.greatest_degree + l.self-inside.greatest_bars < room_of l.self-inside.taken;
       node : the_view l.self-inside ≡ with_roles l.fn.self l.self-inside.roles.items;
       roles : Labelled l.fn.self.roles l.fn.inbox.slots l.inbox.cursor l.self-inside.roles.items;
     }

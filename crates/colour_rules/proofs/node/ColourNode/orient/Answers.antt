@@ -23,4 +23,4 @@ invariant_of-self c =
     valid-roles (the_view inside) (with_items inside.roles roles).items old
     (ap (λ (rs : List Role). length rs) is ∙ as_many)
     (subst (HasForests inside.forests) (sym (is ∙ c.number_up.ensures.numbered)) (oriented-in inside.id ids inside.forests few)) in
-    (v.0, v.1, v.2, v.3, v.4, v.5, v.6, v.7, v.8, c.self.invariant.9)
+    (v.0, v.1, v.2, v.3, v.4, v.5, v.6, v.7, v.8, v.9, v.10, c.self.invariant.11)

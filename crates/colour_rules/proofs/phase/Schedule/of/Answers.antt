@@ -1,7 +1,8 @@
 use Rattle.std.proofs.Common.{rules, ◌≤◌, arith}
+use Rattle.node_api.below.dimacs_col.specs.declared.limits.TheConstants.{MAX_BARS}
 use Rattle.node_api.below.interference.specs.declared.limits.TheConstants.{MAX_DEGREE}
 use Rattle.node_api.specs.interference.Net.{Net, IsNetwork, forest_count_of, greatest_degree_of}
-use Rattle.node_api.proofs.interference.Neighbours.{greatest_degree-within, forest_count-within}
+use Rattle.node_api.proofs.interference.Neighbours.{greatest_bars-within, greatest_degree-within, forest_count-within}
 use Rattle.colour_rules.proofs.phase.Schedule.of.Goals as goal
 
 fewer : (net : Net) → IsNetwork net → forest_count_of net ≤ MAX_DEGREE
@@ -17,11 +18,17 @@ overflow_cast-result c =
 
 pub overflow_cast-result-2 : goal.overflow_cast-result-2
 overflow_cast-result-2 c =
+    let few : c.greatest_bars.result ≤ MAX_BARS = rw c.greatest_bars.ensures (greatest_bars-within c.args.net.now c.is_network.ensures) in
+    search rules
+
+pub overflow_cast-result-3 : goal.overflow_cast-result-3
+overflow_cast-result-3 c =
     let few : c.forest_count.result ≤ MAX_DEGREE = rw c.forest_count.ensures (fewer c.args.net.now c.is_network.ensures) in
     search rules
 
 pub invariant_of-result : goal.invariant_of-result
 invariant_of-result c = (
   rw c.greatest_degree.ensures (greatest_degree-within c.args.net.now c.is_network.ensures),
+  rw c.greatest_bars.ensures (greatest_bars-within c.args.net.now c.is_network.ensures),
   rw c.forest_count.ensures (fewer c.args.net.now c.is_network.ensures),
 )
