@@ -12,8 +12,8 @@ ghost use Rattle.async_colour_laws.specs.Coloured.{MaximalRunsAreColoured};
 ghost use Rattle.async_colour_laws.specs.Small.{EndsWhole, EndsWithTheGreatest, edge, whole_run};
 
 /// If all nodes of the colouring have halted, each has its colour of the definition; so neighbours differ,
-/// each colour is 0 to the span, and none is barred at its node. The first clause holds of whatever ran the nodes, the second of lists
-/// of events, the third of runs of workers.
+/// each colour is 0 to the span, and none is barred at its node. The first clause holds of whatever ran the nodes,
+/// the second of lists of events, the third of runs of workers.
 pub fn halted_nodes_are_coloured()
     ensures nodes { (net : Net) → IsNetwork net → HaltedAreColoured net }
     ensures runs { (net : Net) → IsNetwork net → HaltedRunsAreColoured net }

@@ -11,43 +11,46 @@ use std::alloc::Global;
 use std::process::Abort;
 use std::test::Fail;
 
+// Text of a network, its forests, and its plan.
+const ANSWERS: [(&str, &str, &str); 8] = [
+    (
+        "p edge 3 3\ne 1 2\ne 1 3\ne 2 3\n",
+        "forests 3 2\n0 1 2\n0 2 3\n1 1 3\n",
+        "plan\n1 2\n2 3\n3 1\n",
+    ),
+    ("p col 2 0\n", "forests 2 0\n", "plan\n1 1\n2 1\n"),
+    ("p edge 0 0\n", "forests 0 0\n", "plan\n"),
+    (
+        "p edge 2 1\ni 1 7\ne 1 2\n",
+        "forests 2 1\n0 2 1\n",
+        "plan\n1 1\n2 2\n",
+    ),
+    (
+        "p edge 2 1\ni 2 5\ne 1 2\n",
+        "forests 2 1\n0 1 2\n",
+        "plan\n1 2\n2 1\n",
+    ),
+    (
+        "p edge 2 1\ni 2 340282366920938463463374607431768211455\ne 1 2\n",
+        "forests 2 1\n0 1 2\n",
+        "plan\n1 2\n2 1\n",
+    ),
+    (
+        "p edge 3 3\ne 1 2\ne 1 3\ne 2 3\nb 3 1\n",
+        "forests 3 2\n0 1 2\n0 2 3\n1 1 3\n",
+        "plan\n1 1\n2 3\n3 2\n",
+    ),
+    (
+        "p edge 2 0\nb 1 1\nb 1 2\nb 2 2\n",
+        "forests 2 0\n",
+        "plan\n1 3\n2 1\n",
+    ),
+];
+
 #[test]
 fn answers_texts(rt: HostRuntime) -> Result<(), Fail> {
     let alloc = rt.alloc();
-    for (text, forests, plan) in [
-        (
-            "p edge 3 3\ne 1 2\ne 1 3\ne 2 3\n",
-            "forests 3 2\n0 1 2\n0 2 3\n1 1 3\n",
-            "plan\n1 2\n2 3\n3 1\n",
-        ),
-        ("p col 2 0\n", "forests 2 0\n", "plan\n1 1\n2 1\n"),
-        ("p edge 0 0\n", "forests 0 0\n", "plan\n"),
-        (
-            "p edge 2 1\ni 1 7\ne 1 2\n",
-            "forests 2 1\n0 2 1\n",
-            "plan\n1 1\n2 2\n",
-        ),
-        (
-            "p edge 2 1\ni 2 5\ne 1 2\n",
-            "forests 2 1\n0 1 2\n",
-            "plan\n1 2\n2 1\n",
-        ),
-        (
-            "p edge 2 1\ni 2 340282366920938463463374607431768211455\ne 1 2\n",
-            "forests 2 1\n0 1 2\n",
-            "plan\n1 2\n2 1\n",
-        ),
-        (
-            "p edge 3 3\ne 1 2\ne 1 3\ne 2 3\nb 3 1\n",
-            "forests 3 2\n0 1 2\n0 2 3\n1 1 3\n",
-            "plan\n1 1\n2 3\n3 2\n",
-        ),
-        (
-            "p edge 2 0\nb 1 1\nb 1 2\nb 2 2\n",
-            "forests 2 0\n",
-            "plan\n1 3\n2 1\n",
-        ),
-    ] {
+    for (text, forests, plan) in ANSWERS {
         let bytes = text.as_bytes();
         assert!(rt;
             forest_bytes(alloc, bytes)?.as_slice() == forests.as_bytes(),

@@ -1,6 +1,6 @@
 //! The colouring of a network, and what its rounds make of it: `laws` says that the colours of
-//! neighbours differ, are 0 to the span and none is barred, and that the synchronous run of the rounds of `colour_rules`
-//! refuses nothing, is silent at its last pulse and ends with these colours. It also says in other words
+//! neighbours differ, are 0 to the span and none is barred, and that the synchronous run of the rounds of
+//! `colour_rules` refuses nothing, is silent at its last pulse and ends with these colours. It also says in other words
 //! which refusal of a node is the first, which step of the merging a pulse is, and the table of what may
 //! come row by row.
 //!

@@ -36,7 +36,8 @@ no-turn-after node f step s low over later below =
     no-turn node f s low (λ here.
     elim (dec_lt 2 (slice_index node.colours f)) [
       | yes many ↦
-          let products : 3 * (span node.sizes + 1) ≤ slice_index node.colours f * (span node.sizes + 1) = mul-le-mul_right (span node.sizes + 1) (omega arith) in
+          let products : 3 * (span node.sizes + 1) ≤ slice_index node.colours f * (span node.sizes + 1) =
+          mul-le-mul_right (span node.sizes + 1) (omega arith) in
           omega (arith, products)
       | no few ↦ omega (arith, over (omega arith))
     ])

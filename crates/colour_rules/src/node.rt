@@ -116,7 +116,8 @@ impl ColourNode {
         out.broadcast(Payload::Hello(self.id));
     }
 
-    /// The node's colour so far: the least that isn't barred before its first choice, and its colour once the rounds are over.
+    /// The node's colour so far: the least that isn't barred before its first choice, and its colour once the
+    /// rounds are over.
     pub fn colour(&self) -> u16
         ensures { result ≡ self.now.merged }
     {

@@ -67,7 +67,8 @@ impl Model for Schedule {
       forests = a.forests;
     } };
 
-    ghost invariant = { λ a. (a.greatest_degree ≤ MAX_DEGREE) × (a.greatest_bars ≤ MAX_BARS) × (a.forests ≤ MAX_DEGREE) };
+    ghost invariant = { λ a. (a.greatest_degree ≤ MAX_DEGREE) × (a.greatest_bars ≤ MAX_BARS)
+        × (a.forests ≤ MAX_DEGREE) };
 }
 
 impl Schedule {

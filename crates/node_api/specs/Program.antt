@@ -1,6 +1,7 @@
 -- What a node program is to contracts: the functions that say all of its states and messages.
 use Rattle.std.specs.Prelude.{◌≡◌, ℕ, ◌+◌, ◌<◌, List, Option, Result, Ok, Err, MatchResult}
-use Rattle.interference.specs.Net.{Net, bars_of, count_of, id_of, degree_of, greatest_bars_of, greatest_degree_of, forest_count_of}
+use Rattle.interference.specs.Net.{Net, bars_of, count_of, id_of, degree_of}
+use Rattle.interference.specs.Net.{greatest_bars_of, greatest_degree_of, forest_count_of}
 use Rattle.node_api.specs.Boxes.{nothing}
 
 -- What every vertex knows of its network: n, Δ, the greatest number of bars of a vertex, and U.

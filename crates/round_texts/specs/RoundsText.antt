@@ -2,7 +2,8 @@
 use Rattle.std.specs.Prelude.{ℕ, ◌+◌, ◌==◌, List, [], ◌∷◌, ◌++◌, codes, flat_map, if◌then◌else◌}
 use Rattle.std.specs.List.{range_with_len}
 use Rattle.number_rows.specs.Row.{row}
-use Rattle.alpha_core.specs.interference.Net.{Net, count_of, forest_count_of, greatest_bars_of, greatest_degree_of, vertices}
+use Rattle.alpha_core.specs.interference.Net.{Net, count_of, forest_count_of, greatest_bars_of}
+use Rattle.alpha_core.specs.interference.Net.{greatest_degree_of, vertices}
 use Rattle.alpha_core.specs.node_api.Program.{last_pulse_on, sizes_of}
 use Rattle.alpha_core.specs.node_api.Run.{outbox_at, state_at}
 use Rattle.colour_program.specs.colour_rules.Node.{phase_of}

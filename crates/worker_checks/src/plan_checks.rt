@@ -33,6 +33,15 @@ fn options(workers: u32, capacity: u32, turns: u64) -> Options {
 
 const OUT_OF_RANGE: Result<&[u8], PlanFault> = Err(PlanFault::Pool(PoolFault::BadOptions));
 
+// Whether an answer is the plan or the fault that is wanted.
+fn is_wanted(answer: Result<Vec<u8>, PlanFault>, wanted: Result<&[u8], PlanFault>) -> bool {
+    match (answer, wanted) {
+        (Ok(bytes), Ok(plan)) => bytes.as_slice() == plan,
+        (Err(fault), Err(refusal)) => fault == refusal,
+        _ => false,
+    }
+}
+
 // Text, workers, capacity, turns, and the answer. The faults of a text come before those of the options, and these
 // before those of a run.
 #[test]
@@ -73,17 +82,8 @@ fn plans_by_workers(rt: HostRuntime) -> Result<(), Fail> {
             turns,
             transcript: _,
         } = options;
-        match (plan_bytes(&rt, alloc, text, options, &OpenGate), wanted) {
-            (Ok(answer), Ok(plan)) => {
-                assert!(rt; answer.as_slice() == plan, "{workers} {capacity} {turns}")
-            }
-            (Err(fault), Err(refusal)) => assert_eq!(rt;
-                fault,
-                refusal,
-                "{workers} {capacity} {turns}"
-            ),
-            _ => assert!(rt; false, "{workers} {capacity} {turns}"),
-        }
+        let answer = plan_bytes(&rt, alloc, text, options, &OpenGate);
+        assert!(rt; is_wanted(answer, wanted), "{workers} {capacity} {turns}");
     }
     Ok(())
 }

@@ -77,7 +77,9 @@ stays c =
     (kept-below node c.args.reduction c.args.inbox.now.slots c.requires.accepted valid.6 (valid.4 ∙ sym valid.3) valid.3))
 
 pub invariant_of-self : goal.invariant_of-self
-invariant_of-self c = let v = stays (goal.at.invariant_of-self c).After-turn_all in (v.0, v.1, v.2, v.3, v.4, v.5, v.6, v.7, v.8, v.9, v.10, c.self.invariant.11)
+invariant_of-self c =
+    let v = stays (goal.at.invariant_of-self c).After-turn_all in
+    (v.0, v.1, v.2, v.3, v.4, v.5, v.6, v.7, v.8, v.9, v.10, c.self.invariant.11)
 
 pub invariant_of-self-else-not-is_last : goal.invariant_of-self-else-not-is_last
 invariant_of-self-else-not-is_last c =

@@ -44,7 +44,8 @@ invariant_of-self c =
         ap length c.set.ensures.word,
         length-set a.words (c.args.place / 64) (bit_or c.get-word.result (1 * 2 ^ (c.args.place % 64) % 2 ^ 64)),
       ),
-      sym (ap (λ l. count_marks (marks_in a.places l)) c.set.ensures.word ∙ ap count_marks (marks_in-read_set a.places a.words c.args.place c.get-word.result read
+      sym (ap (λ l. count_marks (marks_in a.places l)) c.set.ensures.word ∙ ap count_marks
+          (marks_in-read_set a.places a.words c.args.place c.get-word.result read
           (omega (arith, below, length-marks_in a.places a.words)) inside)
           ∙ (count-added marks c.args.place below free ∙ omega (arith, c.self.invariant.1))),
       c.self.invariant.2,
