@@ -4,11 +4,13 @@ pub mod Cells
 pub mod PortLists
 mod Changed
 mod Counts
+mod Kept
 mod PortRows
 mod OutLists
 mod OutWires
 mod KeptOuts
-mod Moved
 mod Followed
+mod Settled
+mod Entered
 pub mod interference
 pub mod node_api
