@@ -1,4 +1,5 @@
 pub mod Ports
 pub mod Writes
 pub mod Replayed
+pub mod WholeReplays
 pub mod Decided

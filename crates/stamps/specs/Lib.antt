@@ -1,0 +1,7 @@
+pub mod Stamps
+pub mod Merged
+pub mod Gathered
+pub mod Table
+pub mod Keeps
+pub mod Laws
+pub mod alpha_core
