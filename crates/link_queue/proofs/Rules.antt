@@ -18,7 +18,8 @@ use Rattle.alpha_core.specs.node_api.Program.{Program}
 use Rattle.alpha_core.proofs.Wires.{legal-front}
 use Rattle.link_rule.proofs.Orders.{contains_nil, contains_one}
 use Rattle.link_rule.specs.Legal.{IsLegalOn, LegalFor}
-use Rattle.link_queue.specs.Rule.{end_view, has_close, is_close, AreLastOf, IsAllOf, Knows, Linked, MayFollow, Taking, wires_of}
+use Rattle.alpha_core.specs.StampedWires.{wires_of}
+use Rattle.link_queue.specs.Rule.{end_view, has_close, is_close, AreLastOf, IsAllOf, Knows, Linked, MayFollow, Taking}
 
 module _ {T : Type 0} where
   at_end : (l : List (EndView T)) (a b : EndView T) (j : ℕ) → get_elem? l j ≢ option.some b → get_elem? (l ++ a ∷ []) j ≡ option.some b → j ≡ length l

@@ -10,7 +10,8 @@ use Rattle.link_queue.specs.declared.ends.PutSide.{PutSide}
 use Rattle.link_queue.specs.declared.ends.TakeSide.{TakeSide}
 use Rattle.link_queue.specs.declared.met.Met.{Met}
 use Rattle.link_queue.specs.declared.link.Link.{Link}
-use Rattle.link_queue.specs.Rule.{AreLastOf, MayFollow, wires_of}
+use Rattle.alpha_core.specs.StampedWires.{wires_of}
+use Rattle.link_queue.specs.Rule.{AreLastOf, MayFollow}
 
 module _ {T : Type 0} where
   -- the link that an end is of, by its name

@@ -1,7 +1,8 @@
 -- The rule of a link.
-use Rattle.std.specs.Prelude.{◌≡◌, ℕ, Bool, true, false, ◌||◌, List, ◌∷◌, [], ◌++◌, map, Option}
+use Rattle.std.specs.Prelude.{◌≡◌, ℕ, Bool, true, false, ◌||◌, List, ◌∷◌, [], ◌++◌, Option}
 use mathlib.Core.Option as option
 use lib.ListN.{get_elem?}
+use Rattle.alpha_core.specs.StampedWires.{wires_of}
 use Rattle.alpha_core.specs.declared.stamped.Stamped.{Stamped}
 use Rattle.alpha_core.specs.declared.wire.Wire.{Wire}
 use Rattle.alpha_core.specs.declared.wire.Wire.TheVariants.{Payload, Ack, Safe, Close}
@@ -10,10 +11,6 @@ use Rattle.link_rule.specs.Legal.{LegalFor}
 use Rattle.link_queue.specs.declared.view.EndView.{EndView}
 
 module _ {T : Type 0} where
-  -- the wires without their stamps
-  abbrev pub wires_of : List (Stamped T) → List (Wire T)
-  wires_of wires = map (λ x. x.wire) wires
-
   abbrev pub end_view : Option LinkName → Bool → Bool → List (Stamped T) → List (Stamped T) → EndView T
   end_view name puts takes put taken = record { name = name; puts = puts; takes = takes; put = put; taken = taken }
 

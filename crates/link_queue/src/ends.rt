@@ -2,7 +2,8 @@
 
 ghost use Rattle.std.specs.Prelude.{◌≡◌, [], true};
 ghost use Rattle.crossbeam_queue.specs.Passes.{view};
-ghost use Rattle.link_queue.specs.Rule.{has_close, wires_of};
+ghost use Rattle.alpha_core.specs.StampedWires.{wires_of};
+ghost use Rattle.link_queue.specs.Rule.{has_close};
 
 use crate::view::EndView;
 use alpha_core::{NodeProgram, Stamped};

@@ -82,7 +82,8 @@ impl<T> Outcome<Stamped<T>, EndView<T>> for Puts {
 }
 
 impl<T> Lesson<Stamped<T>, EndView<T>> for Puts {
-    ghost use Rattle.link_queue.specs.Rule.{AreLastOf, wires_of};
+    ghost use Rattle.alpha_core.specs.StampedWires.{wires_of};
+    ghost use Rattle.link_queue.specs.Rule.{AreLastOf};
 
     ghost fact = { λ v. AreLastOf (wires_of v.put) };
 }
@@ -101,7 +102,8 @@ impl<P: NodeProgram> Outcome<Stamped<P::Payload>, EndView<P::Payload>> for Takes
 
 impl<P: NodeProgram> Lesson<Stamped<P::Payload>, EndView<P::Payload>> for Takes<P> {
     ghost use Rattle.link_rule.specs.Legal.{IsLegalOn};
-    ghost use Rattle.link_queue.specs.Rule.{MayFollow, wires_of};
+    ghost use Rattle.alpha_core.specs.StampedWires.{wires_of};
+    ghost use Rattle.link_queue.specs.Rule.{MayFollow};
 
     ghost fact = { λ v. MayFollow (IsLegalOn P.program) v.name (wires_of v.taken) };
 }

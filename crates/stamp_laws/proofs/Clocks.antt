@@ -18,7 +18,8 @@ use Rattle.entries.specs.declared.entry.Entry.TheVariants.{Pulse, Put, Take}
 use Rattle.actor.specs.Written.{Leads, takes_in}
 use Rattle.net_core.specs.State.{State, node_of}
 use Rattle.stamps.specs.alpha_core.Stamped.{Stamped}
-use Rattle.stamps.specs.Stamps.{StampedEntry, bare_of, counter_of, next_stamp, put_in, stamped, stamps_of, taken_in, wires_of}
+use Rattle.stamps.specs.alpha_core.StampedWires.{stamped, stamps_of, wires_of}
+use Rattle.stamps.specs.Stamps.{StampedEntry, bare_of, counter_of, next_stamp, put_in, taken_in}
 use Rattle.stamps.specs.Keeps.{came_to}
 use Rattle.stamps.specs.Merged.{StampedRow, AreOrdered, AreStampedRows, IsMerge, Precedes, entries_at, puts_at, stamp_behind}
 use Rattle.replay.specs.Whole.{IsStampedReplay, IsWholeReplay}

@@ -9,7 +9,8 @@ use Rattle.alpha_laws.proofs.Across.{over}
 use Rattle.stamps.specs.alpha_core.Stamped.{Stamped}
 use Rattle.actor.specs.Written.{takes_in}
 use Rattle.stamps.specs.Keeps.{came_to}
-use Rattle.stamps.specs.Stamps.{StampedEntry, Carries, Rises, bare_of, taken_in, wires_of}
+use Rattle.stamps.specs.alpha_core.StampedWires.{wires_of}
+use Rattle.stamps.specs.Stamps.{StampedEntry, Carries, Rises, bare_of, taken_in}
 use Rattle.stamps.proofs.Local.{carried, rises}
 use Rattle.stamp_laws.specs.Laws.{AreWritten, HaveMet, links_of}
 use Rattle.stamp_laws.proofs.Written.{wires_taken}

@@ -15,7 +15,8 @@ use Rattle.actor.specs.Written.{Leads, takes_in}
 use Rattle.net_core.specs.State.{Link, State, link_at, no_link, start}
 use Rattle.net_core.specs.Step.{go_on, run_from, step}
 use Rattle.replay.specs.Rows.{event_of, if_made, rows_from}
-use Rattle.stamps.specs.Stamps.{StampedEntry, Carries, bare_of, put_in, taken_in, wires_of}
+use Rattle.stamps.specs.alpha_core.StampedWires.{wires_of}
+use Rattle.stamps.specs.Stamps.{StampedEntry, Carries, bare_of, put_in, taken_in}
 use Rattle.stamps.specs.Merged.{StampedRow, AreOrdered, IsMerge, entries_at, puts_at, rows_in, takes_at}
 use Rattle.stamps.proofs.Lists.{puts_are, takes_are}
 use Rattle.stamp_laws.specs.Laws.{AreWritten, IsReplayTo}

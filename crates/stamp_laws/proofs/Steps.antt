@@ -24,7 +24,8 @@ use Rattle.net_core.proofs.Parts.{first-some}
 use Rattle.replay.specs.Rows.{Row, event_of, row_of}
 use Rattle.replay.proofs.Writes.{row-is}
 use Rattle.stamps.specs.alpha_core.Stamped.{Stamped}
-use Rattle.stamps.specs.Stamps.{Carries, bare_of, stamped, wires_of}
+use Rattle.stamps.specs.alpha_core.StampedWires.{stamped, wires_of}
+use Rattle.stamps.specs.Stamps.{Carries, bare_of}
 use Rattle.stamps.specs.Merged.{StampedRow, Precedes, entries_at, puts_at, takes_at}
 use Rattle.stamps.proofs.Lists.{entry_here, entry_other, first_put, put_here, put_other, take_here, take_other}
 

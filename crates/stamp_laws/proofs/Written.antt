@@ -3,7 +3,8 @@ use Rattle.std.proofs.Common.{◌≡◌, ℕ, ◌==◌, List, [], ◌∷◌, ref
 use Rattle.std.proofs.lemmas.Bool.{cases_Bool}
 use Rattle.entries.specs.declared.entry.Entry.TheVariants.{Pulse, Put, Take}
 use Rattle.actor.specs.Written.{puts_in, takes_in}
-use Rattle.stamps.specs.Stamps.{StampedEntry, bare_of, put_in, taken_in, wires_of}
+use Rattle.stamps.specs.alpha_core.StampedWires.{wires_of}
+use Rattle.stamps.specs.Stamps.{StampedEntry, bare_of, put_in, taken_in}
 
 module _ {M : Type 0} where
   pub wires_put : (entries : List (StampedEntry M)) (w : ℕ) → wires_of (put_in entries w) ≡ puts_in (bare_of entries) w

@@ -10,7 +10,8 @@ use Rattle.replay.specs.Replays.{IsReplay}
 use Rattle.replay.specs.Whole.{IsStampedReplay, IsWholeReplay}
 use Rattle.stamps.specs.Keeps.{KeepsStamps}
 use Rattle.stamps.specs.Merged.{StampedRow, IsMerge, rows_in}
-use Rattle.stamps.specs.Stamps.{StampedEntry, Carries, Rises, bare_of, put_in, taken_in, wires_of}
+use Rattle.stamps.specs.alpha_core.StampedWires.{wires_of}
+use Rattle.stamps.specs.Stamps.{StampedEntry, Carries, Rises, bare_of, put_in, taken_in}
 
 -- The entries of each node are all that it did, from its start to what it is, with the lists of its links; and each take
 -- of a link is of its put, and later.

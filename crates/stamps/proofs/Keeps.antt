@@ -10,7 +10,8 @@ use Rattle.alpha_core.proofs.interference.Neighbours.{port_to-is}
 use Rattle.alpha_core.specs.declared.stamped.Stamped.{Stamped}
 use Rattle.alpha_core.specs.declared.wire.Wire.{Wire}
 use Rattle.entries.specs.declared.entry.Entry.TheVariants.{Pulse, Put, Take}
-use Rattle.stamps.specs.Stamps.{StampedEntry, AreStamped, counter_of, next_stamp, put_in, stamped, stamps_of, taken_in}
+use Rattle.alpha_core.specs.StampedWires.{stamped, stamps_of}
+use Rattle.stamps.specs.Stamps.{StampedEntry, AreStamped, counter_of, next_stamp, put_in, taken_in}
 use Rattle.stamps.specs.Keeps.{HasTaken, OneMore, came_to}
 use Rattle.stamps.specs.Laws.{EventsKeepStamps}
 use Rattle.stamps.proofs.Local.{counter_behind, taken_more}

@@ -7,7 +7,8 @@ use Rattle.alpha_core.specs.declared.stamped.Stamped.{Stamped}
 use Rattle.alpha_core.specs.declared.wire.Wire.{Wire}
 use Rattle.entries.specs.declared.entry.Entry.{Entry}
 use Rattle.entries.specs.declared.entry.Entry.TheVariants.{Pulse, Put, Take}
-use Rattle.stamps.specs.Stamps.{put_in, stamped, taken_in}
+use Rattle.alpha_core.specs.StampedWires.{stamped}
+use Rattle.stamps.specs.Stamps.{put_in, taken_in}
 use Rattle.stamps.specs.Merged.{StampedRow, Precedes, entries_at, puts_at, takes_at}
 use Rattle.stamps.proofs.Appends.{not_above}
 

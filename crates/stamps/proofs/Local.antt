@@ -8,7 +8,8 @@ use Rattle.std.proofs.lemmas.List.{get_or_at, length-append, length-map, map-app
 use Rattle.alpha_core.specs.declared.stamped.Stamped.{Stamped}
 use Rattle.entries.specs.declared.entry.Entry.{Entry}
 use Rattle.entries.specs.declared.entry.Entry.TheVariants.{Pulse, Put, Take}
-use Rattle.stamps.specs.Stamps.{StampedEntry, AreStamped, Carries, Rises, counter_from, counter_of, next_stamp, stamped, stamps_of, taken_in, wires_of}
+use Rattle.alpha_core.specs.StampedWires.{stamped, stamps_of, wires_of}
+use Rattle.stamps.specs.Stamps.{StampedEntry, AreStamped, Carries, Rises, counter_from, counter_of, next_stamp, taken_in}
 
 module _ {M : Type 0} where
   pub taken_more : (xs ys : List (StampedEntry M)) (w : ℕ) → taken_in (xs ++ ys) w ≡ taken_in xs w ++ taken_in ys w

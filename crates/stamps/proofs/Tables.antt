@@ -11,7 +11,8 @@ use Rattle.alpha_core.specs.declared.stamped.Stamped.{Stamped}
 use Rattle.alpha_core.specs.declared.wire.Wire.{Wire}
 use Rattle.entries.specs.declared.entry.Entry.{Entry}
 use Rattle.entries.specs.declared.entry.Entry.TheVariants.{Pulse, Put, Take}
-use Rattle.stamps.specs.Stamps.{counter_of, next_stamp, stamped, stamps_of, taken_in}
+use Rattle.alpha_core.specs.StampedWires.{stamped, stamps_of}
+use Rattle.stamps.specs.Stamps.{counter_of, next_stamp, taken_in}
 use Rattle.stamps.specs.Merged.{StampedRow, IsInPlace, Precedes, entries_at, puts_at, stamp_behind, takes_at}
 use Rattle.stamps.specs.Table.{IsCounted, IsEmptyTable, IsPushed, IsTableOf, count_in, counter_in, items_of, list_in, same_link}
 use Rattle.stamps.specs.declared.table.StampTable.{StampTable}

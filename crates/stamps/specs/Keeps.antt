@@ -2,7 +2,8 @@
 use Rattle.std.specs.Prelude.{◌≡◌, ℕ, ◌<◌, ◌≤◌, List, [], ◌∷◌, ◌++◌, length}
 use Rattle.alpha_core.specs.interference.Net.{Net, degree_of, neighbour_of, port_to}
 use Rattle.alpha_core.specs.declared.stamped.Stamped.{Stamped}
-use Rattle.stamps.specs.Stamps.{StampedEntry, AreStamped, counter_of, put_in, stamps_of, taken_in}
+use Rattle.alpha_core.specs.StampedWires.{stamps_of}
+use Rattle.stamps.specs.Stamps.{StampedEntry, AreStamped, counter_of, put_in, taken_in}
 
 -- the stamps of the wires that came from a neighbour, by the lists of the ends
 abbrev pub came_to : {M : Type 0} → Net → ℕ → (ℕ → List (Stamped M)) → ℕ → List ℕ

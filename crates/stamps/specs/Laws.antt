@@ -4,7 +4,8 @@ use Rattle.alpha_core.specs.interference.Net.{Net, degree_of, neighbour_of}
 use Rattle.alpha_core.specs.declared.stamped.Stamped.{Stamped}
 use Rattle.alpha_core.specs.declared.wire.Wire.{Wire}
 use Rattle.entries.specs.declared.entry.Entry.TheVariants.{Pulse, Put, Take}
-use Rattle.stamps.specs.Stamps.{StampedEntry, stamped, taken_in}
+use Rattle.alpha_core.specs.StampedWires.{stamped}
+use Rattle.stamps.specs.Stamps.{StampedEntry, taken_in}
 use Rattle.stamps.specs.Keeps.{HasTaken, KeepsStamps, OneMore, TakesAreByPorts}
 
 -- At the start, and by each event: a put, a take, a take that is set aside, a pulse.

@@ -4,7 +4,8 @@ use Rattle.std.specs.Prelude.{All, slice_index_or}
 use Rattle.alpha_core.specs.declared.stamped.Stamped.{Stamped}
 use Rattle.entries.specs.declared.entry.Entry.{Entry}
 use Rattle.entries.specs.declared.entry.Entry.TheVariants.{Pulse, Put, Take}
-use Rattle.stamps.specs.Stamps.{StampedEntry, next_stamp, stamped, stamps_of}
+use Rattle.alpha_core.specs.StampedWires.{stamped, stamps_of}
+use Rattle.stamps.specs.Stamps.{StampedEntry, next_stamp}
 
 -- an entry behind its stamp and the vertex of its node
 abbrev pub StampedRow : Type 0 → Type 0

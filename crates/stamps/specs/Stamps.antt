@@ -3,6 +3,7 @@
 -- has the stamp of its put (Lamport 1978).
 use Rattle.std.specs.Prelude.{◌≡◌, ℕ, suc, max, ◌<◌, ◌==◌, if◌then◌else◌, List, [], ◌∷◌, ◌++◌, map, length}
 use Rattle.std.specs.Prelude.{All, slice_index_or}
+use Rattle.alpha_core.specs.StampedWires.{stamped, wires_of}
 use Rattle.alpha_core.specs.declared.stamped.Stamped.{Stamped}
 use Rattle.alpha_core.specs.declared.wire.Wire.{Wire}
 use Rattle.entries.specs.declared.entry.Entry.{Entry}
@@ -13,20 +14,9 @@ abbrev pub StampedEntry : Type 0 → Type 0
 StampedEntry M = ℕ × Entry M
 
 module _ {M : Type 0} where
-  -- a wire with a stamp
-  abbrev pub stamped : ℕ → Wire M → Stamped M
-  stamped s wire = record { stamp = s; wire = wire }
-
   -- the entries without their stamps
   abbrev pub bare_of : List (StampedEntry M) → List (Entry M)
   bare_of entries = map (λ e. e.1) entries
-
-  -- the wires without their stamps, and the stamps without the wires
-  abbrev pub wires_of : List (Stamped M) → List (Wire M)
-  wires_of wires = map (λ x. x.wire) wires
-
-  abbrev pub stamps_of : List (Stamped M) → List ℕ
-  stamps_of wires = map (λ x. x.stamp) wires
 
   -- what the entries put on the link to a neighbour, in order, each wire with the stamp of its put
   abbrev pub put_in : List (StampedEntry M) → ℕ → List (Stamped M)

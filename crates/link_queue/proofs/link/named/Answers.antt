@@ -1,7 +1,7 @@
 use Rattle.std.proofs.Common.{Some, ap, sym, subst, ◌∙◌}
 use Rattle.link_queue.proofs.Rules.{begins, names, forks, legal_none}
 use Rattle.link_rule.specs.Legal.{IsLegalOn, LegalFor}
-use Rattle.link_queue.specs.Rule.{wires_of}
+use Rattle.alpha_core.specs.StampedWires.{wires_of}
 use Rattle.link_queue.proofs.link.named.Goals as goal
 
 pub ruled-requires-clause-rule : goal.ruled-requires-clause-rule

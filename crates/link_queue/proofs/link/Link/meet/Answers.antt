@@ -1,7 +1,7 @@
 use Rattle.std.proofs.Common.{ap, sym, subst, ◌∙◌}
 use Rattle.link_rule.specs.Legal.{IsLegalOn, LegalFor}
 use Rattle.link_queue.proofs.Rules.{merges, forks, totals}
-use Rattle.link_queue.specs.Rule.{wires_of}
+use Rattle.alpha_core.specs.StampedWires.{wires_of}
 use Rattle.link_queue.proofs.link.Link.meet.Goals as goal
 
 pub absorb-requires-clause-rule : goal.absorb-requires-clause-rule
