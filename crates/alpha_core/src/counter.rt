@@ -1,6 +1,6 @@
 //! The counter of a node, from which its events and wires have their stamps.
 
-ghost use Rattle.std.specs.Prelude.{◌≡◌, ◌≤◌, ◌+◌, ◌^◌, max, IfOk, OnErr};
+ghost use Rattle.std.specs.Prelude.{◌≡◌, ◌<◌, ◌≤◌, ◌+◌, ◌^◌, max, IfOk, OnErr};
 
 use std::marker::Model;
 use thiserror::Error;
@@ -13,7 +13,8 @@ pub struct StampFull;
 /// The counter of a node (Lamport 1978), from 0. The stamp of an event is the counter's number after it. Contracts see
 /// the number. No call needs memory.
 ///
-/// A put that finds the link full has to leave the counter, so its stamp is read first by `peek`.
+/// A put that finds the link full has to leave the counter, and so has a take that the node refuses. So their stamps are
+/// read first, by `peek` and `peek_past`.
 #[derive(Debug, Drop)]
 pub struct Counter {
     value: u64,
@@ -54,6 +55,26 @@ impl Counter {
         self.value.checked_add(1).ok_or(StampFull)
     }
 
+    /// The stamp that `past` would return.
+    ///
+    /// # Errors
+    ///
+    /// `StampFull` if it would pass 18446744073709551615.
+    pub fn peek_past(&self, stamp: u64) -> Result<u64, StampFull>
+        ensures stamp { IfOk result (λ next. next ≡ max self.now stamp + 1) }
+        ensures full { OnErr result (2 ^ 64 ≤ max self.now stamp + 1) }
+    {
+        self.value.max(stamp).checked_add(1).ok_or(StampFull)
+    }
+
+    /// Moves to a stamp above its number, as `peek` and `peek_past` return it.
+    pub fn advance(&mut self, stamp: u64)
+        requires above { self.old < stamp }
+        ensures value { self.new ≡ stamp }
+    {
+        self.value = stamp;
+    }
+
     /// The stamp of a put or a pulse, which is one more than the counter. The counter moves to it.
     ///
     /// # Errors
@@ -78,8 +99,8 @@ impl Counter {
         ensures full { OnErr result (2 ^ 64 ≤ max self.old stamp + 1) }
         ensures unchanged { OnErr result (self.new ≡ self.old) }
     {
-        let next = self.value.max(stamp).checked_add(1).ok_or(StampFull)?;
-        self.value = next;
+        let next = self.peek_past(stamp)?;
+        self.advance(next);
         Ok(next)
     }
 }

@@ -1,5 +1,5 @@
 -- Each step keeps the rule of a link.
-use Rattle.std.proofs.Common.{◌≡◌, ◌≢◌, ℕ, zero, suc, Bool, true, false, true≢false, List, [], ◌∷◌, ◌++◌, ◌||◌, length, set, sym, refl, ap, ◌∙◌, subst}
+use Rattle.std.proofs.Common.{◌≡◌, ◌≢◌, ◌<◌, ℕ, zero, suc, Bool, true, false, true≢false, List, [], ◌∷◌, ◌++◌, ◌||◌, length, set, sym, refl, ap, ◌∙◌, subst}
 use Rattle.std.proofs.Common.{⊎_elim, append_assoc, arith, Option, Some, None}
 use Rattle.std.specs.Prelude.{Contains, IsTrue, ◌↔◌}
 use Rattle.std.proofs.lemmas.List.{map-append}
@@ -18,7 +18,8 @@ use Rattle.alpha_core.specs.node_api.Program.{Program}
 use Rattle.alpha_core.proofs.Wires.{legal-front}
 use Rattle.link_rule.proofs.Orders.{contains_nil, contains_one}
 use Rattle.link_rule.specs.Legal.{IsLegalOn, LegalFor}
-use Rattle.alpha_core.specs.StampedWires.{wires_of}
+use Rattle.alpha_core.specs.StampedWires.{StampsRise, last_stamp, wires_of}
+use Rattle.alpha_core.proofs.StampedWires.{rise_front, rise_more}
 use Rattle.link_queue.specs.Rule.{end_view, has_close, is_close, AreLastOf, IsAllOf, Knows, Linked, MayFollow, Taking}
 
 module _ {T : Type 0} where
@@ -47,14 +48,15 @@ module _ {T : Type 0} (legal : LinkName → List (Wire T) → Type 0) where
     taken = [];
     in_order = refl;
     is_legal = λ n e. absurd (cc e);
+    rises = tt;
     known = all_set (Knows None 0 0 [] []) (end_view None true true [] [] ∷ []) 0 (end_view None true true [] [])
         ((λ _. (refl, refl, refl)), λ _. (refl, refl, refl))
         (λ j u other e. absurd (other (at_end [] _ u j (λ x. option.some-ne-none u (sym x)) e)));
   }
 
   pub puts : (n port : ℕ) (v : EndView T) (x : Stamped T) → v.puts ≡ true → LegalFor legal v.name (wires_of (v.put ++ x ∷ []))
-      → Pushes (Linked legal) n port v x (λ w. w ≡ end_view v.name v.puts v.takes (v.put ++ x ∷ []) v.taken)
-  puts n port v x may fits items views _ h at =
+      → last_stamp v.put < x.stamp → Pushes (Linked legal) n port v x (λ w. w ≡ end_view v.name v.puts v.takes (v.put ++ x ∷ []) v.taken)
+  puts n port v x may fits above items views _ h at =
       let w : EndView T = end_view v.name v.puts v.takes (v.put ++ x ∷ []) v.taken in
       let mine = h.known port v at in
       let p = mine.0 may in
@@ -68,6 +70,7 @@ module _ {T : Type 0} (legal : LinkName → List (Wire T) → Type 0) where
           taken = h.taken;
           in_order = ap (λ l. l ++ x ∷ []) h.in_order ∙ append_assoc h.taken items (x ∷ []);
           is_legal = λ m e. subst (λ (l : List (Stamped T)). legal m (wires_of (l ++ x ∷ []))) p.2 (fits m (p.1 ∙ e));
+          rises = rise_more 0 h.put x h.rises (subst (λ (l : List (Stamped T)). last_stamp l < x.stamp) p.2 above);
           known = all_set (Knows h.name h.putter h.taker put h.taken) views port w ((λ _. (p.0, p.1, ap (λ l. l ++ x ∷ []) p.2)), mine.1)
               (λ j u other e. ((λ q. absurd (other (((h.known j u e).0 q).0 ∙ sym p.0))), (h.known j u e).1));
         },
@@ -91,6 +94,7 @@ module _ {T : Type 0} (legal : LinkName → List (Wire T) → Type 0) where
           taken = taken;
           in_order = whole;
           is_legal = h.is_legal;
+          rises = h.rises;
           known = all_set (Knows h.name h.putter h.taker h.put taken) views port w (mine.0, λ _. (p.0, p.1, ap (λ l. l ++ x ∷ []) p.2))
               (λ j u other e. ((h.known j u e).0, λ q. absurd (other (((h.known j u e).1 q).0 ∙ sym p.0))));
         },
@@ -98,6 +102,8 @@ module _ {T : Type 0} (legal : LinkName → List (Wire T) → Type 0) where
           refl,
           λ n e. begin n (v.taken ++ x ∷ []) items (subst (λ (l : List (Stamped T)). legal n (wires_of l)) (whole ∙
               ap (λ l. (l ++ x ∷ []) ++ items) (sym p.2)) (h.is_legal n (sym p.1 ∙ e))),
+          rise_front 0 (v.taken ++ x ∷ []) items (subst (λ (l : List (Stamped T)). StampsRise l) (whole ∙ ap (λ l. (l ++ x ∷ []) ++ items) (sym p.2))
+              h.rises),
         ),
       )
 
@@ -122,6 +128,7 @@ module _ {T : Type 0} (legal : LinkName → List (Wire T) → Type 0) where
         taken = h.taken;
         in_order = h.in_order;
         is_legal = λ m e. subst (λ (xs : List (Stamped T)). legal m (wires_of xs)) p.2 (fits m e);
+        rises = h.rises;
         known = λ j u e. ⊎_elim (λ x. now j u x)
             (λ (is : r ≡ u). (
               (λ q. absurd (true≢false (sym (ap (λ (y : EndView T). y.puts) is ∙ q)))),
@@ -150,6 +157,7 @@ module _ {T : Type 0} (legal : LinkName → List (Wire T) → Type 0) where
         taken = h.taken;
         in_order = h.in_order;
         is_legal = λ m e. subst (λ (xs : List (Stamped T)). legal m (wires_of xs)) p.2 (fits m e);
+        rises = h.rises;
         known = λ j u e. ⊎_elim (λ x. ((old j u x).0, λ q. absurd ((old j u x).1 q)))
             (λ (is : r ≡ u). (
               (λ q. absurd (true≢false (sym (ap (λ (y : EndView T). y.puts) is ∙ q)))),
@@ -178,6 +186,7 @@ module _ {T : Type 0} (legal : LinkName → List (Wire T) → Type 0) where
         taken = h.taken;
         in_order = h.in_order;
         is_legal = h.is_legal;
+        rises = h.rises;
         known = all_set (Knows h.name h.putter port h.put h.taken) vs other none
             ((λ q. absurd (true≢false (sym q))), λ q. absurd (true≢false (sym q))) (λ j y apart e. now j y e apart);
       }

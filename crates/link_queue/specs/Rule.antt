@@ -2,7 +2,7 @@
 use Rattle.std.specs.Prelude.{◌≡◌, ℕ, Bool, true, false, ◌||◌, List, ◌∷◌, [], ◌++◌, Option}
 use mathlib.Core.Option as option
 use lib.ListN.{get_elem?}
-use Rattle.alpha_core.specs.StampedWires.{wires_of}
+use Rattle.alpha_core.specs.StampedWires.{StampsRise, wires_of}
 use Rattle.alpha_core.specs.declared.stamped.Stamped.{Stamped}
 use Rattle.alpha_core.specs.declared.wire.Wire.{Wire}
 use Rattle.alpha_core.specs.declared.wire.Wire.TheVariants.{Payload, Ack, Safe, Close}
@@ -21,8 +21,8 @@ module _ {T : Type 0} where
       (v.puts ≡ true → (pass ≡ putter) × (v.name ≡ name) × (v.put ≡ put))
       × (v.takes ≡ true → (pass ≡ taker) × (v.name ≡ name) × (v.taken ≡ taken))
 
-  -- Between any two steps: what was put is what was taken and then what is on the queue, and it is legal on the link
-  -- of that name; the views of all passes say so.
+  -- Between any two steps: what was put is what was taken and then what is on the queue, it is legal on the link of
+  -- that name, and its stamps rise; the views of all passes say so.
   pub record Linked (legal : LinkName → List (Wire T) → Type 0) (items : List (Stamped T)) (views : List (EndView T))
       : Type 0 where
     pub name : Option LinkName
@@ -32,13 +32,14 @@ module _ {T : Type 0} where
     pub taken : List (Stamped T)
     pub in_order : put ≡ taken ++ items
     pub is_legal : LegalFor legal name (wires_of put)
+    pub rises : StampsRise put
     pub known : (pass : ℕ) (v : EndView T) → get_elem? views pass ≡ option.some v
         → Knows name putter taker put taken pass v
 
-  -- what a take says: the view has the wire at the end of what was taken, which is legal
+  -- what a take says: the view has the wire at the end of what was taken, which is legal and whose stamps rise
   abbrev pub Taking : (LinkName → List (Wire T) → Type 0) → EndView T → Stamped T → EndView T → Type 0
   Taking legal v x w = (w ≡ end_view v.name v.puts v.takes v.put (v.taken ++ x ∷ []))
-      × LegalFor legal v.name (wires_of (v.taken ++ x ∷ []))
+      × LegalFor legal v.name (wires_of (v.taken ++ x ∷ [])) × StampsRise (v.taken ++ x ∷ [])
 
   -- the wires of these items are the last of that list
   abbrev pub AreLastOf : List (Wire T) → List (Stamped T) → Type 0

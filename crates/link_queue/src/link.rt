@@ -5,7 +5,7 @@ ghost use Rattle.std.specs.Prelude.{vec_capacity, IsTrue, ◌↔◌, Contains};
 ghost use Rattle.alpha_core.specs.declared.wire.Wire.{Wire};
 ghost use Rattle.crossbeam_queue.specs.Passes.{view, IsPassOf};
 ghost use Rattle.link_rule.specs.Legal.{name_of, IsLegalOn, LegalFor};
-ghost use Rattle.alpha_core.specs.StampedWires.{wires_of};
+ghost use Rattle.alpha_core.specs.StampedWires.{StampsRise, last_stamp, wires_of};
 ghost use Rattle.link_queue.specs.Rule.{end_view, has_close};
 ghost use Rattle.link_queue.specs.Ends.{AreAsBefore, HasMet, IsNewPutEnd, IsNewTakeEnd, IsPutEndOf, IsTakeEndOf};
 ghost use Rattle.link_queue.specs.Ends.{StaysPutEnd, StaysTakeEnd, WasEmpty, WasFull, held_stamped};
@@ -109,6 +109,7 @@ impl<P: NodeProgram> Link<P> {
     /// Puts a wire with its stamp at the end of the link. It can't return out-of-memory, and may spin.
     ///
     /// What the end has put and then the wire has to begin a legal list of the link; so nothing is put after a close.
+    /// The stamp has to be above that of the last wire that the end put, or above 0 if it is the first.
     ///
     /// # Errors
     /// `Full` hands the same wire back with its stamp, and the end's list is as it was. That the link was full at a
@@ -121,6 +122,7 @@ impl<P: NodeProgram> Link<P> {
     ) -> Result<(), Full<Stamped<P::Payload>>>
         requires end { IsPutEndOf self.now end.old }
         requires legal { LegalFor (IsLegalOn P.program) (put_name end.old) (put_list end.old ++ item.wire ∷ []) }
+        requires above { last_stamp (put_stamped end.old) < item.stamp }
         ensures end { StaysPutEnd self.now end.old end.new }
         ensures put { IfOk result (λ _. put_list end.new ≡ put_list end.old ++ item.wire ∷ []) }
         ensures stamped { IfOk result (λ _. put_stamped end.new ≡ put_stamped end.old ++ item ∷ []) }
@@ -147,6 +149,7 @@ impl<P: NodeProgram> Link<P> {
         ensures taken { IfSome result (λ item. taken_list end.new ≡ taken_list end.old ++ item.wire ∷ []) }
         ensures stamped { IfSome result (λ item. taken_stamped end.new ≡ taken_stamped end.old ++ item ∷ []) }
         ensures legal { IfSome result (λ _. LegalFor (IsLegalOn P.program) (take_name end.old) (taken_list end.new)) }
+        ensures rise { IfSome result (λ _. StampsRise (taken_stamped end.new)) }
         ensures unchanged { IfNone result (taken_stamped end.new ≡ taken_stamped end.old) }
         ensures empty { IfNone result (WasEmpty (IsLegalOn P.program) (take_name end.old) (taken_list end.old)) }
     {

@@ -3,7 +3,7 @@ use Rattle.std.proofs.Common.{◌≡◌, ℕ, ◌≤◌, ◌==◌, List, [], ◌
 use Rattle.std.specs.Prelude.{◌&&◌}
 use Rattle.std.proofs.lemmas.Bool.{cases_Bool}
 use Rattle.entries.specs.declared.entry.Entry.TheVariants.{Pulse, Put, Take}
-use Rattle.alpha_core.specs.StampedWires.{stamped}
+use Rattle.entries.specs.alpha_core.StampedWires.{stamped}
 use Rattle.stamps.specs.Merged.{StampedRow, AreOrdered, Precedes, puts_at, takes_at}
 
 module _ {M : Type 0} where

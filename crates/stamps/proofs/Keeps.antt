@@ -4,13 +4,13 @@ use Rattle.std.proofs.Common.{arith, subst}
 use Rattle.std.specs.Prelude.{max, ◌⊎◌}
 use Rattle.std.proofs.lemmas.Bool.{cases_Bool, cases_eq, cases_lt, eq-eqb, ne_eqb}
 use Rattle.std.proofs.lemmas.List.{append-nil, get_or_append_left, get_or_push, length-append, length-map, map-append}
-use Rattle.alpha_core.specs.interference.Net.{Net, IsNetwork, IsVertex, degree_of, neighbour_of, neighbours, port_to}
-use Rattle.alpha_core.proofs.interference.Members.{place_of-is}
-use Rattle.alpha_core.proofs.interference.Neighbours.{port_to-is}
-use Rattle.alpha_core.specs.declared.stamped.Stamped.{Stamped}
-use Rattle.alpha_core.specs.declared.wire.Wire.{Wire}
+use Rattle.entries.specs.interference.Net.{Net, IsNetwork, IsVertex, degree_of, neighbour_of, neighbours, port_to}
+use Rattle.entries.proofs.interference.Members.{place_of-is}
+use Rattle.entries.proofs.interference.Neighbours.{port_to-is}
+use Rattle.entries.specs.alpha_core.Stamped.{Stamped}
+use Rattle.entries.specs.alpha_core.Wire.{Wire}
 use Rattle.entries.specs.declared.entry.Entry.TheVariants.{Pulse, Put, Take}
-use Rattle.alpha_core.specs.StampedWires.{stamped, stamps_of}
+use Rattle.entries.specs.alpha_core.StampedWires.{stamped, stamps_of}
 use Rattle.stamps.specs.Stamps.{StampedEntry, AreStamped, counter_of, next_stamp, put_in, taken_in}
 use Rattle.stamps.specs.Keeps.{HasTaken, OneMore, came_to}
 use Rattle.stamps.specs.Laws.{EventsKeepStamps}

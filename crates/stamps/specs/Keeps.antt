@@ -1,8 +1,8 @@
 -- What a node keeps of its stamps.
 use Rattle.std.specs.Prelude.{◌≡◌, ℕ, ◌<◌, ◌≤◌, List, [], ◌∷◌, ◌++◌, length}
-use Rattle.alpha_core.specs.interference.Net.{Net, degree_of, neighbour_of, port_to}
-use Rattle.alpha_core.specs.declared.stamped.Stamped.{Stamped}
-use Rattle.alpha_core.specs.StampedWires.{stamps_of}
+use Rattle.entries.specs.interference.Net.{Net, degree_of, neighbour_of, port_to}
+use Rattle.entries.specs.alpha_core.Stamped.{Stamped}
+use Rattle.entries.specs.alpha_core.StampedWires.{stamps_of}
 use Rattle.stamps.specs.Stamps.{StampedEntry, AreStamped, counter_of, put_in, taken_in}
 
 -- the stamps of the wires that came from a neighbour, by the lists of the ends

@@ -1,10 +1,10 @@
 -- The stamped entries of all nodes in one list.
 use Rattle.std.specs.Prelude.{◌≡◌, ◌⊎◌, ℕ, ◌-◌, ◌<◌, ◌≤◌, ◌==◌, ◌&&◌, if◌then◌else◌, List, [], ◌∷◌, ◌++◌, map}
 use Rattle.std.specs.Prelude.{All, slice_index_or}
-use Rattle.alpha_core.specs.declared.stamped.Stamped.{Stamped}
+use Rattle.entries.specs.alpha_core.Stamped.{Stamped}
 use Rattle.entries.specs.declared.entry.Entry.{Entry}
 use Rattle.entries.specs.declared.entry.Entry.TheVariants.{Pulse, Put, Take}
-use Rattle.alpha_core.specs.StampedWires.{stamped, stamps_of}
+use Rattle.entries.specs.alpha_core.StampedWires.{stamped, stamps_of}
 use Rattle.stamps.specs.Stamps.{StampedEntry, next_stamp}
 
 -- an entry behind its stamp and the vertex of its node

@@ -5,8 +5,7 @@ ghost use Rattle.stamps.specs.Stamps.{Rises};
 ghost use Rattle.stamps.specs.Merged.{IsMerge, list_of};
 ghost use Rattle.stamps.specs.Gathered.{rows_from, with_vertex};
 
-use alpha_core::Memory;
-use entries::Entry;
+use entries::{Entry, Memory};
 use std::alloc::{AllocError, Global};
 
 // The entries of a node, each behind its stamp and the vertex, behind those of other nodes.

@@ -6,8 +6,7 @@ ghost use Rattle.stamps.specs.Merged.{IsInPlace, Precedes, StampedRow, stamp_beh
 ghost use Rattle.stamps.specs.Table.{IsCounted, IsPushed, IsEmptyTable, IsTableOf, count_in, counter_at};
 ghost use Rattle.stamps.specs.Table.{list_in, wire_stamp_at};
 
-use alpha_core::Memory;
-use entries::Entry;
+use entries::{Entry, Memory};
 use std::alloc::{AllocError, Global};
 use std::collections::HashMap;
 

@@ -12,7 +12,7 @@ push_as-requires-clause-rule g c =
     let may = c.args.end.now.puts.1 in
     let end = view c.args.end.now.pass in
     let more = map-append (λ (x : Stamped _). x.wire) end.put (c.args.item ∷ []) in
-    (puts legal _ _ _ _ may (subst (LegalFor legal end.name) (sym more) c.requires.legal), fronts legal _ _ may)
+    (puts legal _ _ _ _ may (subst (LegalFor legal end.name) (sym more) c.requires.legal) c.requires.above, fronts legal _ _ may)
 
 pub invariant_of-end : goal.invariant_of-end
 invariant_of-end g c =
