@@ -10,7 +10,10 @@ use Rattle.alpha_laws.specs.alpha_core.Wires.{acks_of, payloads_of, safes_of}
 use Rattle.alpha_laws.proofs.alpha_core.Wires.{acks-append, payloads-append}
 use Rattle.link_rule.specs.Order.{MayFollow, IsInOrder}
 use Rattle.link_rule.specs.Progress.{Progress, HasCome, WasFed, at_start, may_come, goes_on, advanced, after_wire}
-use Rattle.std.proofs.lemmas.List.{take-append-drop}
+use Rattle.std.proofs.lemmas.List.{map-append, take-append-drop}
+use Rattle.alpha_laws.specs.alpha_core.Stamped.{Stamped}
+use Rattle.alpha_laws.specs.alpha_core.StampedWires.{StampsRise, wires_of}
+use Rattle.alpha_laws.proofs.alpha_core.StampedWires.{last_more, rise_last, rise_more}
 use Rattle.link_rule.proofs.Orders.{contains_nil, contains_snoc, order-front, order-more, order-last, order-nil, safes-append}
 
 new_come : {M : Type 0} (last : ℕ) → HasCome {M = M} (at_start last) []
@@ -165,6 +168,38 @@ pub stops : {M : Type 0} (last i : ℕ) (wires : List (Wire M)) (w : Wire M) →
 stops last i wires w e broken h = broken (subst (λ l. IsInOrder last l) e (order-front last (take (i + 1) wires) (drop (i + 1) wires)
     (subst (λ l. IsInOrder last l) (sym (take-append-drop (i + 1) wires)) h)))
 
+-- what has come says nothing of stamps
+restamped : {M : Type 0} (p : Progress) (s : ℕ) (ws : List (Wire M)) → HasCome p ws → HasCome record p { stamp = s } ws
+restamped p s ws come = record {
+  order = come.order;
+  safes = come.safes;
+  paid = come.paid;
+  payloads = come.payloads;
+  acks = come.acks;
+  closed = come.closed;
+}
+
 module _ {M : Type 0} where
   pub new_fed : (last : ℕ) → WasFed {M = M} (at_start last) []
   new_fed last = record { come = new_come last; rise = tt; stamp = refl }
+
+  -- a wire that goes on, with a stamp above the last one
+  pub fed_more : (p now : Progress) (items : List (Stamped M)) (item : Stamped M) → WasFed p items → p.stamp < item.stamp → true ≡ goes_on p item.wire
+      → now ≡ after_wire p item.wire → WasFed record now { stamp = item.stamp } (items ++ item ∷ [])
+  fed_more p now items item fed above goes after = record {
+    come = restamped now item.stamp (wires_of (items ++ item ∷ []))
+        (subst (λ l. HasCome now l) (sym (map-append (λ x. x.wire) items (item ∷ []))) (feeds p (wires_of items) fed.come item.wire true now goes after));
+    rise = rise_more 0 items item fed.rise (let is = fed.stamp in omega arith);
+    stamp = sym (last_more 0 items item);
+  }
+
+  -- a wire that doesn't go on
+  pub not_fed : (p now : Progress) (items : List (Stamped M)) (item : Stamped M) → WasFed p items → false ≡ goes_on p item.wire → now ≡ after_wire p item.wire
+      → IsInOrder p.last (wires_of (items ++ item ∷ [])) → ⊥
+  not_fed p now items item fed goes after order =
+      feeds p (wires_of items) fed.come item.wire false now goes after
+      (subst (λ l. IsInOrder p.last l) (map-append (λ x. x.wire) items (item ∷ [])) order)
+
+  -- a stamp that isn't above the last one
+  pub not_above : (p : Progress) (items : List (Stamped M)) (item : Stamped M) → WasFed p items → item.stamp ≤ p.stamp → StampsRise (items ++ item ∷ []) → ⊥
+  not_above p items item fed le rise = let is = fed.stamp in let lt = rise_last 0 items item rise in absurd (omega arith)

@@ -104,7 +104,10 @@ impl StreamCheck {
         ensures last { self.new.last ≡ self.old.last }
         ensures unchanged { MatchBool result (Unit {0}) (self.new ≡ self.old) }
     {
-        if item.stamp <= self.stamp || !self.step(&item.wire) {
+        if item.stamp <= self.stamp {
+            return false;
+        }
+        if !self.step(&item.wire) {
             return false;
         }
         self.stamp = item.stamp;

@@ -5,3 +5,4 @@ pub mod Table
 pub mod Keeps
 pub mod Laws
 pub mod alpha_core
+pub mod entries

@@ -23,3 +23,6 @@ mod table;
 pub use ordering::order;
 pub use rise::rising;
 pub use table::StampTable;
+
+// What crates above name of lower ones.
+pub use entries::{Counter, Entries, Entry, StampFull, Stamped, StampedIter};
