@@ -5,3 +5,5 @@ pub mod Written
 pub mod Writes
 pub mod Rows
 pub mod alpha_core
+pub mod StampedEntries
+pub mod HasStamps

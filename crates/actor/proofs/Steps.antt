@@ -87,12 +87,12 @@ module _ {S M R Y : Type 0} (program : Program S M R) (net : Net) (taken : Y →
       let ends : by_port lists i ≡ all_but_last (by_port lists i) ++ (w ∷ []) =
       here ∙ ap (λ l. l ++ (w ∷ [])) (sym (ap all_but_last here ∙ but_last-more (by_port (map taken ys) i) w)) in
       let due = not_due (last_pulse_on program net) node.view i w e (subst (λ l. reaction l node.view i w ≡ Err e) last_is refused) in
-      let P : ℕ → Wire M → Node S M → Type 0 = λ k u n. IsAside (last_pulse_on program net) n.view lists record { port = k; wire = u } in
+      let P : ℕ → Wire M → Node S M → Type 0 = λ k u n. IsAside (last_pulse_on program net) n.view lists record { port = k; wire = u; why = aside.why } in
       subst (λ b. IsAside (last_pulse_on program net) new.view lists b) (some_same given) (subst (λ k. P k aside.wire new) (sym port) (subst (λ u. P i u
       new) (sym wire) (subst (λ n. P i w n) (sym same) record {
         port = omega (arith, length-map (set ys i y) taken, length-set ys i y);
         came_last = ends;
-        refused = due;
+        refused = λ why. due;
       })))
     where
       some_same : {A : Type 0} {x y : A} → Some x ≡ Some y → x ≡ y

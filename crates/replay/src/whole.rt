@@ -11,9 +11,8 @@ use crate::entry_event::make_entry;
 use crate::refused::WholeRefused;
 use crate::whole_state::is_whole;
 use alpha_laws::{Network, NodeProgram};
-use entries::Entry;
 use net_core::NetState;
-use stamps::StampTable;
+use stamps::{Entry, StampTable};
 use std::alloc::Global;
 
 /// Plays stamped entries, each behind the vertex of its node, from the start, and returns the state that they lead to.

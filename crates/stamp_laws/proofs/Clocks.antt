@@ -13,8 +13,8 @@ use Rattle.alpha_laws.specs.alpha_core.Wire.{Wire}
 use Rattle.alpha_laws.specs.alpha_core.View.{Node, is_drained}
 use Rattle.alpha_laws.specs.alpha_core.Alpha.{pulse, put_done, reaction}
 use Rattle.alpha_laws.specs.alpha_core.Program.{start_node}
-use Rattle.entries.specs.declared.entry.Entry.{Entry}
-use Rattle.entries.specs.declared.entry.Entry.TheVariants.{Pulse, Put, Take}
+use Rattle.stamps.specs.entries.Entry.{Entry}
+use Rattle.stamps.specs.entries.Entry.TheVariants.{Pulse, Put, Take}
 use Rattle.actor.specs.Written.{Leads, takes_in}
 use Rattle.net_core.specs.State.{State, node_of}
 use Rattle.stamps.specs.alpha_core.Stamped.{Stamped}

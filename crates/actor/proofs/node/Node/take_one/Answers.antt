@@ -1,10 +1,13 @@
 use Rattle.std.proofs.Common.{ℕ, ◌<◌, length, refl, sym, ap, ◌∙◌, arith}
 use Rattle.alpha_laws.specs.interference.Net.{degree_of}
 use Rattle.actor.specs.declared.aside.Aside.{Aside}
-use Rattle.link_queue.specs.Ends.{put_list, taken_list}
+use Rattle.actor.specs.declared.aside.WhyAside.TheVariants.{Refused}
+use Rattle.alpha_laws.specs.alpha_core.StampedWires.{wires_of}
+use Rattle.link_queue.specs.Ends.{put_list, put_stamped, taken_list, taken_stamped}
 use Rattle.actor.proofs.Lists.{same_all, as_long, at_place}
 use Rattle.actor.proofs.Kept.{legal_of_name}
 use Rattle.actor.proofs.Writes.{wrote_none_taken, wrote_taken, wrote_refused}
+use Rattle.actor.proofs.HasStamps.{has_aside, has_none_taken, has_taken}
 use Rattle.actor.proofs.Steps.{took_none, took_one, took_refused, refused_is}
 use Rattle.alpha_laws.specs.interference.Net.{neighbour_of, back_port_of}
 use Rattle.actor.proofs.node.Node.take_one.Goals as goal
@@ -31,10 +34,13 @@ invariant_of-self-in-None g c =
       outs = old.outs;
       ins = ins ∙ old.ins;
       last = old.last;
-      keeps = took_none g.P.NodeProgram.program g.J.Wiring.net (λ e. put_list e.end) (λ e. taken_list e.end) _ _ _ _ _ _ _ _ is at.unchanged old.keeps;
+      keeps = took_none g.P.NodeProgram.program g.J.Wiring.net (λ e. put_list e.end) (λ e. taken_list e.end) _ _ _ _ _ _ _ _ is
+          (ap (λ l. wires_of l) at.unchanged) old.keeps;
       set_aside = λ a e. absurd (let none = sym c.requires.going ∙ e in cc);
-      writes = wrote_none_taken g.P.NodeProgram.program g.J.Wiring.net (λ e. put_list e.end) (λ e. taken_list e.end) _ _ _ _ _ _ _ _ _ _ _ is at.unchanged
-          c.keep_room.ensures.same old.writes;
+      writes = wrote_none_taken g.P.NodeProgram.program g.J.Wiring.net (λ e. put_list e.end) (λ e. taken_list e.end) _ _ _ _ _ _ _ _ _ _ _ is
+          (ap (λ l. wires_of l) at.unchanged) c.keep_room.ensures.same old.writes;
+      stamps = has_none_taken g.P.NodeProgram.program g.J.Wiring.net (λ e. put_stamped e.end) (λ e. taken_stamped e.end) _ _ _ _ _ _ _ _ _ _ _ _ is at.unchanged
+          c.keep_room.ensures.same c.keep_room.ensures.stamped old.stamps;
     }
 
 pub invariant_of-self-in-Ok : goal.invariant_of-self-in-Ok
@@ -65,6 +71,9 @@ invariant_of-self-in-Ok g c =
       writes = wrote_taken g.P.NodeProgram.program net (λ e. put_list e.end) (λ e. taken_list e.end) _ _ old.network old.is_vertex _ _ _ _ _ _ _ _ _ _ _ _ _ _
           old.last count lt c.requires.going is at.taken c.in-Ok.ensures.reaction c.in-Ok.ensures.state c.keep_room.ensures.same
           (at.place.0 ∙ ap (λ (p : ℕ × ℕ). p.0) place) c.write_take.ensures.entries old.writes;
+      stamps = has_taken g.P.NodeProgram.program net (λ e. put_stamped e.end) (λ e. taken_stamped e.end) _ _ old.network old.is_vertex _ _ _ _ _ _ _ _ _ _ _ _ _ _ _ _ _ count lt
+          c.requires.going is at.stamped c.keep_room.ensures.same c.keep_room.ensures.stamped (at.place.0 ∙ ap (λ (p : ℕ × ℕ). p.0) place)
+          (c.advance.ensures.value ∙ c.in-Ok-next.ensures.stamp) c.write_take.ensures.entries c.write_take.ensures.stamped old.writes old.stamps;
     }
 
 pub invariant_of-self-in-Err : goal.invariant_of-self-in-Err
@@ -79,7 +88,7 @@ invariant_of-self-in-Err g c =
     let lt : c.args.port < degree_of net v = omega (arith, c.requires.port, old.ports) in
     let within : c.args.port < length old.takes.items = omega (arith, lt, count) in
     let same = ap (λ a. a.node) c.in-Err.ensures.refused in
-    let aside : Aside g.row.P-Payload.Denot = record { port = c.args.port; wire = c.in-Some.wire } in
+    let aside : Aside g.row.P-Payload.Denot = record { port = c.args.port; wire = c.in-Some.item.wire; why = Refused } in
     record {
       network = old.network;
       is_vertex = old.is_vertex;
@@ -91,9 +100,11 @@ invariant_of-self-in-Err g c =
       keeps = took_refused g.P.NodeProgram.program net (λ e. put_list e.end) (λ e. taken_list e.end) _ _ _ _ _ _ _ _ _ _ aside refl count lt
           c.requires.going is at.taken same old.keeps;
       set_aside = refused_is g.P.NodeProgram.program net (λ e. taken_list e.end) _ _ old.takes.items c.args.port c.index_mut-end.result.now c.take.new.end
-          c.in-Some.wire aside _ _ old.last refl refl within is at.taken same c.in-Err.ensures.reaction;
+          c.in-Some.item.wire aside _ _ old.last refl refl within is at.taken same c.in-Err.ensures.reaction;
       writes = wrote_refused g.P.NodeProgram.program net (λ e. put_list e.end) (λ e. taken_list e.end) _ _ _ _ _ _ _ _ _ _ _ aside _ _ refl count lt
           c.requires.going is at.taken same c.keep_room.ensures.same old.writes;
+      stamps = has_aside g.P.NodeProgram.program net (λ e. put_stamped e.end) (λ e. taken_stamped e.end) _ _ old.network old.is_vertex _ _ _ _ _ _ _ _ _ _ _ _ _ count lt
+          c.requires.going is at.stamped c.keep_room.ensures.same c.keep_room.ensures.stamped old.writes old.stamps;
     }
 
 -- the link was empty
@@ -102,6 +113,7 @@ returns-in-None-clause-unmoved g c _ = record {
   alpha = refl;
   aside = refl;
   puts = refl;
-  takes = same_all (λ e. taken_list e.end) _ _ _ _ c.index_mut-end.ensures.value c.in-None.ensures.unchanged;
+  takes = same_all (λ e. taken_list e.end) _ _ _ _ c.index_mut-end.ensures.value (ap (λ l. wires_of l) c.in-None.ensures.unchanged);
   entries = c.keep_room.ensures.same;
+  counter = refl;
 }

@@ -1,9 +1,9 @@
 -- What stamped entries put and took, without stamps.
 use Rattle.std.proofs.Common.{◌≡◌, ℕ, ◌==◌, List, [], ◌∷◌, refl, ap, ⊎_elim}
 use Rattle.std.proofs.lemmas.Bool.{cases_Bool}
-use Rattle.entries.specs.declared.entry.Entry.TheVariants.{Pulse, Put, Take}
+use Rattle.stamps.specs.entries.Entry.TheVariants.{Pulse, Put, Take}
 use Rattle.actor.specs.Written.{puts_in, takes_in}
-use Rattle.stamps.specs.alpha_core.StampedWires.{wires_of}
+use Rattle.alpha_laws.specs.alpha_core.StampedWires.{wires_of}
 use Rattle.stamps.specs.Stamps.{StampedEntry, bare_of, put_in, taken_in}
 
 module _ {M : Type 0} where
