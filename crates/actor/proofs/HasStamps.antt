@@ -1,7 +1,7 @@
 -- What one call on an end, or on the node alone, leaves of the stamps of a node with its ends.
 use Rattle.std.proofs.Common.{◌≡◌, ℕ, zero, suc, ◌+◌, ◌<◌, ◌≤◌, ◌==◌, true, false, if◌then◌else◌, List, [], ◌∷◌, ◌++◌, length, map, set, get_or, refl, sym, ap}
 use Rattle.std.proofs.Common.{ap₂, ◌∙◌, subst, arith, ⊎_elim, Some, None, Ok, Err}
-use Rattle.std.specs.Prelude.{Bool, Option, Result, IsTrue, MatchResult, max}
+use Rattle.std.specs.Prelude.{All, Bool, Option, Result, IsTrue, MatchResult, max}
 use Rattle.std.proofs.lemmas.Bool.{cases_Bool, cases_eq, eqb-true}
 use Rattle.std.proofs.lemmas.List.{length-map, map-append}
 use Rattle.alpha_laws.specs.interference.Net.{Net, IsNetwork, IsVertex, degree_of, neighbour_of, port_to}
@@ -37,9 +37,12 @@ wires_at taken (y ∷ ys) zero = refl
 wires_at taken (y ∷ ys) (suc i) = wires_at taken ys i
 
 -- a list without wires has no stamps
-pub none_stamped : {M : Type 0} (xs : List (Stamped M)) → wires_of xs ≡ [] → xs ≡ []
+none_stamped : {M : Type 0} (xs : List (Stamped M)) → wires_of xs ≡ [] → xs ≡ []
 none_stamped [] e = refl
 none_stamped (x ∷ xs) e = absurd cc
+
+pub none_stamped_at : {A M : Type 0} (f : A → List (Stamped M)) (xs : List A) → All (λ x. wires_of (f x) ≡ []) xs → (i : ℕ) → [] ≡ by_port (map f xs) i
+none_stamped_at f xs all = none_at f xs (λ k d lt. none_stamped (f (get_or xs k d)) (all k d lt))
 
 module _ {S M E : Type 0} (program : Program S M E) (net : Net) (v : ℕ) where
   -- each take is from a neighbour
@@ -94,8 +97,8 @@ module _ {M : Type 0} (net : Net) (v : ℕ) where
   -- nothing is put, taken or written down at the start
   pub has_at_start : (t : Bool) (counter : ℕ) (puts takens : ℕ → List (Stamped M)) (es : List (Entry M)) (st : List (StampedEntry M)) → counter ≡ 0
       → ((i : ℕ) → [] ≡ puts i) → es ≡ [] → st ≡ [] → HasStamps net v t counter puts takens es st
-  has_at_start t counter puts takens es st zero none_put none none_stamped =
-      subst (λ c. HasStamps net v t c puts takens es st) (sym zero)
+  has_at_start t counter puts takens es st at_zero none_put none none_stamped =
+      subst (λ c. HasStamps net v t c puts takens es st) (sym at_zero)
       (subst (λ l. HasStamps net v t 0 puts takens l st) (sym none)
       (subst (λ l. HasStamps net v t 0 puts takens [] l) (sym none_stamped) record {
         keeps = λ yes. record {
@@ -159,12 +162,12 @@ module _ {S M E X Y : Type 0} (program : Program S M E) (net : Net) (put : X →
         }
 
     -- a wire was taken, and the node reacted
-    pub has_taken : (node : Node S M) (counter counter' n : ℕ) (xs : List X) (ys : List Y) (aside : Option (Aside M)) (i : ℕ) (x y : Y) (item : Stamped M)
+    pub has_taken : (node : Node S M) (counter counter' k n : ℕ) (xs : List X) (ys : List Y) (aside : Option (Aside M)) (i : ℕ) (x y : Y) (item : Stamped M)
         (es es' es'' : List (Entry M)) (st st' st'' : List (StampedEntry M)) → length ys ≡ degree_of net v → i < degree_of net v → aside ≡ None
-        → x ≡ get_or ys i x → taken y ≡ taken x ++ (item ∷ []) → es' ≡ es → st' ≡ st → n ≡ neighbour_of net v i → counter' ≡ max counter item.stamp + 1
+        → x ≡ get_or ys i x → taken y ≡ taken x ++ (item ∷ []) → es' ≡ es → st' ≡ st → n ≡ neighbour_of net v i → counter' ≡ max counter item.stamp + 1 → k ≡ counter'
         → es'' ≡ (if t then es' ++ (Take n item.wire ∷ []) else es') → st'' ≡ (if t then st' ++ ((counter', Take n item.wire) ∷ []) else st')
-        → Wrote node xs ys aside es → Has counter xs ys es st → Has counter' xs (set ys i y) es'' st''
-    has_taken node counter counter' n xs ys aside i x y item es es' es'' st st' st'' count lt going is more room room_st neighbour next es_are st_are wrote h =
+        → Wrote node xs ys aside es → Has counter xs ys es st → Has k xs (set ys i y) es'' st''
+    has_taken node counter counter' k n xs ys aside i x y item es es' es'' st st' st'' count lt going is more room room_st neighbour next moved es_are st_are wrote h =
         let within : i < length ys = omega arith in
         let s = max counter item.stamp + 1 in
         let e : StampedEntry M = (s, Take (neighbour_of net v i) item.wire) in
@@ -173,7 +176,7 @@ module _ {S M E X Y : Type 0} (program : Program S M E) (net : Net) (put : X →
         let es_more : es'' ≡ (if t then es' ++ (e.1 ∷ []) else es') = es_are ∙ ap (λ k. if t then es' ++ (Take k item.wire ∷ []) else es') neighbour in
         let st_more : st'' ≡ (if t then st' ++ (e ∷ []) else st') =
         st_are ∙ ap₂ (λ c k. if t then st' ++ ((c, Take k item.wire) ∷ []) else st') next neighbour in
-        subst (λ c. Has c xs (set ys i y) es'' st'') (sym next)
+        subst (λ c. Has c xs (set ys i y) es'' st'') (sym (moved ∙ next))
         (next_stamps net v t counter s (by_port (map put xs)) (by_port (map put xs)) (by_port (map taken ys)) (by_port (map taken (set ys i y))) es' es'' st' st''
         e es_more st_more (has_room counter xs ys es es' st st' room room_st h)
         (λ yes kept.
@@ -188,12 +191,12 @@ module _ {S M E X Y : Type 0} (program : Program S M E) (net : Net) (put : X →
         (λ j. let le = h.below j in omega (arith, le)))
 
     -- the oldest wire of an out-list was put
-    pub has_put : (counter counter' n : ℕ) (xs : List X) (ys : List Y) (i : ℕ) (x y : X) (w : Wire M)
+    pub has_put : (counter counter' k n : ℕ) (xs : List X) (ys : List Y) (i : ℕ) (x y : X) (w : Wire M)
         (es es' es'' : List (Entry M)) (st st' st'' : List (StampedEntry M)) → length xs ≡ degree_of net v → i < degree_of net v
-        → x ≡ get_or xs i x → put y ≡ put x ++ (stamped counter' w ∷ []) → es' ≡ es → st' ≡ st → n ≡ neighbour_of net v i → counter' ≡ counter + 1
+        → x ≡ get_or xs i x → put y ≡ put x ++ (stamped counter' w ∷ []) → es' ≡ es → st' ≡ st → n ≡ neighbour_of net v i → counter' ≡ counter + 1 → k ≡ counter'
         → es'' ≡ (if t then es' ++ (Put n w ∷ []) else es') → st'' ≡ (if t then st' ++ ((counter', Put n w) ∷ []) else st')
-        → Has counter xs ys es st → Has counter' (set xs i y) ys es'' st''
-    has_put counter counter' n xs ys i x y w es es' es'' st st' st'' count lt is more room room_st neighbour next es_are st_are h =
+        → Has counter xs ys es st → Has k (set xs i y) ys es'' st''
+    has_put counter counter' k n xs ys i x y w es es' es'' st st' st'' count lt is more room room_st neighbour next moved es_are st_are h =
         let within : i < length xs = omega arith in
         let s = counter + 1 in
         let e : StampedEntry M = (s, Put (neighbour_of net v i) w) in
@@ -201,7 +204,7 @@ module _ {S M E X Y : Type 0} (program : Program S M E) (net : Net) (put : X →
         let grown = one_more_stamped put xs i x y (stamped s w) within is more' in
         let es_more : es'' ≡ (if t then es' ++ (e.1 ∷ []) else es') = es_are ∙ ap (λ k. if t then es' ++ (Put k w ∷ []) else es') neighbour in
         let st_more : st'' ≡ (if t then st' ++ (e ∷ []) else st') = st_are ∙ ap₂ (λ c k. if t then st' ++ ((c, Put k w) ∷ []) else st') next neighbour in
-        subst (λ c. Has c (set xs i y) ys es'' st'') (sym next)
+        subst (λ c. Has c (set xs i y) ys es'' st'') (sym (moved ∙ next))
         (next_stamps net v t counter s (by_port (map put xs)) (by_port (map put (set xs i y))) (by_port (map taken ys)) (by_port (map taken ys)) es' es'' st' st''
         e es_more st_more (has_room counter xs ys es es' st st' room room_st h)
         (λ yes kept. (keeps net ok v vertex).puts i counter w (by_port (map put xs)) (by_port (map put (set xs i y))) (by_port (map taken ys)) st' lt kept grown)
@@ -214,14 +217,14 @@ module _ {S M E X Y : Type 0} (program : Program S M E) (net : Net) (put : X →
         (cases_eq j i)))
 
     -- a pulse was made
-    pub has_pulsed : (counter counter' p : ℕ) (xs : List X) (ys : List Y) (es es' es'' : List (Entry M)) (st st' st'' : List (StampedEntry M)) → es' ≡ es → st' ≡ st
-        → counter' ≡ counter + 1 → es'' ≡ (if t then es' ++ (Pulse p ∷ []) else es') → st'' ≡ (if t then st' ++ ((counter', Pulse p) ∷ []) else st')
-        → Has counter xs ys es st → Has counter' xs ys es'' st''
-    has_pulsed counter counter' p xs ys es es' es'' st st' st'' room room_st next es_are st_are h =
+    pub has_pulsed : (counter counter' k p : ℕ) (xs : List X) (ys : List Y) (es es' es'' : List (Entry M)) (st st' st'' : List (StampedEntry M)) → es' ≡ es → st' ≡ st
+        → counter' ≡ counter + 1 → k ≡ counter' → es'' ≡ (if t then es' ++ (Pulse p ∷ []) else es') → st'' ≡ (if t then st' ++ ((counter', Pulse p) ∷ []) else st')
+        → Has counter xs ys es st → Has k xs ys es'' st''
+    has_pulsed counter counter' k p xs ys es es' es'' st st' st'' room room_st next moved es_are st_are h =
         let s = counter + 1 in
         let e : StampedEntry M = (s, Pulse p) in
         let st_more : st'' ≡ (if t then st' ++ (e ∷ []) else st') = st_are ∙ ap (λ c. if t then st' ++ ((c, Pulse p) ∷ []) else st') next in
-        subst (λ c. Has c xs ys es'' st'') (sym next)
+        subst (λ c. Has c xs ys es'' st'') (sym (moved ∙ next))
         (next_stamps net v t counter s (by_port (map put xs)) (by_port (map put xs)) (by_port (map taken ys)) (by_port (map taken ys)) es' es'' st' st''
         e es_are st_more (has_room counter xs ys es es' st st' room room_st h)
         (λ yes kept. (keeps net ok v vertex).pulses p counter (by_port (map put xs)) (by_port (map taken ys)) st' kept)

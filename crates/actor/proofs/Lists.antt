@@ -98,7 +98,7 @@ module _ {M : Type 0} where
     set_aside xs i x y w aside port lt is more =
         let within : i < length (map f xs) = omega (arith, length-map xs f) in
         let longer = by_port (map f xs) i ++ (w ∷ []) in
-        ap (λ l. set l aside.port (all_but_last (get_or l aside.port []))) (grows xs i x y w lt is more)
+        ap (λ l. set l aside.port (all_but_last (get_or l aside.port []))) (grows f xs i x y w lt is more)
         ∙ ap (λ k. set (set (map f xs) i longer) k (all_but_last (get_or (set (map f xs) i longer) k []))) port
         ∙ set_back (map f xs) i longer _
         ∙ ap (λ z. set (map f xs) i z) (ap all_but_last (get_or-set_same (map f xs) i longer [] within) ∙ but_last-more (by_port (map f xs) i) w)
