@@ -7,3 +7,4 @@ pub mod Rows
 pub mod alpha_core
 pub mod StampedEntries
 pub mod HasStamps
+pub mod stamps

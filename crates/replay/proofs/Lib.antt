@@ -3,3 +3,4 @@ pub mod Writes
 pub mod Replayed
 pub mod WholeReplays
 pub mod Decided
+pub mod net_core

@@ -2,3 +2,4 @@ pub mod Rows
 pub mod Replays
 pub mod Laws
 pub mod Whole
+pub mod net_core

@@ -13,23 +13,23 @@ use Rattle.alpha_laws.specs.alpha_core.Wire.{Wire}
 use Rattle.alpha_laws.specs.alpha_core.View.{Node, is_drained}
 use Rattle.alpha_laws.specs.alpha_core.Alpha.{pulse, put_done, reaction}
 use Rattle.alpha_laws.specs.alpha_core.Program.{start_node}
-use Rattle.stamps.specs.entries.Entry.{Entry}
-use Rattle.stamps.specs.entries.Entry.TheVariants.{Pulse, Put, Take}
+use Rattle.actor.specs.entries.Entry.{Entry}
+use Rattle.actor.specs.entries.Entry.TheVariants.{Pulse, Put, Take}
 use Rattle.actor.specs.Written.{Leads, takes_in}
-use Rattle.net_core.specs.State.{State, node_of}
-use Rattle.stamps.specs.alpha_core.Stamped.{Stamped}
-use Rattle.stamps.specs.alpha_core.StampedWires.{stamped, stamps_of, wires_of}
-use Rattle.stamps.specs.Stamps.{StampedEntry, bare_of, counter_of, next_stamp, put_in, taken_in}
-use Rattle.stamps.specs.Keeps.{came_to}
-use Rattle.stamps.specs.Merged.{StampedRow, AreOrdered, AreStampedRows, IsMerge, Precedes, entries_at, puts_at, stamp_behind}
+use Rattle.replay.specs.net_core.State.{State, node_of}
+use Rattle.actor.specs.alpha_core.Stamped.{Stamped}
+use Rattle.actor.specs.alpha_core.StampedWires.{stamped, stamps_of, wires_of}
+use Rattle.actor.specs.stamps.Stamps.{StampedEntry, bare_of, counter_of, next_stamp, put_in, taken_in}
+use Rattle.actor.specs.stamps.Keeps.{came_to}
+use Rattle.actor.specs.stamps.Merged.{StampedRow, AreOrdered, AreStampedRows, IsMerge, Precedes, entries_at, puts_at, stamp_behind}
 use Rattle.replay.specs.Whole.{IsStampedReplay, IsWholeReplay}
-use Rattle.stamps.proofs.Appends.{not_above, puts_append, rest_ordered}
-use Rattle.stamps.proofs.Lists.{entry_here, puts_are}
-use Rattle.stamps.proofs.Unique.{entries_append}
-use Rattle.stamps.proofs.Local.{taken_more}
+use Rattle.actor.proofs.stamps.Appends.{not_above, puts_append, rest_ordered}
+use Rattle.actor.proofs.stamps.Lists.{entry_here, puts_are}
+use Rattle.actor.proofs.stamps.Unique.{entries_append}
+use Rattle.actor.proofs.stamps.Local.{taken_more}
 use Rattle.stamp_laws.specs.Laws.{HaveMet, IsReplayTo, links_of}
 use Rattle.stamp_laws.proofs.MetNodes.{met_written}
-use Rattle.stamp_laws.proofs.Written.{wires_taken}
+use Rattle.actor.proofs.StampedEntries.{wires_taken}
 use Rattle.stamp_laws.proofs.Runs.{merged}
 
 module _ {M : Type 0} where

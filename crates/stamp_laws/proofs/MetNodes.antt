@@ -6,14 +6,14 @@ use Rattle.alpha_laws.proofs.interference.Neighbours.{at-back_port}
 use Rattle.alpha_laws.specs.node_api.Program.{Program}
 use Rattle.alpha_laws.specs.alpha_core.View.{Node}
 use Rattle.alpha_laws.proofs.Across.{over}
-use Rattle.stamps.specs.alpha_core.Stamped.{Stamped}
+use Rattle.actor.specs.alpha_core.Stamped.{Stamped}
 use Rattle.actor.specs.Written.{takes_in}
-use Rattle.stamps.specs.Keeps.{came_to}
-use Rattle.stamps.specs.alpha_core.StampedWires.{wires_of}
-use Rattle.stamps.specs.Stamps.{StampedEntry, Carries, Rises, bare_of, taken_in}
-use Rattle.stamps.proofs.Local.{carried, rises}
+use Rattle.actor.specs.stamps.Keeps.{came_to}
+use Rattle.actor.specs.alpha_core.StampedWires.{wires_of}
+use Rattle.actor.specs.stamps.Stamps.{StampedEntry, Carries, Rises, bare_of, taken_in}
+use Rattle.actor.proofs.stamps.Local.{carried, rises}
 use Rattle.stamp_laws.specs.Laws.{AreWritten, HaveMet, links_of}
-use Rattle.stamp_laws.proofs.Written.{wires_taken}
+use Rattle.actor.proofs.StampedEntries.{wires_taken}
 
 module _ {S M E : Type 0} (program : Program S M E) (net : Net) (ok : IsNetwork net) (nodes : ℕ → Node S M) (counters : ℕ → ℕ)
     (puts takens held : ℕ → ℕ → List (Stamped M)) (wrote : ℕ → List (StampedEntry M)) (met : HaveMet program net nodes counters puts takens held wrote) where

@@ -12,15 +12,15 @@ use Rattle.alpha_laws.specs.alpha_core.View.{Node}
 use Rattle.alpha_laws.specs.alpha_core.Program.{start_node}
 use Rattle.alpha_laws.proofs.Across.{over}
 use Rattle.actor.specs.Written.{Leads, takes_in}
-use Rattle.net_core.specs.State.{Link, State, link_at, no_link, start}
-use Rattle.net_core.specs.Step.{go_on, run_from, step}
+use Rattle.replay.specs.net_core.State.{Link, State, link_at, no_link, start}
+use Rattle.replay.specs.net_core.Step.{go_on, run_from, step}
 use Rattle.replay.specs.Rows.{event_of, if_made, rows_from}
-use Rattle.stamps.specs.alpha_core.StampedWires.{wires_of}
-use Rattle.stamps.specs.Stamps.{StampedEntry, Carries, bare_of, put_in, taken_in}
-use Rattle.stamps.specs.Merged.{StampedRow, AreOrdered, IsMerge, entries_at, puts_at, rows_in, takes_at}
-use Rattle.stamps.proofs.Lists.{puts_are, takes_are}
+use Rattle.actor.specs.alpha_core.StampedWires.{wires_of}
+use Rattle.actor.specs.stamps.Stamps.{StampedEntry, Carries, bare_of, put_in, taken_in}
+use Rattle.actor.specs.stamps.Merged.{StampedRow, AreOrdered, IsMerge, entries_at, puts_at, rows_in, takes_at}
+use Rattle.actor.proofs.stamps.Lists.{puts_are, takes_are}
 use Rattle.stamp_laws.specs.Laws.{AreWritten, IsReplayTo}
-use Rattle.stamp_laws.proofs.Written.{wires_taken}
+use Rattle.actor.proofs.StampedEntries.{wires_taken}
 use Rattle.stamp_laws.proofs.Steps.{Comes, IsTable, Left, row_made}
 
 module _ {S M E : Type 0} (program : Program S M E) (net : Net) (ok : IsNetwork net) (nodes : ℕ → Node S M) (links : ℕ → ℕ → Link M) where

@@ -13,21 +13,21 @@ use Rattle.alpha_laws.specs.alpha_core.Wire.{Wire}
 use Rattle.alpha_laws.specs.alpha_core.View.{Node, port_at}
 use Rattle.alpha_laws.specs.alpha_core.Alpha.{pulse, put_done, reaction}
 use Rattle.alpha_laws.specs.alpha_core.Program.{start_node}
-use Rattle.stamps.specs.entries.Entry.{Entry}
-use Rattle.stamps.specs.entries.Entry.TheVariants.{Pulse, Put, Take}
+use Rattle.actor.specs.entries.Entry.{Entry}
+use Rattle.actor.specs.entries.Entry.TheVariants.{Pulse, Put, Take}
 use Rattle.actor.specs.Written.{Leads}
-use Rattle.net_core.specs.State.{Link, State, link_at, node_of, set_link, set_link_to, set_node}
-use Rattle.net_core.specs.Step.{after_put, after_take, else_old, step}
-use Rattle.net_core.proofs.LinkTable.{link_same, link_other, rows_kept, row_kept}
-use Rattle.net_core.proofs.NetKept.{port_is, vertex_is}
-use Rattle.net_core.proofs.Parts.{first-some}
+use Rattle.replay.specs.net_core.State.{Link, State, link_at, node_of, set_link, set_link_to, set_node}
+use Rattle.replay.specs.net_core.Step.{after_put, after_take, else_old, step}
+use Rattle.replay.proofs.net_core.LinkTable.{link_same, link_other, rows_kept, row_kept}
+use Rattle.replay.proofs.net_core.NetKept.{port_is, vertex_is}
+use Rattle.replay.proofs.net_core.Parts.{first-some}
 use Rattle.replay.specs.Rows.{Row, event_of, row_of}
 use Rattle.replay.proofs.Writes.{row-is}
-use Rattle.stamps.specs.alpha_core.Stamped.{Stamped}
-use Rattle.stamps.specs.alpha_core.StampedWires.{stamped, wires_of}
-use Rattle.stamps.specs.Stamps.{Carries, bare_of}
-use Rattle.stamps.specs.Merged.{StampedRow, Precedes, entries_at, puts_at, takes_at}
-use Rattle.stamps.proofs.Lists.{entry_here, entry_other, first_put, put_here, put_other, take_here, take_other}
+use Rattle.actor.specs.alpha_core.Stamped.{Stamped}
+use Rattle.actor.specs.alpha_core.StampedWires.{stamped, wires_of}
+use Rattle.actor.specs.stamps.Stamps.{Carries, bare_of}
+use Rattle.actor.specs.stamps.Merged.{StampedRow, Precedes, entries_at, puts_at, takes_at}
+use Rattle.actor.proofs.stamps.Lists.{entry_here, entry_other, first_put, put_here, put_other, take_here, take_other}
 
 -- the state has a node for each vertex, and a link for each of its ports
 pub record IsTable {S M : Type 0} (net : Net) (state : State S M) : Type 0 where

@@ -3,15 +3,15 @@ use Rattle.std.specs.Prelude.{◌≡◌, ℕ, ◌<◌, IsTrue, List, [], ◌++�
 use Rattle.alpha_laws.specs.interference.Net.{Net, IsVertex, count_of, degree_of, neighbour_of, back_port_of}
 use Rattle.alpha_laws.specs.node_api.Program.{Program, last_pulse_on}
 use Rattle.alpha_laws.specs.alpha_core.View.{Node, is_drained}
-use Rattle.stamps.specs.alpha_core.Stamped.{Stamped}
+use Rattle.actor.specs.alpha_core.Stamped.{Stamped}
 use Rattle.actor.specs.Written.{IsWritten}
-use Rattle.net_core.specs.State.{Link, State, link_at, node_of, sent_of}
+use Rattle.replay.specs.net_core.State.{Link, State, link_at, node_of, sent_of}
 use Rattle.replay.specs.Replays.{IsReplay}
 use Rattle.replay.specs.Whole.{IsStampedReplay, IsWholeReplay}
-use Rattle.stamps.specs.Keeps.{KeepsStamps}
-use Rattle.stamps.specs.Merged.{StampedRow, IsMerge, rows_in}
-use Rattle.stamps.specs.alpha_core.StampedWires.{wires_of}
-use Rattle.stamps.specs.Stamps.{StampedEntry, Carries, Rises, bare_of, put_in, taken_in}
+use Rattle.actor.specs.stamps.Keeps.{KeepsStamps}
+use Rattle.actor.specs.stamps.Merged.{StampedRow, IsMerge, rows_in}
+use Rattle.actor.specs.alpha_core.StampedWires.{wires_of}
+use Rattle.actor.specs.stamps.Stamps.{StampedEntry, Carries, Rises, bare_of, put_in, taken_in}
 
 -- The entries of each node are all that it did, from its start to what it is, with the lists of its links; and each take
 -- of a link is of its put, and later.
