@@ -115,7 +115,7 @@ pub fn transcript_text<T: PayloadText>(
     ensures reads_back { IfOk result (λ text. reading_of T.payload_of (lines_of text.items) ≡ Ok (nodes, rows.now)) }
 {
     let mut text = Vec::new(alloc);
-    push_header(&mut text, b"transcript 1 ", nodes)?;
+    push_first_line(&mut text, nodes)?;
     push_rows(&mut text, rows)?;
     Ok(text)
 }
