@@ -227,7 +227,7 @@ pub const CAPACITY: &'static str = "How many wires a link holds, 1 to 64";
 
 pub const TURNS: &'static str = "How often a worker looks for a node";
 
-pub const EDITION: &'static str = "2 in one order with stamps, 1 node by node without";
+pub const EDITION: &'static str = "The form: 2 with stamps, 1 without";
 
 pub const CHECK: Help = Help {
     about: "Checks a channel plan of a graph",
