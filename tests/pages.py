@@ -10,6 +10,7 @@
 - These definitions fit together: on small networks the rounds, and any order of events, end with the colours.
 - Each excerpt of code, a fence whose first line names its file, has its lines in that file, in this order; a comment `..`
   stands for lines that are left out.
+- Each wrong body of crates/NAME/must-fail/ and wrong-bodies/NAME/ still applies (edits_apply.py).
 - No crate is reached along more paths through crates.txt than tools/paths.py allows.
 - README.md or docs/LAYERS.md names each crate, and README.md is at most 120 lines. No line of a page is wider than 150 columns.
 - Each file named in backquotes exists, each link leads to a page and a heading, and each function and clause that
@@ -21,6 +22,7 @@ import re
 import subprocess
 import sys
 
+import edits_apply
 from alpha_definition import NetState, synchronous_run, text_of_wire
 from plain_definition import Network, colours, merge, three
 from shell import run_line
@@ -292,6 +294,11 @@ def check_paths():
     note("paths in crates.txt", max(found.values()) <= MOST, max(found, key=found.get))
 
 
+def check_edits():
+    for path, fault in edits_apply.faults():
+        note(path, not fault, fault)
+
+
 def main():
     if sys.argv[1:] in (["--help"], ["-h"]):
         print(__doc__.strip())
@@ -310,6 +317,7 @@ def main():
     check_crates()
     check_lengths()
     check_paths()
+    check_edits()
     check_tutorial()
     check_definitions()
     check_promises()

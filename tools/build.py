@@ -52,6 +52,24 @@ def with_below(crates, below):
     return list(found)
 
 
+def reading_once(stamp):
+    """The toolchain's sum of all that a crate is made from, over each crate below once and not once for every path to it."""
+    known = threading.local()
+
+    def stamp_once(crate):
+        if getattr(known, "sums", None) is None:
+            known.sums = {}
+            try:
+                return stamp_once(crate)
+            finally:
+                known.sums = None
+        if crate.folder not in known.sums:
+            known.sums[crate.folder] = stamp(crate)
+        return known.sums[crate.folder]
+
+    return stamp_once
+
+
 def toolchain():
     """The module of the toolchain's command, with what it keeps its crates in."""
     sys.dont_write_bytecode = True
@@ -60,6 +78,7 @@ def toolchain():
 
     # Its first call takes over a signal, which only this thread can.
     rtlib.guarded()
+    rtlib.Crate.stamp = reading_once(rtlib.Crate.stamp)
     return rtlib
 
 

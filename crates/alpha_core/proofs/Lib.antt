@@ -10,5 +10,6 @@ mod OutWires
 mod KeptOuts
 mod Moved
 mod Followed
+pub mod StampedWires
 pub mod interference
 pub mod node_api

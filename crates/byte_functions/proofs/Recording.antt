@@ -1,11 +1,11 @@
 -- The transcript of a whole run is the answer to an input.
 use Rattle.std.proofs.Common.{◌≡◌, ℕ, List, true, subst}
-use Rattle.alpha_core.specs.interference.Net.{Net, IsNetwork, count_of}
-use Rattle.colour_program.specs.colour_rules.Payload.{Payload}
-use Rattle.colour_program.specs.colour_rules.Node as colour
-use Rattle.colour_program.specs.colour_rules.Program.{colouring}
+use Rattle.answers.specs.interference.Net.{Net, IsNetwork, count_of}
+use Rattle.answers.specs.colour_rules.Payload.{Payload}
+use Rattle.answers.specs.colour_rules.Node as colour
+use Rattle.answers.specs.colour_rules.Program.{colouring}
 use Rattle.node_pool.specs.gather_laws.Outcome.{Outcome, IsOutcome, is_whole}
-use Rattle.byte_functions.specs.Answers.{ReadsAs}
+use Rattle.answers.specs.Answers.{ReadsAs}
 use Rattle.byte_functions.specs.Transcripts.{IsTranscriptAnswer, IsTranscriptOf, entries_text}
 
 pub recorded : (input text : List ℕ) (net : Net) (capacity : ℕ) (outcome : Outcome colour.Node Payload)

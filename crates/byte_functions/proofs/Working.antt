@@ -5,25 +5,24 @@ use Rattle.std.proofs.lemmas.Bool.{cases_lt}
 use Rattle.std.proofs.lemmas.List.{get_or-map, length-map, same_lists}
 use Rattle.std.proofs.lemmas.List.FromFn.{get_or-map-range_with_len, length-map-range_with_len, length-range_with_len}
 use Rattle.std.proofs.lemmas.Simd.{map-map}
-use Rattle.alpha_core.specs.interference.Net.{Net, IsBarred, IsNetwork, IsEdge, IsVertex, count_of, span_of, vertices}
+use Rattle.answers.specs.interference.Net.{Net, IsBarred, IsNetwork, IsEdge, IsVertex, count_of, span_of, vertices}
 use Rattle.node_pool.specs.run_options.Ranges.{AreInRange}
 use Rattle.node_pool.specs.run_options.Options.{Options}
 use Rattle.node_pool.below.run_options.specs.declared.TheConstants.{MAX_CAPACITY, MAX_WORKERS}
-use Rattle.node_pool.specs.pool.PoolFault.{PoolFault}
-use Rattle.node_pool.specs.pool.PoolFault.TheVariants as pool
+use Rattle.answers.specs.pool.PoolFault.{PoolFault}
+use Rattle.answers.specs.pool.PoolFault.TheVariants as pool
 use Rattle.node_pool.specs.gather_laws.Outcome.{Gathered, Outcome, node_in, start_of}
-use Rattle.alpha_core.specs.View.{Alpha}
-use Rattle.channel_plan.specs.PlanText.{plan_of}
-use Rattle.colour_program.specs.colour_rules.Payload.{Payload}
-use Rattle.colour_program.specs.colour_rules.Node as colour
-use Rattle.colour_program.specs.colour_rules.Program.{colouring}
-use Rattle.colour_laws.specs.Colours.{colours}
-use Rattle.byte_functions.specs.Answers.{IsPlainAnswer, ReadsAs}
-use Rattle.byte_functions.specs.Plans.{IsChannelPlan}
-use Rattle.byte_functions.specs.Texts.{colours_text}
+use Rattle.answers.specs.alpha_core.View.{Alpha}
+use Rattle.answers.specs.channel_plan.PlanText.{plan_of}
+use Rattle.answers.specs.colour_rules.Payload.{Payload}
+use Rattle.answers.specs.colour_rules.Node as colour
+use Rattle.answers.specs.colour_rules.Program.{colouring}
+use Rattle.answers.specs.colour_laws.Colours.{colours}
+use Rattle.answers.specs.Answers.{IsPlainAnswer, ReadsAs}
+use Rattle.answers.proofs.Plain.{plain}
 use Rattle.byte_functions.specs.Workers.{IsFaultOfPool, IsFaultOfRun, IsFaultOfWorkers}
-use Rattle.byte_functions.specs.declared.fault.PlanFault.{PlanFault}
-use Rattle.byte_functions.specs.declared.fault.PlanFault.TheVariants as plan
+use Rattle.answers.specs.declared.fault.PlanFault.{PlanFault}
+use Rattle.answers.specs.declared.fault.PlanFault.TheVariants as plan
 
 -- ---- the faults
 ranges : (o : Options) → AreInRange o ⊎ (AreInRange o → ⊥)
@@ -72,9 +71,6 @@ workers-fault input net o (plan.Replay fault) read is = absurd is
 workers-fault input net o plan.Memory read is = absurd is
 
 -- ---- the plan
-pub is-network : (input : List ℕ) (net : Net) → ReadsAs input (λ read. IsNetwork read × (net ≡ read)) → IsNetwork net
-is-network input net (graph, reads, (ok, e)) = subst (λ n. IsNetwork n) (sym e) ok
-
 abbrev Left : Type 0
 Left = Outcome colour.Node Payload
 
@@ -101,21 +97,6 @@ colours-are net outcome once exact =
     ∙ ap (λ j. read (get_or alphas j (start_of colouring net (suc k)))) (sym before)
     ∙ exact (suc k) (omega arith, omega (arith, below))
     ∙ sym (get_or-map-range_with_len (colours net) 1 n k (suc k) d below (omega arith)))
-
--- the text of the colours is a channel plan
-pub plain : (input text : List ℕ) (net : Net) → ReadsAs input (λ read. IsNetwork read × (net ≡ read)) → text ≡ colours_text net
-    → ((v w : ℕ) → IsEdge net v w → colours net v ≢ colours net w) → ((v : ℕ) → colours net v ≤ span_of net)
-    → ((v : ℕ) → IsBarred net v (colours net v) → ⊥) → IsPlainAnswer input text
-plain input text net (graph, reads, (ok, e)) is proper within unbarred =
-    let plan : IsChannelPlan net text = record {
-      colour = colours net;
-      rows = is;
-      differ = proper;
-      within = λ v vertex. within v;
-      unbarred = λ v vertex. unbarred v;
-    } in
-    let there = subst (λ n. (text ≡ colours_text n) × IsChannelPlan n text) e (is, plan) in
-    (graph, reads, (ok, there.0, there.1))
 
 pub planned : (input text : List ℕ) (net : Net) (outcome : Left) → ReadsAs input (λ read. IsNetwork read × (net ≡ read))
     → text ≡ plan_of (map merged outcome.nodes) → map (λ g. g.vertex) outcome.nodes ≡ vertices net

@@ -1,12 +1,6 @@
-pub mod Texts
-pub mod Plans
-pub mod Faults
-pub mod Answers
-pub mod Verdicts
-pub mod EventAnswers
-pub mod RoundAnswers
-pub mod ReplayAnswers
 pub mod Workers
 pub mod Transcripts
+pub mod answers
+pub mod interference
 pub mod pool
 pub mod gather_laws

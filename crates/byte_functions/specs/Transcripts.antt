@@ -1,13 +1,13 @@
 -- The text of what the nodes of a run of workers did.
 use Rattle.std.specs.Prelude.{◌≡◌, ℕ, true, List, flat_map, map}
-use Rattle.alpha_core.specs.interference.Net.{Net, IsNetwork, count_of}
-use Rattle.colour_program.specs.colour_rules.Payload.{Payload}
-use Rattle.colour_program.specs.colour_rules.Node as colour
-use Rattle.colour_program.specs.colour_rules.Program.{colouring}
-use Rattle.colour_program.specs.colour_rules.Words.{number_in, word_in}
+use Rattle.answers.specs.interference.Net.{Net, IsNetwork, count_of}
+use Rattle.answers.specs.colour_rules.Payload.{Payload}
+use Rattle.answers.specs.colour_rules.Node as colour
+use Rattle.answers.specs.colour_rules.Program.{colouring}
+use Rattle.answers.specs.colour_rules.Words.{number_in, word_in}
 use Rattle.node_pool.specs.gather_laws.Outcome.{Gathered, Outcome, IsOutcome, is_whole}
-use Rattle.transcripts.specs.TranscriptText.{Row, transcript_of}
-use Rattle.byte_functions.specs.Answers.{ReadsAs}
+use Rattle.answers.specs.transcripts.TranscriptText.{Row, transcript_of}
+use Rattle.answers.specs.Answers.{ReadsAs}
 
 -- the entries of a node, each behind its vertex
 abbrev pub rows_in : {S M : Type 0} → Gathered S M → List (Row M)

@@ -1,16 +1,16 @@
 -- The faults of runs of worker threads.
 use Rattle.std.specs.Prelude.{ℕ, List}
-use Rattle.dimacs_col.specs.Lines.{lines_of}
-use Rattle.dimacs_col.specs.Reading.{IsFault}
-use Rattle.alpha_core.specs.interference.Net.{IsNetwork}
-use Rattle.alpha_core.specs.interference.Making.{IsFaultOf}
+use Rattle.answers.specs.dimacs_col.Lines.{lines_of}
+use Rattle.answers.specs.dimacs_col.Reading.{IsFault}
+use Rattle.answers.specs.interference.Net.{IsNetwork}
+use Rattle.answers.specs.interference.Making.{IsFaultOf}
 use Rattle.node_pool.specs.run_options.Ranges.{AreInRange}
 use Rattle.node_pool.specs.run_options.Options.{Options}
-use Rattle.node_pool.specs.pool.PoolFault.{PoolFault}
-use Rattle.node_pool.specs.pool.PoolFault.TheVariants as pool
-use Rattle.byte_functions.specs.Answers.{ReadsAs}
-use Rattle.byte_functions.specs.declared.fault.PlanFault.{PlanFault}
-use Rattle.byte_functions.specs.declared.fault.PlanFault.TheVariants as plan
+use Rattle.answers.specs.pool.PoolFault.{PoolFault}
+use Rattle.answers.specs.pool.PoolFault.TheVariants as pool
+use Rattle.answers.specs.Answers.{ReadsAs}
+use Rattle.answers.specs.declared.fault.PlanFault.{PlanFault}
+use Rattle.answers.specs.declared.fault.PlanFault.TheVariants as plan
 
 -- The fault of a run of workers: if the options are out of range, that they are. When memory or a thread is refused
 -- isn't promised.

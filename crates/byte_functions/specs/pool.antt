@@ -1,2 +1,2 @@
 -- What crates above name of `pool`.
-pub use Rattle.node_pool.specs.pool.PoolFault
+pub use Rattle.answers.specs.pool.PoolFault

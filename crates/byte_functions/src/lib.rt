@@ -3,7 +3,8 @@
 //! another program calls the same functions.
 //!
 //! `serving` calls `forest_bytes`, `plain_bytes`, `plan_bytes`, `transcript_bytes`, `check_bytes`, `events_bytes`,
-//! `replay_bytes` or `rounds_bytes` for a command, and `fault_report` if they fail.
+//! `replay_bytes` or `rounds_bytes` for a command, and `fault_report` if they fail. The two that run worker threads,
+//! `plan_bytes` and `transcript_bytes`, are here; the others are in `answers`, which is proved beside the worker threads.
 //!
 //! ```
 //! let text = b"p edge 3 3\ne 1 2\ne 1 3\ne 2 3\n";
@@ -14,33 +15,17 @@
 //! a fault. Vertex v has the identifier of its line `i`, and without one v.
 #![tactic(auto)]
 
-mod answer;
-mod events;
-mod fault;
-mod forests_text;
 pub mod laws;
 mod plan_text;
-mod replaying;
-mod report;
-mod rounds;
 mod transcript;
-mod verdict;
 mod workers;
 
-pub use answer::{forest_bytes, plain_bytes};
-pub use events::events_bytes;
-pub use fault::PlanFault;
-pub use replaying::{ReplayFault, replay_bytes};
-pub use report::{FaultReport, fault_report};
-pub use rounds::rounds_bytes;
+pub use answers::{FaultReport, PlanFault, ReplayFault, fault_report};
+pub use answers::{check_bytes, events_bytes, forest_bytes, plain_bytes, replay_bytes, rounds_bytes};
 pub use transcript::transcript_bytes;
-pub use verdict::check_bytes;
 pub use workers::plan_bytes;
 
 // What crates above name of lower ones.
-pub use colour_program::{Colouring, Payload};
-pub use dimacs_col::ColFault;
-pub use event_texts::EventFault;
-pub use node_pool::{Gate, OpenGate, Options, Outcome, PoolFault, run_workers};
-pub use replay::{ReplayRefused, replay};
-pub use transcripts::{TextFault, read_transcript, transcript_text};
+pub use answers::{ColFault, Colouring, EventFault, Network, Payload, PoolFault, ReplayRefused};
+pub use answers::{TextFault, Wire, read_transcript, replay, transcript_text};
+pub use node_pool::{Gate, OpenGate, Options, Outcome, run_workers};

@@ -1,51 +1,21 @@
-//! The text of a channel plan, from nodes that have found their colours.
+//! The text of a channel plan, from the nodes that a run of workers left.
 
-ghost use Rattle.std.specs.Prelude.{◌≡◌, ℕ, IfOk, map};
-ghost use Rattle.channel_plan.specs.PlanText.{plan_of};
-ghost use Rattle.byte_functions.specs.Texts.{colours_text};
+ghost use Rattle.std.specs.Prelude.{◌≡◌, IfOk, map};
+ghost use Rattle.answers.specs.channel_plan.PlanText.{plan_of};
+ghost use Rattle.node_pool.specs.Gathers.{gathered_of};
 
-use alpha_core::{Memory, Network};
-use channel_plan::plan_text;
-use colour_laws::laws::rounds_end_with_the_colours;
-use colour_program::Colouring;
+use answers::{Colouring, Memory, plan_text};
 use node_pool::Actor;
 use std::alloc::{AllocError, Global};
-use sync_rounds::run_rounds;
-
-/// A node whose colour can be read, whatever ran it.
-pub trait Coloured {
-    // Its colour.
-    ghost merged: { Self → ℕ };
-
-    fn own_colour(&self) -> u16
-        ensures { result ≡ merged self.now };
-}
-
-impl Coloured for Colouring {
-    ghost merged = { λ node. node.merged };
-
-    fn own_colour(&self) -> u16 {
-        self.colour()
-    }
-}
-
-impl Coloured for Actor<Colouring> {
-    ghost use Rattle.node_pool.specs.Gathers.{gathered_of};
-
-    ghost merged = { λ actor. (gathered_of actor).alpha.node.state.merged };
-
-    fn own_colour(&self) -> u16 {
-        self.alpha().program().colour()
-    }
-}
 
 // The colours of nodes, in their order.
-fn colours_of<N: Coloured>(alloc: Global, nodes: &[N]) -> Result<Vec<u16>, AllocError>
-    ensures { IfOk result (λ all. all.items ≡ map N.merged nodes.now) }
+fn colours_of(alloc: Global, actors: &[Actor<Colouring>]) -> Result<Vec<u16>, AllocError>
+    ensures { IfOk result
+        (λ all. all.items ≡ map (λ actor. (gathered_of actor).alpha.node.state.merged) actors.now) }
 {
     let mut all = Vec::new(alloc);
-    for node in nodes {
-        all.push(node.own_colour())?;
+    for actor in actors {
+        all.push(actor.alpha().program().colour())?;
     }
     Ok(all)
 }
@@ -54,22 +24,10 @@ fn colours_of<N: Coloured>(alloc: Global, nodes: &[N]) -> Result<Vec<u16>, Alloc
 ///
 /// # Errors
 /// If memory ran out.
-pub fn text_of_nodes<N: Coloured>(alloc: Global, nodes: &[N]) -> Result<Vec<u8>, Memory>
-    ensures { IfOk result (λ text. text.items ≡ plan_of (map N.merged nodes.now)) }
+pub fn text_of_nodes(alloc: Global, actors: &[Actor<Colouring>]) -> Result<Vec<u8>, Memory>
+    ensures { IfOk result
+        (λ text. text.items ≡ plan_of (map (λ actor. (gathered_of actor).alpha.node.state.merged) actors.now)) }
 {
-    let colours = colours_of(alloc, nodes)?;
+    let colours = colours_of(alloc, actors)?;
     plan_text(alloc, colours.as_slice())
-}
-
-/// `plan`, and a row for each vertex with its channel, as the rounds of the colouring leave it.
-///
-/// # Errors
-/// If memory ran out.
-pub fn text_of_plan(alloc: Global, network: &Network) -> Result<Vec<u8>, Memory>
-    ensures { IfOk result (λ text. text.items ≡ colours_text network.now) }
-{
-    network.is_network();
-    rounds_end_with_the_colours();
-    let nodes = run_rounds::<Colouring>(alloc, network)?;
-    text_of_nodes(alloc, nodes.as_slice())
 }

@@ -6,16 +6,12 @@ ghost use Rattle.node_pool.specs.Gathers.{gathered_of};
 ghost use Rattle.byte_functions.specs.Transcripts.{IsTranscriptAnswer, entries_text};
 ghost use Rattle.byte_functions.specs.Workers.{IsFaultOfWorkers};
 
-use crate::answer::network_of_text;
-use crate::fault::PlanFault;
 use crate::workers::whole_run;
-use alpha_core::Memory;
-use colour_program::Colouring;
+use answers::{Colouring, Memory, PlanFault, network_of_text, push_entries, push_first_line};
 use node_pool::{Actor, Gate, Options};
 use std::alloc::Global;
 use std::sync::Wait;
 use std::thread::Threads;
-use transcripts::{push_entries, push_first_line};
 
 // The transcript of nodes, each of which is dropped with its entries once its lines are written.
 fn text_of_actors(

@@ -2,18 +2,15 @@
 
 ghost use Rattle.std.specs.Prelude.{◌≡◌, true, IfOk, IfErr};
 ghost use Rattle.node_pool.specs.run_options.Ranges.{AreInRange};
-ghost use Rattle.colour_program.specs.colour_rules.Program.{colouring};
+ghost use Rattle.answers.specs.colour_rules.Program.{colouring};
 ghost use Rattle.node_pool.specs.gather_laws.Outcome.{IsOutcome, is_whole};
-ghost use Rattle.byte_functions.specs.Answers.{IsPlainAnswer};
+ghost use Rattle.answers.specs.Answers.{IsPlainAnswer};
 ghost use Rattle.byte_functions.specs.Workers.{IsFaultOfRun, IsFaultOfWorkers};
 
-use crate::answer::network_of_text;
-use crate::fault::PlanFault;
 use crate::plan_text::text_of_nodes;
-use alpha_core::{Network, Refused};
+use answers::laws::colours_are_proper;
+use answers::{Colouring, Network, Payload, PlanFault, Refused, network_of_text};
 use async_colour_laws::laws::halted_nodes_are_coloured;
-use colour_laws::laws::colours_are_proper;
-use colour_program::{Colouring, Payload};
 use node_pool::{Gate, Options, Outcome, run_workers, whole_outcomes_are_complete};
 use std::alloc::Global;
 use std::sync::Wait;

@@ -62,7 +62,7 @@ fn run_made<J: Wiring + Send + Sync, P: NodeProgram, G: Gate + Sync, R: Threads 
         options.turns,
     )?;
     let nodes = by_vertex(alloc, nodes)?;
-    Ok(gathered(rt, alloc, net, links.into_rows(), nodes)?)
+    gathered(rt, alloc, net, links.into_rows(), nodes)
 }
 
 /// Runs all nodes of a network asynchronously, on worker threads with links between the nodes.
@@ -74,7 +74,8 @@ fn run_made<J: Wiring + Send + Sync, P: NodeProgram, G: Gate + Sync, R: Threads 
 /// # Errors
 ///
 /// `BadOptions`, which is looked at first, exactly if the options are out of range; `Memory` if memory is refused;
-/// `Spawn` if a thread is, and those that had begun are joined. Nothing is left of the run.
+/// `Spawn` if a thread is, and those that had begun are joined; `StampFull` if a stamp would pass
+/// 18446744073709551615, and no other fault is told. Nothing is left of the run.
 pub fn run_workers<P: NodeProgram, G: Gate + Sync, R: Threads + Wait + Sync>(
     rt: &R,
     alloc: Global,

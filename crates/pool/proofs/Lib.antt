@@ -8,3 +8,4 @@ pub mod Pushed
 pub mod Rule
 pub mod Steps
 pub mod Views
+mod Ends

@@ -9,7 +9,7 @@ ghost use Rattle.replay.specs.Replays.{IsReplay, Stops};
 use crate::entry_event::make_entry;
 use crate::refused::ReplayRefused;
 use alpha_laws::{Network, NodeProgram};
-use entries::Entry;
+use stamps::Entry;
 use net_core::NetState;
 use std::alloc::Global;
 

@@ -5,12 +5,12 @@ use Rattle.command_line.specs.declared.program.Program.{Program}
 use Rattle.command_line.specs.declared.request.Request.{Request}
 use Rattle.command_line.specs.declared.request.Request.TheVariants.{Check, Events, Forests, Plain, Plan, Replay, Rounds, Transcript}
 use Rattle.serving.specs.Answers.{MayAnswer}
-use Rattle.byte_functions.specs.Faults.{fault_line, fault_status}
+use Rattle.byte_functions.specs.answers.Faults.{fault_line, fault_status}
 use Rattle.command_line.specs.Asked.{request_of}
 use Rattle.serving.specs.Serve.{Answers, Declines, IsReported, Puts, ServesChoice, ServesWords, memory_line}
 use Rattle.serving.specs.Streams.{Taken, Written}
-use Rattle.byte_functions.specs.declared.fault.PlanFault.{PlanFault}
-use Rattle.byte_functions.specs.declared.fault.PlanFault.TheVariants.{Memory}
+use Rattle.byte_functions.specs.answers.PlanFault.{PlanFault}
+use Rattle.byte_functions.specs.answers.PlanFault.TheVariants.{Memory}
 
 pub of-bytes : (program : Program) (output errors : Written) (request : Request) (input bytes text : List ℕ) (status : ℕ)
     → text ≡ bytes → MayAnswer request input (Ok bytes) → Puts program output errors text status

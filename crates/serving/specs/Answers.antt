@@ -1,15 +1,15 @@
 -- What a command may answer to the bytes of its input.
 use Rattle.std.specs.Prelude.{◌≢◌, ℕ, List, Result, Ok, Err}
 use Rattle.byte_functions.specs.pool.PoolFault.TheVariants.{BadOptions}
-use Rattle.byte_functions.specs.Answers.{IsFaultOfText, IsForestsAnswer, IsPlainAnswer}
-use Rattle.byte_functions.specs.EventAnswers.{IsEventsAnswer, IsFaultOfEvents}
-use Rattle.byte_functions.specs.ReplayAnswers.{IsFaultOfReplay, IsReplayAnswer}
-use Rattle.byte_functions.specs.RoundAnswers.{IsRoundsAnswer}
+use Rattle.byte_functions.specs.answers.Answers.{IsFaultOfText, IsForestsAnswer, IsPlainAnswer}
+use Rattle.byte_functions.specs.answers.EventAnswers.{IsEventsAnswer, IsFaultOfEvents}
+use Rattle.byte_functions.specs.answers.ReplayAnswers.{IsFaultOfReplay, IsReplayAnswer}
+use Rattle.byte_functions.specs.answers.RoundAnswers.{IsRoundsAnswer}
 use Rattle.byte_functions.specs.Transcripts.{IsTranscriptAnswer}
-use Rattle.byte_functions.specs.Verdicts.{IsCheckAnswer, IsFaultOfCheck}
+use Rattle.byte_functions.specs.answers.Verdicts.{IsCheckAnswer, IsFaultOfCheck}
 use Rattle.byte_functions.specs.Workers.{IsFaultOfWorkers}
-use Rattle.byte_functions.specs.declared.fault.PlanFault.{PlanFault}
-use Rattle.byte_functions.specs.declared.fault.PlanFault.TheVariants.{Pool}
+use Rattle.byte_functions.specs.answers.PlanFault.{PlanFault}
+use Rattle.byte_functions.specs.answers.PlanFault.TheVariants.{Pool}
 use Rattle.command_line.specs.declared.request.Request.{Request}
 use Rattle.command_line.specs.declared.request.Request.TheVariants.{Check, Forests, Plain, Plan, Transcript}
 use Rattle.command_line.specs.declared.request.Request.TheVariants.{Events, Replay, Rounds}

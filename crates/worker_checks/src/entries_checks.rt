@@ -1,6 +1,6 @@
 //! A long list of entries, through all sizes of the blocks in which they lie.
 
-use alpha_core::Wire;
+use byte_functions::Wire;
 use entries::{Entries, Entry};
 use std::test::Fail;
 

@@ -3,8 +3,7 @@
 use crate::meeting::Meeting;
 use crate::runs::{apart, greatest, path, small, triangle};
 use crate::stealing::Stealing;
-use alpha_core::Network;
-use byte_functions::{Colouring, OpenGate, Options, PoolFault, run_workers};
+use byte_functions::{Colouring, Network, OpenGate, Options, PoolFault, run_workers};
 use std::alloc::Global;
 use std::sync::Wait;
 use std::test::*;

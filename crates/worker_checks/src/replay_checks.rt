@@ -2,10 +2,9 @@
 //! event writes down at the start.
 
 ghost use Rattle.std.specs.Prelude.{◌≡◌};
-ghost use Rattle.alpha_core.specs.interference.Net.{count_of};
+ghost use Rattle.byte_functions.specs.interference.Net.{count_of};
 
-use alpha_core::{Network, Wire};
-use byte_functions::{ReplayRefused, read_transcript, replay};
+use byte_functions::{Network, ReplayRefused, Wire, read_transcript, replay};
 use entries::Entry;
 use net_core::{NetState, RunRefused};
 use std::alloc::Global;

@@ -1,11 +1,10 @@
 //! Networks to run, and what is read off a run.
 
 ghost use Rattle.std.specs.Prelude.{◌≡◌, length};
-ghost use Rattle.alpha_core.specs.interference.Net.{IsVertex, degree_of, vertices};
+ghost use Rattle.byte_functions.specs.interference.Net.{IsVertex, degree_of, vertices};
 ghost use Rattle.byte_functions.specs.gather_laws.Outcome.{row_in};
 
-use alpha_core::{Network, Wire};
-use byte_functions::{Colouring, OpenGate, Options, Outcome, Payload, run_workers};
+use byte_functions::{Colouring, Network, OpenGate, Options, Outcome, Payload, Wire, run_workers};
 use std::alloc::Global;
 use std::sync::Wait;
 use std::test::Fail;

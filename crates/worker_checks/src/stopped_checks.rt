@@ -2,8 +2,7 @@
 //! did.
 
 use crate::runs::{holds, run_of_one, triangle};
-use alpha_core::{Network, Wire};
-use byte_functions::{Colouring, OpenGate, Options, Payload, run_workers};
+use byte_functions::{Colouring, Network, OpenGate, Options, Payload, Wire, run_workers};
 use entries::{Entries, Entry};
 use std::alloc::Global;
 use std::sync::Wait;

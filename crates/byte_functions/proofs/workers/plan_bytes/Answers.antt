@@ -1,9 +1,10 @@
 use Rattle.std.proofs.Common.{◌∙◌, false, ap, sym, map}
 use Rattle.std.proofs.lemmas.Simd.{map-map}
-use Rattle.channel_plan.specs.PlanText.{plan_of}
-use Rattle.colour_program.specs.colour_rules.Program.{colouring}
+use Rattle.answers.specs.channel_plan.PlanText.{plan_of}
+use Rattle.answers.specs.colour_rules.Program.{colouring}
 use Rattle.node_pool.specs.Gathers.{gathered_of}
-use Rattle.byte_functions.proofs.Working.{is-network, merged, planned, workers-fault}
+use Rattle.answers.proofs.Plain.{is-network}
+use Rattle.byte_functions.proofs.Working.{merged, planned, workers-fault}
 use Rattle.byte_functions.proofs.workers.plan_bytes.Goals as goal
 
 pub returns-clause-ok : goal.returns-clause-ok

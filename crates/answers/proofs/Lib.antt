@@ -1,0 +1,11 @@
+mod Ends
+pub mod Numbering
+mod GivenIds
+pub mod Plain
+pub mod Following
+pub mod ProperPlans
+pub mod Agreed
+pub mod Judging
+mod Playing
+mod Replays
+mod RefusedLines

@@ -1,0 +1,21 @@
+use Rattle.std.proofs.Common.{◌≡◌, ◌∙◌, IfOk, List, ℕ, ap, map, subst}
+use Rattle.alpha_core.specs.interference.Net.{vertices}
+use Rattle.alpha_core.specs.node_api.Program.{last_pulse_on}
+use Rattle.alpha_core.specs.node_api.Run.{state_at}
+use Rattle.channel_plan.specs.PlanText.{plan_of}
+use Rattle.colour_program.specs.colour_rules.Node.{Node}
+use Rattle.colour_program.specs.colour_rules.Program.{colouring}
+use Rattle.colour_program.specs.colour_laws.Colours.{colours}
+use Rattle.answers.proofs.Ends.{at-vertices}
+use Rattle.answers.proofs.colours_text.text_of_plan.Goals as goal
+
+pub returns : goal.returns
+returns c =
+    let net = c.args.network.now in
+    let merged : Node → ℕ = λ node. node.merged in
+    let at_end : ℕ → Node = state_at colouring net (last_pulse_on colouring net) in
+    let read : map merged (map at_end (vertices net)) ≡ map (colours net) (vertices net) =
+    at-vertices net merged at_end (colours net) (c.rounds_end_with_the_colours.ensures net c.is_network.ensures) in
+    subst (λ (told : List ℕ). IfOk c.text_of_nodes.result (λ text. text.items ≡ plan_of told))
+    (ap (map merged) (c.as_slice.ensures.value ∙ c.in_ok-nodes.ensures.states) ∙ read)
+    c.text_of_nodes.ensures

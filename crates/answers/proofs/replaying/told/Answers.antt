@@ -1,0 +1,21 @@
+use Rattle.std.proofs.Common.{◌∙◌, ap, sym}
+use Rattle.answers.specs.ReplayAnswers.{words_text}
+use Rattle.answers.proofs.RefusedLines.{get-here, is-told}
+use Rattle.answers.proofs.replaying.told.Goals as goal
+
+pub returns-in-Ok-words_of : goal.returns-in-Ok-words_of
+returns-in-Ok-words_of c =
+    let row = c.in-Some-get.row.now in
+    let reached = c.in-Ok.state.state in
+    is-told c.args.network.now c.args.rows.now c.args.lines.now c.args.refused c.fault_at.result
+    (record {
+      index = c.in-Some.index;
+      is_index = sym c.index_of.ensures ∙ c.in-Some.is;
+      row = row;
+      is_row = get-here c.args.rows.now c.in-Some.index row c.in-Some-get.ensures.lookup.3.0 c.in-Some-get.ensures.lookup.1;
+      reached = reached;
+      is_replay = c.in-Ok.ensures.accepts;
+      words = c.in-Ok-words_of.words;
+      says = c.in-Ok-words_of.ensures ∙ ap (λ net. words_text net reached row c.args.refused) c.in-Ok.ensures.net;
+      is_told = c.fault_at.ensures;
+    })

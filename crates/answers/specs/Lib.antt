@@ -1,0 +1,16 @@
+pub mod Texts
+pub mod Plans
+pub mod Faults
+pub mod Answers
+pub mod Verdicts
+pub mod EventAnswers
+pub mod RoundAnswers
+pub mod ReplayAnswers
+pub mod dimacs_col
+pub mod interference
+pub mod alpha_core
+pub mod channel_plan
+pub mod colour_rules
+pub mod colour_laws
+pub mod transcripts
+pub mod pool

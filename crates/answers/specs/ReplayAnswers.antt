@@ -1,0 +1,133 @@
+-- The answer to a network and the transcript behind it.
+use Rattle.std.specs.Prelude.{◌≡◌, ℕ, List, Option, Some, None, Result, Ok, Err, slice_get, slice_index_or, take}
+use Rattle.std.specs.declared.vec.Vec.{Vec}
+use Rattle.std.specs.declared.alloc.Global.{Global}
+use Rattle.dimacs_col.specs.Lines.{Line, lines_of}
+use Rattle.dimacs_col.specs.Reading.{IsFault}
+use Rattle.alpha_core.specs.interference.Net.{Net, IsNetwork}
+use Rattle.alpha_core.specs.interference.Making.{IsFaultOf}
+use Rattle.net_core.specs.declared.refused.RunRefused.TheVariants as run
+use Rattle.colour_program.specs.colour_rules.Payload.{Payload}
+use Rattle.colour_program.specs.colour_rules.Program.{colouring}
+use Rattle.colour_program.specs.colour_rules.Words.{payload_from}
+use Rattle.event_texts.specs.Missing.{expected_text, missing_text}
+use Rattle.event_texts.specs.StateText.{ColourState, state_text}
+use Rattle.replay.specs.Replays.{IsReplay, Stops}
+use Rattle.replay.specs.Rows.{event_of}
+use Rattle.replay.specs.declared.refused.ReplayRefused.{ReplayRefused}
+use Rattle.replay.specs.declared.refused.ReplayRefused.TheVariants as replay
+use Rattle.transcripts.specs.Behind.{entry_lines, entry_on, network_lines, reading_behind}
+use Rattle.transcripts.specs.Reading.{Transcript}
+use Rattle.transcripts.specs.TranscriptText.{Row}
+use Rattle.transcripts.specs.declared.fault.TextFault.{TextFault}
+use Rattle.transcripts.specs.declared.fault.TextFault.TheVariants as text
+use Rattle.answers.specs.Answers.{LinesReadAs}
+use Rattle.answers.specs.declared.fault.PlanFault.{PlanFault}
+use Rattle.answers.specs.declared.fault.PlanFault.TheVariants as plan
+use Rattle.answers.specs.declared.replaying.ReplayFault.{ReplayFault}
+use Rattle.answers.specs.declared.replaying.ReplayFault.TheVariants as fault
+
+-- the transcript of nodes of the colouring that follows a network, or the number of its first wrong line
+abbrev pub transcript_in : List Line → Result (Transcript Payload) ℕ
+transcript_in lines = reading_behind payload_from lines
+
+-- the entries of the transcript in the lines are a replay that leads to this state of the network
+abbrev pub IsReplayed : Net → List Line → ColourState → Type 0
+IsReplayed net lines state =
+    (read : Transcript Payload) × (transcript_in lines ≡ Ok read) × IsReplay colouring net read.1 state
+
+-- the answer is the text of the state that the transcript leads to, on the network that stands before it
+abbrev pub IsReplayAnswer : List ℕ → List ℕ → Type 0
+IsReplayAnswer input answer = LinesReadAs (network_lines (lines_of input)) (λ net. IsNetwork net
+    × ((state : ColourState) × IsReplayed net (lines_of input) state × (answer ≡ state_text net state)))
+
+-- the fault of a transcript's text
+abbrev pub fault_of_text : TextFault → ReplayFault
+fault_of_text (text.Syntax n) = fault.Syntax n
+fault_of_text text.Memory = fault.Memory
+
+-- the number of the line of the entry at an index
+abbrev pub line_at : List ℕ → ℕ → ℕ
+line_at lines index = slice_index_or lines index 0
+
+-- the refusal of a replay, with the line of its entry in place of the index, and words behind it
+abbrev pub fault_at : List ℕ → Vec ℕ Global → ReplayRefused → ReplayFault
+fault_at lines words (replay.Run (run.NotReady k)) = fault.NotReady (line_at lines k) words
+fault_at lines words (replay.Run (run.NothingToPut k)) = fault.NothingToPut (line_at lines k) words
+fault_at lines words (replay.Run (run.LinkEmpty k)) = fault.LinkEmpty (line_at lines k) words
+fault_at lines words (replay.Run (run.NoSuch k)) = fault.NoSuch (line_at lines k)
+fault_at lines words (replay.Run run.Memory) = fault.Memory
+fault_at lines words (replay.WrongWire k) = fault.WrongWire (line_at lines k) words
+
+-- the index of the entry that is refused, if memory isn't
+abbrev pub index_of : ReplayRefused → Option ℕ
+index_of (replay.Run (run.NotReady k)) = Some k
+index_of (replay.Run (run.NothingToPut k)) = Some k
+index_of (replay.Run (run.LinkEmpty k)) = Some k
+index_of (replay.Run (run.NoSuch k)) = Some k
+index_of (replay.Run run.Memory) = None
+index_of (replay.WrongWire k) = Some k
+
+-- the words behind the refusal of an entry in a state: what its event lacks, or the pulse or wire that it comes to
+abbrev pub words_text : Net → ColourState → Row Payload → ReplayRefused → List ℕ
+words_text net state row (replay.Run refused) = missing_text colouring net state (event_of net row)
+words_text net state row (replay.WrongWire k) = expected_text net state (event_of net row)
+
+-- the line whose number a refusal has is this entry; out of memory has no number
+abbrev pub HasLineOf : List Line → Row Payload → ReplayFault → Type 0
+HasLineOf lines row (fault.Syntax n) = ⊥
+HasLineOf lines row (fault.NotReady n words) = entry_on payload_from lines n ≡ Some row
+HasLineOf lines row (fault.NothingToPut n words) = entry_on payload_from lines n ≡ Some row
+HasLineOf lines row (fault.LinkEmpty n words) = entry_on payload_from lines n ≡ Some row
+HasLineOf lines row (fault.NoSuch n) = entry_on payload_from lines n ≡ Some row
+HasLineOf lines row (fault.WrongWire n words) = entry_on payload_from lines n ≡ Some row
+HasLineOf lines row fault.Memory = Unit {0}
+
+-- The entries of the transcript in the lines stop, and this is the refusal, with the number of a line in place of the
+-- entry's index, and the words for the state in which the entries stop: that line is the entry.
+pub record IsRefusal (net : Net) (lines : List Line) (told : ReplayFault) : Type 0 where
+  pub read : Transcript Payload
+  pub refused : ReplayRefused
+  pub is_read : transcript_in lines ≡ Ok read
+  pub stops : Stops colouring net read.1 refused
+  pub words : Vec ℕ Global
+  pub says : words.items ≡ words_text net stops.reached stops.row refused
+  pub is_told : told ≡ fault_at (entry_lines lines) words refused
+  pub has_line : HasLineOf lines stops.row told
+
+-- What a refusal of entries is told as: the entries before the refused one are replayed once more, for the words.
+pub record IsToldAs (net : Net) (rows : List (Row Payload)) (lines : List ℕ) (refused : ReplayRefused)
+    (told : ReplayFault) : Type 0 where
+  pub index : ℕ
+  pub is_index : index_of refused ≡ Some index
+  pub row : Row Payload
+  pub is_row : slice_get rows index ≡ Some row
+  pub reached : ColourState
+  pub is_replay : IsReplay colouring net (take index rows) reached
+  pub words : Vec ℕ Global
+  pub says : words.items ≡ words_text net reached row refused
+  pub is_told : told ≡ fault_at lines words refused
+
+-- the same, or memory ran out
+abbrev pub IsTold : Net → List (Row Payload) → List ℕ → ReplayRefused → ReplayFault → Type 0
+IsTold net rows lines refused fault.Memory = Unit {0}
+IsTold net rows lines refused told = IsToldAs net rows lines refused told
+
+-- the fault of the transcript in the lines: its first wrong line, or else the refusal of its entries; that memory ran
+-- out says nothing
+abbrev pub IsFaultOfTranscript : Net → List Line → ReplayFault → Type 0
+IsFaultOfTranscript net lines fault.Memory = Unit {0}
+IsFaultOfTranscript net lines (fault.Syntax n) = transcript_in lines ≡ Err n
+IsFaultOfTranscript net lines told = IsRefusal net lines told
+
+-- the fault of an input of `replay`: of the network text before the transcript, or else of the transcript
+abbrev pub IsFaultOfReplay : List ℕ → PlanFault → Type 0
+IsFaultOfReplay input (plan.Col fault) = IsFault (network_lines (lines_of input)) fault
+IsFaultOfReplay input (plan.Net fault) = LinesReadAs (network_lines (lines_of input)) (λ net. IsFaultOf net fault)
+IsFaultOfReplay input (plan.Pool fault) = ⊥
+IsFaultOfReplay input (plan.Check fault) = ⊥
+IsFaultOfReplay input (plan.Event fault) = ⊥
+IsFaultOfReplay input (plan.Replay fault) = LinesReadAs (network_lines (lines_of input))
+    (λ net. IsNetwork net × IsFaultOfTranscript net (lines_of input) fault)
+IsFaultOfReplay input plan.Stopped = ⊥
+IsFaultOfReplay input plan.Memory = Unit {0}

@@ -1,0 +1,2 @@
+-- What crates above name of `transcripts`.
+pub use Rattle.transcripts.specs.TranscriptText

@@ -1,0 +1,89 @@
+//! Why a text has no answer.
+
+ghost use Rattle.std.specs.Prelude.{◌≡◌};
+ghost use Rattle.answers.specs.declared.fault.PlanFault.TheVariants.{Check, Col, Event, Net, Memory, Pool};
+ghost use Rattle.answers.specs.declared.fault.PlanFault.TheVariants.{Replay};
+
+use crate::replaying::ReplayFault;
+use alpha_core::{Memory, NetFault};
+use channel_plan::CheckFault;
+use dimacs_col::ColFault;
+use event_texts::EventFault;
+use pool::PoolFault;
+
+/// Why a text has no answer.
+#[derive(Debug, PartialEq, Eq, Drop)]
+pub enum PlanFault {
+    /// The text is no graph.
+    Col(ColFault),
+    /// Its graph is no network.
+    Net(NetFault),
+    /// The run of workers on it has no outcome.
+    Pool(PoolFault),
+    /// The plan that follows it is refused.
+    Check(CheckFault),
+    /// The events that follow it are refused.
+    Event(EventFault),
+    /// The transcript that follows it is refused.
+    Replay(ReplayFault),
+    /// The workers stopped, and not every node was done.
+    Stopped,
+    /// Memory ran out.
+    Memory,
+}
+
+impl From<ColFault> for PlanFault {
+    ghost from_gives = { λ fault result. result ≡ Col fault };
+
+    fn from(fault: ColFault) -> PlanFault {
+        PlanFault::Col(fault)
+    }
+}
+
+impl From<NetFault> for PlanFault {
+    ghost from_gives = { λ fault result. result ≡ Net fault };
+
+    fn from(fault: NetFault) -> PlanFault {
+        PlanFault::Net(fault)
+    }
+}
+
+impl From<PoolFault> for PlanFault {
+    ghost from_gives = { λ fault result. result ≡ Pool fault };
+
+    fn from(fault: PoolFault) -> PlanFault {
+        PlanFault::Pool(fault)
+    }
+}
+
+impl From<CheckFault> for PlanFault {
+    ghost from_gives = { λ fault result. result ≡ Check fault };
+
+    fn from(fault: CheckFault) -> PlanFault {
+        PlanFault::Check(fault)
+    }
+}
+
+impl From<EventFault> for PlanFault {
+    ghost from_gives = { λ fault result. result ≡ Event fault };
+
+    fn from(fault: EventFault) -> PlanFault {
+        PlanFault::Event(fault)
+    }
+}
+
+impl From<ReplayFault> for PlanFault {
+    ghost from_gives = { λ fault result. result ≡ Replay fault };
+
+    fn from(fault: ReplayFault) -> PlanFault {
+        PlanFault::Replay(fault)
+    }
+}
+
+impl From<Memory> for PlanFault {
+    ghost from_gives = { λ _ result. result ≡ Memory };
+
+    fn from(_memory: Memory) -> PlanFault {
+        PlanFault::Memory
+    }
+}

@@ -1,0 +1,45 @@
+//! The answers of the commands that start no thread, from the bytes of a DIMACS text to the bytes of an answer, and the
+//! report of each fault of any command.
+//!
+//! `byte_functions` adds the two commands that run worker threads, and passes all on to `serving`, which calls
+//! `forest_bytes`, `plain_bytes`, `check_bytes`, `events_bytes`, `replay_bytes` or `rounds_bytes` for a command, and
+//! `fault_report` if they fail.
+//!
+//! ```
+//! let text = b"p edge 3 3\ne 1 2\ne 1 3\ne 2 3\n";
+//! let plan = plain_bytes(alloc, text)?;       // "plan", "1 2", "2 3", "3 1", a line each
+//! ```
+//!
+//! A text has at most 20,000 vertices and 400,000 edges, and a vertex at most 1,023 neighbours; more is
+//! a fault. Vertex v has the identifier of its line `i`, and without one v.
+#![tactic(auto)]
+
+mod answer;
+mod colours_text;
+mod events;
+mod fault;
+mod forests_text;
+mod replaying;
+mod report;
+mod rounds;
+mod verdict;
+
+pub use answer::{forest_bytes, network_of_text, plain_bytes};
+pub use events::events_bytes;
+pub use fault::PlanFault;
+pub use replaying::{ReplayFault, replay_bytes};
+pub use report::{FaultReport, fault_report};
+pub use rounds::rounds_bytes;
+pub use verdict::check_bytes;
+
+// What crates above name of lower ones.
+pub use alpha_core::{Memory, Network, Refused, Wire};
+pub use channel_plan::plan_text;
+pub use colour_program::{Colouring, Payload, laws};
+pub use dimacs_col::ColFault;
+pub use event_texts::EventFault;
+pub use pool::PoolFault;
+pub use replay::{ReplayRefused, replay};
+pub use transcripts::{
+    TextFault, push_entries, push_first_line, read_transcript, transcript_text,
+};
