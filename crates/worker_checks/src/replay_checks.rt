@@ -6,7 +6,7 @@ ghost use Rattle.alpha_core.specs.interference.Net.{count_of};
 
 use alpha_core::{Network, Wire};
 use byte_functions::{ReplayRefused, read_transcript, replay};
-use entries::Entry;
+use stamps::Entry;
 use net_core::{NetState, RunRefused};
 use std::alloc::Global;
 use std::test::Fail;

@@ -4,7 +4,7 @@
 use crate::runs::{holds, run_of_one, triangle};
 use alpha_core::{Network, Wire};
 use byte_functions::{Colouring, OpenGate, Options, Payload, run_workers};
-use entries::{Entries, Entry};
+use stamps::{Entries, Entry};
 use std::alloc::Global;
 use std::sync::Wait;
 use std::test::Fail;
