@@ -30,9 +30,9 @@
 
 mod bare;
 mod emitting;
+mod inboxes;
 pub mod laws;
 mod marks;
-mod moving;
 mod node;
 mod out_lists;
 mod payloads;
