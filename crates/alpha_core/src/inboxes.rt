@@ -1,6 +1,6 @@
 //! The payloads that a node took: of this pulse, and of the next.
 
-ghost use Rattle.std.specs.Prelude.{◌≡◌, ◌<◌, ◌↔◌, IfOk, IsTrue, OnErr, Option, length, slice_set};
+ghost use Rattle.std.specs.Prelude.{◌≡◌, ◌<◌, ◌≤◌, ◌↔◌, IfOk, IsTrue, OnErr, Option, length, slice_set};
 ghost use Rattle.node_api.below.interference.specs.declared.limits.TheConstants.{MAX_DEGREE};
 ghost use Rattle.node_api.specs.Boxes.{at_port, nothing};
 ghost use Rattle.node_api.specs.Program.{Matches};
