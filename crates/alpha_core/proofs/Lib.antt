@@ -8,7 +8,6 @@ mod PortRows
 mod OutLists
 mod OutWires
 mod KeptOuts
-mod Moved
 mod Followed
 pub mod interference
 pub mod node_api
