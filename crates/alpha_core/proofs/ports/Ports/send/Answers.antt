@@ -1,9 +1,10 @@
-use Rattle.std.proofs.Common.{true, length, ap, ◌∙◌, arith}
+use Rattle.std.proofs.Common.{ℕ, true, List, length, ap, ◌∙◌, arith}
 use Rattle.std.proofs.lemmas.List.{length-set, get_or-set_same}
 use Rattle.alpha_core.specs.declared.wire.Wire.TheVariants.{Payload}
 use Rattle.alpha_core.specs.OutLists.{payloads_out}
-use Rattle.alpha_core.specs.View.{port_in, set_at, new_port}
+use Rattle.alpha_core.specs.View.{Port, port_in, set_at, new_port}
 use Rattle.alpha_core.specs.Alpha.{emit}
+use Rattle.alpha_core.specs.Rows.{AtPulse}
 use Rattle.alpha_core.proofs.PortLists.{set_twice}
 use Rattle.alpha_core.proofs.ports.Ports.send.Goals as goal
 
@@ -43,8 +44,8 @@ returns g c =
     let n = c.pulse.result in
     record {
       set = c.push.ensures.set
-          ∙ ap (λ v. record v { ports = set_at v.ports i (emit (Payload n c.args.payload) (port_in v.ports i)) }) c.set_waits.ensures.set
-          ∙ ap (λ l. record old { ports = l }) (set_twice old.ports i p (λ q. emit (Payload n c.args.payload) q) c.requires.port)
-          ∙ ap (λ k. record old { ports = set_at old.ports i (emit (Payload k c.args.payload) p) })
+          ∙ ap (λ (v : AtPulse (Port _)). record v { ports = set_at v.ports i (emit (Payload n c.args.payload) (port_in v.ports i)) }) c.set_waits.ensures.set
+          ∙ ap (λ (l : List (Port _)). record old { ports = l }) (set_twice old.ports i p (λ q. emit (Payload n c.args.payload) q) c.requires.port)
+          ∙ ap (λ (k : ℕ). record old { ports = set_at old.ports i (emit (Payload k c.args.payload) p) })
           (c.pulse.ensures.pulse ∙ ap (λ v. v.pulse) c.set_waits.ensures.set);
     }
