@@ -1,5 +1,5 @@
-use Rattle.std.proofs.Common.{◌≡◌, ◌+◌, true, ap, ◌∙◌, map}
-use Rattle.alpha_core.specs.Rows.{advanced, all_have_safe, marks_in}
+use Rattle.std.proofs.Common.{◌+◌, ap, ◌∙◌, map}
+use Rattle.alpha_core.specs.Rows.{advanced, all_have_safe}
 use Rattle.alpha_core.proofs.Counts.{advance-all, are-advanced}
 use Rattle.alpha_core.proofs.marks.MarkList.advance.Goals as goal
 
