@@ -1,15 +1,13 @@
 -- What a node emits keeps a safe behind each payload, so that an out-list with room has at most one payload.
 use Rattle.std.proofs.Common.{◌≡◌, ℕ, suc, zero, ◌<◌, ◌≤◌, ◌+◌, Bool, true, false, Option, Some, None, List, [], ◌∷◌, ◌++◌, map, length, get_or, set}
-use Rattle.std.proofs.Common.{refl, sym, ap, ◌∙◌, arith}
+use Rattle.std.proofs.Common.{refl, sym, ap, arith}
 use Rattle.std.proofs.Common.{drop, subst, replicate}
-use Rattle.std.specs.Prelude.{nat_eq, nat_lt, not, ◌&&◌, if◌then◌else◌}
-use Rattle.std.proofs.lemmas.Bool.{and_from, and_parts, leb-true}
-use Rattle.std.proofs.lemmas.List.{length-set}
+use Rattle.std.specs.Prelude.{nat_eq, nat_lt, ◌&&◌, if◌then◌else◌}
+use Rattle.std.proofs.lemmas.Bool.{and_parts, leb-true}
 use Rattle.alpha_core.specs.declared.wire.Wire.{Wire}
 use Rattle.alpha_core.specs.declared.wire.Wire.TheVariants.{Payload, Ack, Safe, Close}
 use Rattle.alpha_core.specs.OutLists.{PayloadFits, payload_of, payloads_out, safes_out}
-use Rattle.alpha_core.specs.Followed.{unsaid, AreFollowed, AllFollowed, AllFew, AreSettled}
-use Rattle.alpha_core.specs.Rows.{AtPulse}
+use Rattle.alpha_core.specs.Followed.{unsaid, AreFollowed, AllFollowed, AllFew}
 use Rattle.alpha_core.specs.Streams.{payload_wire}
 use Rattle.alpha_core.specs.View.{Port, View, new_port, all_out_within, none_waits}
 use Rattle.alpha_core.specs.Alpha.{emit, advances, enter_all, entering}
@@ -69,13 +67,13 @@ module _ {M : Type 0} where
   few (v ∷ out) le f = omega (arith, f.0, both-fit (v ∷ out), le)
 
   -- All ports.
-  followed-at : (more : ℕ) (ports : List (Port M)) (i : ℕ) (d : Port M) → i < length ports → AllFollowed more ports →
+  pub followed-at : (more : ℕ) (ports : List (Port M)) (i : ℕ) (d : Port M) → i < length ports → AllFollowed more ports →
       AreFollowed more (get_or ports i d).out
   followed-at more [] i d lt f = absurd (omega arith)
   followed-at more (p ∷ ports) zero d lt f = f.0
   followed-at more (p ∷ ports) (suc i) d lt f = followed-at more ports i d (omega arith) f.1
 
-  followed-set : (more : ℕ) (ports : List (Port M)) (i : ℕ) (p : Port M) → AreFollowed more p.out → AllFollowed more ports →
+  pub followed-set : (more : ℕ) (ports : List (Port M)) (i : ℕ) (p : Port M) → AreFollowed more p.out → AllFollowed more ports →
       AllFollowed more (set ports i p)
   followed-set more [] i p g f = tt
   followed-set more (q ∷ ports) zero p g f = (g, f.1)
@@ -132,70 +130,6 @@ module _ {M : Type 0} where
   followed-entering last q sent ports f =
       settle-if (nat_lt q last && none_waits (enter_all last q sent ports)) q (enter_all last q sent ports) (enter-every last q sent ports f)
 
-  -- which ports wait
-  waits-set : (ports : List (Port M)) (i : ℕ) (p d : Port M) → (not (get_or ports i d).waits ≡ true → not p.waits ≡ true) → none_waits ports ≡ true
-      → none_waits (set ports i p) ≡ true
-  waits-set [] i p d step none = none
-  waits-set (q ∷ ports) zero p d step none = let both = and_parts _ _ none in and_from _ _ (step both.0) both.1
-  waits-set (q ∷ ports) (suc i) p d step none = let both = and_parts _ _ none in and_from _ _ both.0 (waits-set ports i p d step both.1)
-
-  waits-emitted : (w : Wire M) (ports : List (Port M)) → none_waits (map (λ port. emit w port) ports) ≡ none_waits ports
-  waits-emitted w [] = refl
-  waits-emitted w (p ∷ ports) = ap (λ b. not p.waits && b) (waits-emitted w ports)
-
-  pub waits-advanced : (ports : List (Port M)) → none_waits (map (λ port. advances port) ports) ≡ none_waits ports
-  waits-advanced [] = refl
-  waits-advanced (p ∷ ports) = ap (λ b. not p.waits && b) (waits-advanced ports)
-
-  -- What a node keeps of its ports: as it says safe, as it enters a pulse, and as one port is changed.
-  pub settled-safe : (said : Bool) (q : ℕ) (ports new : List (Port M)) → new ≡ map (λ port. emit (Safe q) port) ports → none_waits ports ≡ true
-      → AreSettled said ports → AreSettled true new
-  settled-safe said q ports new is none before = record {
-    followed = subst (λ l. AllFollowed 0 l) (sym is) (followed-safe said q ports before.followed);
-    waits = λ e. ap (λ l. none_waits l) is ∙ waits-emitted (Safe q) ports ∙ none;
-  }
-
-  waits-if : (b : Bool) (q : ℕ) (ports : List (Port M)) → (b ≡ true → none_waits ports ≡ true) →
-      let view : View M =
-      if b then record { pulse = q; said = true; ports = map (λ port. emit (Safe q) port) ports } else record { pulse = q; said = false; ports = ports } in
-      view.said ≡ true → none_waits view.ports ≡ true
-  waits-if true q ports none e = waits-emitted (Safe q) ports ∙ none refl
-  waits-if false q ports none e = absurd cc
-
-  settled-entering : (last q : ℕ) (sent : List (Option M)) (ports : List (Port M)) → AllFollowed 0 ports →
-      AreSettled (entering last q sent ports).said (entering last q sent ports).ports
-  settled-entering last q sent ports f = record {
-    followed = followed-entering last q sent ports f;
-    waits = waits-if (nat_lt q last && none_waits (enter_all last q sent ports)) q (enter_all last q sent ports) (λ e. (and_parts _ _ e).1);
-  }
-
-  pub settled-entered : (last q : ℕ) (sent : List (Option M)) (ports : List (Port M)) (said : Bool) (new : List (Port M)) →
-      said ≡ (entering last q sent ports).said → new ≡ (entering last q sent ports).ports → AllFollowed 0 ports → AreSettled said new
-  settled-entered last q sent ports said new is-said is-new f =
-      subst (λ b. AreSettled b new) (sym is-said)
-      (subst (λ l. AreSettled (entering last q sent ports).said l) (sym is-new) (settled-entering last q sent ports f))
-
-  -- with two counts of the ports, and the bound of their pulse
-  pub kept-set : (count size last : ℕ) (said : Bool) (v : AtPulse (Port M)) (i : ℕ) (p : Port M) (new : AtPulse (Port M))
-      → new ≡ record v { ports = set v.ports i p } → i < length v.ports
-      → (AreFollowed (unsaid said) (get_or v.ports i new_port).out → AreFollowed (unsaid said) p.out)
-      → (not (get_or v.ports i new_port).waits ≡ true → not p.waits ≡ true)
-      → (count ≡ length v.ports) × (size ≡ length v.ports) × (v.pulse ≤ last) × AreSettled said v.ports
-      → (count ≡ length new.ports) × (size ≡ length new.ports) × (new.pulse ≤ last) × AreSettled said new.ports
-  kept-set count size last said v i p new is below step quiet kept =
-      let ports = ap (λ (w : AtPulse (Port M)). w.ports) is in
-      let same : length new.ports ≡ length v.ports = ap length ports ∙ length-set v.ports i p in
-      let more = unsaid said in (
-        kept.0 ∙ sym same,
-        kept.1 ∙ sym same,
-        omega (arith, kept.2, ap (λ (w : AtPulse (Port M)). w.pulse) is),
-        record {
-          followed = subst (λ l. AllFollowed more l) (sym ports)
-              (followed-set more v.ports i p (step (followed-at more v.ports i new_port below kept.3.followed)) kept.3.followed);
-          waits = λ e. ap (λ l. none_waits l) ports ∙ waits-set v.ports i p new_port quiet (kept.3.waits e);
-        },
-      )
-
 pub followed-new : (M : Type 0) (more n : ℕ) → AllFollowed {M = M} more (replicate n new_port)
 followed-new M more zero = tt
 followed-new M more (suc n) = (tt, followed-new M more n)
@@ -203,7 +137,3 @@ followed-new M more (suc n) = (tt, followed-new M more n)
 pub few-new : (M : Type 0) (n : ℕ) → AllFew {M = M} (replicate n new_port)
 few-new M zero = tt
 few-new M (suc n) = (omega arith, few-new M n)
-
-pub new-waits : (M : Type 0) (n : ℕ) → none_waits {M = M} (replicate n new_port) ≡ true
-new-waits M zero = refl
-new-waits M (suc n) = new-waits M n

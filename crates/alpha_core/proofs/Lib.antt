@@ -4,10 +4,13 @@ pub mod Cells
 pub mod PortLists
 mod Changed
 mod Counts
+mod Kept
 mod PortRows
 mod OutLists
 mod OutWires
 mod KeptOuts
 mod Followed
+mod Settled
+mod Entered
 pub mod interference
 pub mod node_api

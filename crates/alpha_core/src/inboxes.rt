@@ -9,8 +9,8 @@ use node_api::{Inbox, Memory, NodeProgram, Outbox, Refused};
 use std::alloc::Global;
 use std::marker::Model;
 
-/// Two inboxes, used by turns: a payload is in the one of its pulse's parity, so none is moved as the node enters a pulse.
-/// Contracts see the payloads of this pulse and of the next by port.
+/// Two inboxes, used by turns: a payload is in the one of its pulse's parity, so none is moved as the node enters a
+/// pulse. Contracts see the payloads of this pulse and of the next by port.
 #[derive(Drop)]
 pub(crate) struct Inboxes<T> {
     even: Inbox<T>,

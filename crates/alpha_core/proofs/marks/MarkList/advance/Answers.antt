@@ -1,6 +1,6 @@
 use Rattle.std.proofs.Common.{◌+◌, ap, ◌∙◌, map}
 use Rattle.alpha_core.specs.Rows.{advanced, all_have_safe}
-use Rattle.alpha_core.proofs.Counts.{advance-all, are-advanced}
+use Rattle.alpha_core.proofs.Kept.{advance-all, are-advanced}
 use Rattle.alpha_core.proofs.marks.MarkList.advance.Goals as goal
 
 pub invariant_of-self : goal.invariant_of-self

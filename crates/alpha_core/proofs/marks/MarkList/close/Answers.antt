@@ -1,7 +1,7 @@
 use Rattle.std.proofs.Common.{refl, arith, true}
 use Rattle.alpha_core.specs.declared.marks.Kept.{Kept}
 use Rattle.alpha_core.specs.declared.marks.Marks.{Marks}
-use Rattle.alpha_core.proofs.Counts.{are-counted, marks-set, not_bit, step-of}
+use Rattle.alpha_core.proofs.Kept.{are-counted, marks-set, not_bit, step-of}
 use Rattle.alpha_core.proofs.marks.MarkList.close.Goals as goal
 
 pub invariant_of-self : goal.invariant_of-self

@@ -1,7 +1,7 @@
 use Rattle.std.proofs.Common.{refl, arith}
 use Rattle.alpha_core.specs.declared.marks.Kept.{Kept}
 use Rattle.alpha_core.specs.declared.marks.Marks.{Marks}
-use Rattle.alpha_core.proofs.Counts.{are-counted, inside, marks-set, step-of, waits-counted}
+use Rattle.alpha_core.proofs.Kept.{are-counted, inside, marks-set, step-of, waits-counted}
 use Rattle.alpha_core.proofs.marks.MarkList.set_waits.Goals as goal
 
 pub overflow_sub-self : goal.overflow_sub-self

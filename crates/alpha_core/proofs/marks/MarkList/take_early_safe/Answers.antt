@@ -1,6 +1,6 @@
 use Rattle.std.proofs.Common.{◌≡◌, ◌+◌, ℕ, true, cond, refl, ap, ◌∙◌, arith}
 use Rattle.alpha_core.specs.declared.marks.Marks.{Marks}
-use Rattle.alpha_core.proofs.Counts.{are-counted, lt-false, marks-set, one_more, safes-seen, early-taken}
+use Rattle.alpha_core.proofs.Kept.{are-counted, lt-false, marks-set, one_more, safes-seen, early-taken}
 use Rattle.alpha_core.proofs.marks.MarkList.take_early_safe.Goals as goal
 
 pub invariant_of-self : goal.invariant_of-self

@@ -1,7 +1,8 @@
 use Rattle.std.proofs.Common.{refl, length, ap, arith}
 use Rattle.alpha_core.specs.declared.wire.Wire.TheVariants.{Ack}
 use Rattle.alpha_core.specs.Followed.{unsaid}
-use Rattle.alpha_core.proofs.Followed.{kept-set, stays}
+use Rattle.alpha_core.proofs.Followed.{stays}
+use Rattle.alpha_core.proofs.Settled.{kept-set}
 use Rattle.alpha_core.proofs.node.AlphaNode.take_payload.Goals as goal
 
 pub invariant_of-self : goal.invariant_of-self

@@ -8,7 +8,8 @@ use Rattle.alpha_core.specs.OutLists.{payloads_out}
 use Rattle.alpha_core.specs.View.{new_port}
 use Rattle.alpha_core.proofs.Changed.{ChangedAt, changed-nowhere, changed-place, place-below, place-fresh, place-some}
 use Rattle.alpha_core.proofs.Followed.{few-at}
-use Rattle.alpha_core.proofs.PortLists.{emitted, room-at, same-pulse, some-sent}
+use Rattle.alpha_core.proofs.PortLists.{room-at, same-pulse}
+use Rattle.alpha_core.proofs.Entered.{emitted, some-sent}
 use Rattle.alpha_core.proofs.ports.Ports.send_at.Goals as goal
 
 pub get-requires : goal.get-requires

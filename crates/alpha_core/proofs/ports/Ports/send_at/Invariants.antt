@@ -1,7 +1,7 @@
 use Rattle.std.proofs.Common.{◌≡◌, take}
 use Rattle.node_api.specs.Boxes.{at_port}
 use Rattle.alpha_core.proofs.Changed.{ChangedAt}
-use Rattle.alpha_core.proofs.PortLists.{emitted}
+use Rattle.alpha_core.proofs.Entered.{emitted}
 use Rattle.alpha_core.proofs.ports.Ports.send_at.Given as goal
 
 abbrev pub invariant-loop-port : goal.invariant-loop-port

@@ -3,7 +3,8 @@ use Rattle.alpha_core.specs.OutLists.{payloads_out}
 use Rattle.alpha_core.specs.View.{new_port}
 use Rattle.alpha_core.proofs.Changed.{changed-none, changed-more}
 use Rattle.alpha_core.proofs.Followed.{few-at}
-use Rattle.alpha_core.proofs.PortLists.{all-sent, emitted, room-at, same-pulse}
+use Rattle.alpha_core.proofs.PortLists.{room-at, same-pulse}
+use Rattle.alpha_core.proofs.Entered.{all-sent, emitted}
 use Rattle.alpha_core.proofs.ports.Ports.send_everywhere.Goals as goal
 
 pub loop-port-init : goal.loop-port-init

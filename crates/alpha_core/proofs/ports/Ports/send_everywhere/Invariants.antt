@@ -1,6 +1,6 @@
 use Rattle.std.proofs.Common.{◌≡◌, Some}
 use Rattle.alpha_core.proofs.Changed.{ChangedUpTo}
-use Rattle.alpha_core.proofs.PortLists.{emitted}
+use Rattle.alpha_core.proofs.Entered.{emitted}
 use Rattle.alpha_core.proofs.ports.Ports.send_everywhere.Given as goal
 
 abbrev pub invariant-loop-port : goal.invariant-loop-port
