@@ -1,10 +1,9 @@
 -- What a node emits keeps a safe behind each payload, so that an out-list with room has at most one payload.
 use Rattle.std.proofs.Common.{◌≡◌, ℕ, suc, zero, ◌<◌, ◌≤◌, ◌+◌, Bool, true, false, Option, Some, None, List, [], ◌∷◌, ◌++◌, map, length, get_or, set}
-use Rattle.std.proofs.Common.{refl, sym, ap, ◌∙◌, arith}
+use Rattle.std.proofs.Common.{refl, sym, ap, arith}
 use Rattle.std.proofs.Common.{drop, subst, replicate}
 use Rattle.std.specs.Prelude.{nat_eq, nat_lt, ◌&&◌, if◌then◌else◌}
 use Rattle.std.proofs.lemmas.Bool.{and_parts, leb-true}
-use Rattle.std.proofs.lemmas.List.{length-set}
 use Rattle.alpha_core.specs.declared.wire.Wire.{Wire}
 use Rattle.alpha_core.specs.declared.wire.Wire.TheVariants.{Payload, Ack, Safe, Close}
 use Rattle.alpha_core.specs.OutLists.{PayloadFits, payload_of, payloads_out, safes_out}
@@ -68,13 +67,13 @@ module _ {M : Type 0} where
   few (v ∷ out) le f = omega (arith, f.0, both-fit (v ∷ out), le)
 
   -- All ports.
-  followed-at : (more : ℕ) (ports : List (Port M)) (i : ℕ) (d : Port M) → i < length ports → AllFollowed more ports →
+  pub followed-at : (more : ℕ) (ports : List (Port M)) (i : ℕ) (d : Port M) → i < length ports → AllFollowed more ports →
       AreFollowed more (get_or ports i d).out
   followed-at more [] i d lt f = absurd (omega arith)
   followed-at more (p ∷ ports) zero d lt f = f.0
   followed-at more (p ∷ ports) (suc i) d lt f = followed-at more ports i d (omega arith) f.1
 
-  followed-set : (more : ℕ) (ports : List (Port M)) (i : ℕ) (p : Port M) → AreFollowed more p.out → AllFollowed more ports →
+  pub followed-set : (more : ℕ) (ports : List (Port M)) (i : ℕ) (p : Port M) → AreFollowed more p.out → AllFollowed more ports →
       AllFollowed more (set ports i p)
   followed-set more [] i p g f = tt
   followed-set more (q ∷ ports) zero p g f = (g, f.1)
@@ -130,22 +129,6 @@ module _ {M : Type 0} where
       AllFollowed (unsaid (entering last q sent ports).said) (entering last q sent ports).ports
   followed-entering last q sent ports f =
       settle-if (nat_lt q last && none_waits (enter_all last q sent ports)) q (enter_all last q sent ports) (enter-every last q sent ports f)
-
-  pub followed-entered : (last q : ℕ) (sent : List (Option M)) (ports : List (Port M)) (said : Bool) (new : List (Port M)) →
-      said ≡ (entering last q sent ports).said → new ≡ (entering last q sent ports).ports → AllFollowed 0 ports → AllFollowed (unsaid said) new
-  followed-entered last q sent ports said new is-said is-new f =
-      subst (λ b. AllFollowed (unsaid b) new) (sym is-said)
-      (subst (λ l. AllFollowed (unsaid (entering last q sent ports).said) l) (sym is-new) (followed-entering last q sent ports f))
-
-  -- one port is changed: what a node keeps of its ports, two counts of theirs, a fact beside them, and that their out-lists are followed
-  pub kept-set : (count size more : ℕ) (beside : Type 0) (ports : List (Port M)) (i : ℕ) (p : Port M) (new : List (Port M)) → new ≡ set ports i p →
-      i < length ports → (AreFollowed more (get_or ports i new_port).out → AreFollowed more p.out) →
-      (count ≡ length ports) × (size ≡ length ports) × beside × AllFollowed more ports →
-      (count ≡ length new) × (size ≡ length new) × beside × AllFollowed more new
-  kept-set count size more beside ports i p new is below step kept =
-      let same : length new ≡ length ports = ap length is ∙ length-set ports i p in
-      let followed = followed-set more ports i p (step (followed-at more ports i new_port below kept.3)) kept.3 in
-      (kept.0 ∙ sym same, kept.1 ∙ sym same, kept.2, subst (λ l. AllFollowed more l) (sym is) followed)
 
 pub followed-new : (M : Type 0) (more n : ℕ) → AllFollowed {M = M} more (replicate n new_port)
 followed-new M more zero = tt

@@ -4,12 +4,14 @@ pub mod Cells
 pub mod PortLists
 mod Changed
 mod Counts
+mod Kept
 mod PortRows
 mod OutLists
 mod OutWires
 mod KeptOuts
-mod Moved
 mod Followed
+mod Settled
+mod Entered
 pub mod StampedWires
 pub mod interference
 pub mod node_api

@@ -1,8 +1,8 @@
 -- Out-lists in which each payload is followed by a safe of its own, but for one payload if the node hasn't said safe.
-use Rattle.std.specs.Prelude.{⊤, ◌≤◌, ℕ, ◌+◌, Bool, true, false, List, [], ◌∷◌}
+use Rattle.std.specs.Prelude.{⊤, ◌≡◌, ◌≤◌, ℕ, ◌+◌, Bool, true, false, List, [], ◌∷◌}
 use Rattle.alpha_core.specs.declared.wire.Wire.{Wire}
 use Rattle.alpha_core.specs.OutLists.{payloads_out, safes_out}
-use Rattle.alpha_core.specs.View.{Port}
+use Rattle.alpha_core.specs.View.{Port, none_waits}
 
 -- how many payloads of an out-list can be without a safe
 abbrev pub unsaid : Bool → ℕ
@@ -24,3 +24,8 @@ module _ {M : Type 0} where
   abbrev pub AllFew : List (Port M) → Type 0
   AllFew [] = ⊤
   AllFew (port ∷ ports) = (payloads_out port.out ≤ 1) × AllFew ports
+
+  -- What a node keeps of its ports, by whether it has said safe: their out-lists, and that none waits once it has.
+  pub record AreSettled (said : Bool) (ports : List (Port M)) : Type 0 where
+    pub followed : AllFollowed (unsaid said) ports
+    pub waits : said ≡ true → none_waits ports ≡ true

@@ -31,9 +31,9 @@
 mod bare;
 mod counter;
 mod emitting;
+mod inboxes;
 pub mod laws;
 mod marks;
-mod moving;
 mod node;
 mod out_lists;
 mod payloads;

@@ -1,0 +1,31 @@
+use Rattle.std.proofs.Common.{◌≡◌, ◌+◌, ℕ, true, cond, refl, ap, ◌∙◌, arith}
+use Rattle.alpha_core.specs.declared.marks.Marks.{Marks}
+use Rattle.alpha_core.proofs.Kept.{are-counted, lt-false, marks-set, one_more, safes-seen, early-taken}
+use Rattle.alpha_core.proofs.marks.MarkList.take_early_safe.Goals as goal
+
+pub invariant_of-self : goal.invariant_of-self
+invariant_of-self c =
+    let a = c.self.inside in
+    let o = c.index-kept.result.now in
+    let at : o.safes ≡ a.pulse + 1 =
+    safes-seen a.pulse a.kept.items c.args.self.now c.self.view_is c.args.port o c.index-kept.ensures c.requires.port c.self.invariant.in_step
+    ∙ omega (arith, c.requires.one) in
+    let taken = early-taken a.pulse o at in
+    are-counted a.pulse a.kept.items c.args.self.now c.self.view_is c.args.port o (one_more o) c.index-kept.ensures c.requires.port c.self.invariant
+    (omega (arith, at), omega (arith, at))
+    refl
+    (omega (arith, ap (λ (x : Marks). cond {A = ℕ} x.safe 1 0) taken))
+    (omega (arith, ap (λ (x : Marks). cond {A = ℕ} x.early_safe 1 0) taken, ap (λ b. cond {A = ℕ} b 1 0) (lt-false (a.pulse + 1) o.safes (omega (arith, at)))))
+    refl
+
+pub returns : goal.returns
+returns c =
+    let a = c.self.inside in
+    let o = c.index-kept.result.now in
+    let at : o.safes ≡ a.pulse + 1 =
+    safes-seen a.pulse a.kept.items c.args.self.now c.self.view_is c.args.port o c.index-kept.ensures c.requires.port c.self.invariant.in_step
+    ∙ omega (arith, c.requires.one) in
+    record {
+      set = marks-set a.pulse a.kept.items c.args.self.now c.self.view_is c.args.port o (one_more o) c.index-kept.ensures c.requires.port
+          (λ (x : Marks). record x { early_safe = true }) (early-taken a.pulse o at);
+    }

@@ -1,0 +1,23 @@
+use Rattle.std.proofs.Common.{arith, sym, true, ap, ◌∙◌}
+use Rattle.alpha_core.specs.View.{safes_here}
+use Rattle.alpha_core.specs.declared.marks.Marks.{Marks}
+use Rattle.alpha_core.specs.Rows.{rows_of, ports_of}
+use Rattle.alpha_core.proofs.PortRows.{at-pulse, below, marks-put, port-is, seen}
+use Rattle.alpha_core.proofs.ports.Ports.set_early_safe.Goals as goal
+
+pub take_early_safe-requires-clause-port : goal.take_early_safe-requires-clause-port
+take_early_safe-requires-clause-port g c = below c.self.invariant (seen c.self.view_is) c.requires.port
+
+pub take_early_safe-requires-clause-one : goal.take_early_safe-requires-clause-one
+take_early_safe-requires-clause-one g c = sym (ap (λ p. safes_here p) (port-is c.self.invariant (seen c.self.view_is) c.requires.port)) ∙ c.requires.one
+
+pub take_early_safe-requires-clause-room : goal.take_early_safe-requires-clause-room
+take_early_safe-requires-clause-room g c = omega (arith, c.requires.room, ap (λ v. v.pulse) c.self.view_is)
+
+pub returns : goal.returns
+returns g c =
+    let a = c.self.inside in
+    record {
+      set = ap (λ m. record { pulse = m.pulse; ports = ports_of (rows_of m.ports a.inboxes a.outs) }) c.take_early_safe.ensures.set
+          ∙ at-pulse c.self.view_is (marks-put (λ (m : Marks). record m { early_safe = true }) c.self.invariant (seen c.self.view_is) c.requires.port);
+    }

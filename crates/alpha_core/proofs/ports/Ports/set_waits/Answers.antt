@@ -1,0 +1,16 @@
+use Rattle.std.proofs.Common.{ap, ◌∙◌}
+use Rattle.alpha_core.specs.declared.marks.Marks.{Marks}
+use Rattle.alpha_core.specs.Rows.{rows_of, ports_of}
+use Rattle.alpha_core.proofs.PortRows.{at-pulse, below, marks-put, seen}
+use Rattle.alpha_core.proofs.ports.Ports.set_waits.Goals as goal
+
+pub set_waits-requires : goal.set_waits-requires
+set_waits-requires g c = record { port = below c.self.invariant (seen c.self.view_is) c.requires.port }
+
+pub returns : goal.returns
+returns g c =
+    let a = c.self.inside in
+    record {
+      set = ap (λ m. record { pulse = m.pulse; ports = ports_of (rows_of m.ports a.inboxes a.outs) }) c.set_waits.ensures.set
+          ∙ at-pulse c.self.view_is (marks-put (λ (m : Marks). record m { waits = c.args.waits }) c.self.invariant (seen c.self.view_is) c.requires.port);
+    }
