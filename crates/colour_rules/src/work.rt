@@ -3,6 +3,7 @@ ghost use Rattle.std.specs.Prelude.{◌≡◌, ◌≢◌, ◌<◌, ◌≤◌, �
 ghost use Rattle.std.specs.Prelude.{count_by, length, map, nat_lt, slice_index_or};
 ghost use Rattle.std.specs.List.{All, AllPairs};
 ghost use Rattle.forests.specs.Forests.{role_by};
+ghost use Rattle.node_api.below.interference.specs.declared.limits.TheConstants.{MAX_DEGREE};
 ghost use Rattle.node_api.specs.Boxes.{nothing, unread};
 ghost use Rattle.colour_rules.specs.declared.phase.Phase.TheVariants.{Seed, Work};
 ghost use Rattle.colour_rules.specs.Node.{ports};
@@ -24,9 +25,13 @@ const MAX_FORESTS: usize = MAX_DEGREE as usize;
 // Up to how many forests a shorter list on the stack serves, since it is cleared at each pulse of work.
 const FEW_FORESTS: usize = 4;
 
-const SOME_FORESTS: usize = 32;
+const SOME_FORESTS: usize = 16;
 
-const MANY_FORESTS: usize = 128;
+const MORE_FORESTS: usize = 32;
+
+const MANY_FORESTS: usize = 64;
+
+const MOST_FORESTS: usize = 128;
 
 impl ColourNode {
     // Numbers the ports to higher identifiers, and sends each parent the forest; `identifiers` are the
@@ -88,40 +93,40 @@ impl ColourNode {
         ensures node { (self.new, out.new) ≡ done self.old (Work reduction) inbox.old.slots }
         ensures slots { inbox.new.slots ≡ inbox.old.slots }
     {
-        let forests = usize::from(self.forests);
+        let forests = self.forests as usize;
         if forests <= FEW_FORESTS {
-            let mut room = [None; FEW_FORESTS];
-            self.work_with(reduction, &mut room[..forests], inbox, out);
+            self.work_in::<FEW_FORESTS>(reduction, inbox, out);
+        } else if forests <= SOME_FORESTS {
+            self.work_in::<SOME_FORESTS>(reduction, inbox, out);
+        } else if forests <= MORE_FORESTS {
+            self.work_in::<MORE_FORESTS>(reduction, inbox, out);
+        } else if forests <= MANY_FORESTS {
+            self.work_in::<MANY_FORESTS>(reduction, inbox, out);
+        } else if forests <= MOST_FORESTS {
+            self.work_in::<MOST_FORESTS>(reduction, inbox, out);
         } else {
-            self.work_in_many(reduction, inbox, out);
+            self.work_in::<MAX_FORESTS>(reduction, inbox, out);
         }
     }
 
-    // The same, in more forests. Never inlined, so that other pulses don't pay for the room on the stack.
+    // The same, in at most `N` forests. Never inlined: a function clears all its lists on the stack as it begins,
+    // those of other branches too.
     #[inline(never)]
-    fn work_in_many(
+    fn work_in<const N: usize>(
         &mut self,
         reduction: Reduction,
         inbox: &mut Inbox<Payload>,
         out: &mut Outbox<Payload>,
     )
+        requires few { (self.old.sizes.forests ≤ N) × (N ≤ MAX_DEGREE) }
         requires accepted { IsAccepted self.old (Work reduction) inbox.old.slots }
         requires unread { inbox.old ≡ unread inbox.old.slots }
         requires out { out.old ≡ nothing (ports self.old) }
         ensures node { (self.new, out.new) ≡ done self.old (Work reduction) inbox.old.slots }
         ensures slots { inbox.new.slots ≡ inbox.old.slots }
     {
-        let forests = usize::from(self.forests);
-        if forests <= SOME_FORESTS {
-            let mut room = [None; SOME_FORESTS];
-            self.work_with(reduction, &mut room[..forests], inbox, out);
-        } else if forests <= MANY_FORESTS {
-            let mut room = [None; MANY_FORESTS];
-            self.work_with(reduction, &mut room[..forests], inbox, out);
-        } else {
-            let mut room = [None; MAX_FORESTS];
-            self.work_with(reduction, &mut room[..forests], inbox, out);
-        }
+        let mut room = [None; N];
+        self.work_with(reduction, &mut room[..self.forests as usize], inbox, out);
     }
 
     // The same, with room for the colour of the parent in each forest.
