@@ -20,9 +20,7 @@ use event_texts::{expected_words, missing_words, text_of_state};
 use net_core::{NetState, RunRefused};
 use replay::{ReplayRefused, WholeRefused, event_of, replay, replay_whole};
 use std::alloc::{AllocError, Global};
-use transcripts::{
-    TextFault, Transcript, entry_lines, network_text, read_any_behind_network,
-};
+use transcripts::{TextFault, Transcript, entry_lines, network_text, read_any_behind_network};
 
 /// Why a transcript isn't replayed: its first line that is none, or its first entry that isn't possible or has another
 /// pulse or wire, with the number of its line. Behind it are words for what its event lacks or comes to, as
