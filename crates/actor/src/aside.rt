@@ -11,8 +11,8 @@ pub enum WhyAside {
     StampFull(u64),
 }
 
-/// A wire that came by a port, and with which the node did nothing. It was taken off its link, and the node does nothing
-/// in a further turn. When all ends of a run have met, the lists of the links show that no node refused one.
+/// A wire that came by a port, and with which the node did nothing. It was taken off its link, and the node does
+/// nothing in a further turn. When all ends of a run have met, the lists of the links show that no node refused one.
 #[derive(Debug, Clone, Copy)]
 pub struct Aside<T> {
     pub port: u32,

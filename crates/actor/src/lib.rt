@@ -19,9 +19,9 @@
 //! refused leaves the node as after its last event. Without a transcript no turn can return
 //! out-of-memory.
 //!
-//! Each event moves the node's `Counter`, with a transcript or without: a wire has on its link the stamp of its put, and
-//! with a transcript each entry has its stamp (`specs/HasStamps.antt`). A turn returns `StampFull` if a stamp would pass
-//! 18446744073709551615; a put or pulse leaves the node as after its last event, and a take sets the wire aside.
+//! Each event moves the node's `Counter`, with a transcript or without: a wire has on its link the stamp of its put,
+//! and with a transcript each entry has its stamp (`specs/HasStamps.antt`). A turn returns `StampFull` if a stamp would
+//! pass 18446744073709551615; a put or pulse leaves the node as after its last event, and a take sets the wire aside.
 //!
 //! Limits: those of `alpha_core` and `link_queue`.
 #![tactic(auto)]

@@ -222,9 +222,9 @@ impl<J: Wiring, P: NodeProgram> Node<J, P> {
     ///
     /// # Errors
     ///
-    /// `Memory` if memory for an entry is refused; the node is as after its last event. `StampFull` if a stamp would pass
-    /// 18446744073709551615; the node is as after its last event, but a wire whose take would have that stamp is set
-    /// aside.
+    /// `Memory` if memory for an entry is refused; the node is as after its last event. `StampFull` if a stamp would
+    /// pass 18446744073709551615; the node is as after its last event, but a wire whose take would have that stamp is
+    /// set aside.
     pub fn turn<R: Wait, G: Gate>(
         &mut self,
         rt: &R,

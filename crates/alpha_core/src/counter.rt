@@ -13,8 +13,8 @@ pub struct StampFull;
 /// The counter of a node (Lamport 1978), from 0. The stamp of an event is the counter's number after it. Contracts see
 /// the number. No call needs memory.
 ///
-/// A put that finds the link full has to leave the counter, and so has a take that the node refuses. So their stamps are
-/// read first, by `peek` and `peek_past`.
+/// A put that finds the link full has to leave the counter, and so has a take that the node refuses. So their stamps
+/// are read first, by `peek` and `peek_past`.
 #[derive(Debug, Drop)]
 pub struct Counter {
     value: u64,
@@ -88,8 +88,8 @@ impl Counter {
         self.past(0)
     }
 
-    /// The stamp of a take, which is one more than the greater of the counter and the wire's stamp. The counter moves to
-    /// it.
+    /// The stamp of a take, which is one more than the greater of the counter and the wire's stamp. The counter moves
+    /// to it.
     ///
     /// # Errors
     ///

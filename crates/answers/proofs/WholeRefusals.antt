@@ -21,7 +21,8 @@ use Rattle.transcripts.specs.Editions.{Two}
 use Rattle.transcripts.specs.Reading.{StampedTranscript}
 use Rattle.transcripts.specs.TranscriptText.{Row, StampedRow}
 use Rattle.transcripts.proofs.Either.{stamped-have-lines}
-use Rattle.answers.specs.ReplayAnswers.{HasLine, IsEntryTold, IsFaultOfTranscript, IsStampedLine, IsStampedRefusal, IsStampedTold, IsToldAs, bare_rows, fault_at, index_of}
+use Rattle.answers.specs.ReplayAnswers.{HasLine, IsEntryTold, IsFaultOfTranscript, IsStampedLine, IsStampedRefusal, IsStampedTold, IsToldAs, bare_rows}
+use Rattle.answers.specs.ReplayAnswers.{fault_at, index_of}
 use Rattle.answers.specs.ReplayAnswers.{first_line_in, last_line_in, last_of, line_at, transcript_in, words_text}
 use Rattle.answers.specs.declared.replaying.ReplayFault.{ReplayFault}
 use Rattle.answers.specs.declared.replaying.ReplayFault.TheVariants as fault

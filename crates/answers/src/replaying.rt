@@ -279,8 +279,8 @@ fn replayed(
 /// As of `forest_bytes` for the lines before the transcript; if there is none, `Replay` with the first line that
 /// is none of a transcript; if there is none, `Replay` with the first entry that isn't possible, or has another
 /// pulse or wire, or, of edition 2, another stamp than its node comes to, or comes too late; if there is none, of
-/// edition 2, `Replay` with the last line if the state isn't whole. Lines count from the first of the input. Any call may instead fail for lack of memory:
-/// `ReplayFault::Memory` or as `forest_bytes`.
+/// edition 2, `Replay` with the last line if the state isn't whole. Lines count from the first of the input. Any call
+/// may instead fail for lack of memory: `ReplayFault::Memory` or as `forest_bytes`.
 pub fn replay_bytes(alloc: Global, input: &[u8]) -> Result<Vec<u8>, PlanFault>
     ensures ok { IfOk result (λ text. IsReplayAnswer input.now text.items) }
     ensures fault { IfErr result (IsFaultOfReplay input.now) }

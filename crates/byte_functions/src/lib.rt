@@ -4,7 +4,8 @@
 //!
 //! `serving` calls `forest_bytes`, `plain_bytes`, `plan_bytes`, `transcript_bytes`, `check_bytes`, `events_bytes`,
 //! `replay_bytes` or `rounds_bytes` for a command, and `fault_report` if they fail. The two that run worker threads,
-//! `plan_bytes` and `transcript_bytes`, are here; the others are in `answers`, which is proved beside the worker threads.
+//! `plan_bytes` and `transcript_bytes`, are here; the others are in `answers`, which is proved beside the worker
+//! threads.
 //!
 //! ```
 //! let text = b"p edge 3 3\ne 1 2\ne 1 3\ne 2 3\n";

@@ -17,9 +17,9 @@ const SMALL_BLOCK: usize = 128;
 // From how many items on the next block is large.
 const MANY_ITEMS: usize = 1_024;
 
-// How many items a large block has. At 8 bytes an item or more it has 128 KiB at least, from which on the C library maps a
-// block by itself, unless a mapped block as large was freed before. Places of a mapped block that were never written
-// take address space alone, and it goes back to the system when it is dropped.
+// How many items a large block has. At 8 bytes an item or more it has 128 KiB at least, from which on the C library
+// maps a block by itself, unless a mapped block as large was freed before. Places of a mapped block that were never
+// written take address space alone, and it goes back to the system when it is dropped.
 const LARGE_BLOCK: usize = 16_384;
 
 /// A list that grows by whole blocks. Contracts see the list (`items`), and for how many more there is room (`room`).

@@ -50,7 +50,8 @@ module _ {T : Type 0} where
   IsAllOf legal v items = (v.put ≡ v.taken ++ items) × LegalFor legal v.name (wires_of v.put)
 
   -- what was taken and then the wires of these items is legal
-  abbrev pub MayFollow : (LinkName → List (Wire T) → Type 0) → Option LinkName → List (Wire T) → List (Stamped T) → Type 0
+  abbrev pub MayFollow :
+      (LinkName → List (Wire T) → Type 0) → Option LinkName → List (Wire T) → List (Stamped T) → Type 0
   MayFollow legal name taken items = LegalFor legal name (taken ++ wires_of items)
 
   abbrev pub is_close : Wire T → Bool

@@ -200,7 +200,8 @@ impl<P: NodeProgram> Link<P> {
         requires put_end { IsPutEndOf self put_end }
         requires take_end { IsTakeEndOf self take_end }
         requires name { put_name put_end ≡ take_name take_end }
-        ensures met { IfOk result (λ met. HasMet met (put_name put_end) (put_stamped put_end) (taken_stamped take_end)) }
+        ensures met { IfOk result
+            (λ met. HasMet met (put_name put_end) (put_stamped put_end) (taken_stamped take_end)) }
         ensures legal { IfOk result (λ _. LegalFor (IsLegalOn P.program) (put_name put_end) (put_list put_end)) }
         ensures room { IfOk result (λ met. length (held_stamped met) ≤ link_capacity self) }
         ensures refused { IfErr result

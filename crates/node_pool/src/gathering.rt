@@ -22,7 +22,8 @@ use std::sync::Wait;
 ///
 /// # Errors
 ///
-/// `Memory` if memory is refused; `StampFull` if a node set a wire aside since the stamp of its take would be too great.
+/// `Memory` if memory is refused; `StampFull` if a node set a wire aside since the stamp of its take would be too
+/// great.
 pub(crate) fn gathered<J: Wiring, P: NodeProgram, R: Wait>(
     rt: &R,
     alloc: Global,

@@ -68,7 +68,8 @@ pub record StopsAtStamp {S M E : Type 0} (program : Program S M E) (net : Net) (
   pub index : i ≡ length at.before
 
 -- All rows are a stamped replay, but the state isn't whole.
-pub record EndsUnfinished {S M E : Type 0} (program : Program S M E) (net : Net) (rows : List (StampedRow M)) : Type 0 where
+pub record EndsUnfinished {S M E : Type 0} (program : Program S M E) (net : Net) (rows : List (StampedRow M))
+    : Type 0 where
   pub last : State S M
   pub is_replay : IsStampedReplay program net rows last
   pub unfinished : IsWhole program net last → ⊥

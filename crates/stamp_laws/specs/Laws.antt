@@ -13,8 +13,8 @@ use Rattle.actor.specs.stamps.Merged.{StampedRow, IsMerge, rows_in}
 use Rattle.actor.specs.alpha_core.StampedWires.{wires_of}
 use Rattle.actor.specs.stamps.Stamps.{StampedEntry, Carries, Rises, bare_of, put_in, taken_in}
 
--- The entries of each node are all that it did, from its start to what it is, with the lists of its links; and each take
--- of a link is of its put, and later.
+-- The entries of each node are all that it did, from its start to what it is, with the lists of its links; and each
+-- take of a link is of its put, and later.
 pub record AreWritten {S M E : Type 0} (program : Program S M E) (net : Net) (nodes : ℕ → Node S M)
     (links : ℕ → ℕ → Link M) (wrote : ℕ → List (StampedEntry M)) : Type 0 where
   pub written : (v : ℕ) → IsVertex net v
@@ -39,8 +39,8 @@ MergedRunsReplay {S} {M} program net =
     → AreWritten program net nodes links wrote → IsMerge (count_of net) wrote rows
     → IsReplayTo program net rows nodes links
 
--- All nodes keep their stamps and are written down, and all ends have met: what was put on a link is what was taken from
--- it and then what it holds, each wire with the stamp of its put.
+-- All nodes keep their stamps and are written down, and all ends have met: what was put on a link is what was taken
+-- from it and then what it holds, each wire with the stamp of its put.
 pub record HaveMet {S M E : Type 0} (program : Program S M E) (net : Net) (nodes : ℕ → Node S M) (counters : ℕ → ℕ)
     (puts takens held : ℕ → ℕ → List (Stamped M)) (wrote : ℕ → List (StampedEntry M)) : Type 0 where
   pub keeps : (v : ℕ) → IsVertex net v → KeepsStamps net v (counters v) (puts v) (takens v) (wrote v)

@@ -15,8 +15,8 @@ pub fn met_nodes_are_written<S, M, E>()
     ensures law { (program : Program S M E) → OnEveryNetwork program (MetNodesAreWritten program) }
 {}
 
-/// Once all ends have met, the entries of all nodes, in the order of their stamps, are a replay that leads to them, each
-/// with the stamp that the entries before it give it.
+/// Once all ends have met, the entries of all nodes, in the order of their stamps, are a replay that leads to them,
+/// each with the stamp that the entries before it give it.
 pub fn met_runs_replay<S, M, E>()
     ensures law { (program : Program S M E) → OnEveryNetwork program (MetRunsReplay program) }
 {}

@@ -46,7 +46,8 @@ module _ {M : Type 0} where
   takes_at ((s, u, Take from wire) ∷ rows) v w =
       if (u == v) && (from == w) then stamped s wire ∷ takes_at rows v w else takes_at rows v w
 
-  -- The stamp of a row that comes behind these: that of its node's counter. A wire from w has the stamp of its put there.
+  -- The stamp of a row that comes behind these: that of its node's counter. A wire from w has the stamp of its put
+  -- there.
   abbrev pub stamp_behind : List (StampedRow M) → StampedRow M → ℕ
   stamp_behind before row =
       next_stamp (λ w. stamps_of (puts_at before w row.1)) (entries_at before row.1) row.2

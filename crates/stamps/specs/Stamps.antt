@@ -1,6 +1,6 @@
 -- The stamps of one node's entries. A node has a counter, from 0. A pulse or a put adds one to it; a take makes it one
--- more than the greater of itself and the wire's stamp. The stamp of an entry is the counter after its event, and a wire
--- has the stamp of its put (Lamport 1978).
+-- more than the greater of itself and the wire's stamp. The stamp of an entry is the counter after its event, and a
+-- wire has the stamp of its put (Lamport 1978).
 use Rattle.std.specs.Prelude.{◌≡◌, ℕ, suc, max, ◌<◌, ◌==◌, if◌then◌else◌, List, [], ◌∷◌, ◌++◌, map, length}
 use Rattle.std.specs.Prelude.{All, slice_index_or}
 use Rattle.entries.specs.alpha_core.StampedWires.{stamped, wires_of}
@@ -41,8 +41,8 @@ module _ {M : Type 0} where
   abbrev pub counter_of : List (StampedEntry M) → ℕ
   counter_of entries = counter_from 0 entries
 
-  -- The stamp of an entry that comes behind these of its node. The wires that came from a neighbour had these stamps, by
-  -- neighbour, in the order in which they were taken; the next one taken has the place of those taken before.
+  -- The stamp of an entry that comes behind these of its node. The wires that came from a neighbour had these stamps,
+  -- by neighbour, in the order in which they were taken; the next one taken has the place of those taken before.
   abbrev pub next_stamp : (ℕ → List ℕ) → List (StampedEntry M) → Entry M → ℕ
   next_stamp came before (Pulse p) = suc (counter_of before)
   next_stamp came before (Put to wire) = suc (counter_of before)

@@ -59,7 +59,8 @@ pub record IsEmptyTable (table : StampTable) : Type 0 where
   pub vertex : table.last_vertex ≡ 0
 
 -- The table is that of these rows: the counter of each vertex, of each link the stamps of its puts and how many wires
--- were taken, and a stamp and vertex that none of the rows comes after, and that no row comes before if none comes after it.
+-- were taken, and a stamp and vertex that none of the rows comes after, and that no row comes before if none comes
+-- after it.
 pub record IsTableOf {M : Type 0} (rows : List (StampedRow M)) (table : StampTable) : Type 0 where
   pub counters : (v : ℕ) → counter_at table v ≡ counter_of (entries_at rows v)
   pub puts : (v w : ℕ) → list_in table.puts (v, w) ≡ stamps_of (puts_at rows v w)

@@ -4,8 +4,8 @@
 //! the greater of itself and the wire's stamp. The stamp of an entry is the counter after its event, and a wire has the
 //! stamp of its put. So a take has a greater stamp than the put of its wire.
 //!
-//! `specs/Stamps.antt` has the stamps of one node's entries, `specs/Merged.antt` those of all nodes in one list. `order`
-//! makes that list; `replay` plays it.
+//! `specs/Stamps.antt` has the stamps of one node's entries, `specs/Merged.antt` those of all nodes in one list.
+//! `order` makes that list; `replay` plays it.
 //!
 //! ```text
 //! let lists = [..];                            // the stamped entries of node v in place v - 1

@@ -14,8 +14,8 @@ type Puts = HashMap<(u32, u32), Vec<u64>>;
 
 type Takes = HashMap<(u32, u32), usize>;
 
-/// What rows of stamped entries say of the next row: its stamp, and that it may not come before any of them. A look takes
-/// the same time however many rows there are.
+/// What rows of stamped entries say of the next row: its stamp, and that it may not come before any of them. A look
+/// takes the same time however many rows there are.
 #[derive(Drop)]
 pub struct StampTable {
     // The counter of each vertex that has a row.
