@@ -22,13 +22,13 @@ pub struct ColourNode {
     pub(crate) greatest_degree: u16,
     pub(crate) greatest_bars: u16,
     pub(crate) forests: u16,
+    // The merged colour before the forest that is being merged, and now: 0 to the span.
+    pub(crate) colour_before: u16,
+    pub(crate) merged: u16,
     // By port. A known role names one of the forests.
     pub(crate) roles: Vec<Role>,
     // The colours before the last shift are 0 to 5.
     pub(crate) colours: InForests,
-    // The merged colour before the forest that is being merged, and now: 0 to the span.
-    pub(crate) colour_before: u16,
-    pub(crate) merged: u16,
     // With room for the colours 0 to the span. Of these the barred ones leave one free.
     pub(crate) taken: TakenColours,
 }

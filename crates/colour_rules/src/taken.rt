@@ -1,5 +1,5 @@
 //! The colours that are taken for a node: chosen by neighbours, or barred. They are in two sets, which are the
-//! smaller of two that have room for them.
+//! smallest of three that have room for them.
 ghost use Rattle.std.specs.Prelude.{◌≡◌, ◌+◌, ◌<◌, ◌≤◌, ◌*◌, ◌↔◌, ◌||◌, ℕ, IfOk, IsTrue, Some, length};
 ghost use Rattle.std.specs.FinSet.{contains, empty, insert};
 ghost use Rattle.forest_merge.specs.Free.{HasFree, least_free_colour};
@@ -8,26 +8,35 @@ ghost use Rattle.node_api.specs.Boxes.{at_port, unread};
 ghost use Rattle.colour_rules.specs.declared.payload.Payload.TheVariants.{Chosen};
 ghost use Rattle.colour_rules.specs.Choice.{with_chosen};
 ghost use Rattle.colour_rules.specs.Node.{up_to};
-ghost use Rattle.colour_rules.specs.Taken.{barred_in, chosen_in, is_taken_in, room_of};
+ghost use Rattle.colour_rules.specs.Taken.{barred_in, chosen_in, is_taken_in, room_of, set_in};
 
 use crate::merge::add_chosen;
 use crate::payload::Payload;
-use forest_merge::{COLOURS, ChosenSet, ColourSet, has_free, least_free};
+use forest_merge::{COLOURS, ChosenSet, ColourSet, WORDS, has_free, least_free};
 use node_api::{Inbox, Memory};
 use std::alloc::Global;
 
-// How many words the smaller set has.
+// How many words the smallest set has.
 const FEW_WORDS: usize = 2;
 
-// For how many colours the smaller set has room.
+// For how many colours the smallest set has room.
 const FEW_COLOURS: u16 = FEW_WORDS as u16 * 64;
 
-// The set of the chosen colours, and that of the barred ones, which is never changed. Colours are mostly few.
-// Only `make` takes memory.
+// The same of the next larger set, which has room for the colours of each network without bars.
+const MORE_WORDS: usize = 16;
+
+const MORE_COLOURS: u16 = MORE_WORDS as u16 * 64;
+
+// The barred colours of a node; none takes no memory.
+type Barred<const N: usize> = Option<Box<ColourSet<N>>>;
+
+// The set of the chosen colours, and that of the barred ones, which is never changed. Colours are mostly few, and
+// mostly none is barred. Only `make` takes memory.
 #[derive(Drop)]
 pub(crate) enum TakenColours {
-    Few(ColourSet<FEW_WORDS>, ColourSet<FEW_WORDS>),
-    Many(Box<ChosenSet>, Box<ChosenSet>),
+    Few(ColourSet<FEW_WORDS>, Barred<FEW_WORDS>),
+    More(Box<ColourSet<MORE_WORDS>>, Barred<MORE_WORDS>),
+    Many(Box<ChosenSet>, Barred<WORDS>),
 }
 
 // The set of those bars that are 0 to `greatest`.
@@ -45,6 +54,23 @@ fn barred_set<const N: usize>(bars: &[u16], greatest: u16) -> ColourSet<N>
     barred
 }
 
+// The same set in memory of its own, or none if nothing is barred.
+fn boxed_bars<const N: usize>(
+    alloc: Global,
+    bars: &[u16],
+    greatest: u16,
+) -> Result<Barred<N>, Memory>
+    requires room { N ≤ WORDS }
+    requires greatest { greatest < 64 * N }
+    ensures { IfOk result (λ barred. set_in barred ≡ up_to greatest bars.now) }
+{
+    if bars.is_empty() {
+        return Ok(None);
+    }
+    let barred = Box::new(alloc, barred_set(bars, greatest))?;
+    Ok(Some(barred))
+}
+
 impl TakenColours {
     // Nothing chosen, and those bars that are 0 to `greatest`, with room for the colours 0 to `greatest`.
     pub(crate) fn make(alloc: Global, bars: &[u16], greatest: u16) -> Result<TakenColours, Memory>
@@ -54,10 +80,15 @@ impl TakenColours {
         ensures room { IfOk result (λ taken. greatest < room_of taken) }
     {
         if greatest < FEW_COLOURS {
-            Ok(TakenColours::Few(ColourSet::new(), barred_set(bars, greatest)))
+            let barred = boxed_bars(alloc, bars, greatest)?;
+            Ok(TakenColours::Few(ColourSet::new(), barred))
+        } else if greatest < MORE_COLOURS {
+            let chosen = Box::new(alloc, ColourSet::new())?;
+            let barred = boxed_bars(alloc, bars, greatest)?;
+            Ok(TakenColours::More(chosen, barred))
         } else {
-            let chosen = Box::new(alloc, ChosenSet::new())?;
-            let barred = Box::new(alloc, barred_set(bars, greatest))?;
+            let chosen = Box::new(alloc, ColourSet::new())?;
+            let barred = boxed_bars(alloc, bars, greatest)?;
             Ok(TakenColours::Many(chosen, barred))
         }
     }
@@ -70,6 +101,7 @@ impl TakenColours {
     {
         match self {
             TakenColours::Few(chosen, _) => chosen.clear(),
+            TakenColours::More(chosen, _) => chosen.clear(),
             TakenColours::Many(chosen, _) => chosen.clear(),
         }
     }
@@ -83,6 +115,7 @@ impl TakenColours {
     {
         match self {
             TakenColours::Few(chosen, _) => chosen.add(colour),
+            TakenColours::More(chosen, _) => chosen.add(colour),
             TakenColours::Many(chosen, _) => chosen.add(colour),
         }
     }
@@ -98,6 +131,7 @@ impl TakenColours {
     {
         match self {
             TakenColours::Few(chosen, _) => add_chosen(chosen, inbox),
+            TakenColours::More(chosen, _) => add_chosen(chosen, inbox),
             TakenColours::Many(chosen, _) => add_chosen(chosen, inbox),
         }
     }
@@ -108,8 +142,9 @@ impl TakenColours {
         ensures { result ≡ least_free_colour greatest (is_taken_in self.now) }
     {
         match self {
-            TakenColours::Few(chosen, barred) => least_free(chosen, barred, greatest),
-            TakenColours::Many(chosen, barred) => least_free(chosen, barred, greatest),
+            TakenColours::Few(chosen, barred) => least_outside(chosen, barred, greatest),
+            TakenColours::More(chosen, barred) => least_outside(chosen, barred, greatest),
+            TakenColours::Many(chosen, barred) => least_outside(chosen, barred, greatest),
         }
     }
 
@@ -125,6 +160,9 @@ impl TakenColours {
             TakenColours::Few(chosen, barred) => {
                 has_free_among(chosen.copy(), barred, greatest, inbox)
             }
+            TakenColours::More(chosen, barred) => {
+                has_free_among(chosen.copy(), barred, greatest, inbox)
+            }
             TakenColours::Many(chosen, barred) => {
                 has_free_among(chosen.copy(), barred, greatest, inbox)
             }
@@ -135,16 +173,40 @@ impl TakenColours {
 // The same, for a set of chosen colours that is used up.
 fn has_free_among<const N: usize>(
     mut chosen: ColourSet<N>,
-    barred: &ColourSet<N>,
+    barred: &Barred<N>,
     greatest: u16,
     inbox: &mut Inbox<Payload>,
 ) -> bool
+    requires room { N ≤ WORDS }
     requires unread { inbox.old ≡ unread inbox.old.slots }
     requires colours { (port c : ℕ) → at_port inbox.old.slots port ≡ Some (Chosen c) → c < 64 * N }
     ensures free { let chosen = with_chosen chosen.entry inbox.old.slots in
-        IsTrue result ↔ HasFree greatest (λ c. contains chosen c || contains barred.now c) }
+        IsTrue result ↔ HasFree greatest (λ c. contains chosen c || contains (set_in barred.now) c) }
     ensures slots { inbox.new.slots ≡ inbox.old.slots }
 {
     add_chosen(&mut chosen, inbox);
-    has_free(&chosen, barred, greatest)
+    has_outside(&chosen, barred, greatest)
+}
+
+// Whether one of the colours 0 to `greatest` is neither chosen nor barred.
+fn has_outside<const N: usize>(chosen: &ColourSet<N>, barred: &Barred<N>, greatest: u16) -> bool
+    requires room { N ≤ WORDS }
+    ensures { IsTrue result ↔ HasFree greatest (λ c. contains chosen.now c || contains (set_in barred.now) c) }
+{
+    match barred {
+        Some(barred) => has_free(chosen, barred, greatest),
+        None => has_free(chosen, &ColourSet::<N>::new(), greatest),
+    }
+}
+
+// The least colour that is neither chosen nor barred; one of 0 to `greatest` isn't.
+fn least_outside<const N: usize>(chosen: &ColourSet<N>, barred: &Barred<N>, greatest: u16) -> u16
+    requires room { N ≤ WORDS }
+    requires free { HasFree greatest (λ c. contains chosen.now c || contains (set_in barred.now) c) }
+    ensures { result ≡ least_free_colour greatest (λ c. contains chosen.now c || contains (set_in barred.now) c) }
+{
+    match barred {
+        Some(barred) => least_free(chosen, barred, greatest),
+        None => least_free(chosen, &ColourSet::<N>::new(), greatest),
+    }
 }
