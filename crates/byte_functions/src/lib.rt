@@ -27,5 +27,6 @@ pub use workers::plan_bytes;
 
 // What crates above name of lower ones.
 pub use answers::{ColFault, Colouring, EventFault, Network, Payload, PoolFault, ReplayRefused};
-pub use answers::{TextFault, Wire, read_transcript, replay, transcript_text};
+pub use answers::{TextFault, WholeRefused, Wire, read_transcript, replay, replay_whole};
+pub use answers::transcript_text;
 pub use node_pool::{Gate, OpenGate, Options, Outcome, run_workers};
