@@ -6,7 +6,7 @@ ghost use Rattle.gather_laws.specs.Outcome.{all_drained, all_empty, is_whole, li
 ghost use Rattle.node_pool.specs.Gathers.{gathered_of};
 
 use crate::taking_apart::Actor;
-use actor::Met;
+use pool::Met;
 use alpha_laws::NodeProgram;
 use std::marker::Model;
 

@@ -3,7 +3,7 @@
 ghost use Rattle.std.specs.Prelude.{◌≡◌, IfOk, map};
 ghost use Rattle.node_pool.specs.Full.{is_full, some_full};
 
-use actor::{AlphaNode, Entries, Node, WhyAside, WiredPut, WiredTake, Wiring};
+use pool::{AlphaNode, Entries, Node, WhyAside, WiredPut, WiredTake, Wiring};
 use alpha_laws::NodeProgram;
 use std::alloc::{AllocError, Global};
 

@@ -125,7 +125,7 @@ fn with_those_of<J: Wiring, P: NodeProgram>(
 
 // The fault of a run in which a turn of a worker ended early, if there is such a turn. Memory is told first.
 fn told<J: Wiring, P: NodeProgram>(done: &Vec<Worked<J, P>>) -> Result<(), PoolFault>
-    ensures told { result ≡ told_after tt false (map (λ w. w.written) done.now.items) }
+    ensures told { result ≡ told_after tt (map (λ w. w.written) done.now.items) false }
 {
     let mut full = false;
     for worked in done.as_slice() {

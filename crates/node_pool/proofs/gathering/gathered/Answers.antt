@@ -2,20 +2,20 @@ use Rattle.std.proofs.Common.{◌≡◌, ◌≤◌, ◌++◌, List, Some, arith,
 use Rattle.std.specs.Prelude.{All}
 use Rattle.std.proofs.lemmas.List.{length-map, map-append}
 use Rattle.alpha_laws.specs.interference.Net.{IsNetwork}
-use Rattle.actor.proofs.Lists.{as_long}
-use Rattle.actor.specs.Node.{by_port, reacted_to}
-use Rattle.actor.specs.Written.{IsTranscript}
+use Rattle.pool.proofs.actor.Lists.{as_long}
+use Rattle.pool.specs.actor.Node.{by_port, reacted_to}
+use Rattle.pool.specs.actor.Written.{IsTranscript}
 use Rattle.node_pool.proofs.ReadLists.{map-twice}
 use Rattle.node_pool.specs.Rows.{AreCrossed, HasShape}
-use Rattle.actor.specs.Tables.{table_at, table_of}
-use Rattle.actor.specs.HasStamps.{HasStamps}
-use Rattle.actor.specs.alpha_core.StampedWires.{wires_of}
-use Rattle.actor.specs.link_queue.Ends.{held_stamped, put_list, put_stamped, taken_list, taken_stamped}
+use Rattle.pool.specs.actor.Tables.{table_at, table_of}
+use Rattle.pool.specs.actor.HasStamps.{HasStamps}
+use Rattle.pool.specs.alpha_core.StampedWires.{wires_of}
+use Rattle.pool.specs.link_queue.Ends.{held_stamped, put_list, put_stamped, taken_list, taken_stamped}
 use Rattle.node_pool.proofs.Full.{all_refused}
 use Rattle.node_pool.proofs.Stamping.{AreStampedNodes, StampedHistory, are_stamped, bare_history, counters, held_by, puts_by, same_entries, takens_by}
 use Rattle.node_pool.proofs.Sides.{all_by}
-use Rattle.actor.specs.alpha_core.Stamped.{Stamped}
-use Rattle.actor.specs.link_queue.Met.{Met}
+use Rattle.pool.specs.alpha_core.Stamped.{Stamped}
+use Rattle.pool.specs.link_queue.Met.{Met}
 use Rattle.node_pool.specs.Meets.{history_of, put_of, taken_of}
 use Rattle.gather_laws.specs.Outcome.{IsOutcome, Outcome}
 use Rattle.node_pool.specs.Gathers.{gathered_of}

@@ -1,6 +1,6 @@
 use Rattle.std.proofs.Common.{◌≤◌, map, sym, ◌∙◌, subst}
 use Rattle.std.specs.Prelude.{All}
-use Rattle.actor.specs.link_queue.Ends.{link_capacity}
+use Rattle.pool.specs.link_queue.Ends.{link_capacity}
 use Rattle.gather_laws.specs.Outcome.{IsOutcome}
 use Rattle.node_pool.specs.Makes.{AreMade}
 use Rattle.node_pool.proofs.MadeRows.{made_are_new, made_within}
