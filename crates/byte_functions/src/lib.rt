@@ -30,7 +30,7 @@ pub use workers::plan_bytes;
 
 // What crates above name of lower ones.
 pub use answers::{
-    ColFault, Colouring, EventFault, Network, Payload, PoolFault, ReplayRefused, TextFault, Wire,
-    read_transcript, replay, transcript_text,
+    ColFault, Colouring, EventFault, Network, Payload, PoolFault, ReplayRefused, TextFault,
+    WholeRefused, Wire, read_transcript, replay, replay_whole, transcript_text,
 };
 pub use node_pool::{Gate, OpenGate, Options, Outcome, run_workers};

@@ -13,7 +13,7 @@ put_one-requires g c =
         (
           may_put _ c.args.best c.args.pulse _ _ _ (best ∷ []) (Ack c.args.pulse ∷ Safe c.args.pulse ∷ [])
               c.requires.pulse c.requires.legal refl (ap (λ l. l ++ best ∷ []) c.requires.so_far) refl,
-          c.requires.below,
+          omega (arith, c.requires.stamp),
         ),
       ),
     )
@@ -29,7 +29,7 @@ put_one-requires-2 g c =
           may_put _ c.args.best c.args.pulse _ _ _ (best ∷ Ack c.args.pulse ∷ []) (Safe c.args.pulse ∷ [])
               c.requires.pulse c.requires.legal c.put_one.ensures.end.1
               (ap (λ l. l ++ Ack c.args.pulse ∷ []) first ∙ append_assoc (echoes c.args.best c.args.pulse) (best ∷ []) (Ack c.args.pulse ∷ [])) refl,
-          c.put_one.ensures.below,
+          let last = c.put_one.ensures.stamp c.if-not-put_one.false in omega (arith, last),
         ),
       ),
     )
@@ -48,7 +48,7 @@ put_one-requires-3 g c =
               c.requires.pulse c.requires.legal (c.put_one-2.ensures.end.1 ∙ c.put_one.ensures.end.1)
               (ap (λ l. l ++ Safe c.args.pulse ∷ []) second ∙ append_assoc (echoes c.args.best c.args.pulse) (best ∷ Ack c.args.pulse ∷ [])
               (Safe c.args.pulse ∷ [])) refl,
-          c.put_one-2.ensures.below,
+          let last = c.put_one-2.ensures.stamp c.if-not-put_one-2.false in omega (arith, last),
         ),
       ),
     )
