@@ -6,8 +6,8 @@ ghost use Rattle.alpha_core.specs.interference.Net.{count_of};
 
 use alpha_core::{Network, Wire};
 use byte_functions::{ReplayRefused, read_transcript, replay};
-use stamps::Entry;
 use net_core::{NetState, RunRefused};
+use stamps::Entry;
 use std::alloc::Global;
 use std::test::Fail;
 use sync_rounds::{Best, Greatest};
