@@ -16,6 +16,7 @@
 #![tactic(auto)]
 
 pub mod laws;
+mod merged;
 mod plan_text;
 mod transcript;
 mod workers;
@@ -29,3 +30,4 @@ pub use workers::plan_bytes;
 pub use answers::{ColFault, Colouring, EventFault, Network, Payload, PoolFault, ReplayRefused};
 pub use answers::{TextFault, Wire, read_transcript, replay, transcript_text};
 pub use node_pool::{Gate, OpenGate, Options, Outcome, run_workers};
+pub use run_options::Edition;
