@@ -13,6 +13,8 @@ use Rattle.alpha_core.specs.node_api.Boxes.{at_port}
 use Rattle.alpha_core.specs.interference.Making.{network_of}
 use Rattle.alpha_core.specs.node_api.Program.{Program, last_pulse_on}
 use Rattle.alpha_core.specs.node_api.Run.{node_at, state_at, outbox_at}
+use Rattle.alpha_core.specs.StampedWires.{last_stamp, wires_of}
+use Rattle.alpha_core.specs.declared.stamped.Stamped.{Stamped}
 use Rattle.alpha_core.specs.declared.wire.Wire.{Wire}
 use Rattle.alpha_core.specs.declared.wire.Wire.TheVariants.{Payload, Ack, Safe, Close}
 use Rattle.alpha_core.specs.Wires.{data_of, acks_of}
@@ -266,3 +268,8 @@ colour_front front rest put name e is named n at =
     let here : IsLegalOn colouring (name_of pair_net 1 0) front =
     legal-front _ _ _ front rest (subst (λ l. IsLegalOn colouring (name_of pair_net 1 0) l) (sym e) colour_legal) in
     subst (λ m. IsLegalOn colouring m put) same (subst (λ l. IsLegalOn colouring (name_of pair_net 1 0) l) (sym is) here)
+
+-- an end that put nothing has no stamp
+pub none_stamped : {M : Type 0} (xs : List (Stamped M)) → wires_of xs ≡ [] → last_stamp xs ≡ 0
+none_stamped [] e = refl
+none_stamped (x ∷ xs) e = absurd cc

@@ -3,7 +3,7 @@
 ghost use Rattle.std.specs.Prelude.{◌≡◌};
 ghost use Rattle.node_checks.specs.LinkRows.{pair_net};
 
-use alpha_core::{Memory, Network, Wire};
+use alpha_core::{Memory, Network, Stamped, Wire};
 use colour_program::{Colouring, Payload};
 use link_queue::{Full, Link, MeetRefused};
 use std::alloc::Global;
@@ -13,11 +13,11 @@ use std::sync::Wait;
 #[derive(Drop)]
 pub struct Steps {
     pub put: bool,
-    pub full: Option<Wire<Payload>>,
-    pub taken: Option<Wire<Payload>>,
-    pub none: Option<Wire<Payload>>,
+    pub full: Option<Stamped<Payload>>,
+    pub taken: Option<Stamped<Payload>>,
+    pub none: Option<Stamped<Payload>>,
     pub put_again: bool,
-    pub taken_again: Option<Wire<Payload>>,
+    pub taken_again: Option<Stamped<Payload>>,
     pub held: usize,
 }
 
@@ -26,17 +26,26 @@ pub fn one_after_another<R: Wait>(rt: &R, alloc: Global, network: &Network) -> R
     requires network { network.now ≡ pair_net }
 {
     let (link, mut put_end, mut take_end) = Link::<Colouring>::new(alloc, network, 1, 0, 1)?;
-    let put = match link.put(rt, &mut put_end, Wire::Payload(0, Payload::Hello(1))) {
+    let (hello, safe) = (Wire::Payload(0, Payload::Hello(1)), Wire::Safe(0));
+    let first = Stamped {
+        stamp: 1,
+        wire: hello,
+    };
+    let second = Stamped {
+        stamp: 2,
+        wire: safe,
+    };
+    let put = match link.put(rt, &mut put_end, first) {
         Ok(()) => true,
         Err(_) => return Err(Memory),
     };
-    let full = match link.put(rt, &mut put_end, Wire::Safe(0)) {
+    let full = match link.put(rt, &mut put_end, second) {
         Ok(()) => return Err(Memory),
-        Err(Full(wire)) => Some(wire),
+        Err(Full(item)) => Some(item),
     };
     let taken = link.take(rt, &mut take_end);
     let none = link.take(rt, &mut take_end);
-    let put_again = link.put(rt, &mut put_end, Wire::Safe(0)).is_ok();
+    let put_again = link.put(rt, &mut put_end, second).is_ok();
     let taken_again = link.take(rt, &mut take_end);
     let held = match link.meet(rt, alloc, put_end, take_end) {
         Ok(met) => met.held().len(),
@@ -53,24 +62,33 @@ pub fn one_after_another<R: Wait>(rt: &R, alloc: Global, network: &Network) -> R
     })
 }
 
-/// The one wire that a link holds when its ends meet after a put, a take and a put. If memory is refused to the
+/// The one wire, with its stamp, that a link holds when its ends meet after a put, a take and a put. If memory is refused to the
 /// meeting, the ends meet again.
 pub fn met_again<R: Wait>(
     rt: &R,
     alloc: Global,
     network: &Network,
-) -> Result<Option<Wire<Payload>>, Memory>
+) -> Result<Option<Stamped<Payload>>, Memory>
     requires network { network.now ≡ pair_net }
 {
     let (link, mut put_end, mut take_end) = Link::<Colouring>::new(alloc, network, 1, 0, 1)?;
-    match link.put(rt, &mut put_end, Wire::Payload(0, Payload::Hello(1))) {
+    let (hello, safe) = (Wire::Payload(0, Payload::Hello(1)), Wire::Safe(0));
+    let first = Stamped {
+        stamp: 1,
+        wire: hello,
+    };
+    match link.put(rt, &mut put_end, first) {
         Ok(()) => (),
         Err(_) => return Ok(None),
     }
     if link.take(rt, &mut take_end).is_none() {
         return Ok(None);
     }
-    if link.put(rt, &mut put_end, Wire::Safe(0)).is_err() {
+    let second = Stamped {
+        stamp: 2,
+        wire: safe,
+    };
+    if link.put(rt, &mut put_end, second).is_err() {
         return Ok(None);
     }
     let met = match link.meet(rt, alloc, put_end, take_end) {
@@ -87,7 +105,7 @@ pub fn met_again<R: Wait>(
         },
     };
     match met.held() {
-        [wire] => Ok(Some(*wire)),
+        [item] => Ok(Some(*item)),
         _ => Ok(None),
     }
 }

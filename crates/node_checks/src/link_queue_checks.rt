@@ -5,7 +5,7 @@ ghost use Rattle.node_checks.specs.LinkRows.{pair_net};
 
 use crate::link_alone::{met_again, one_after_another};
 use crate::link_threads::hand_over;
-use alpha_core::{NetFault, Network, Wire, bars_fit, edges_fit};
+use alpha_core::{NetFault, Network, Stamped, Wire, bars_fit, edges_fit};
 use colour_program::Payload;
 use run_options::MAX_CAPACITY;
 use std::alloc::Global;
@@ -25,17 +25,32 @@ fn pair(rt: &impl Abort, alloc: Global) -> Result<Network, NetFault>
     Network::new(alloc, 2, &ids, &edges, &[])
 }
 
+// The two wires of these links, with their stamps.
+fn first() -> Stamped<Payload> {
+    Stamped {
+        stamp: 1,
+        wire: Wire::Payload(0, Payload::Hello(1)),
+    }
+}
+
+fn second() -> Stamped<Payload> {
+    Stamped {
+        stamp: 2,
+        wire: Wire::Safe(0),
+    }
+}
+
 #[test]
 fn one_thread_puts_and_takes(rt: HostRuntime) -> Result<(), Fail> {
     let alloc: Global = rt.alloc();
     let network = pair(&rt, alloc)?;
     let steps = one_after_another(&rt, alloc, &network)?;
     assert!(rt; steps.put);
-    assert!(rt; steps.full == Some(Wire::Safe(0)));
-    assert!(rt; steps.taken == Some(Wire::Payload(0, Payload::Hello(1))));
+    assert!(rt; steps.full == Some(second()));
+    assert!(rt; steps.taken == Some(first()));
     assert!(rt; steps.none == None);
     assert!(rt; steps.put_again);
-    assert!(rt; steps.taken_again == Some(Wire::Safe(0)));
+    assert!(rt; steps.taken_again == Some(second()));
     assert_eq!(rt; steps.held, 0);
     Ok(())
 }
@@ -53,7 +68,7 @@ fn a_link_meets_again_after_a_refused_growth(rt: HostRuntime) -> Result<(), Fail
         Ok(held) => held,
         Err(_) => met_again(&rt, alloc, &network)?,
     };
-    assert!(rt; held == Some(Wire::Safe(0)));
+    assert!(rt; held == Some(second()));
     Ok(())
 }
 

@@ -3,14 +3,15 @@
 
 ghost use Rattle.std.specs.Prelude.{◌≡◌, ◌≤◌, ◌<◌, ◌+◌, [], ◌∷◌, ◌++◌, Some, IsTrue, MatchBool, length, suc};
 ghost use Rattle.std.specs.Prelude.{vec_capacity};
+ghost use Rattle.alpha_core.specs.StampedWires.{last_stamp};
 ghost use Rattle.alpha_core.specs.declared.wire.Wire.{Wire};
 ghost use Rattle.sync_rounds.specs.Spread.{spread};
 ghost use Rattle.link_rule.specs.Legal.{IsLegalOn, LegalFor, name_of};
 ghost use Rattle.link_queue.specs.Ends.{IsPutEndOf, IsTakeEndOf, StaysPutEnd, StaysTakeEnd, put_list, put_name};
-ghost use Rattle.link_queue.specs.Ends.{take_name};
+ghost use Rattle.link_queue.specs.Ends.{put_stamped, take_name};
 ghost use Rattle.node_checks.specs.LinkRows.{echoes};
 
-use alpha_core::{Memory, Network, Wire};
+use alpha_core::{Counter, Memory, Network, Stamped, Wire};
 use link_queue::{Link, PutEnd, TakeEnd};
 use run_options::MAX_CAPACITY;
 use std::alloc::Global;
@@ -21,21 +22,30 @@ use sync_rounds::{Best, Greatest};
 
 const TRIES: u32 = 100_000_000;
 
-// Tries to put a wire; whether it was put.
+// Tries to put a wire with the next stamp of a clock; whether it was put.
 fn put_one<const D: u32, R: Wait>(
     rt: &R,
     link: &Link<Greatest<D>>,
     end: &mut PutEnd<Greatest<D>>,
+    clock: &mut Counter,
     wire: Wire<Best>,
 ) -> bool
     requires end { IsPutEndOf link.now end.old }
     requires legal { LegalFor (IsLegalOn (spread D)) (put_name end.old) (put_list end.old ++ wire ∷ []) }
+    requires below { last_stamp (put_stamped end.old) ≤ clock.old }
     ensures end { StaysPutEnd link.now end.old end.new }
     ensures put { IsTrue result → put_list end.new ≡ put_list end.old ++ wire ∷ [] }
+    ensures below { last_stamp (put_stamped end.new) ≤ clock.new }
 {
+    let Ok(stamp) = clock.peek() else {
+        return false;
+    };
     for _ in 0..TRIES {
-        match link.put(rt, end, wire) {
-            Ok(()) => return true,
+        match link.put(rt, end, Stamped { stamp, wire }) {
+            Ok(()) => {
+                clock.advance(stamp);
+                return true;
+            }
             Err(_) => thread::yield_now(),
         }
     }
@@ -47,6 +57,7 @@ fn put_round<const D: u32, R: Wait>(
     rt: &R,
     link: &Link<Greatest<D>>,
     end: &mut PutEnd<Greatest<D>>,
+    clock: &mut Counter,
     best: u128,
     pulse: u32,
 ) -> bool
@@ -54,16 +65,18 @@ fn put_round<const D: u32, R: Wait>(
     requires pulse { pulse < D }
     requires so_far { put_list end.old ≡ echoes best pulse }
     requires legal { LegalFor (IsLegalOn (spread D)) (put_name end.old) (echoes best D ++ Wire.Close ∷ []) }
+    requires below { last_stamp (put_stamped end.old) ≤ clock.old }
     ensures end { StaysPutEnd link.now end.old end.new }
     ensures put { IsTrue result → put_list end.new ≡ echoes best (suc pulse) }
+    ensures below { last_stamp (put_stamped end.new) ≤ clock.new }
 {
-    if !put_one(rt, link, end, Wire::Payload(pulse, Best(best))) {
+    if !put_one(rt, link, end, clock, Wire::Payload(pulse, Best(best))) {
         return false;
     }
-    if !put_one(rt, link, end, Wire::Ack(pulse)) {
+    if !put_one(rt, link, end, clock, Wire::Ack(pulse)) {
         return false;
     }
-    put_one(rt, link, end, Wire::Safe(pulse))
+    put_one(rt, link, end, clock, Wire::Safe(pulse))
 }
 
 // Puts the whole list; whether all of it was put.
@@ -78,12 +91,13 @@ fn put_all<const D: u32, R: Wait>(
     requires legal { LegalFor (IsLegalOn (spread D)) (put_name end) (echoes best D ++ Wire.Close ∷ []) }
     ensures end { StaysPutEnd link.now end result.0 }
 {
+    let mut clock = Counter::new();
     for pulse in 0..D {
-        if !put_round(rt, link, &mut end, best, pulse) {
+        if !put_round(rt, link, &mut end, &mut clock, best, pulse) {
             return (end, false);
         }
     }
-    let done = put_one(rt, link, &mut end, Wire::Close);
+    let done = put_one(rt, link, &mut end, &mut clock, Wire::Close);
     (end, done)
 }
 
@@ -97,8 +111,8 @@ fn take_one<const D: u32, R: Wait>(
     ensures end { StaysTakeEnd link.now end.old end.new }
 {
     for _ in 0..TRIES {
-        if let Some(wire) = link.take(rt, end) {
-            return Some(wire);
+        if let Some(item) = link.take(rt, end) {
+            return Some(item.wire);
         }
         thread::yield_now();
     }

@@ -2,9 +2,9 @@
 use Rattle.std.proofs.Common.{◌≡◌, false, List, [], ◌∷◌, map, Some, None, refl, subst}
 use Rattle.std.specs.Prelude.{All, Option, ◌||◌, Bool, true}
 use Rattle.std.proofs.lemmas.List.Elements.{All-cons, All-nil}
-use Rattle.actor.specs.declared.aside.Aside.{Aside}
-use Rattle.actor.specs.declared.aside.WhyAside.{WhyAside}
-use Rattle.actor.specs.declared.aside.WhyAside.TheVariants.{Refused, StampFull}
+use Rattle.pool.specs.actor.Aside.{Aside}
+use Rattle.pool.specs.actor.WhyAside.{WhyAside}
+use Rattle.pool.specs.actor.WhyAside.TheVariants.{Refused, StampFull}
 use Rattle.node_pool.specs.Full.{is_full, is_full_why, some_full}
 
 neither : (a b : Bool) → a || b ≡ false → (a ≡ false) × (b ≡ false)

@@ -4,7 +4,7 @@ use Rattle.std.proofs.Common.{Some, slice_get}
 use Rattle.std.specs.Prelude.{All}
 use Rattle.std.proofs.lemmas.List.{length-map}
 use Rattle.alpha_laws.specs.interference.Net.{Net, IsNetwork, IsVertex, degree_of, neighbour_of, back_port_of, vertices}
-use Rattle.actor.specs.Node.{by_port}
+use Rattle.pool.specs.actor.Node.{by_port}
 use Rattle.node_pool.specs.Rows.{AreCrossed, row_at}
 use Rattle.node_pool.proofs.Rows.{some_there, get_map, row_map, get_field, node_of, as_many}
 

@@ -11,26 +11,26 @@ use Rattle.std.proofs.lemmas.Option.{get_or_from_slice_get}
 use Rattle.alpha_laws.specs.interference.Net.{Net, IsNetwork, IsVertex, count_of, degree_of, neighbour_of, back_port_of, vertices}
 use Rattle.alpha_laws.specs.node_api.Program.{Program, last_pulse_on}
 use Rattle.alpha_laws.specs.node_api.Laws.{IsProgram}
-use Rattle.actor.specs.alpha_core.Wire.{Wire}
-use Rattle.actor.specs.alpha_core.View.{Alpha, Node}
+use Rattle.pool.specs.alpha_core.Wire.{Wire}
+use Rattle.pool.specs.alpha_core.View.{Alpha, Node}
 use Rattle.alpha_laws.specs.Kept.{AllKept, NodeKept}
 use Rattle.alpha_laws.specs.Simulates.{taken_over}
 use Rattle.alpha_laws.proofs.Across.{over}
 use Rattle.alpha_laws.proofs.Runs.{runs}
 use Rattle.alpha_laws.proofs.Claims.{simulates}
-use Rattle.actor.proofs.Kept.{node_same}
-use Rattle.actor.specs.declared.aside.Aside.{Aside}
-use Rattle.actor.specs.declared.aside.WhyAside.TheVariants.{Refused}
-use Rattle.actor.specs.Node.{IsAside, by_port, reacted_to}
-use Rattle.actor.specs.Written.{IsTranscript}
-use Rattle.actor.specs.entries.Entry.{Entry}
+use Rattle.pool.proofs.actor.Kept.{node_same}
+use Rattle.pool.specs.actor.Aside.{Aside}
+use Rattle.pool.specs.actor.WhyAside.TheVariants.{Refused}
+use Rattle.pool.specs.actor.Node.{IsAside, by_port, reacted_to}
+use Rattle.pool.specs.actor.Written.{IsTranscript}
+use Rattle.pool.specs.entries.Entry.{Entry}
 use Rattle.node_pool.specs.Rows.{AreCrossed, row_at}
 use Rattle.gather_laws.specs.Laws.{EndsHaveMet}
 use Rattle.gather_laws.specs.Outcome.{IsOutcome, Outcome, alpha_in, entries_in, link_in, link_into, no_history, node_in, row_in, stamped_in, start_of}
 use Rattle.gather_laws.proofs.Asides.{met_simulate}
 use Rattle.gather_laws.proofs.Merged.{AreStamped, runs_merge, stamps_rise}
-use Rattle.actor.specs.alpha_core.Stamped.{Stamped}
-use Rattle.actor.specs.stamps.Stamps.{bare_of}
+use Rattle.pool.specs.alpha_core.Stamped.{Stamped}
+use Rattle.pool.specs.stamps.Stamps.{bare_of}
 use Rattle.node_pool.proofs.Rows.{some_there, get_map, row_map, get_field, node_of, as_many}
 
 module _ {S M E : Type 0} (program : Program S M E) (net : Net) where

@@ -7,14 +7,14 @@ use Rattle.std.specs.Prelude.{All, Bool, IsTrue}
 use Rattle.alpha_laws.specs.interference.Net.{Net, IsNetwork, IsVertex, count_of, degree_of, neighbour_of, back_port_of, vertices}
 use Rattle.alpha_laws.specs.node_api.Program.{Program}
 use Rattle.alpha_laws.proofs.Across.{over}
-use Rattle.actor.specs.alpha_core.Stamped.{Stamped}
-use Rattle.actor.specs.alpha_core.StampedWires.{wires_of}
-use Rattle.actor.specs.entries.Entry.{Entry}
-use Rattle.actor.specs.stamps.Keeps.{KeepsStamps}
-use Rattle.actor.specs.stamps.Stamps.{StampedEntry, bare_of}
-use Rattle.actor.specs.HasStamps.{HasStamps}
-use Rattle.actor.specs.Node.{by_port}
-use Rattle.actor.specs.Written.{IsTranscript, IsWritten}
+use Rattle.pool.specs.alpha_core.Stamped.{Stamped}
+use Rattle.pool.specs.alpha_core.StampedWires.{wires_of}
+use Rattle.pool.specs.entries.Entry.{Entry}
+use Rattle.pool.specs.stamps.Keeps.{KeepsStamps}
+use Rattle.pool.specs.stamps.Stamps.{StampedEntry, bare_of}
+use Rattle.pool.specs.actor.HasStamps.{HasStamps}
+use Rattle.pool.specs.actor.Node.{by_port}
+use Rattle.pool.specs.actor.Written.{IsTranscript, IsWritten}
 use Rattle.gather_laws.specs.Outcome.{History, Outcome, entries_in, link_in, link_into, node_in, stamped_in}
 use Rattle.gather_laws.proofs.Merged.{AreStamped}
 use Rattle.node_pool.specs.Rows.{AreCrossed}

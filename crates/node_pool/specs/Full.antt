@@ -1,8 +1,8 @@
 -- Whether a node has set a wire aside since the stamp of its take would be too great.
 use Rattle.std.specs.Prelude.{Bool, true, false, ◌||◌, List, [], ◌∷◌, Option, Some, None}
-use Rattle.actor.specs.declared.aside.Aside.{Aside}
-use Rattle.actor.specs.declared.aside.WhyAside.{WhyAside}
-use Rattle.actor.specs.declared.aside.WhyAside.TheVariants.{Refused, StampFull}
+use Rattle.pool.specs.actor.Aside.{Aside}
+use Rattle.pool.specs.actor.WhyAside.{WhyAside}
+use Rattle.pool.specs.actor.WhyAside.TheVariants.{Refused, StampFull}
 
 abbrev pub is_full_why : WhyAside → Bool
 is_full_why Refused = false

@@ -1,10 +1,10 @@
 -- Links whose ends have met.
 use Rattle.std.specs.Prelude.{◌≡◌, ◌-◌, List, ◌++◌, All, map, length, take}
 use Rattle.crossbeam_queue.specs.Passes.{view}
-use Rattle.actor.specs.alpha_core.Stamped.{Stamped}
-use Rattle.actor.specs.alpha_core.StampedWires.{wires_of}
-use Rattle.actor.specs.link_queue.Met.{Met}
-use Rattle.actor.specs.link_queue.Ends.{held_of, held_stamped}
+use Rattle.pool.specs.alpha_core.Stamped.{Stamped}
+use Rattle.pool.specs.alpha_core.StampedWires.{wires_of}
+use Rattle.pool.specs.link_queue.Met.{Met}
+use Rattle.pool.specs.link_queue.Ends.{held_of, held_stamped}
 use Rattle.gather_laws.specs.Outcome.{History}
 
 module _ {T : Type 0} where

@@ -3,8 +3,8 @@
 ghost use Rattle.std.specs.Prelude.{◌≡◌, ◌≢◌, ◌≤◌, ℕ, All, IfErr, IfOk, map};
 ghost use Rattle.alpha_laws.specs.interference.Net.{vertices};
 ghost use Rattle.node_pool.specs.Rows.{HasShape};
-ghost use Rattle.actor.specs.link_queue.Ends.{link_capacity};
-ghost use Rattle.actor.specs.Tables.{tables_of};
+ghost use Rattle.pool.specs.link_queue.Ends.{link_capacity};
+ghost use Rattle.pool.specs.actor.Tables.{tables_of};
 ghost use Rattle.gather_laws.specs.Outcome.{IsOutcome};
 ghost use Rattle.pool.specs.declared.fault.PoolFault.TheVariants.{BadOptions};
 
@@ -12,9 +12,8 @@ use crate::cross::crossed;
 use crate::meeting::meet_rows;
 use crate::outcome::Outcome;
 use crate::taking_apart::{NodesAndEnds, apart, some_full};
-use actor::{Link, Node, Wiring};
 use alpha_laws::{Network, NodeProgram};
-use pool::PoolFault;
+use pool::{Link, Node, PoolFault, Wiring};
 use std::alloc::Global;
 use std::sync::Wait;
 

@@ -29,9 +29,8 @@ mod taking_apart;
 mod wires;
 
 pub use crate::taking_apart::Actor;
-pub use actor::{Gate, OpenGate};
 pub use outcome::Outcome;
-pub use pool::PoolFault;
+pub use pool::{Gate, OpenGate, PoolFault};
 pub use run::run_workers;
 
 // What crates above name of lower ones.

@@ -1,13 +1,13 @@
 //! Each link's ends meet.
 
 ghost use Rattle.std.specs.Prelude.{◌≡◌, ◌≤◌, ℕ, All, IfOk, Some, length, map};
-ghost use Rattle.actor.specs.link_queue.Ends.{HasMet, held_stamped, link_capacity, put_stamped, put_name, taken_stamped};
-ghost use Rattle.actor.specs.Tables.{table_at, table_of};
+ghost use Rattle.pool.specs.link_queue.Ends.{HasMet, held_stamped, link_capacity, put_stamped, put_name, taken_stamped};
+ghost use Rattle.pool.specs.actor.Tables.{table_at, table_of};
 ghost use Rattle.node_pool.specs.Meets.{AreMet, RowsAreMet};
 
 use crate::pairs::pairs;
-use actor::{Link, Met, WiredPut, WiredTake, Wiring};
 use alpha_laws::{Memory, NodeProgram};
+use pool::{Link, Met, WiredPut, WiredTake, Wiring};
 use std::alloc::Global;
 use std::sync::Wait;
 

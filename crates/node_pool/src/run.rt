@@ -1,7 +1,7 @@
 //! A run of workers, from a network to its outcome.
 
 ghost use Rattle.std.specs.Prelude.{◌≡◌, ◌≢◌, ◌↔◌, IfErr, IfOk, IsTrue, Result, Err, map};
-ghost use Rattle.actor.specs.Tables.{tables_of};
+ghost use Rattle.pool.specs.actor.Tables.{tables_of};
 ghost use Rattle.gather_laws.specs.Outcome.{IsOutcome};
 ghost use Rattle.pool.specs.declared.fault.PoolFault.TheVariants.{BadOptions};
 ghost use Rattle.run_options.specs.Ranges.{AreInRange};
@@ -11,9 +11,8 @@ use crate::gathering::gathered;
 use crate::making::{Made, make_links};
 use crate::outcome::Outcome;
 use crate::starting::start_nodes;
-use actor::{Gate, Links, Wiring};
 use alpha_laws::{Network, NodeProgram};
-use pool::{PoolFault, by_vertex, run_nodes};
+use pool::{Gate, Links, PoolFault, Wiring, by_vertex, run_nodes};
 use run_options::{MAX_CAPACITY, MAX_WORKERS, Options};
 use std::alloc::Global;
 use std::marker::Brand;

@@ -9,3 +9,4 @@ pub mod Rule
 pub mod Steps
 pub mod Views
 mod Ends
+pub mod actor

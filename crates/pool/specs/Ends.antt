@@ -5,10 +5,10 @@ use Rattle.actor.specs.declared.refused.TurnRefused.TheVariants.{Memory, StampFu
 use Rattle.pool.specs.declared.fault.PoolFault.{PoolFault}
 use Rattle.pool.specs.declared.fault.PoolFault.TheVariants as fault
 
--- what is told of how the workers ended, if a stamp was refused before, or not: memory comes first
-abbrev pub told_after : {A : Type 0} → A → Bool → List (Result A TurnRefused) → Result A PoolFault
-told_after done true [] = Err fault.StampFull
-told_after done false [] = Ok done
-told_after done full (Ok x ∷ ends) = told_after done full ends
-told_after done full (Err Memory ∷ ends) = Err fault.Memory
-told_after done full (Err StampFull ∷ ends) = told_after done true ends
+-- What is told of how workers ended: memory first, and then a stamp that would be too great, also if one was before.
+abbrev pub told_after : {A : Type 0} → A → List (Result A TurnRefused) → Bool → Result A PoolFault
+told_after done [] true = Err fault.StampFull
+told_after done [] false = Ok done
+told_after done (Ok x ∷ ends) full = told_after done ends full
+told_after done (Err Memory ∷ ends) full = Err fault.Memory
+told_after done (Err StampFull ∷ ends) full = told_after done ends true

@@ -1,7 +1,7 @@
 //! A long list of entries, through all sizes of the blocks in which they lie.
 
-use byte_functions::Wire;
-use entries::{Entries, Entry};
+use alpha_core::Wire;
+use stamps::{Entries, Entry};
 use std::test::Fail;
 
 // More than fit into the small blocks and the first large one.
@@ -22,11 +22,14 @@ fn entries_are_read_as_they_were_appended(rt: HostRuntime) -> Result<(), Fail> {
     let mut entries = Entries::new(rt.alloc());
     for index in 0..MANY {
         entries.reserve()?;
-        entries.push_reserved(entry_at(index));
+        entries.push_reserved(u64::from(index), entry_at(index));
     }
     assert!(rt; entries.len() == MANY as usize);
     for (entry, index) in entries.iter().zip(0..MANY) {
         assert!(rt; entry == entry_at(index));
+    }
+    for (row, index) in entries.stamped().zip(0..MANY) {
+        assert!(rt; row == (u64::from(index), entry_at(index)));
     }
     Ok(())
 }

@@ -4,9 +4,10 @@
 ghost use Rattle.std.specs.Prelude.{◌≡◌};
 ghost use Rattle.byte_functions.specs.interference.Net.{count_of};
 
-use byte_functions::{Network, ReplayRefused, Wire, read_transcript, replay};
-use entries::Entry;
+use alpha_core::{Network, Wire};
+use byte_functions::{ReplayRefused, read_transcript, replay};
 use net_core::{NetState, RunRefused};
+use stamps::Entry;
 use std::alloc::Global;
 use std::test::Fail;
 use sync_rounds::{Best, Greatest};

@@ -4,7 +4,8 @@ ghost use Rattle.std.specs.Prelude.{◌≡◌, length};
 ghost use Rattle.byte_functions.specs.interference.Net.{IsVertex, degree_of, vertices};
 ghost use Rattle.byte_functions.specs.gather_laws.Outcome.{row_in};
 
-use byte_functions::{Colouring, Network, OpenGate, Options, Outcome, Payload, Wire, run_workers};
+use alpha_core::{Network, Stamped, Wire};
+use byte_functions::{Colouring, OpenGate, Options, Outcome, Payload, run_workers};
 use std::alloc::Global;
 use std::sync::Wait;
 use std::test::Fail;
@@ -74,6 +75,15 @@ pub fn greatest<const D: u32, R: Threads + Wait + Sync>(
     Ok(Some(bests))
 }
 
+// Whether these are the wires, whatever their stamps.
+fn are_wires(items: &[Stamped<Payload>], wires: &[Wire<Payload>]) -> bool {
+    items.len() == wires.len()
+        && items
+            .iter()
+            .zip(wires.iter())
+            .all(|(item, wire)| item.wire == *wire)
+}
+
 /// Whether the links out of a vertex hold just these wires after a run of the colouring, by port.
 pub fn holds(
     net: &Network,
@@ -89,7 +99,7 @@ pub fn holds(
         let held = outcome.link(vertex, port).held();
         if by_port
             .get(port as usize)
-            .is_none_or(|wires| held != *wires)
+            .is_none_or(|wires| !are_wires(held, wires))
         {
             return false;
         }

@@ -1,10 +1,9 @@
 //! The one merged run of two nodes that only close their links, and lists of stamped entries that are none.
 
 use alpha_core::{Counter, Network, StampFull, Wire};
-use entries::Entry;
 use net_core::RunRefused;
 use replay::{ReplayRefused, WholeRefused, replay_whole};
-use stamps::{StampTable, order, rising};
+use stamps::{Entry, StampTable, order, rising};
 use std::alloc::{AllocError, Global};
 use std::test::Fail;
 use sync_rounds::{Best, Greatest};

@@ -2,8 +2,9 @@
 //! did.
 
 use crate::runs::{holds, run_of_one, triangle};
-use byte_functions::{Colouring, Network, OpenGate, Options, Payload, Wire, run_workers};
-use entries::{Entries, Entry};
+use alpha_core::{Network, Wire};
+use byte_functions::{Colouring, OpenGate, Options, Payload, run_workers};
+use stamps::{Entries, Entry};
 use std::alloc::Global;
 use std::sync::Wait;
 use std::test::Fail;

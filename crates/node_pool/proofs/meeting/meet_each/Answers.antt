@@ -4,8 +4,8 @@ use Rattle.std.proofs.lemmas.List.{map-append}
 use Rattle.std.proofs.lemmas.List.Elements.{All-pop, All-push, All-same}
 use Rattle.std.proofs.lemmas.Iterator.Consumers.{YieldsList-end, YieldsList-turn}
 use Rattle.std.proofs.lemmas.Iterator.Adapters.{YieldsList-from_vec}
-use Rattle.actor.specs.link_queue.Ends.{held_stamped, link_capacity, put_stamped, taken_stamped}
-use Rattle.actor.specs.Tables.{table_at, table_of}
+use Rattle.pool.specs.link_queue.Ends.{held_stamped, link_capacity, put_stamped, taken_stamped}
+use Rattle.pool.specs.actor.Tables.{table_at, table_of}
 use Rattle.node_pool.specs.Meets.{RowsAreMet}
 use Rattle.node_pool.proofs.MetRows.{one_row_met}
 use Rattle.node_pool.proofs.meeting.meet_each.Goals as goal

@@ -1,6 +1,6 @@
 use Rattle.std.proofs.Common.{◌≤◌, ℕ, length, map}
 use Rattle.std.specs.Prelude.{All}
-use Rattle.actor.specs.link_queue.Ends.{held_stamped, link_capacity, put_stamped, taken_stamped}
+use Rattle.pool.specs.link_queue.Ends.{held_stamped, link_capacity, put_stamped, taken_stamped}
 use Rattle.node_pool.specs.Meets.{RowsAreMet}
 use Rattle.node_pool.proofs.meeting.meet_each.Given as goal
 

@@ -1,7 +1,7 @@
 use Rattle.std.proofs.Common.{◌≤◌, ℕ, Some, map, sym, ap, ◌∙◌, subst}
 use Rattle.std.specs.Prelude.{All}
-use Rattle.actor.specs.link_queue.Ends.{link_capacity, put_stamped, taken_stamped}
-use Rattle.actor.specs.Tables.{table_at, table_of}
+use Rattle.pool.specs.link_queue.Ends.{link_capacity, put_stamped, taken_stamped}
+use Rattle.pool.specs.actor.Tables.{table_at, table_of}
 use Rattle.node_pool.specs.Meets.{AreMet}
 use Rattle.node_pool.proofs.Sides.{all_by, firsts, middles, lasts, same_each, ok_says}
 use Rattle.node_pool.proofs.meeting.meet_ends.Goals as goal

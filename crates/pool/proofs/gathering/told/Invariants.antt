@@ -3,4 +3,4 @@ use Rattle.pool.specs.Ends.{told_after}
 use Rattle.pool.proofs.gathering.told.Given as goal
 
 abbrev pub invariant-loop-worked : goal.invariant-loop-worked
-invariant-loop-worked g l = told_after tt false (map (λ w. w.written) l.worked-items) ≡ told_after tt l.full (map (λ w. w.written) (drop l.worked-index l.worked-items))
+invariant-loop-worked g l = told_after tt (map (λ w. w.written) l.worked-items) false ≡ told_after tt (map (λ w. w.written) (drop l.worked-index l.worked-items)) l.full
