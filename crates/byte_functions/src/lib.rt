@@ -17,6 +17,7 @@
 #![tactic(auto)]
 
 pub mod laws;
+mod merged;
 mod plan_text;
 mod transcript;
 mod workers;
@@ -34,3 +35,4 @@ pub use answers::{
     WholeRefused, Wire, read_transcript, replay, replay_whole, transcript_text,
 };
 pub use node_pool::{Gate, OpenGate, Options, Outcome, run_workers};
+pub use run_options::Edition;

@@ -4,8 +4,8 @@ use Rattle.answers.specs.ReplayAnswers.{IsTold}
 use Rattle.answers.proofs.RefusedLines.{fault-refused}
 use Rattle.answers.proofs.replaying.replayed_entries.Goals as goal
 
-pub returns-clause-fault : goal.returns-clause-fault
-returns-clause-fault c =
+pub returns-in_ok-lines-in-Err-clause-fault : goal.returns-in_ok-lines-in-Err-clause-fault
+returns-in_ok-lines-in-Err-clause-fault c =
     let refused = c.in-Err.refused in
     let net = c.args.network.now in
     let rows = c.args.rows.now in
