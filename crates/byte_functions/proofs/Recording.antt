@@ -1,6 +1,6 @@
 -- The transcript of a whole run is the answer to an input.
 use Rattle.std.proofs.Common.{◌≡◌, ◌-◌, ◌∙◌, [], ℕ, suc, All, List, ap, arith, length, map, refl, slice_index_or, subst, sym, true}
-use Rattle.std.proofs.lemmas.List.{length-map}
+use Rattle.std.proofs.lemmas.List.{length-map, length-range_with_len}
 use Rattle.std.proofs.lemmas.List.Elements.{All-from_get_or}
 use Rattle.answers.specs.interference.Net.{Net, IsNetwork, count_of}
 use Rattle.answers.specs.colour_rules.Payload.{Payload}
@@ -8,11 +8,12 @@ use Rattle.answers.specs.colour_rules.Node as colour
 use Rattle.answers.specs.colour_rules.Program.{colouring}
 use Rattle.node_pool.specs.gather_laws.Outcome.{Outcome, IsOutcome, is_whole, stamped_in}
 use Rattle.gather_laws.specs.Merged.{WholeOutcomesReplay}
+use Rattle.run_options.specs.declared.Edition.{Edition}
 use Rattle.run_options.specs.declared.Edition.TheVariants as edition
 use Rattle.stamps.specs.Merged.{IsMerge}
 use Rattle.stamps.specs.Stamps.{Rises}
 use Rattle.answers.specs.Answers.{ReadsAs}
-use Rattle.byte_functions.specs.Transcripts.{IsMergedText, IsMergedTranscriptOf, IsTranscriptAnswer, IsTranscriptOf, entries_text, stamped_of}
+use Rattle.byte_functions.specs.Transcripts.{IsMergedText, IsMergedTranscriptOf, IsTextIn, IsTranscriptAnswer, IsTranscriptOf, entries_text, stamped_of}
 
 pub recorded : (input text : List ℕ) (net : Net) (capacity : ℕ) (outcome : Outcome colour.Node Payload)
     → ReadsAs input (λ read. IsNetwork read × (net ≡ read)) → IsOutcome colouring net capacity true outcome → is_whole outcome ≡ true
@@ -22,10 +23,10 @@ recorded input text net capacity outcome (graph, reads, (ok, e)) is whole told =
     (graph, reads, (ok, subst (λ n. IsTranscriptOf n text) e of_net))
 
 -- there are as many nodes as vertices
-nodes-count : (net : Net) → IsNetwork net → (capacity : ℕ) (outcome : Outcome colour.Node Payload) → IsOutcome colouring net capacity true outcome →
+pub nodes-count : (net : Net) → IsNetwork net → (capacity : ℕ) (outcome : Outcome colour.Node Payload) → IsOutcome colouring net capacity true outcome →
     length outcome.nodes ≡ count_of net
 nodes-count net ok capacity outcome is =
-    sym (length-map outcome.nodes (λ g. g.vertex)) ∙ ap length is.each_once ∙ length-vertices net
+    sym (length-map outcome.nodes (λ g. g.vertex)) ∙ ap length is.each_once ∙ length-range_with_len 1 (count_of net)
 
 -- the stamps of each node rise, in a list of all nodes
 pub all-rise : (net : Net) → IsNetwork net → (capacity : ℕ) (outcome : Outcome colour.Node Payload) → IsOutcome colouring net capacity true outcome →
@@ -56,3 +57,10 @@ merged input text net capacity outcome (graph, reads, (ok, e)) is whole (rows, m
       is_text = told;
     } in
     (graph, reads, (ok, subst (λ n. IsMergedTranscriptOf n text) e of_net))
+
+-- the text in an edition is the answer
+pub answered : (edition : Edition) (input text : List ℕ) (net : Net) (capacity : ℕ) (outcome : Outcome colour.Node Payload)
+    → ReadsAs input (λ read. IsNetwork read × (net ≡ read)) → IsOutcome colouring net capacity true outcome → is_whole outcome ≡ true
+    → IsNetwork net → WholeOutcomesReplay colouring net → IsTextIn edition (count_of net) outcome.nodes text → IsTranscriptAnswer edition input text
+answered edition.One input text net capacity outcome reads is whole here law told = recorded input text net capacity outcome reads is whole told
+answered edition.Two input text net capacity outcome reads is whole here law told = merged input text net capacity outcome reads is whole told here law

@@ -42,6 +42,11 @@ IsMergedText count nodes text = (rows : List (StampedRow Payload))
     × IsMerge (length nodes) (list_of (map stamped_of nodes)) rows
     × (text ≡ stamped_transcript_of word_in number_in count rows)
 
+-- the text is the transcript of nodes in an edition
+abbrev pub IsTextIn : Edition → ℕ → List (Gathered colour.Node Payload) → List ℕ → Type 0
+IsTextIn edition.One count nodes text = text ≡ entries_text count nodes
+IsTextIn edition.Two count nodes text = IsMergedText count nodes text
+
 -- The text is the transcript of edition 2 of a whole run of workers on the network, over links of some capacity. Its
 -- entries are a whole replay: the event machine plays them in their order, each has the stamp that the counter of its
 -- node gives it, and in the end every node is drained and every link empty.

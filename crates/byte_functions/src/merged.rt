@@ -1,6 +1,6 @@
 //! The transcript of a run of worker threads in one order, with stamps.
 
-ghost use Rattle.std.specs.Prelude.{◌≡◌, ◌<◌, ◌^◌, All, IfOk, length, map};
+ghost use Rattle.std.specs.Prelude.{◌≡◌, All, IfOk, length, map};
 ghost use Rattle.node_pool.specs.Gathers.{gathered_of};
 ghost use Rattle.stamps.specs.Stamps.{Rises};
 ghost use Rattle.byte_functions.specs.Transcripts.{IsMergedText, stamped_of};
@@ -48,7 +48,7 @@ pub fn merged_text(
     count: u32,
     actors: Vec<Actor<Colouring>>,
 ) -> Result<Vec<u8>, Memory>
-    requires few { length actors.items < 2 ^ 32 }
+    requires count { length actors.items ≡ count }
     requires rising { All Rises (map stamped_of (map gathered_of actors.items)) }
     ensures { IfOk result (λ text. IsMergedText count (map gathered_of actors.items) text.items) }
 {

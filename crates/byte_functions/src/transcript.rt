@@ -1,14 +1,18 @@
 //! The transcript of a run of worker threads.
 
-ghost use Rattle.std.specs.Prelude.{◌≡◌, IfOk, IfErr, map};
+ghost use Rattle.std.specs.Prelude.{◌≡◌, All, IfOk, IfErr, length, map};
 ghost use Rattle.node_pool.specs.run_options.Ranges.{AreInRange};
 ghost use Rattle.node_pool.specs.Gathers.{gathered_of};
-ghost use Rattle.byte_functions.specs.Transcripts.{IsTranscriptAnswer, entries_text};
+ghost use Rattle.stamps.specs.Stamps.{Rises};
+ghost use Rattle.byte_functions.specs.Transcripts.{IsTextIn, IsTranscriptAnswer, entries_text, stamped_of};
 ghost use Rattle.byte_functions.specs.Workers.{IsFaultOfWorkers};
 
 use crate::merged::merged_text;
 use crate::workers::whole_run;
-use answers::{Colouring, Memory, PlanFault, network_of_text, push_entries, push_first_line};
+use answers::{
+    Colouring, Memory, Payload, PlanFault, Refused, network_of_text, push_entries, push_first_line,
+};
+use gather_laws::laws::whole_outcomes_replay;
 use node_pool::{Actor, Gate, Options};
 use run_options::Edition;
 use std::alloc::Global;
@@ -29,6 +33,23 @@ fn text_of_actors(
         push_entries(&mut text, actor.node(), actor.entries())?;
     }
     Ok(text)
+}
+
+// The transcript of nodes in an edition.
+fn text_in(
+    alloc: Global,
+    edition: Edition,
+    count: u32,
+    actors: Vec<Actor<Colouring>>,
+) -> Result<Vec<u8>, Memory>
+    requires count { length actors.items ≡ count }
+    requires rising { All Rises (map stamped_of (map gathered_of actors.items)) }
+    ensures { IfOk result (λ text. IsTextIn edition count (map gathered_of actors.items) text.items) }
+{
+    match edition {
+        Edition::One => text_of_actors(alloc, count, actors),
+        Edition::Two => merged_text(alloc, count, actors),
+    }
 }
 
 /// The transcript of a run on the network that a DIMACS text describes: what each node put, took and did until its
@@ -53,13 +74,11 @@ pub fn transcript_bytes<G: Gate + Sync, R: Threads + Wait + Sync>(
     ensures in_range { IfOk result (λ _. AreInRange options) }
     ensures fault { IfErr result (IsFaultOfWorkers options input.now) }
 {
+    whole_outcomes_replay::<Colouring, Payload, Refused>();
     let network = network_of_text(alloc, input)?;
     let outcome = whole_run(rt, alloc, &network, options, true, gate)?;
     let count = network.nodes();
     // The text takes the room of what it doesn't speak of any more.
     drop(network);
-    match edition {
-        Edition::One => Ok(text_of_actors(alloc, count, outcome.into_actors())?),
-        Edition::Two => Ok(merged_text(alloc, count, outcome.into_actors())?),
-    }
+    Ok(text_in(alloc, edition, count, outcome.into_actors())?)
 }
