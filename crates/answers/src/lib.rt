@@ -40,4 +40,6 @@ pub use dimacs_col::ColFault;
 pub use event_texts::EventFault;
 pub use pool::PoolFault;
 pub use replay::{ReplayRefused, replay};
-pub use transcripts::{TextFault, push_entries, push_first_line, read_transcript, stamped_text, transcript_text};
+pub use transcripts::{
+    TextFault, push_entries, push_first_line, read_transcript, stamped_text, transcript_text,
+};

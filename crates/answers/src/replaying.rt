@@ -20,9 +20,7 @@ use event_texts::{expected_words, missing_words, text_of_state};
 use net_core::{NetState, RunRefused};
 use replay::{ReplayRefused, WholeRefused, event_of, replay, replay_whole};
 use std::alloc::{AllocError, Global};
-use transcripts::{
-    TextFault, Transcript, entry_lines, network_text, read_any_behind_network,
-};
+use transcripts::{TextFault, Transcript, entry_lines, network_text, read_any_behind_network};
 
 /// Why a transcript isn't replayed: its first line that is none, or its first entry that isn't possible or has another
 /// pulse or wire, with the number of its line. Behind it are words for what its event lacks or comes to, as
@@ -281,8 +279,8 @@ fn replayed(
 /// As of `forest_bytes` for the lines before the transcript; if there is none, `Replay` with the first line that
 /// is none of a transcript; if there is none, `Replay` with the first entry that isn't possible, or has another
 /// pulse or wire, or, of edition 2, another stamp than its node comes to, or comes too late; if there is none, of
-/// edition 2, `Replay` with the last line if the state isn't whole. Lines count from the first of the input. Any call may instead fail for lack of memory:
-/// `ReplayFault::Memory` or as `forest_bytes`.
+/// edition 2, `Replay` with the last line if the state isn't whole. Lines count from the first of the input. Any call
+/// may instead fail for lack of memory: `ReplayFault::Memory` or as `forest_bytes`.
 pub fn replay_bytes(alloc: Global, input: &[u8]) -> Result<Vec<u8>, PlanFault>
     ensures ok { IfOk result (λ text. IsReplayAnswer input.now text.items) }
     ensures fault { IfErr result (IsFaultOfReplay input.now) }

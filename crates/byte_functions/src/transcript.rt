@@ -53,8 +53,8 @@ fn text_in(
 /// The transcript of a run on the network that a DIMACS text describes: what each node put, took and did until its
 /// colour was found. In edition 1 it has the entries of each node in its own order, vertex by vertex; in edition 2 all
 /// entries in the order of their stamps and then of their vertices, which is a run that `replay_bytes` accepts. The run
-/// is that of `plan_bytes`, but has a transcript, whatever the options say. With more than one worker two calls may give
-/// different transcripts.
+/// is that of `plan_bytes`, but has a transcript, whatever the options say. With more than one worker two calls may
+/// give different transcripts.
 ///
 /// It is not promised that the call returns, nor that any number of turns is enough.
 ///
