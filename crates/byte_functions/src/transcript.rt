@@ -9,7 +9,9 @@ ghost use Rattle.byte_functions.specs.Workers.{IsFaultOfWorkers};
 
 use crate::merged::merged_text;
 use crate::workers::whole_run;
-use answers::{Colouring, Memory, Payload, PlanFault, Refused, network_of_text, push_entries, push_first_line};
+use answers::{
+    Colouring, Memory, Payload, PlanFault, Refused, network_of_text, push_entries, push_first_line,
+};
 use gather_laws::laws::whole_outcomes_replay;
 use node_pool::{Actor, Gate, Options};
 use run_options::Edition;
@@ -74,6 +76,7 @@ pub fn transcript_bytes<G: Gate + Sync, R: Threads + Wait + Sync>(
 {
     whole_outcomes_replay::<Colouring, Payload, Refused>();
     let network = network_of_text(alloc, input)?;
+    network.is_network();
     let outcome = whole_run(rt, alloc, &network, options, true, gate)?;
     let count = network.nodes();
     // The text takes the room of what it doesn't speak of any more.
