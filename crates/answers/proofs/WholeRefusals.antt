@@ -32,7 +32,7 @@ abbrev bare : StampedRow Payload → Row Payload
 bare row = (row.1, row.2)
 
 -- stamped entries that stop at an entry do so without their stamps
-stops-bare : (net : Net) (rows : List (StampedRow Payload)) (refused : ReplayRefused) → StopsAtEntry colouring net rows refused →
+abbrev stops-bare : (net : Net) (rows : List (StampedRow Payload)) (refused : ReplayRefused) → StopsAtEntry colouring net rows refused →
     Stops colouring net (bare_rows rows) refused
 stops-bare net rows refused is = record {
   before = bare_rows is.at.before;
@@ -95,15 +95,15 @@ module _ (net : Net) (ok : IsNetwork net) (lines : List Line) (read : StampedTra
 
 by-fault : (net : Net) (lines : List Line) (told : ReplayFault) → (told ≢ fault.Memory → IsStampedRefusal net lines told) →
     ((n : ℕ) → told ≡ fault.Syntax n → ⊥) → IsFaultOfTranscript net lines told
-by-fault net lines (fault.Syntax n) is no = absurd (no n refl)
-by-fault net lines (fault.NotReady n words) is no = inr (is (λ e. cc))
-by-fault net lines (fault.NothingToPut n words) is no = inr (is (λ e. cc))
-by-fault net lines (fault.LinkEmpty n words) is no = inr (is (λ e. cc))
-by-fault net lines (fault.NoSuch n) is no = inr (is (λ e. cc))
-by-fault net lines (fault.WrongWire n words) is no = inr (is (λ e. cc))
-by-fault net lines (fault.WrongStamp n) is no = inr (is (λ e. cc))
-by-fault net lines (fault.NotWhole n) is no = inr (is (λ e. cc))
-by-fault net lines fault.Memory is no = tt
+by-fault net lines (fault.Syntax n) is never = absurd (never n refl)
+by-fault net lines (fault.NotReady n words) is never = inr (is (λ e. cc))
+by-fault net lines (fault.NothingToPut n words) is never = inr (is (λ e. cc))
+by-fault net lines (fault.LinkEmpty n words) is never = inr (is (λ e. cc))
+by-fault net lines (fault.NoSuch n) is never = inr (is (λ e. cc))
+by-fault net lines (fault.WrongWire n words) is never = inr (is (λ e. cc))
+by-fault net lines (fault.WrongStamp n) is never = inr (is (λ e. cc))
+by-fault net lines (fault.NotWhole n) is never = inr (is (λ e. cc))
+by-fault net lines fault.Memory is never = tt
 
 -- no refusal of entries is that of a line
 no-syntax : (numbers : List ℕ) (words : Vec ℕ Global) (refused : ReplayRefused) (n : ℕ) → fault_at numbers words refused ≡ fault.Syntax n → ⊥

@@ -35,8 +35,8 @@ pub record IsTranscriptOf (net : Net) (text : List ℕ) : Type 0 where
 abbrev pub stamped_of : {S M : Type 0} → Gathered S M → List (StampedEntry M)
 stamped_of g = g.stamped
 
--- The text is the transcript of edition 2 of so many nodes of the colouring: their entries in the order of the stamps and
--- then of the vertices, each once.
+-- The text is the transcript of edition 2 of so many nodes of the colouring: their entries in the order of the stamps
+-- and then of the vertices, each once.
 abbrev pub IsMergedText : ℕ → List (Gathered colour.Node Payload) → List ℕ → Type 0
 IsMergedText count nodes text = (rows : List (StampedRow Payload))
     × IsMerge (length nodes) (list_of (map stamped_of nodes)) rows

@@ -55,8 +55,8 @@ fn text_in(
 /// The transcript of a run on the network that a DIMACS text describes: what each node put, took and did until its
 /// colour was found. In edition 1 it has the entries of each node in its own order, vertex by vertex; in edition 2 all
 /// entries in the order of their stamps and then of their vertices, which is a run that `replay_bytes` accepts. The run
-/// is that of `plan_bytes`, but has a transcript, whatever the options say. With more than one worker two calls may give
-/// different transcripts.
+/// is that of `plan_bytes`, but has a transcript, whatever the options say. With more than one worker two calls may
+/// give different transcripts.
 ///
 /// It is not promised that the call returns, nor that any number of turns is enough.
 ///
@@ -76,6 +76,7 @@ pub fn transcript_bytes<G: Gate + Sync, R: Threads + Wait + Sync>(
 {
     whole_outcomes_replay::<Colouring, Payload, Refused>();
     let network = network_of_text(alloc, input)?;
+    network.is_network();
     let outcome = whole_run(rt, alloc, &network, options, true, gate)?;
     let count = network.nodes();
     // The text takes the room of what it doesn't speak of any more.

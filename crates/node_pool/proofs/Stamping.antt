@@ -105,6 +105,9 @@ module _ {S M E A F : Type 0} (program : Program S M E) (net : Net) (ok : IsNetw
       ap (λ l. bare_of (get_or l (v - 1) [])) are.stamped_are ∙ ap (λ l. bare_of l) (get_map stamped nodes (v - 1) n.0 [] n.1) ∙ (are.stamps n.0).same
       ∙ sym (ap (λ l. get_or l (v - 1) []) are.entries_are ∙ get_map entries nodes (v - 1) n.0 [] n.1)
 
+  abbrev IsWrittenBy : ℕ → List (Entry M) → Type 0
+  IsWrittenBy v es = IsWritten program net v (node_in program net outcome v) (λ i. wires_of (puts_by v i)) (λ i. wires_of (takens_by v i)) es
+
   pub are_stamped : IsTrue transcript → AreStamped program net outcome counters puts_by takens_by held_by
   are_stamped yes = record {
     met = record {
@@ -132,6 +135,3 @@ module _ {S M E A F : Type 0} (program : Program S M E) (net : Net) (ok : IsNetw
     takens_are = λ v i is lt. ap (λ l. wires_of l) (sym (takens_are v i is lt)) ∙ sym (ap (λ h. h.taken) (link_is v i));
     held_are = λ v i is lt. sym (ap (λ h. h.held) (link_is v i));
   }
-    where
-      abbrev IsWrittenBy : ℕ → List (Entry M) → Type 0
-      IsWrittenBy v es = IsWritten program net v (node_in program net outcome v) (λ i. wires_of (puts_by v i)) (λ i. wires_of (takens_by v i)) es

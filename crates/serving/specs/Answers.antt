@@ -30,7 +30,8 @@ abbrev pub IsFaultAnswer : Request → List ℕ → PlanFault → Type 0
 IsFaultAnswer Forests input fault = IsFaultOfText input fault
 IsFaultAnswer Plain input fault = IsFaultOfText input fault
 IsFaultAnswer (Plan options) input fault = IsFaultOfWorkers options input fault × (fault ≢ Pool BadOptions)
-IsFaultAnswer (Transcript options edition) input fault = IsFaultOfWorkers options input fault × (fault ≢ Pool BadOptions)
+IsFaultAnswer (Transcript options edition) input fault =
+    IsFaultOfWorkers options input fault × (fault ≢ Pool BadOptions)
 IsFaultAnswer Check input fault = IsFaultOfCheck input fault
 IsFaultAnswer Events input fault = IsFaultOfEvents input fault
 IsFaultAnswer Replay input fault = IsFaultOfReplay input fault

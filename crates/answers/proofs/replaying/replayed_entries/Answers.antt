@@ -11,4 +11,4 @@ returns-in_ok-lines-in-Err-clause-fault c =
     let rows = c.args.rows.now in
     λ nodes e.
     fault-refused net c.is_network.ensures (lines_of c.args.input.now) (nodes, rows) refused c.told.result e (λ no. c.in-Err.ensures.refuses no)
-    (subst (λ numbers. IsTold net rows numbers refused c.told.result) (c.as_slice.ensures.value ∙ c.in_ok-lines.ensures) c.told.ensures)
+    (subst (λ numbers. IsTold net rows numbers refused c.told.result) (c.as_slice.ensures.value ∙ c.in_ok-lines-in-Err.ensures) c.told.ensures)
