@@ -20,13 +20,16 @@ mod plan_text;
 mod transcript;
 mod workers;
 
-pub use answers::{FaultReport, PlanFault, ReplayFault, fault_report};
-pub use answers::{check_bytes, events_bytes, forest_bytes, plain_bytes, replay_bytes, rounds_bytes};
+pub use answers::{
+    FaultReport, PlanFault, ReplayFault, check_bytes, events_bytes, fault_report, forest_bytes,
+    plain_bytes, replay_bytes, rounds_bytes,
+};
 pub use transcript::transcript_bytes;
 pub use workers::plan_bytes;
 
 // What crates above name of lower ones.
-pub use answers::{ColFault, Colouring, EventFault, Network, Payload, PoolFault, ReplayRefused};
-pub use answers::{TextFault, WholeRefused, Wire, read_transcript, replay, replay_whole};
-pub use answers::transcript_text;
+pub use answers::{
+    ColFault, Colouring, EventFault, Network, Payload, PoolFault, ReplayRefused, TextFault,
+    WholeRefused, Wire, read_transcript, replay, replay_whole, transcript_text,
+};
 pub use node_pool::{Gate, OpenGate, Options, Outcome, run_workers};

@@ -1,6 +1,6 @@
 //! A node by itself, whose counter is near the greatest number.
 
-ghost use Rattle.std.specs.Prelude.{◌≡◌, ◌<◌, ◌≤◌, [], ◌∷◌, false, IfOk};
+ghost use Rattle.std.specs.Prelude.{◌≡◌, IfOk};
 ghost use Rattle.node_checks.specs.LinkRows.{lone_net};
 
 use actor::{Links, Node, OpenGate, Wiring};
@@ -30,10 +30,13 @@ pub fn no_links(alloc: Global) -> Result<Links<Alone, Greatest<2>>, Memory> {
     Ok(Links::new(vec![in alloc; Vec::new(alloc)]?))
 }
 
-/// The node at its start, with its counter moved on.
-pub fn node_at(alloc: Global, network: &Network, stamp: u64) -> Result<Node<Alone, Greatest<2>>, Memory>
+/// The node at its start, with its counter moved past a stamp.
+pub fn node_past(
+    alloc: Global,
+    network: &Network,
+    stamp: u64,
+) -> Result<Node<Alone, Greatest<2>>, Memory>
     requires network { network.now ≡ lone_net }
-    requires some { 0 < stamp }
     ensures vertex { IfOk result (λ node. node.vertex ≡ 1) }
 {
     let mut node = Node::<Alone, Greatest<2>>::start(
@@ -44,11 +47,13 @@ pub fn node_at(alloc: Global, network: &Network, stamp: u64) -> Result<Node<Alon
         Vec::new(alloc),
         false,
     )?;
-    node.counter.advance(stamp);
-    Ok(node)
+    match node.counter.past(stamp) {
+        Ok(_) => Ok(node),
+        Err(_) => Err(Memory),
+    }
 }
 
-/// How far the node comes by one worker: its pulse and its counter.
+/// How far the node comes by one worker, if its counter is past a stamp: its pulse and its counter.
 pub fn run_from<R: Threads + Wait + Sync>(
     rt: &R,
     alloc: Global,
@@ -56,10 +61,9 @@ pub fn run_from<R: Threads + Wait + Sync>(
     stamp: u64,
 ) -> Result<(u32, u64), PoolFault>
     requires network { network.now ≡ lone_net }
-    requires some { 0 < stamp }
 {
     let links = no_links(alloc)?;
-    let node = Box::new(alloc, node_at(alloc, network, stamp)?)?;
+    let node = Box::new(alloc, node_past(alloc, network, stamp)?)?;
     let nodes = run_nodes(rt, alloc, &links, &OpenGate, vec![in alloc; node]?, 1, 100)?;
     match nodes.as_slice() {
         [node] => Ok((node.alpha.pulse_number(), node.counter.value())),

@@ -3,7 +3,7 @@
 ghost use Rattle.std.specs.Prelude.{◌≡◌, IfOk};
 ghost use Rattle.node_checks.specs.LinkRows.{lone_net};
 
-use crate::full_counters::{no_links, node_at, run_from};
+use crate::full_counters::{no_links, node_past, run_from};
 use actor::{OpenGate, TurnRefused};
 use alpha_core::{NetFault, Network, bars_fit, edges_fit};
 use pool::PoolFault;
@@ -25,16 +25,16 @@ fn a_worker_stops_at_the_greatest_stamp(rt: HostRuntime) -> Result<(), Fail> {
     let alloc: Global = rt.alloc();
     let network = alone(&rt, alloc)?;
     for (stamp, end) in [
-        (1, Ok((2, 3))),
-        (u64::MAX - 2, Ok((2, u64::MAX))),
+        (0, Ok((2, 3))),
+        (u64::MAX - 3, Ok((2, u64::MAX))),
+        (u64::MAX - 2, Err(PoolFault::StampFull)),
         (u64::MAX - 1, Err(PoolFault::StampFull)),
-        (u64::MAX, Err(PoolFault::StampFull)),
     ] {
         assert!(rt; run_from(&rt, alloc, &network, stamp) == end, "{stamp}");
     }
     // By the turn that it refuses the node stays as it was.
     let links = no_links(alloc)?;
-    let mut node = node_at(alloc, &network, u64::MAX - 1)?;
+    let mut node = node_past(alloc, &network, u64::MAX - 2)?;
     assert!(rt; node.turn(&rt, &links, &OpenGate, 0) == Ok(true));
     assert!(rt; node.turn(&rt, &links, &OpenGate, 0) == Err(TurnRefused::StampFull));
     assert!(rt; node.alpha.pulse_number() == 1 && node.counter.value() == u64::MAX);

@@ -39,11 +39,19 @@ fn refusal<const D: u32>(alloc: Global, net: &Network, rows: &[Row]) -> Option<W
     }
 }
 
-const NOTHING_TO_PUT: WholeRefused = WholeRefused::Replay(ReplayRefused::Run(RunRefused::NothingToPut(1)));
+const NOTHING_TO_PUT: WholeRefused = WholeRefused::Replay(ReplayRefused::Run(
+    RunRefused::NothingToPut(1),
+));
 
 const LINK_EMPTY: WholeRefused = WholeRefused::Replay(ReplayRefused::Run(RunRefused::LinkEmpty(0)));
 
+const WRONG_PUT: Entry<Best> = Entry::Put(1, Wire::Safe(0));
+
 const WRONG_WIRE: WholeRefused = WholeRefused::Replay(ReplayRefused::WrongWire(2));
+
+fn wrong_stamp(index: usize) -> Option<WholeRefused> {
+    Some(WholeRefused::WrongStamp(index))
+}
 
 #[test]
 fn a_merged_run_is_replayed_or_refused_by_the_first_row_out_of_place(
@@ -58,17 +66,17 @@ fn a_merged_run_is_replayed_or_refused_by_the_first_row_out_of_place(
     for (rows, refused) in [
         ([a, b, c, d], None),
         ([first, second, last, other], None),
-        ([second, first, last, other], Some(WholeRefused::WrongStamp(1))),
-        ([first, second, other, last], Some(WholeRefused::WrongStamp(3))),
-        ([a, b, put(2, 2, 1), d], Some(WholeRefused::WrongStamp(2))),
-        ([a, b, put(4, 2, 1), d], Some(WholeRefused::WrongStamp(2))),
-        ([a, b, put(u64::MAX, 2, 1), d], Some(WholeRefused::WrongStamp(2))),
-        ([put(0, 1, 2), b, c, d], Some(WholeRefused::WrongStamp(0))),
+        ([second, first, last, other], wrong_stamp(1)),
+        ([first, second, other, last], wrong_stamp(3)),
+        ([a, b, put(2, 2, 1), d], wrong_stamp(2)),
+        ([a, b, put(4, 2, 1), d], wrong_stamp(2)),
+        ([a, b, put(u64::MAX, 2, 1), d], wrong_stamp(2)),
+        ([put(0, 1, 2), b, c, d], wrong_stamp(0)),
         // By the counter of the node alone.
-        ([a, take(1, 2, 1), put(2, 2, 1), d], Some(WholeRefused::WrongStamp(1))),
-        ([a, b, c, take(2, 1, 2)], Some(WholeRefused::WrongStamp(3))),
+        ([a, take(1, 2, 1), put(2, 2, 1), d], wrong_stamp(1)),
+        ([a, b, c, take(2, 1, 2)], wrong_stamp(3)),
         ([a, a, b, c], Some(NOTHING_TO_PUT)),
-        ([a, b, (9, 2, Entry::Put(1, Wire::Safe(0))), d], Some(WRONG_WIRE)),
+        ([a, b, (9, 2, WRONG_PUT), d], Some(WRONG_WIRE)),
     ] {
         assert!(rt; refusal::<0>(alloc, &net, &rows) == refused);
     }
@@ -117,7 +125,10 @@ fn merged_runs_of_workers_are_replayed_whole(rt: HostRuntime) -> Result<(), Fail
         let net = small(alloc, number)?;
         for workers in [1, 2, 4] {
             let rows = merged::<3, _>(&rt, alloc, &net, workers)?;
-            assert!(rt; refusal::<3>(alloc, &net, &rows) == None, "{number} {workers}");
+            assert!(rt;
+                refusal::<3>(alloc, &net, &rows) == None,
+                "{number} {workers}"
+            );
         }
     }
     Ok(())

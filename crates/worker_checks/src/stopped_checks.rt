@@ -32,17 +32,35 @@ static SECOND_OF_ONE: [StampedEntry; 3] = [
 ];
 
 // What they have put, by stamp.
-const PUT_1: Stamped<Payload> = Stamped { stamp: 1, wire: FROM_1 };
+const PUT_1: Stamped<Payload> = Stamped {
+    stamp: 1,
+    wire: FROM_1,
+};
 
-const PUT_2: Stamped<Payload> = Stamped { stamp: 2, wire: FROM_1 };
+const PUT_2: Stamped<Payload> = Stamped {
+    stamp: 2,
+    wire: FROM_1,
+};
 
-const PUT_3: Stamped<Payload> = Stamped { stamp: 3, wire: FROM_2 };
+const PUT_3: Stamped<Payload> = Stamped {
+    stamp: 3,
+    wire: FROM_2,
+};
 
-const ACK_4: Stamped<Payload> = Stamped { stamp: 4, wire: Wire::Ack(0) };
+const ACK_4: Stamped<Payload> = Stamped {
+    stamp: 4,
+    wire: Wire::Ack(0),
+};
 
-const PUT_4: Stamped<Payload> = Stamped { stamp: 4, wire: FROM_2 };
+const PUT_4: Stamped<Payload> = Stamped {
+    stamp: 4,
+    wire: FROM_2,
+};
 
-const PUT_5: Stamped<Payload> = Stamped { stamp: 5, wire: FROM_2 };
+const PUT_5: Stamped<Payload> = Stamped {
+    stamp: 5,
+    wire: FROM_2,
+};
 
 // Whether these are the entries of a node.
 fn are(entries: &Entries<Payload>, wanted: &[StampedEntry]) -> bool {
