@@ -6,8 +6,8 @@ ghost use Rattle.pool.specs.actor.Tables.{table_at, table_of};
 ghost use Rattle.node_pool.specs.Meets.{AreMet, RowsAreMet};
 
 use crate::pairs::pairs;
-use pool::{Link, Met, WiredPut, WiredTake, Wiring};
 use alpha_laws::{Memory, NodeProgram};
+use pool::{Link, Met, WiredPut, WiredTake, Wiring};
 use std::alloc::Global;
 use std::sync::Wait;
 

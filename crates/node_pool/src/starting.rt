@@ -7,8 +7,8 @@ ghost use Rattle.node_pool.specs.News.{AreNewEnds, AreNewPutsFrom, AreNewTakesTo
 
 use crate::cross::crossed;
 use crate::wires::{wired_puts, wired_takes};
-use pool::{Node, PutEnd, TakeEnd, Wiring};
 use alpha_laws::{Memory, Network, NodeProgram};
+use pool::{Node, PutEnd, TakeEnd, Wiring};
 use std::alloc::Global;
 
 // Takes the last row off.

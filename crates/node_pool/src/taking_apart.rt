@@ -3,8 +3,8 @@
 ghost use Rattle.std.specs.Prelude.{◌≡◌, IfOk, map};
 ghost use Rattle.node_pool.specs.Full.{is_full, some_full};
 
-use pool::{AlphaNode, Entries, Node, WhyAside, WiredPut, WiredTake, Wiring};
 use alpha_laws::NodeProgram;
+use pool::{AlphaNode, Entries, Node, WhyAside, WiredPut, WiredTake, Wiring};
 use std::alloc::{AllocError, Global};
 
 /// A node after the run, with its vertex and its entries.

@@ -7,8 +7,8 @@ ghost use Rattle.pool.specs.link_queue.Ends.{put_list, taken_list};
 ghost use Rattle.pool.specs.actor.Node.{links_in, links_out};
 ghost use Rattle.node_pool.specs.News.{AreNewPutsFrom, AreNewTakesTo};
 
-use pool::{PutEnd, TakeEnd, WiredPut, WiredTake, Wiring};
 use alpha_laws::{Network, NodeProgram};
+use pool::{PutEnd, TakeEnd, WiredPut, WiredTake, Wiring};
 use std::alloc::{AllocError, Global};
 
 /// The ends that put, of the links out of a vertex.

@@ -12,7 +12,7 @@ use Rattle.pool.specs.Ends.{told_after}
 module _ {A : Type 0} (done : A) where
   -- memory is told first
   pub memory_told : (full : Bool) (ends : List (Result A TurnRefused)) → Contains ends (Err Memory) → told_after done ends full ≡ Err fault.Memory
-  memory_told full [] c = absurd (omega (arith, c.1.0))
+  memory_told full [] c = absurd (omega (arith, c.1))
   memory_told full (Ok x ∷ ends) c = memory_told full ends (Contains-tail (Ok x) ends (Err Memory) (λ e. absurd cc) c)
   memory_told full (Err Memory ∷ ends) c = refl
   memory_told full (Err StampFull ∷ ends) c = memory_told true ends (Contains-tail (Err StampFull) ends (Err Memory) (λ e. absurd cc) c)

@@ -126,6 +126,7 @@ fn with_those_of<J: Wiring, P: NodeProgram>(
 // The fault of a run in which a turn of a worker ended early, if there is such a turn. Memory is told first.
 fn told<J: Wiring, P: NodeProgram>(done: &Vec<Worked<J, P>>) -> Result<(), PoolFault>
     ensures told { result ≡ told_after tt (map (λ w. w.written) done.now.items) false }
+    ensures fault { IfErr result (λ fault. fault ≢ BadOptions) }
 {
     let mut full = false;
     for worked in done.as_slice() {
@@ -199,7 +200,10 @@ pub fn gather<J: Wiring, P: NodeProgram, R: Wait>(
     ensures memory_first { Contains (map (λ w. w.written) done.items) (Err turn.Memory) → result ≡ Err Memory }
     ensures fault { IfErr result (λ fault. fault ≢ BadOptions) }
 {
-    told(&done)?;
+    match told(&done) {
+        Ok(()) => {}
+        Err(fault) => return Err(fault),
+    }
     let Back {
         mut owns,
         rows,

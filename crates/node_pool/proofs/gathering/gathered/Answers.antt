@@ -91,12 +91,12 @@ returns g c =
     let outcome : Outcome _ _ = record { nodes = map gathered_of actors; links = map (λ row. map history_of row.items) mets } in
     let linked : List (List (StampedHistory g.row.P-Payload.Denot)) = map (λ row. map linked_of row.items) mets in
     let puts_are = met.puts_are
-        ∙ of_items (λ row. row.items) c.in_ok-actors.field-0.puts.items (λ e. put_stamped e.end) _ c.in_ok-actors.ensures.puts
-        ∙ map-twice (λ row. map (λ e. put_stamped e.end) row) (λ n. n.puts.items) nodes in
+    ∙ of_items (λ row. row.items) c.in_ok-actors.field-0.puts.items (λ e. put_stamped e.end) _ c.in_ok-actors.ensures.puts
+    ∙ map-twice (λ row. map (λ e. put_stamped e.end) row) (λ n. n.puts.items) nodes in
     let takens_are = met.takens_are ∙ of_items (λ row. row.items) c.in_ok-takes.takes.items (λ e. taken_stamped e.end) _ refl in
     let splits = all_by (λ mets. All (λ met. put_of met ≡ taken_of met ++ held_stamped met) mets) (λ row. row.items) mets met.splits in
     let gathered : AreGathered program net nodes (λ n. n.vertex) (λ n. n.alpha) (λ n. n.aside) (λ n. map (λ e. put_list e.end) n.puts.items)
-        (λ n. n.takes.items) (λ e. taken_list e.end) crossed g.J.Wiring.transcript (λ n. n.entries.items) outcome = record {
+    (λ n. n.takes.items) (λ e. taken_list e.end) crossed g.J.Wiring.transcript (λ n. n.entries.items) outcome = record {
       last = λ n. n.last;
       keeps = λ n. n.keeps;
       set_aside = λ n x e. n.set_aside x e;
@@ -121,7 +121,7 @@ returns g c =
           (held_stamped (get_or (get_or mets k d).items i e)) (splits k d lt i e lt'));
     } in
     let stamping : AreStampedNodes net nodes (λ n. n.vertex) (λ n. n.counter) (λ n. map (λ e. put_stamped e.end) n.puts.items) (λ n. n.takes.items)
-        (λ e. taken_stamped e.end) crossed g.J.Wiring.transcript (λ n. n.entries.items) (λ n. n.entries.stamped) linked outcome = record {
+    (λ e. taken_stamped e.end) crossed g.J.Wiring.transcript (λ n. n.entries.items) (λ n. n.entries.stamped) linked outcome = record {
       order = c.requires.nodes;
       crosses = crosses;
       outs = λ n. length-map n.puts.items (λ e. put_stamped e.end) ∙ as_long _ _ n.puts.items _ n.outs;
@@ -136,8 +136,8 @@ returns g c =
       splits = all_rows (λ row. row.items) mets (λ h. h.put ≡ h.taken ++ h.held) linked_of splits;
     } in
     let wrote = written program g.P.NodeProgram.laws net ok nodes (λ n. n.vertex) (λ n. n.alpha) (λ n. n.aside)
-        (λ n. map (λ e. put_list e.end) n.puts.items) (λ n. n.takes.items) (λ e. taken_list e.end) crossed g.J.Wiring.transcript (λ n. n.entries.items) outcome
-        gathered in
+    (λ n. map (λ e. put_list e.end) n.puts.items) (λ n. n.takes.items) (λ e. taken_list e.end) crossed g.J.Wiring.transcript (λ n. n.entries.items) outcome
+    gathered in
     record {
       outcome = λ capacity below.
           subst (λ net. IsOutcome program net capacity g.J.Wiring.transcript outcome) c.requires.network
@@ -153,5 +153,5 @@ returns g c =
           _ _ _ _
           (are_stamped program net ok nodes (λ n. n.vertex) (λ n. n.counter) (λ n. map (λ e. put_stamped e.end) n.puts.items) (λ n. n.takes.items)
           (λ e. taken_stamped e.end) crossed g.J.Wiring.transcript (λ n. n.entries.items) (λ n. n.entries.stamped) linked outcome stamping wrote));
-      fault = search rules;
+      fault = tt;
     }

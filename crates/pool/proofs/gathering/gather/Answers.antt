@@ -1,8 +1,8 @@
-use Rattle.std.proofs.Common.{◌≡◌, ◌+◌, ◌-◌, ◌<◌, ◌∙◌, length, map, get_or, sym, arith}
+use Rattle.std.proofs.Common.{◌≡◌, false, ◌+◌, ◌-◌, ◌<◌, ◌∙◌, length, map, get_or, sym, arith}
 use Rattle.crossbeam_deque.specs.Handles.{worker_deque, worker_view}
 use Rattle.pool.specs.Deques.{deque_of}
 use Rattle.pool.specs.Ledgers.{all_shares, shares_of}
-use Rattle.pool.proofs.Ends.{no_memory, none_ended}
+use Rattle.pool.proofs.Ends.{memory_told, no_memory, none_ended}
 use Rattle.pool.proofs.Views.{as_many, carried}
 use Rattle.pool.proofs.gathering.gather.Goals as goal
 
@@ -53,7 +53,10 @@ returns-clause-once g c h =
 
 -- no turn ended early
 pub returns-clause-ended : goal.returns-clause-ended
-returns-clause-ended g c = none_ended tt (λ w. w.written) c.args.done.items tt (sym c.told.ensures ∙ c.in_ok.is)
+returns-clause-ended g c = none_ended tt (λ w. w.written) c.args.done.items tt (sym c.told.ensures.told ∙ c.in-Ok.is)
 
 pub returns-clause-memory_first : goal.returns-clause-memory_first
-returns-clause-memory_first g c some = absurd (no_memory tt (map (λ w. w.written) c.args.done.items) tt (sym c.told.ensures ∙ c.in_ok.is) some)
+returns-clause-memory_first g c some = absurd (no_memory tt (map (λ w. w.written) c.args.done.items) tt (sym c.told.ensures.told ∙ c.in-Ok.is) some)
+
+pub returns-in-Err-clause-memory_first : goal.returns-in-Err-clause-memory_first
+returns-in-Err-clause-memory_first g c some = sym c.in-Err.is ∙ c.told.ensures.told ∙ memory_told tt false (map (λ w. w.written) c.args.done.items) some
