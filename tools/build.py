@@ -10,6 +10,9 @@ What has to be built is decided by what the sources say, not by the times of fil
 Libraries are built by the toolchain's own module `rtlib`, since two runs of its command `rt lib` wait for each other if
 they share a crate below; the programs are linked by `rt run`.
 
+Measured on four processors: with 4 jobs, 34 of 38 crates took 40 minutes, while other provers ran beside (load 6 to 18). What
+gives way hardly gets on then: sync_rounds took 18 of them. Nothing was measured without others beside, nor with 1 or 2 jobs.
+
 The status is 0 if all is built, 1 if a crate isn't proved, 2 if nothing could be tried, and 130 after Ctrl-C.
 """
 import argparse
@@ -32,9 +35,10 @@ ROOM = 4 << 30
 # How many steps of the system's priority a crate that nothing long waits for gives way.
 WAY = 10
 
-# The toolchain's crates of what threads share: a line over them takes about twice as long to prove as another (measured:
-# 0.5 processor seconds in pool, 0.16 to 0.27 in the others).
+# A line takes about twice as long to prove if its crate is over the toolchain's crates of what threads share, or stands on many
+# crates (measured: 0.5 processor seconds in pool, 0.5 in answers and round_texts, 0.16 to 0.27 in the others).
 SHARED = ("atomic_", "crossbeam_")
+MANY = 12
 
 
 def with_below(crates, below):
@@ -152,7 +156,8 @@ class Build:
         behind = dict.fromkeys(self.crates, 0)
         for name in reversed(self.crates):
             over_shared = any(named.startswith(SHARED) for named in self.crates[name].of_kit)
-            behind[name] += self.crates[name].count(rb"\n") * (2 if over_shared else 1)
+            is_dear = over_shared or len(self.crates[name].below()) >= MANY
+            behind[name] += self.crates[name].count(rb"\n") * (2 if is_dear else 1)
             for lower in self.below(name):
                 behind[lower] = max(behind[lower], behind[name])
         return behind

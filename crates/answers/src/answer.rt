@@ -9,9 +9,9 @@ ghost use Rattle.alpha_core.specs.interference.Net.{IsNetwork};
 ghost use Rattle.answers.specs.Answers.{IsFaultOfText, IsForestsAnswer, IsPlainAnswer, ReadsAs};
 ghost use Rattle.answers.specs.Answers.{identifiers_with, network_with};
 
+use crate::colours_text::text_of_plan;
 use crate::fault::PlanFault;
 use crate::forests_text::text_of_forests;
-use crate::colours_text::text_of_plan;
 use alpha_core::{NetFault, Network};
 use colour_program::laws::colours_are_proper;
 use dimacs_col::{ColFile, read};

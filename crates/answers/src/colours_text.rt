@@ -6,8 +6,8 @@ ghost use Rattle.answers.specs.Texts.{colours_text};
 
 use alpha_core::{Memory, Network};
 use channel_plan::plan_text;
-use colour_program::laws::rounds_end_with_the_colours;
 use colour_program::Colouring;
+use colour_program::laws::rounds_end_with_the_colours;
 use std::alloc::{AllocError, Global};
 use sync_rounds::run_rounds;
 

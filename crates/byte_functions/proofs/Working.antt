@@ -20,6 +20,7 @@ use Rattle.answers.specs.colour_rules.Program.{colouring}
 use Rattle.answers.specs.colour_laws.Colours.{colours}
 use Rattle.answers.specs.Answers.{IsPlainAnswer, ReadsAs}
 use Rattle.answers.proofs.Plain.{plain}
+use Rattle.byte_functions.specs.Colours.{merged_of}
 use Rattle.byte_functions.specs.Workers.{IsFaultOfPool, IsFaultOfRun, IsFaultOfWorkers}
 use Rattle.answers.specs.declared.fault.PlanFault.{PlanFault}
 use Rattle.answers.specs.declared.fault.PlanFault.TheVariants as plan
@@ -74,13 +75,10 @@ workers-fault input net o plan.Memory read is = absurd is
 abbrev Left : Type 0
 Left = Outcome colour.Node Payload
 
-abbrev pub merged : Gathered colour.Node Payload → ℕ
-merged g = g.alpha.node.state.merged
-
 -- the colours of the nodes, in their order
 colours-are : (net : Net) (outcome : Left) → map (λ g. g.vertex) outcome.nodes ≡ vertices net
     → ((v : ℕ) → IsVertex net v → (node_in colouring net outcome v).state.merged ≡ colours net v)
-    → map merged outcome.nodes ≡ map (colours net) (vertices net)
+    → map merged_of outcome.nodes ≡ map (colours net) (vertices net)
 colours-are net outcome once exact =
     let n = count_of net in
     let size : length outcome.nodes ≡ n = sym (length-map outcome.nodes (λ g. g.vertex)) ∙ ap (λ l. length l) once ∙ length-range_with_len 1 n in
@@ -99,7 +97,7 @@ colours-are net outcome once exact =
     ∙ sym (get_or-map-range_with_len (colours net) 1 n k (suc k) d below (omega arith)))
 
 pub planned : (input text : List ℕ) (net : Net) (outcome : Left) → ReadsAs input (λ read. IsNetwork read × (net ≡ read))
-    → text ≡ plan_of (map merged outcome.nodes) → map (λ g. g.vertex) outcome.nodes ≡ vertices net
+    → text ≡ plan_of (map merged_of outcome.nodes) → map (λ g. g.vertex) outcome.nodes ≡ vertices net
     → ((v : ℕ) → IsVertex net v → (node_in colouring net outcome v).state.merged ≡ colours net v)
     → ((v w : ℕ) → IsEdge net v w → colours net v ≢ colours net w) → ((v : ℕ) → colours net v ≤ span_of net)
     → ((v : ℕ) → IsBarred net v (colours net v) → ⊥)

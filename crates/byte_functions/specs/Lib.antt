@@ -1,5 +1,6 @@
 pub mod Workers
 pub mod Transcripts
+pub mod Colours
 pub mod answers
 pub mod interference
 pub mod pool

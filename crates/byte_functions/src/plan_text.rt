@@ -3,6 +3,7 @@
 ghost use Rattle.std.specs.Prelude.{◌≡◌, IfOk, map};
 ghost use Rattle.answers.specs.channel_plan.PlanText.{plan_of};
 ghost use Rattle.node_pool.specs.Gathers.{gathered_of};
+ghost use Rattle.byte_functions.specs.Colours.{merged_of};
 
 use answers::{Colouring, Memory, plan_text};
 use node_pool::Actor;
@@ -10,8 +11,7 @@ use std::alloc::{AllocError, Global};
 
 // The colours of nodes, in their order.
 fn colours_of(alloc: Global, actors: &[Actor<Colouring>]) -> Result<Vec<u16>, AllocError>
-    ensures { IfOk result
-        (λ all. all.items ≡ map (λ actor. (gathered_of actor).alpha.node.state.merged) actors.now) }
+    ensures { IfOk result (λ all. all.items ≡ map (λ actor. merged_of (gathered_of actor)) actors.now) }
 {
     let mut all = Vec::new(alloc);
     for actor in actors {
@@ -26,7 +26,7 @@ fn colours_of(alloc: Global, actors: &[Actor<Colouring>]) -> Result<Vec<u16>, Al
 /// If memory ran out.
 pub fn text_of_nodes(alloc: Global, actors: &[Actor<Colouring>]) -> Result<Vec<u8>, Memory>
     ensures { IfOk result
-        (λ text. text.items ≡ plan_of (map (λ actor. (gathered_of actor).alpha.node.state.merged) actors.now)) }
+        (λ text. text.items ≡ plan_of (map (λ actor. merged_of (gathered_of actor)) actors.now)) }
 {
     let colours = colours_of(alloc, actors)?;
     plan_text(alloc, colours.as_slice())

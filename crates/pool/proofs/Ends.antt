@@ -9,6 +9,10 @@ use Rattle.pool.specs.declared.fault.PoolFault.{PoolFault}
 use Rattle.pool.specs.declared.fault.PoolFault.TheVariants as fault
 use Rattle.pool.specs.Ends.{told_after}
 
+-- a fault in place of two values
+pub same_fault : {A B : Type 0} (f g : PoolFault) → ◌≡◌ {A = Result A PoolFault} (Err f) (Err g) → ◌≡◌ {A = Result B PoolFault} (Err f) (Err g)
+same_fault f g is = let same : f ≡ g = cc in ap (λ h. Err h) same
+
 module _ {A : Type 0} (done : A) where
   -- memory is told first
   pub memory_told : (full : Bool) (ends : List (Result A TurnRefused)) → Contains ends (Err Memory) → told_after done ends full ≡ Err fault.Memory

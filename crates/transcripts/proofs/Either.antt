@@ -6,7 +6,7 @@ use Rattle.std.specs.List.{filter}
 use Rattle.std.specs.Str.{bytes_eq}
 use Rattle.dimacs_col.specs.Lines.{Line}
 use Rattle.channel_plan.specs.Reading.{has_fields}
-use Rattle.transcripts.specs.Behind.{AreStampedEntryLines, entry_lines, network_lines, transcript_lines}
+use Rattle.transcripts.specs.Behind.{AreStampedEntryLines, entry_lines, network_lines, reading_behind, transcript_lines}
 use Rattle.transcripts.specs.Editions.{AnyTranscript, One, Two, any_from, any_reading_behind, as_one, as_two, begins_stamped, is_stamped}
 use Rattle.transcripts.specs.EntryLines.{header_of, only, row_of, stamped_row_of, with_number}
 use Rattle.transcripts.specs.Reading.{IsFaultOf, IsStampedText, IsTranscriptText, StampedTranscript, Transcript, entries_from, stamped_from}
@@ -135,6 +135,12 @@ module _ {M : Type 0} (payload_of : List ℕ → ℕ → Option M) (n : ℕ) (li
         λ e. texts.0 (two-from read (is_stamped lines) refl e),
         λ is. any-two payload_of n lines (stamped-first lines is.first is.body is.lines_are ∙ header-two is.first read.0 is.nodes_are) ∙ ap as_two (texts.1 is),
       )
+
+-- a transcript of edition 1 that is read behind a network text is read as one
+pub read-one-behind : {M : Type 0} (payload_of : List ℕ → ℕ → Option M) (lines : List Line) (read : Transcript M) →
+    any_reading_behind payload_of lines ≡ Ok (One read) → reading_behind payload_of lines ≡ Ok read
+read-one-behind payload_of lines read e =
+    one-from payload_of (length (network_lines lines) + 1) (transcript_lines lines) read (is_stamped (transcript_lines lines)) refl e
 
 -- the lines of the entries of a transcript with stamps, behind a network text
 pub stamped-have-lines : {M : Type 0} (payload_of : List ℕ → ℕ → Option M) (lines : List Line) (read : StampedTranscript M) →

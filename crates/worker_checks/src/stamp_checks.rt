@@ -1,9 +1,11 @@
 //! The one merged run of two nodes that only close their links, lists of stamped entries that are none, and the merged
 //! runs of workers on small networks.
 
+use crate::replay_checks::MERGED;
 use crate::runs::small;
 use byte_functions::{
     Network, OpenGate, Options, ReplayRefused, WholeRefused, Wire, replay_whole, run_workers,
+    stamped_text,
 };
 use net_core::RunRefused;
 use stamps::{Counter, Entry, StampFull, StampTable, order, rising};
@@ -120,7 +122,9 @@ fn merged<const D: u32, R: Threads + Wait + Sync>(
 fn merged_runs_of_workers_are_replayed_whole(rt: HostRuntime) -> Result<(), Fail> {
     let alloc = rt.alloc();
     let net = pair(alloc)?;
-    assert!(rt; merged::<0, _>(&rt, alloc, &net, 1)?.as_slice() == whole().as_slice());
+    let rows = merged::<0, _>(&rt, alloc, &net, 1)?;
+    assert!(rt; rows.as_slice() == whole().as_slice());
+    assert!(rt; stamped_text(alloc, 2, &rows)?.as_slice() == MERGED);
     for number in 0..50 {
         let net = small(alloc, number)?;
         for workers in [1, 2, 4] {

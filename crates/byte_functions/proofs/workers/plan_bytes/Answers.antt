@@ -4,7 +4,8 @@ use Rattle.answers.specs.channel_plan.PlanText.{plan_of}
 use Rattle.answers.specs.colour_rules.Program.{colouring}
 use Rattle.node_pool.specs.Gathers.{gathered_of}
 use Rattle.answers.proofs.Plain.{is-network}
-use Rattle.byte_functions.proofs.Working.{merged, planned, workers-fault}
+use Rattle.byte_functions.specs.Colours.{merged_of}
+use Rattle.byte_functions.proofs.Working.{planned, workers-fault}
 use Rattle.byte_functions.proofs.workers.plan_bytes.Goals as goal
 
 pub returns-clause-ok : goal.returns-clause-ok
@@ -17,6 +18,6 @@ returns-clause-ok g c =
     let complete = c.whole_outcomes_are_complete.ensures.law colouring net ok capacity false outcome is c.in_ok-outcome.ensures.whole in
     let coloured = c.halted_nodes_are_coloured.ensures.outcomes net ok capacity false outcome is complete.halted in
     planned c.args.input.now c.in_ok-text_of_nodes.field-0.items net outcome c.in_ok-network.ensures.ok
-    (c.in_ok-text_of_nodes.ensures ∙ ap plan_of (sym (map-map merged gathered_of c.actors.result.now) ∙ ap (map merged) c.actors.ensures.nodes))
+    (c.in_ok-text_of_nodes.ensures ∙ ap plan_of (sym (map-map merged_of gathered_of c.actors.result.now) ∙ ap (map merged_of) c.actors.ensures.nodes))
     is.each_once coloured.exact (c.colours_are_proper.ensures.proper net ok) (c.colours_are_proper.ensures.within net ok)
     (c.colours_are_proper.ensures.unbarred net ok)

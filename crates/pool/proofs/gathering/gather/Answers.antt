@@ -2,7 +2,7 @@ use Rattle.std.proofs.Common.{◌≡◌, false, ◌+◌, ◌-◌, ◌<◌, ◌�
 use Rattle.crossbeam_deque.specs.Handles.{worker_deque, worker_view}
 use Rattle.pool.specs.Deques.{deque_of}
 use Rattle.pool.specs.Ledgers.{all_shares, shares_of}
-use Rattle.pool.proofs.Ends.{memory_told, no_memory, none_ended}
+use Rattle.pool.proofs.Ends.{memory_told, no_memory, none_ended, same_fault}
 use Rattle.pool.proofs.Views.{as_many, carried}
 use Rattle.pool.proofs.gathering.gather.Goals as goal
 
@@ -59,4 +59,5 @@ pub returns-clause-memory_first : goal.returns-clause-memory_first
 returns-clause-memory_first g c some = absurd (no_memory tt (map (λ w. w.written) c.args.done.items) tt (sym c.told.ensures.told ∙ c.in-Ok.is) some)
 
 pub returns-in-Err-clause-memory_first : goal.returns-in-Err-clause-memory_first
-returns-in-Err-clause-memory_first g c some = sym c.in-Err.is ∙ c.told.ensures.told ∙ memory_told tt false (map (λ w. w.written) c.args.done.items) some
+returns-in-Err-clause-memory_first g c some =
+    same_fault _ _ (sym c.in-Err.is ∙ c.told.ensures.told ∙ memory_told tt false (map (λ w. w.written) c.args.done.items) some)
