@@ -14,9 +14,11 @@ put_one-done-requires g c =
       omega arith,
       (
         now.0.0,
-        (may_close _ c.args.best c.loop-pulse.pulse _ _ _
-            (omega (arith, c.loop-pulse-test.false, c.loop-pulse.auto.pulse-end)) c.requires.legal now.0.1 now.1,
-            omega (arith, now.2)),
+        (
+          may_close _ c.args.best c.loop-pulse.pulse _ _ _
+              (omega (arith, c.loop-pulse-test.false, c.loop-pulse.auto.pulse-end)) c.requires.legal now.0.1 now.1,
+          omega (arith, now.2),
+        ),
       ),
     )
 
