@@ -7,7 +7,7 @@ use Rattle.answers.specs.colour_rules.Payload.{Payload}
 use Rattle.answers.specs.colour_rules.Node as colour
 use Rattle.answers.specs.colour_rules.Program.{colouring}
 use Rattle.node_pool.specs.gather_laws.Outcome.{Outcome, IsOutcome, is_whole, stamped_in}
-use Rattle.gather_laws.specs.Merged.{WholeOutcomesReplay}
+use Rattle.node_pool.specs.gather_laws.Merged.{WholeOutcomesReplay}
 use Rattle.run_options.specs.declared.Edition.{Edition}
 use Rattle.run_options.specs.declared.Edition.TheVariants as edition
 use Rattle.stamps.specs.Merged.{IsMerge}

@@ -9,7 +9,7 @@ use Rattle.node_pool.specs.gather_laws.Outcome.{Gathered, Outcome, IsOutcome, is
 use Rattle.net_core.specs.State.{State}
 use Rattle.answers.specs.transcripts.TranscriptText.{Row, stamped_transcript_of, transcript_of}
 use Rattle.answers.specs.Answers.{ReadsAs}
-use Rattle.replay.specs.Whole.{IsWholeReplay}
+use Rattle.answers.specs.replay.Whole.{IsWholeReplay}
 use Rattle.run_options.specs.declared.Edition.{Edition}
 use Rattle.run_options.specs.declared.Edition.TheVariants as edition
 use Rattle.stamps.specs.Merged.{IsMerge, StampedRow, list_of}

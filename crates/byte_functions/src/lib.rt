@@ -32,7 +32,8 @@ pub use workers::plan_bytes;
 // What crates above name of lower ones.
 pub use answers::{
     ColFault, Colouring, EventFault, Network, Payload, PoolFault, ReplayRefused, TextFault,
-    WholeRefused, Wire, read_transcript, replay, replay_whole, transcript_text,
+    Transcript, WholeRefused, Wire, read_any, read_transcript, replay, replay_whole, stamped_text,
+    transcript_text,
 };
 pub use node_pool::{Gate, OpenGate, Options, Outcome, run_workers};
 pub use run_options::Edition;

@@ -71,22 +71,16 @@ pub fn met_again<R: Wait>(
     requires network { network.now ≡ pair_net }
 {
     let (link, mut put_end, mut take_end) = Link::<Colouring>::new(alloc, network, 1, 0, 1)?;
-    let hello = Stamped {
-        stamp: 2,
-        wire: Wire::Payload(0, Payload::Hello(1)),
-    };
-    match link.put(rt, &mut put_end, hello) {
+    let (stamp, wire) = (2, Wire::Payload(0, Payload::Hello(1)));
+    match link.put(rt, &mut put_end, Stamped { stamp, wire }) {
         Ok(()) => (),
         Err(_) => return Ok(None),
     }
     if link.take(rt, &mut take_end).is_none() {
         return Ok(None);
     }
-    let safe = Stamped {
-        stamp: 3,
-        wire: Wire::Safe(0),
-    };
-    if link.put(rt, &mut put_end, safe).is_err() {
+    let (stamp, wire) = (3, Wire::Safe(0));
+    if link.put(rt, &mut put_end, Stamped { stamp, wire }).is_err() {
         return Ok(None);
     }
     let met = match link.meet(rt, alloc, put_end, take_end) {

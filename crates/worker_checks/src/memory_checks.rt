@@ -30,6 +30,10 @@ const ONE_NODE_TRANSCRIPT: &[u8] = b"transcript 1 1\n\
 1 pulse 1\n1 pulse 2\n1 pulse 3\n1 pulse 4\n1 pulse 5\n1 pulse 6\n\
 1 pulse 7\n1 pulse 8\n1 pulse 9\n1 pulse 10\n1 pulse 11\n1 pulse 12\n";
 
+const ONE_NODE_MERGED: &[u8] = b"transcript 2 1\n\
+1 1 pulse 1\n2 1 pulse 2\n3 1 pulse 3\n4 1 pulse 4\n5 1 pulse 5\n6 1 pulse 6\n\
+7 1 pulse 7\n8 1 pulse 8\n9 1 pulse 9\n10 1 pulse 10\n11 1 pulse 11\n12 1 pulse 12\n";
+
 const TRIANGLE_PLAN: &[u8] = b"plan\n1 2\n2 3\n3 1\n";
 
 const BY_ONE: Options = Options {
@@ -88,6 +92,10 @@ fn each_function_returns_its_bytes_or_runs_out_of_memory(rt: HostRuntime) -> Res
         (
             transcript_bytes(&rt, alloc, ONE_NODE, BY_ONE, Edition::One, &OpenGate),
             ONE_NODE_TRANSCRIPT,
+        ),
+        (
+            transcript_bytes(&rt, alloc, ONE_NODE, BY_ONE, Edition::Two, &OpenGate),
+            ONE_NODE_MERGED,
         ),
         (
             check_bytes(alloc, TRIANGLE_AND_PLAN),

@@ -3,7 +3,8 @@
 use crate::meeting::Meeting;
 use crate::node_pool_checks::PULSES;
 use byte_functions::{
-    ColFault, Edition, OpenGate, Options, PlanFault, PoolFault, plan_bytes, transcript_bytes,
+    ColFault, Edition, OpenGate, Options, PlanFault, PoolFault, plan_bytes, replay_bytes,
+    transcript_bytes,
 };
 use std::test::Fail;
 
@@ -150,16 +151,16 @@ fn transcripts_by_workers(rt: HostRuntime) -> Result<(), Fail> {
 
 #[test]
 fn two_workers_make_a_transcript_at_once(rt: HostRuntime) -> Result<(), Fail> {
+    let (alloc, edition) = (rt.alloc(), Edition::Two);
     let gate = Meeting::new();
-    let transcript = transcript_bytes(
-        &rt,
-        rt.alloc(),
-        TRIANGLE,
-        options(2, 4, AMPLE),
-        Edition::Two,
-        &gate,
-    )?;
+    let options = options(2, 4, AMPLE);
+    let transcript = transcript_bytes(&rt, alloc, TRIANGLE, options, edition, &gate)?;
     assert!(rt; gate.saw_two_at_once(PULSES));
     assert!(rt; transcript.as_slice().starts_with(b"transcript 2 3\n"));
+    // Behind its network it is replayed.
+    let mut text = Vec::new(alloc);
+    text.extend_from_slice(TRIANGLE)?;
+    text.extend_from_slice(&transcript)?;
+    assert!(rt; replay_bytes(alloc, &text).is_ok());
     Ok(())
 }

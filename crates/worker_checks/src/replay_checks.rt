@@ -14,6 +14,10 @@ use sync_rounds::{Best, Greatest};
 pub const WHOLE: &[u8] =
     b"transcript 1 2\n1 put 2 close\n2 put 1 close\n1 take 2 close\n2 take 1 close\n";
 
+// The same as one merged run, of edition 2.
+pub const MERGED: &[u8] = b"transcript 2 2\n\
+1 1 put 2 close\n2 2 take 1 close\n3 2 put 1 close\n4 1 take 2 close\n";
+
 fn drained(state: &NetState<Greatest<0>>) -> (bool, bool)
     requires two { count_of state.now.net ≡ 2 }
 {

@@ -1,9 +1,11 @@
 //! The one merged run of two nodes that only close their links, lists of stamped entries that are none, and the merged
 //! runs of workers on small networks.
 
+use crate::replay_checks::MERGED;
 use crate::runs::small;
 use byte_functions::{
     Network, OpenGate, Options, ReplayRefused, WholeRefused, Wire, replay_whole, run_workers,
+    stamped_text,
 };
 use net_core::RunRefused;
 use stamps::{Counter, Entry, StampFull, StampTable, order, rising};
@@ -45,7 +47,13 @@ const NOTHING_TO_PUT: WholeRefused = WholeRefused::Replay(ReplayRefused::Run(
 
 const LINK_EMPTY: WholeRefused = WholeRefused::Replay(ReplayRefused::Run(RunRefused::LinkEmpty(0)));
 
+const WRONG_PUT: Entry<Best> = Entry::Put(1, Wire::Safe(0));
+
 const WRONG_WIRE: WholeRefused = WholeRefused::Replay(ReplayRefused::WrongWire(2));
+
+fn wrong_stamp(index: usize) -> Option<WholeRefused> {
+    Some(WholeRefused::WrongStamp(index))
+}
 
 #[test]
 fn a_merged_run_is_replayed_or_refused_by_the_first_row_out_of_place(
@@ -60,32 +68,17 @@ fn a_merged_run_is_replayed_or_refused_by_the_first_row_out_of_place(
     for (rows, refused) in [
         ([a, b, c, d], None),
         ([first, second, last, other], None),
-        (
-            [second, first, last, other],
-            Some(WholeRefused::WrongStamp(1)),
-        ),
-        (
-            [first, second, other, last],
-            Some(WholeRefused::WrongStamp(3)),
-        ),
-        ([a, b, put(2, 2, 1), d], Some(WholeRefused::WrongStamp(2))),
-        ([a, b, put(4, 2, 1), d], Some(WholeRefused::WrongStamp(2))),
-        (
-            [a, b, put(u64::MAX, 2, 1), d],
-            Some(WholeRefused::WrongStamp(2)),
-        ),
-        ([put(0, 1, 2), b, c, d], Some(WholeRefused::WrongStamp(0))),
+        ([second, first, last, other], wrong_stamp(1)),
+        ([first, second, other, last], wrong_stamp(3)),
+        ([a, b, put(2, 2, 1), d], wrong_stamp(2)),
+        ([a, b, put(4, 2, 1), d], wrong_stamp(2)),
+        ([a, b, put(u64::MAX, 2, 1), d], wrong_stamp(2)),
+        ([put(0, 1, 2), b, c, d], wrong_stamp(0)),
         // By the counter of the node alone.
-        (
-            [a, take(1, 2, 1), put(2, 2, 1), d],
-            Some(WholeRefused::WrongStamp(1)),
-        ),
-        ([a, b, c, take(2, 1, 2)], Some(WholeRefused::WrongStamp(3))),
+        ([a, take(1, 2, 1), put(2, 2, 1), d], wrong_stamp(1)),
+        ([a, b, c, take(2, 1, 2)], wrong_stamp(3)),
         ([a, a, b, c], Some(NOTHING_TO_PUT)),
-        (
-            [a, b, (9, 2, Entry::Put(1, Wire::Safe(0))), d],
-            Some(WRONG_WIRE),
-        ),
+        ([a, b, (9, 2, WRONG_PUT), d], Some(WRONG_WIRE)),
     ] {
         assert!(rt; refusal::<0>(alloc, &net, &rows) == refused);
     }
@@ -129,7 +122,9 @@ fn merged<const D: u32, R: Threads + Wait + Sync>(
 fn merged_runs_of_workers_are_replayed_whole(rt: HostRuntime) -> Result<(), Fail> {
     let alloc = rt.alloc();
     let net = pair(alloc)?;
-    assert!(rt; merged::<0, _>(&rt, alloc, &net, 1)?.as_slice() == whole().as_slice());
+    let rows = merged::<0, _>(&rt, alloc, &net, 1)?;
+    assert!(rt; rows.as_slice() == whole().as_slice());
+    assert!(rt; stamped_text(alloc, 2, &rows)?.as_slice() == MERGED);
     for number in 0..50 {
         let net = small(alloc, number)?;
         for workers in [1, 2, 4] {

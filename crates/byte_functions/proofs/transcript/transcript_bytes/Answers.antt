@@ -3,7 +3,7 @@ use Rattle.std.proofs.lemmas.List.{length-map}
 use Rattle.node_pool.specs.Gathers.{gathered_of}
 use Rattle.stamps.specs.Stamps.{Rises}
 use Rattle.answers.specs.colour_rules.Program.{colouring}
-use Rattle.gather_laws.specs.Merged.{WholeOutcomesReplay}
+use Rattle.node_pool.specs.gather_laws.Merged.{WholeOutcomesReplay}
 use Rattle.byte_functions.specs.Transcripts.{IsTextIn, stamped_of}
 use Rattle.byte_functions.proofs.Recording.{all-rise, answered, nodes-count}
 use Rattle.byte_functions.proofs.transcript.transcript_bytes.Goals as goal
