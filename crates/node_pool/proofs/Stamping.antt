@@ -109,7 +109,7 @@ module _ {S M E A F : Type 0} (program : Program S M E) (net : Net) (ok : IsNetw
   IsWrittenBy v es = IsWritten program net v (node_in program net outcome v) (λ i. wires_of (puts_by v i)) (λ i. wires_of (takens_by v i)) es
 
   pub are_stamped : IsTrue transcript → AreStamped program net outcome counters puts_by takens_by held_by
-  are_stamped yes = record {
+  are_stamped on = record {
     met = record {
       keeps = λ v is.
           let n = node_of net vertex nodes are.order v is in
@@ -117,9 +117,9 @@ module _ {S M E A F : Type 0} (program : Program S M E) (net : Net) (ok : IsNetw
           (get_or (map (λ a. map taken (takes a)) nodes) (v - 1) []) (stamped n.0) (stamped_in outcome v) n.2
           (sym (get_map counter nodes (v - 1) n.0 0 n.1)) (sym (get_map puts nodes (v - 1) n.0 [] n.1))
           (sym (get_map (λ a. map taken (takes a)) nodes (v - 1) n.0 [] n.1))
-          (sym (ap (λ l. get_or l (v - 1) []) are.stamped_are ∙ get_map stamped nodes (v - 1) n.0 [] n.1)) ((are.stamps n.0).keeps yes);
+          (sym (ap (λ l. get_or l (v - 1) []) are.stamped_are ∙ get_map stamped nodes (v - 1) n.0 [] n.1)) ((are.stamps n.0).keeps on);
       written = λ v is.
-          let all = (written v is).written yes in
+          let all = (written v is).written on in
           subst (λ es. IsWrittenBy v es) (sym (same_entries v is)) record {
             run = all.run;
             puts_are = λ i lt. all.puts_are i lt ∙ ap (λ h. h.put) (link_is v i) ∙ ap (λ l. wires_of l) (sym (puts_are v i));

@@ -130,7 +130,7 @@ returns g c =
           (by_port (map (λ e. taken_stamped e.end) n.takes.items)) n.entries.items n.entries.stamped) n.recorded n.stamps;
       entries_are = map-twice (λ g. g.entries) gathered_of actors ∙ c.in_ok-actors.ensures.entries;
       stamped_are = map-twice (λ g. g.stamped) gathered_of actors ∙ c.in_ok-actors.ensures.stamped;
-      links_are = sym (of_fields (λ row. row.items) mets linked_of bare_history ∙ sym (map-twice (λ row. map history_of row) (λ row. row.items) mets));
+      links_are = sym (of_fields (λ row. row.items) mets linked_of bare_history ∙ map-twice (λ row. map history_of row) (λ row. row.items) mets);
       puts_are = of_fields (λ row. row.items) mets linked_of (λ h. h.put) ∙ puts_are;
       takens_are = of_fields (λ row. row.items) mets linked_of (λ h. h.taken) ∙ takens_are;
       splits = all_rows (λ row. row.items) mets (λ h. h.put ≡ h.taken ++ h.held) linked_of splits;
