@@ -24,7 +24,12 @@ const PUTS: u32 = 4;
 
 impl<J: Wiring, P: NodeProgram> Node<J, P> {
     // Takes a wire by a port, if there is one, and reacts to it. Returns whether there was one.
-    fn take_one<R: Wait>(&mut self, rt: &R, links: &Links<J, P>, port: u32) -> Result<bool, TurnRefused>
+    fn take_one<R: Wait>(
+        &mut self,
+        rt: &R,
+        links: &Links<J, P>,
+        port: u32,
+    ) -> Result<bool, TurnRefused>
         requires port { port < self.old.degree }
         requires going { self.old.aside ≡ None }
         requires room { IsTrue (can_take self.old.alpha.node.view) }
@@ -61,7 +66,12 @@ impl<J: Wiring, P: NodeProgram> Node<J, P> {
     }
 
     // Takes a wire by a port, and further ones while it expects them, at most `TAKES`. Returns whether it took one.
-    fn take_some<R: Wait>(&mut self, rt: &R, links: &Links<J, P>, port: u32) -> Result<bool, TurnRefused>
+    fn take_some<R: Wait>(
+        &mut self,
+        rt: &R,
+        links: &Links<J, P>,
+        port: u32,
+    ) -> Result<bool, TurnRefused>
         requires port { port < self.old.degree }
         ensures same { (self.new.vertex ≡ self.old.vertex) × (self.new.degree ≡ self.old.degree) }
         ensures unmoved { IfOk result (λ did. did ≡ false → IsUnmoved self.old self.new) }
@@ -130,7 +140,12 @@ impl<J: Wiring, P: NodeProgram> Node<J, P> {
     }
 
     // Puts the oldest wire of a port, if there is one and room for it. Returns whether it put one.
-    fn put_one<R: Wait>(&mut self, rt: &R, links: &Links<J, P>, port: u32) -> Result<bool, TurnRefused>
+    fn put_one<R: Wait>(
+        &mut self,
+        rt: &R,
+        links: &Links<J, P>,
+        port: u32,
+    ) -> Result<bool, TurnRefused>
         requires port { port < self.old.degree }
         requires going { self.old.aside ≡ None }
         ensures same { (self.new.vertex ≡ self.old.vertex) × (self.new.degree ≡ self.old.degree) }
@@ -158,7 +173,12 @@ impl<J: Wiring, P: NodeProgram> Node<J, P> {
     }
 
     // Puts by a port, until nothing is left or the link is full. Returns whether it put a wire.
-    fn put_some<R: Wait>(&mut self, rt: &R, links: &Links<J, P>, port: u32) -> Result<bool, TurnRefused>
+    fn put_some<R: Wait>(
+        &mut self,
+        rt: &R,
+        links: &Links<J, P>,
+        port: u32,
+    ) -> Result<bool, TurnRefused>
         requires port { port < self.old.degree }
         requires going { self.old.aside ≡ None }
         ensures same { (self.new.vertex ≡ self.old.vertex) × (self.new.degree ≡ self.old.degree) }

@@ -39,6 +39,6 @@ pub use run::run_nodes;
 
 // What crates above name of lower ones.
 pub use actor::{
-    AlphaNode, Entries, Gate, Link, Links, Met, Node, OpenGate, PutEnd, TakeEnd, WhyAside, WiredPut,
-    WiredTake, Wiring,
+    AlphaNode, Entries, Gate, Link, Links, Met, Node, OpenGate, PutEnd, TakeEnd, WhyAside,
+    WiredPut, WiredTake, Wiring,
 };

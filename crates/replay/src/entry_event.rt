@@ -9,8 +9,8 @@ ghost use Rattle.replay.specs.Rows.{event_of, has_place};
 use crate::refused::EntryRefused;
 use crate::same_wire::carries;
 use alpha_laws::{Network, NodeProgram, Wire};
-use stamps::Entry;
 use net_core::{Event, NetState, StepRefused};
+use stamps::Entry;
 
 // The port of a vertex that leads to a neighbour; `None` if it is none.
 fn port_to(net: &Network, v: u32, w: u32) -> Option<u32>

@@ -14,8 +14,7 @@ invariant_of-self g c =
     let payloads = ap (λ l. length l) c.push_reserved-in-Some.ensures.items in
     let one = ap (λ p. length (option_to_list p)) c.in-Some.is in
     let long = ap (λ l. length l) c.push_reserved-2.ensures.items in
-    let stamps = ap (λ l. length l) c.push_reserved.ensures.items in
-    (
+    let stamps = ap (λ l. length l) c.push_reserved.ensures.items in (
       omega (
         arith,
         bares,
@@ -43,8 +42,7 @@ invariant_of-self-in_default g c =
     let bares = ap payloads_in c.push_reserved-2.ensures.items in
     let none = ap (λ p. length (option_to_list p)) c.in_default.is in
     let long = ap (λ l. length l) c.push_reserved-2.ensures.items in
-    let stamps = ap (λ l. length l) c.push_reserved.ensures.items in
-    (
+    let stamps = ap (λ l. length l) c.push_reserved.ensures.items in (
       omega (arith, bares, payloads-more e.bares.items c.split-payload.result.0, c.self.invariant.0, c.split-payload.ensures.count, none),
       omega (
         arith,
