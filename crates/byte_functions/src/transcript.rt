@@ -12,8 +12,7 @@ use crate::workers::whole_run;
 use answers::{
     Colouring, Memory, Payload, PlanFault, Refused, network_of_text, push_entries, push_first_line,
 };
-use gather_laws::laws::whole_outcomes_replay;
-use node_pool::{Actor, Gate, Options};
+use node_pool::{Actor, Gate, Options, whole_outcomes_replay};
 use run_options::Edition;
 use std::alloc::Global;
 use std::sync::Wait;

@@ -34,5 +34,5 @@ pub use pool::{Gate, OpenGate, PoolFault};
 pub use run::run_workers;
 
 // What crates above name of lower ones.
-pub use gather_laws::laws::whole_outcomes_are_complete;
+pub use gather_laws::laws::{whole_outcomes_are_complete, whole_outcomes_replay};
 pub use run_options::{MAX_CAPACITY, MAX_WORKERS, Options};
