@@ -148,8 +148,8 @@ def spoiled(source, kind, data):
         at, other = min(at, other), max(at, other)
         rows[at], rows[other] = rows[other], rows[at]
     elif kind == "cut":
-        end = source.randrange(len(data) - 1)
-        return data[:end], 1
+        # Cut in its first word it would be no transcript, and the word a wrong line of the network.
+        return data[:source.randrange(len(b"transcript"), len(data) - 1)], 1
     elif kind == "cut at a line":
         rows = rows[:at]
     else:
