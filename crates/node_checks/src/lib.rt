@@ -18,6 +18,8 @@ mod forest_merge_checks;
 #[cfg(test)]
 mod forests_checks;
 #[cfg(test)]
+mod full_counters;
+#[cfg(test)]
 mod link_alone;
 #[cfg(test)]
 mod link_queue_checks;
@@ -27,6 +29,8 @@ mod link_threads;
 mod net_core_checks;
 #[cfg(test)]
 mod node_api_checks;
+#[cfg(test)]
+mod pool_checks;
 #[cfg(test)]
 mod shift_down_checks;
 #[cfg(test)]
