@@ -1,10 +1,10 @@
 #!/usr/bin/env python3
 """Checks a transcript of nodes without a common clock. It is written from the pages in docs/ alone.
 
-A transcript has the entries of each node in that node's own order, and says nothing of the order between nodes. This program
-looks for an order of all entries that is a run, and demands that the run is whole. `--help` says how to call it."""
+A transcript of edition 1 has the entries of each node in that node's own order, and says nothing of the order between nodes.
+This program looks for an order of all entries that is a run, and demands that the run is whole. One of edition 2 has an order
+and stamps: stamped_run.py checks it. `--help` says how to call it."""
 import argparse
-import functools
 import gc
 import os
 import sys
@@ -12,6 +12,8 @@ from collections import namedtuple
 
 from alpha_definition import wire_words
 from plain_definition import fields_of, network_of
+from stamped_run import check_stamped, stamped_as_it_stands
+from transcript_reading import Wrong, read, words
 from transcript_search import Search
 
 sys.path.insert(1, os.path.join(os.path.dirname(os.path.dirname(os.path.realpath(__file__))), "tools", "shared"))
@@ -25,11 +27,13 @@ Checks a transcript of a run of nodes without a common clock.
 The nodes of a network find channels by sending each other wires: payloads,
 acknowledgements, safes and a closing mark. A transcript lists, for each node and
 in its own order, the pulses (rounds) that it made and the wires that it put on
-a link to a neighbour or took from one. It does not say which of two nodes came
-first. It is right if there is an order of all entries in which each of them was
-possible when it came, with just the wire that it names, and if the run is
+a link to a neighbour or took from one. One of edition 1 does not say which of two
+nodes came first. It is right if there is an order of all entries in which each of
+them was possible when it came, with just the wire that it names, and if the run is
 whole: all nodes have made their last pulse, nothing is left to be put, and no
-link holds a wire.
+link holds a wire. One of edition 2 is right if the order of its lines is such an
+order, and each stamp is the one that Lamport's clock gives: one more than the last
+one of that node, and of a take also than that of the put.
 """
 
 MORE_HELP = """\
@@ -39,12 +43,13 @@ Of any other it prints on standard error one line with the line of the transcrip
 and what is wrong there, as
   line 6: LinkEmpty: node 1 takes payload 0 hello 3 from 3, which never puts it
 
-  X1            neither `transcript 1 N` (the first line) nor an entry
+  X1            neither `transcript 1 N` or `transcript 2 N` (the first line) nor an entry
   NoSuch        no such node, or it has no such neighbour
   NotReady      a pulse that the node cannot make there
   NothingToPut  the node has nothing for that neighbour
   LinkEmpty     the neighbour has put no wire that is left to be taken
   WrongWire     possible, but with another wire or the number of another pulse
+  WrongStamp    another stamp than the clock of the node gives, or out of order
   NotWhole      all entries are a run, but it does not reach the end
   Nodes         the first line names another number of nodes than the network has
 
@@ -56,89 +61,9 @@ Example:
   ./check-transcript examples/triangle.col triangle.transcript
 """
 
-# The word of each payload of the colouring, and the bound of its number.
-PAYLOADS = {b"hello": 2**128, b"label": 2**16, b"colour": 2**128, b"chosen": 2**16}
-
-# `kind` is Pulse, Put or Take; `what` is the number of the pulse, or the wire, as alpha_definition.py has it. A pulse has no
-# neighbour. `text` is the line as the search takes it.
-Entry = namedtuple("Entry", "line vertex kind neighbour what text")
-
 # What a search finds: the entries made, in this order; the nodes after them; and of each node that isn't through, the entries
 # that are left, the next one last, and the code of that one's refusal.
 Found = namedtuple("Found", "made nodes left refusals")
-
-
-class Wrong(Exception):
-    """Why a text isn't the transcript of a whole run: (line, code, what is wrong)."""
-
-    def __str__(self):
-        line, code, what = self.args
-        return f"line {line}: {code}: {what}"
-
-
-@functools.lru_cache(maxsize=2**16)
-def number(field, bound=2**32):
-    digits = field.lstrip(b"0") or field[-1:]
-    if not digits.isdigit() or len(digits) > len(str(bound)) or int(digits) >= bound:
-        raise ValueError
-    return int(digits)
-
-
-@functools.lru_cache(maxsize=2**16)
-def wire_of(*fields):
-    match fields:
-        case [b"payload", pulse, word, of_word] if word in PAYLOADS:
-            return "Payload", number(pulse), (word.decode().title(), number(of_word, PAYLOADS[word]))
-        case [b"ack", pulse]:
-            return "Ack", number(pulse)
-        case [b"safe", pulse]:
-            return "Safe", number(pulse)
-        case [b"close"]:
-            return ("Close",)
-    raise ValueError
-
-
-@functools.lru_cache(maxsize=2**16)
-def words_of_wire(wire):
-    return wire_words(wire).encode()
-
-
-def entry_of(line, fields):
-    match fields:
-        case [vertex, b"pulse", pulse]:
-            v, p = number(vertex), number(pulse)
-            return Entry(line, v, "Pulse", None, p, b"%d pulse %d" % (v, p))
-        case [vertex, b"put" | b"take" as kind, neighbour, *of_wire]:
-            v, w, wire = number(vertex), number(neighbour), wire_of(*of_wire)
-            return Entry(line, v, kind.decode().title(), w, wire, b"%d %s %d %s" % (v, kind, w, words_of_wire(wire)))
-    raise ValueError
-
-
-def read(text):
-    """The line and the number of nodes of the first line, and the entries in the order of the text."""
-    lines, entries = text.split(b"\n"), []
-    start, nodes = head_of(lines)
-    for line, raw in enumerate(lines[start:], start + 1):
-        try:
-            if fields := fields_of(raw):
-                entries.append(entry_of(line, fields))
-        except ValueError:
-            is_cut = line == len(lines)
-            raise Wrong(line, "X1", "not an entry" + (", and no line feed behind it (is the text cut?)" if is_cut else "")) from None
-    return (start, nodes), entries
-
-
-def head_of(lines):
-    """The line and the number of nodes of the first line."""
-    for line, fields in enumerate(map(fields_of, lines), 1):
-        if fields:
-            try:
-                if len(fields) == 3 and fields[:2] == [b"transcript", b"1"]:
-                    return line, number(fields[2])
-            except ValueError:
-                pass
-            raise Wrong(line, "X1", "not `transcript 1 N`")
-    raise Wrong(1, "X1", "there is no line `transcript 1 N`")
 
 
 def find_order(net, entries):
@@ -159,13 +84,6 @@ def find_order(net, entries):
     left = {v: own[v][node.at:][::-1] for v, node in search.nodes.items()} | {v: lost[::-1] for v, lost in strays.items()}
     refusals = {v: node.refusal for v, node in search.nodes.items()} | dict.fromkeys(strays, "NoSuch")
     return Found(search.made(own), search.nodes, {v: lost for v, lost in left.items() if lost}, refusals)
-
-
-def words(entry):
-    if entry.kind == "Pulse":
-        return f"node {entry.vertex} makes pulse {entry.what}"
-    way = "for" if entry.kind == "Put" else "from"
-    return f"node {entry.vertex} {entry.kind.lower()}s {wire_words(entry.what)} {way} {entry.neighbour}"
 
 
 def first_refused(found):
@@ -274,7 +192,12 @@ def run_as_it_stands(net, text):
     """The same for most transcripts of runs: lines are compared with what the nodes do, as they stand in the text. None if they
     aren't a whole run so; then they have to be read with care."""
     head, *lines = text.split(b"\n")
-    if head != b"transcript 1 %d" % len(net.neighbours) or lines[-1:] != [b""]:
+    if lines[-1:] != [b""]:
+        return None
+    if head == b"transcript 2 %d" % len(net.neighbours):
+        nodes = stamped_as_it_stands(net, lines[:-1])
+        return None if nodes is None else (range(2, len(lines) + 1), verdict(nodes))
+    if head != b"transcript 1 %d" % len(net.neighbours):
         return None
     own = {b"%d" % v: ([], []) for v in net.neighbours}
     vertex = None
@@ -296,15 +219,18 @@ def run_as_it_stands(net, text):
 
 
 def run_read_with_care(net, text):
-    (line, nodes), entries = read(text)
-    check_nodes(net, line, nodes)
+    head, entries = read(text)
+    check_nodes(net, head.line, head.nodes)
+    if head.edition == 2:
+        check_stamped(net, head, entries)
     found = find_order(net, entries)
     if found.left:
         raise refusal_of(found, first_refused(found))
     for v, what in unfinished(found.nodes):
-        last_line = max((entry.line for entry in entries if entry.vertex == v), default=line)
+        last_line = max((entry.line for entry in entries if entry.vertex == v), default=head.line)
         raise Wrong(last_line, "NotWhole", f"after its last entry {what}{why_not_whole(found.nodes, found.nodes[v])}")
-    return [entry.line for entry in found.made], verdict(found.nodes)
+    made = entries if head.edition == 2 else found.made
+    return [entry.line for entry in made], verdict(found.nodes)
 
 
 def verdict(nodes):
@@ -341,7 +267,7 @@ def words_of_command():
     words = argparse.ArgumentParser(prog="check-transcript", description=HELP, epilog=MORE_HELP,
                                     formatter_class=argparse.RawDescriptionHelpFormatter)
     words.add_argument("--order", action="store_true",
-                       help="instead of that line print the transcript in the order found, in which it is a run line by line")
+                       help="instead of that line print the transcript in the order found, in which it is a run line by line; of edition 2 as it is")
     words.add_argument("network", metavar="NETWORK.col", help="a network that `forestplan` reads without a fault")
     words.add_argument("transcript", nargs="?", metavar="TRANSCRIPT", help="default: standard input")
     return words

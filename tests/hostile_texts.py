@@ -18,7 +18,7 @@ WORDS = [b"p", b"e", b"c", b"i", b"b", b"n", b"d", b"v", b"x", b"cx", b"edge", b
          b"p\x00", b"\xffe", b"q"]
 LINES = [b"", b"\r", b" \t", b"c", b"c \xff\x00", b"n 1 1", b"p edge 2 1", b"p col 3 0", b"e 1 2", b"e 1 1", b"e 0 1", b"i 1 5", b"i 2 1", b"i 1 2", b"i 0 5",
          b"i 2 %d" % (2**128 - 1), b"i 1 %d" % 2**128, b"b 1 1", b"b 2 1", b"b 1 2048 x", b"b 2 0", b"b 1 2049", b"b 3 2", b"plan", b"1 1", b"2 1",
-         b"put 1 0", b"take 2 0", b"pulse 1", b"transcript 1 2", b"1 put 2 payload 0 hello 1", b"1 pulse 1", b"q", b"\x00", b"\xff"]
+         b"put 1 0", b"take 2 0", b"pulse 1", b"transcript 1 2", b"transcript 2 2", b"1 put 2 payload 0 hello 1", b"1 1 put 2 payload 0 hello 1", b"1 pulse 1", b"q", b"\x00", b"\xff"]
 
 
 def texts_of(command, seed):

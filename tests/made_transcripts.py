@@ -2,6 +2,7 @@
 
 A transcript is held as its entries' lines without line feeds, those of each node in its own order."""
 import re
+from collections import deque
 
 from alpha_definition import NetState, wire_words
 
@@ -66,6 +67,34 @@ def line_of(state, event):
 def transcript_text(nodes, lines):
     """As the program writes it: the vertices ascend."""
     return "".join(line + "\n" for line in [f"transcript 1 {nodes}"] + [line for v in sorted(lines) for line in lines[v]]).encode()
+
+
+def stamped_rows(lines):
+    """(stamp, vertex, line) of each entry, in the order of edition 2. A node is looked at again once a neighbour has put more."""
+    rows, at, counter, puts = [], dict.fromkeys(lines, 0), dict.fromkeys(lines, 0), {}
+    work = list(lines)
+    while work:
+        v = work.pop()
+        for line in lines[v][at[v]:]:
+            _, kind, *others = line.split(" ", 3)
+            link = puts.setdefault((v, others[0]) if kind == "put" else (int(others[0]), str(v)), deque()) if kind != "pulse" else None
+            if kind == "take":
+                if not link:
+                    break
+                counter[v] = max(counter[v], link.popleft())
+            at[v], counter[v] = at[v] + 1, counter[v] + 1
+            rows.append((counter[v], v, line))
+            if kind == "put":
+                link.append(counter[v])
+                work.append(int(others[0]))
+    assert len(rows) == sum(map(len, lines.values())), "no order of the entries"
+    return sorted(rows, key=lambda row: row[:2])
+
+
+def merged_text(nodes, lines):
+    """As the program writes edition 2."""
+    rows = [f"{stamp} {line}" for stamp, _, line in stamped_rows(lines)]
+    return "".join(line + "\n" for line in [f"transcript 2 {nodes}"] + rows).encode()
 
 
 def mixed_text(source, nodes, lines):

@@ -3,7 +3,7 @@ time, so all of it can be compared, and the number of looks that it needs tells 
 from collections import deque
 
 from alpha_definition import NetState
-from made_transcripts import line_of, transcript_text
+from made_transcripts import line_of, merged_text, transcript_text
 
 MOST_TAKES = 4
 
@@ -53,3 +53,6 @@ class Run:
 
     def text(self):
         return transcript_text(len(self.lines), self.lines)
+
+    def merged(self):
+        return merged_text(len(self.lines), self.lines)

@@ -426,7 +426,7 @@ def tell_rows():
                   "payloads": [payloads], "wires": [2, payloads, 2, edges, last + 1, wires]}
         note(f"tell of {name}", {key: got.get(key) for key in wanted} == wanted, (told, wanted))
         note(f"tell of {name}: the transcript's lines", got["transcript"][0] == run.count(b"\n"), told)
-        note(f"tell of {name}: the transcript's bytes", told["transcript"].endswith(f", {rounded(len(run))}"), (told, len(run)))
+        note(f"tell of {name}: the transcript's bytes", told["transcript"].endswith(f", {rounded(len(run))} without stamps"), (told, len(run)))
         note(f"tell of {name}: no warning", warned == b"", warned)
         note(f"tell of {name}: the time", told["time"] == "less than a second", told)
     for data, said in ((b"p edge 3 99\ne 1 2\n", b"the `p` line says 99 edges, and the text has 1: is it cut?"),

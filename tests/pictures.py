@@ -17,7 +17,7 @@ import tempfile
 from collections import Counter
 
 import check_transcript
-from made_transcripts import MISTAKES, made_transcript, transcript_text, with_mistake
+from made_transcripts import MISTAKES, made_transcript, merged_text, transcript_text, with_mistake
 from picture_base import LIMIT, SEED, TALLY, TOP, Drawing, call, example, examples, note, transcript, transcript_by
 from picture_maps import (bars_row, bits_rows, crowded_rows, forests_rows, grid_rows, matrix_rows, parts_rows, plan_rows, player_rows,
                           rounds_rows)
@@ -76,6 +76,7 @@ def refused_rows(draw):
         kind, mistake = ("run", "overview", "node", "tally")[number_of % 4], MISTAKES[number_of // 4 % 4]
         mistake_row(draw, source, f"{kind} of a transcript, {mistake} ({number_of})", kind, mistake)
     other_payload_rows(draw, source)
+    stamped_rows(draw, source)
 
 
 def other_payload_rows(draw, source):
@@ -107,6 +108,25 @@ def mistake_row(draw, source, name, kind, mistake):
         note(f"a mistake of the kind {mistake} is wrong", False, f"none in {TRIES} tries")
         return
     refused(name, draw.run(kind, APART, text))
+
+
+def stamped_rows(draw, source):
+    """A transcript of edition 2 is drawn as the same entries without stamps are, but for what the caption says of time; and of another
+    stamp, or of a line left out, the line is named."""
+    lines = made_transcript(source, network_of(APART), 4)
+    plain, merged = transcript_text(5, lines), merged_text(5, lines)
+    for kind in ("run", "overview", "node", "tally"):
+        wanted, got = (draw(kind, APART, text).split("\n") for text in (plain, merged))
+        others = [line for line in got if line not in wanted]
+        good = len(wanted) == len(got) and len(others) == (kind in ("run", "overview")) and all("Lamport's clock" in line for line in others)
+        note(f"{kind} of a transcript with stamps", good, others[:3])
+    rows = merged.split(b"\n")
+    for kind in ("run", "overview", "node", "tally"):
+        at = source.randrange(1, len(rows) - 1)
+        stamp, entry = rows[at].split(b" ", 1)
+        other = b"%d %s" % (int(stamp) + source.choice((1, -1)), entry)
+        refused(f"{kind} of another stamp at line {at + 1}", draw.run(kind, APART, b"\n".join(rows[:at] + [other] + rows[at + 1:])))
+        refused(f"{kind} without line {at + 1}", draw.run(kind, APART, b"\n".join(rows[:at] + rows[at + 1:])))
 
 
 def refused(name, done, words=b""):

@@ -150,5 +150,5 @@ def turn_rows(program):
 
 
 def answer_with(program, data, capacity, turns, command="plan"):
-    words = [command, "--workers", "1", "--capacity", str(capacity), "--turns", str(turns)]
+    words = [command, "--workers", "1", "--capacity", str(capacity), "--turns", str(turns)] + ["--edition", "1"] * (command == "transcript")
     return answer_of(program, words, data)

@@ -37,7 +37,7 @@ FAULTS = [("", "F1"), ("p edge 1 0|p edge 1 0|", "F2 line 2"), ("e 1 2|p edge 2 
           ("p edge 2 1|i 1 5|i 1 5|", "F12 line 3"), (EDGE + "b 1 2049|", "F13 line 3"),
           ("p edge 1 0|" + "".join(f"b 1 {channel}|" for channel in range(1, 1026)), "F14 line 1026")]
 # The headline as one line of shell, as README has it: the payloads of the rounds and of a run of threads are the same lines.
-HEADLINE = """cmp <("$0" rounds < "$2" | grep put | sort) <("$1" transcript --workers "$3" < "$2" | grep 'put .* payload' | sort)"""
+HEADLINE = """cmp <("$0" rounds < "$2" | grep put | sort) <("$1" transcript --edition 1 --workers "$3" < "$2" | grep 'put .* payload' | sort)"""
 
 
 def note(name, good, what=""):

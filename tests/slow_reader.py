@@ -9,6 +9,7 @@ from check_transcript import Wrong, read
 from events import answer_of, state_text
 from plain_definition import Network, forests_text, network_of, plan_text
 from rounds_definition import rounds_text
+from stamped_run import Clock, unfinished
 from verdicts import wrong_plan
 
 MOST_NODES, MOST_EDGES, MOST_NEIGHBOURS = 20_000, 400_000, 1023
@@ -237,18 +238,24 @@ def replay(rows):
     before, behind = split(rows, lambda first: first == b"transcript")
     net = definition_of(*network_in(before))
     try:
-        (_, _), entries = read(b"".join(b" ".join(fields) + b"\r\n" for fields in behind))
+        head, entries = read(b"".join(b" ".join(fields) + b"\r\n" for fields in behind))
     except Wrong as wrong:
         raise Fault(f"X1 line {wrong.args[0] + len(before) if behind else 1}") from None
-    state = NetState(net)
+    state, clock, before_it = NetState(net), Clock(net.neighbours), (0, 0)
     taken = dict.fromkeys(state.link, 0)
     for entry in entries:
         try:
             make(state, entry)
         except Refused as refused:
             raise Fault(f"{refused} line {entry.line + len(before)}{entry_words(state, entry, refused)}") from None
+        due = clock.next(entry.kind, entry.vertex, entry.neighbour), entry.vertex
+        if head.edition == 2 and (due != (entry.stamp, entry.vertex) or due < before_it):
+            raise Fault(f"WrongStamp line {entry.line + len(before)}")
+        before_it = due
         if entry.kind == "Take":
             taken[entry.neighbour, state.port_to[entry.neighbour, entry.vertex]] += 1
+    if head.edition == 2 and any(unfinished(state)):
+        raise Fault(f"NotWhole line {(entries or [head])[-1].line + len(before)}")
     return state_text(net, state, taken)
 
 
@@ -265,7 +272,7 @@ def transcript(rows):
     nodes, _, _, _ = network_in(rows)
     if nodes > 0:
         raise Stopped
-    return b"transcript 1 0\n"
+    return b"transcript 2 0\n"
 
 
 ANSWERS = {"forests": forests, "plain": plain, "plan": plain, "transcript": transcript, "check": check, "events": events, "replay": replay,

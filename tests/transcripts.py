@@ -1,5 +1,6 @@
 #!/usr/bin/env python3
-"""Tests of `./check-transcript` and `./replay`; and by the first, of the transcripts of the built program. The last line is 'N passed, M failed'.
+"""Tests of `./check-transcript` and `./replay` with transcripts of edition 1; and by the first, of those of the built program. Those of edition 2
+are in merged.py. The last line is 'N passed, M failed'.
 
   transcripts.py [--program PROGRAM] [--play PLAY]
       PROGRAM   has the command `transcript`
@@ -90,7 +91,7 @@ WORKED = [
     ("p edge 2 0|", APART.replace("2 pulse 3|", ""), "line 16: WrongWire"), ("p edge 2 0|", "transcript 1 2|", "line 1: NotWhole"),
     ("p edge 2 0|", "transcript 1 3|" + APART[15:], "line 1: Nodes"), ("p edge 2 0|", APART + "1 put 2 close|", "line 26: NoSuch"),
     # the reading
-    (EDGE, "", "line 1: X1"), (EDGE, "| |", "line 1: X1"), (EDGE, "|1 put 2 close|", "line 2: X1"), (EDGE, "transcript 2 2|", "line 1: X1"),
+    (EDGE, "", "line 1: X1"), (EDGE, "| |", "line 1: X1"), (EDGE, "|1 put 2 close|", "line 2: X1"), (EDGE, "transcript 2 2|", "line 1: NotWhole"), (EDGE, "transcript 3 2|", "line 1: X1"),
     (EDGE, "transcript 1|", "line 1: X1"), (EDGE, "transcript 1 2 2|", "line 1: X1"), (EDGE, "transcript 1 4294967296|", "line 1: X1"),
     (EDGE, "transcript 1 4294967295|", "line 1: Nodes"), (EDGE, "transcript 1 -2|", "line 1: X1"), (EDGE, "c|transcript 1 2|", "line 1: X1"),
 ] + [(EDGE, f"transcript 1 2||{entry}|1 pulse 1|", "line 3: X1") for entry in (
@@ -191,7 +192,7 @@ def mistaken(count):
 def found_in(net, data):
     """The code of what is wrong, or None; and the transcript in the order found, the entry that is refused next."""
     try:
-        (_, _), entries = read(data)
+        _, entries = read(data)
     except Wrong as wrong:
         return wrong.args[1], data
     found = find_order(net, entries)
@@ -207,7 +208,7 @@ def found_in(net, data):
 def replayed(net, data):
     """What the definition of events says of the entries one by one, in the order of the text."""
     try:
-        (_, _), entries = read(data)
+        _, entries = read(data)
         state = NetState(net)
         for entry in entries:
             make(state, entry)
@@ -281,7 +282,7 @@ def order_rows():
         if i > 1:
             lines = with_mistake(source, MISTAKES[i % 4], lines)
         try:
-            (_, _), entries = read(transcript_text(2, lines))
+            _, entries = read(transcript_text(2, lines))
         except Wrong:
             continue
         reached, made = every_order(net, entries), find_order(net, entries).made
@@ -398,7 +399,7 @@ def program_rows(program):
     """The program's transcripts with each number of workers and each capacity by turns."""
     wrong, other_bytes, count = [], [], 0
     for count, (network, net) in enumerate(networks(), 1):
-        words = ["--workers", str(WORKERS[count % 4]), "--capacity", str(CAPACITIES[count % 3])]
+        words = ["--edition", "1", "--workers", str(WORKERS[count % 4]), "--capacity", str(CAPACITIES[count % 3])]
         status, data, fault = transcript_by(program, words, network)
         if (status, fault) != (0, b"") or not is_counted(net, data, said_of(net, data)[0]):
             wrong.append((network, words, status, fault, said_of(net, data)))
@@ -407,7 +408,7 @@ def program_rows(program):
     note(f"the program's transcripts of {count} networks", not wrong, f"{len(wrong)}: {wrong[:1]}")
     note("the program's transcripts byte for byte", not other_bytes, other_bytes[:1])
     for workers in WORKERS:
-        done = transcript_by(program, ["--workers", str(workers)], b"p col 2 0\n")
+        done = transcript_by(program, ["--edition", "1", "--workers", str(workers)], b"p col 2 0\n")
         note(f"two nodes apart, {workers} workers", done == (0, text(APART), b""), done)
 
 
@@ -416,7 +417,7 @@ def one_worker_rows(program):
     wrong, count = [], 0
     for count, (network, net) in enumerate(networks(), 1):
         capacity = CAPACITIES[count % 3]
-        done = transcript_by(program, ["--workers", "1", "--capacity", str(capacity)], network)
+        done = transcript_by(program, ["--edition", "1", "--workers", "1", "--capacity", str(capacity)], network)
         if done != (0, Run(net, capacity).text(), b""):
             wrong.append((network, capacity, done))
     note(f"the transcripts of one worker of {count} networks, by the definition", not wrong, f"{len(wrong)}: {wrong[:1]}")
@@ -429,12 +430,12 @@ def transcript_by(program, words, network):
 
 def written_anew(data):
     """The text of the entries that are read, the vertices ascending."""
-    (_, nodes), entries = read(data)
-    lines = {v: [] for v in range(1, nodes + 1)}
+    head, entries = read(data)
+    lines = {v: [] for v in range(1, head.nodes + 1)}
     for entry in entries:
         what = f"pulse {entry.what}" if entry.kind == "Pulse" else f"{entry.kind.lower()} {entry.neighbour} {wire_words(entry.what)}"
         lines[entry.vertex].append(f"{entry.vertex} {what}")
-    return transcript_text(nodes, lines)
+    return transcript_text(head.nodes, lines)
 
 
 def main():

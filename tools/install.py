@@ -15,7 +15,7 @@ import manuals
 PROGRAMS = ("forestplan", "forestplay")
 SCRIPTS = ("picture", "network", "explore", "check-transcript", "replay")
 FOLDERS = ("examples", "tools/pictures", "tools/networks", "tools/schedules", "tools/shared")
-MODULES = ("tests/check_transcript.py", "tests/transcript_search.py", "tests/alpha_definition.py", "tests/plain_definition.py")
+MODULES = ("tests/check_transcript.py", "tests/stamped_run.py", "tests/transcript_reading.py", "tests/transcript_search.py", "tests/alpha_definition.py", "tests/plain_definition.py")
 
 HELP = """\
 Copies forestplan and what belongs to it into a folder, so that it runs there

@@ -149,7 +149,7 @@ def facts(reading, path):
         ("in turn", f"{counted(steps_in_turn(network), 'round')}, if the nodes chose in the order of their numbers"),
         ("payloads", f"{most}{run.payloads:,}; {run.how}"),
         ("wires", f"{most}2 * {run.payloads:,} + 2 * {edges:,} * {run.last + 1:,} = {run.wires:,}"),
-        ("transcript", f"{most}{run.entries + 1:,} lines, {size(run.bytes)}"),
+        ("transcript", f"{most}{run.entries + 1:,} lines, {size(run.bytes)} without stamps"),
         ("time", times(run)),
     ]
 

@@ -1,7 +1,7 @@
 """The whole run, or some pulses of it: bands and ticks alone. Neighbours are never more than one pulse apart."""
 from marks import short_name
 from palette import BAND, BORDER, INK, PAPER, PULSE, SOFT
-from run_picture import polygon
+from run_picture import polygon, time_words
 from svg import Svg, text_width
 from wrong import Wrong
 
@@ -57,7 +57,7 @@ def draw(run, pulses=None):
     overview = Overview(run, first, last)
     svg = Svg(overview.left + WIDTH + 28, overview.bottom + 52, f"Overview of {run.name}")
     svg.heading(f"{run.name}: pulses {first} to {last} of {run.last}, without a clock",
-                "No clock was kept. An event stands as far right as the longest chain of events that lead to it (found by replaying).")
+                time_words(run))
     draw_bands(svg, overview)
     for v in overview.nodes:
         draw_node(svg, overview, v)

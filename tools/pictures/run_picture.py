@@ -69,8 +69,7 @@ def draw(run, pulses=None, kinds=None):
     svg = Svg(width, lower_top + (nodes - 1) * lower_row + 66, f"Space and time of {run.name}")
     shown = "what each node put, took and did" if set(kinds) == set(KINDS) else " and ".join(f"{NAMES[kind]}s" for kind in kinds)
     svg.heading(f"{run.name}: {shown}, pulses {first} to {last} of {run.last}",
-                "No clock was kept. An event stands as far right as the longest chain of events that lead to it (found by "
-                "replaying), so every arrow points right.")
+                time_words(run, ", so every arrow points right"))
     legend(svg, kinds)
     svg.clip("window", LEFT - 8, 0, width - LEFT - 8, lower_top - 74)
     draw_bands(svg, window)
@@ -84,6 +83,14 @@ def draw(run, pulses=None, kinds=None):
     svg.text(20, TOP + upper + extra(window, nodes) + 20, early_words(window, kinds), 11.5, SOFT)
     draw_rounds(svg, run, first, last, lower_top, lower_row)
     return svg.document()
+
+
+def time_words(run, behind=""):
+    """What the place of an event from left to right is; `behind` ends the sentence."""
+    if run.edition == 2:
+        return ("Time is the transcript's stamps, by Lamport's clock: one more than the node's last, and of a take also than the put's"
+                f"{behind}. It is not real time.")
+    return f"No clock was kept. An event stands as far right as the longest chain of events that lead to it (found by replaying){behind}."
 
 
 def name_below(svg, network, v, y):

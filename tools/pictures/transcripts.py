@@ -1,8 +1,11 @@
 """The transcript of a run (docs/FORMATS.md): entries by node, each take beside its put, and a place in time for each.
 
-A text is read only if some order of its entries is a run of the colouring on its network. Nodes are replayed one by one (a
-node's entries decide what it may do next), and a take may only come after its put; an entry that can come next can always
-come later too, so going on wherever one can finds an order if there is one."""
+A text of edition 1 is read only if some order of its entries is a run of the colouring on its network. Nodes are replayed one by
+one (a node's entries decide what it may do next), and a take may only come after its put; an entry that can come next can always
+come later too, so going on wherever one can finds an order if there is one.
+
+A text of edition 2 has its order, and a stamp with each entry, which is its place in time. It is read only if each stamp is the one
+that Lamport's clock gives; nothing is replayed."""
 from functools import lru_cache
 
 from alpha import Impossible, Node, words_of
@@ -19,7 +22,8 @@ PAYLOADS = {"hello", "label", "colour", "chosen"}
 
 class Entry:
     """What a node did: `kind` is `pulse`, `put` or `take`; `wire` is (kind, pulse, payload) of a put or take; `mate` is the
-    put of a take, and back; `x` the length of the longest chain of entries that ends here; `during` the node's pulse."""
+    put of a take, and back; `x` the length of the longest chain of entries that ends here, which is its stamp; `during` the node's
+    pulse."""
 
     __slots__ = ("line", "vertex", "kind", "neighbour", "wire", "pulse", "mate", "x", "during")
 
@@ -35,10 +39,10 @@ class Entry:
 
 class Run:
     """`entries[v]` in v's order; `last` is R; `whole`, whether every node is through with its last pulse; `read_to`, the pulse
-    up to which a long text was read, or None if it was read to its end."""
+    up to which a long text was read, or None if it was read to its end; `edition`, that of the text."""
 
-    def __init__(self, network, name, entries, rounds):
-        self.network, self.name, self.entries, self.rounds = network, name, entries, rounds
+    def __init__(self, network, name, entries, rounds, edition):
+        self.network, self.name, self.entries, self.rounds, self.edition = network, name, entries, rounds, edition
         self.last, self.whole, self.read_to = rounds.last, False, None
 
     def all(self):
@@ -91,27 +95,40 @@ def entry_of(name, line, fields, network):
     return Entry(line, vertex, kind, whole(fields[2]), wire, wire[1])
 
 
+def stamped_entry_of(name, line, fields, network):
+    """The entry of a line of edition 2, with its stamp as its place in time."""
+    if whole(fields[0]) is None or len(fields) < 2:
+        raise wrong_line(name, line, f"`{' '.join(fields)[:60]}` is no entry of a transcript (X1)")
+    entry = entry_of(name, line, fields[1:], network)
+    entry.x = whole(fields[0])
+    return entry
+
+
+READERS = {"1": entry_of, "2": stamped_entry_of}
+
+
 def read_entries(text, name, network, stop=None):
-    """The entries of each node, in its order; with `stop`, those before it begins that pulse."""
-    entries, begun, stopped = {v: [] for v in network.vertices}, False, set()
+    """The edition, and the entries of each node in its order; with `stop`, those before it begins that pulse."""
+    entries, edition, stopped = {v: [] for v in network.vertices}, None, set()
     for line, raw in enumerate(text.split("\n"), 1):
-        if raw.split(" ", 1)[0] in stopped:
+        if stopped and stopped.issuperset(raw.split(" ", edition)[edition - 1:edition]):
             continue
         fields = [field for field in fields_of(raw) if field]
         if not fields:
             continue
-        if begun:
-            entry = entry_of(name, line, fields, network)
+        if edition:
+            entry = READERS[str(edition)](name, line, fields, network)
             if entry.kind == "pulse" and entry.pulse == stop:
-                stopped.add(fields[0])
+                stopped.add(fields[edition - 1])
             else:
                 entries[entry.vertex].append(entry)
-        elif fields != ["transcript", "1", str(network.nodes)]:
-            raise wrong_line(name, line, f"no line `transcript 1 {network.nodes}` (X1)")
-        begun = True
-    if not begun:
-        raise wrong_line(name, 1, "no line `transcript 1 ..` (X1)")
-    return entries
+        elif len(fields) == 3 and fields[0] == "transcript" and fields[1] in READERS and fields[2] == str(network.nodes):
+            edition = int(fields[1])
+        else:
+            raise wrong_line(name, line, f"no line `transcript 2 {network.nodes}` or `transcript 1 {network.nodes}` (X1)")
+    if not edition:
+        raise wrong_line(name, 1, "no line `transcript 2 ..` or `transcript 1 ..` (X1)")
+    return edition, entries
 
 
 def match(entries, name, last, is_part=False):
@@ -206,6 +223,33 @@ def set_in_time(run):
         raise wrong_line(run.name, line, "no order of the entries is a run: this one would have to come before itself")
 
 
+def check_stamps(run):
+    """Each stamp has to be one more than that of the entry before at the node, and than that of the put if it is a take. Of a part
+    of a text, a take whose put is missing is left out, with all behind it."""
+    for v, listed in run.entries.items():
+        stamp, pulse = 0, 0
+        for at, entry in enumerate(listed):
+            if entry.kind == "take" and entry.mate is None:
+                del listed[at:]
+                break
+            stamp = 1 + max(stamp, entry.mate.x if entry.kind == "take" else 0)
+            if entry.x != stamp:
+                raise wrong_line(run.name, entry.line, f"stamp {entry.x}, but the clock of node {v} gives {stamp} there (WrongStamp)")
+            if entry.kind == "pulse":
+                pulse += 1
+                if entry.pulse != pulse:
+                    raise wrong_line(run.name, entry.line, f"node {v}: pulse {pulse} comes before pulse {entry.pulse}")
+            entry.during = pulse
+
+
+def is_whole(run):
+    """Whether each node has made the last pulse, and has put and taken every closing mark."""
+    def closed(v, kind):
+        return sum(entry.kind == kind and entry.wire[0] == "close" for entry in run.entries[v])
+    return all(run.last in run.ticks(v) and closed(v, "put") == closed(v, "take") == len(run.network.neighbours[v])
+               for v in run.network.vertices)
+
+
 def nodes_of(run):
     """A fresh node for each vertex, to be replayed."""
     sends = sends_of(run.rounds)
@@ -226,18 +270,27 @@ def read_transcript(text, name, network, until=None):
 
 
 def run_of(text, name, network, stop=None):
-    entries = read_entries(text, name, network, stop)
+    edition, entries = read_entries(text, name, network, stop)
     identifiers = identifiers_of(network, entries)
     if len(set(identifiers.values())) < network.nodes:
         raise Wrong(f"{name}: two nodes have one identifier")
-    run = Run(network, name, entries, Rounds(network, identifiers))
+    run = Run(network, name, entries, Rounds(network, identifiers), edition)
     if stop is not None and stop <= run.last:
         run.read_to = stop
     match(entries, name, run.last, run.read_to is not None)
+    if edition == 2:
+        check_stamps(run)
+        run.whole = is_whole(run)
+    else:
+        replay(run)
+    return run
+
+
+def replay(run):
+    """Has each node make its entries, and finds a place in time for each."""
     nodes = nodes_of(run)
-    for v, listed in entries.items():
+    for v, listed in run.entries.items():
         for entry in listed:
-            make(nodes[v], entry, name)
+            make(nodes[v], entry, run.name)
     set_in_time(run)
     run.whole = all(node.is_through() for node in nodes.values())
-    return run

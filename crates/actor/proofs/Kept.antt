@@ -16,8 +16,8 @@ use Rattle.alpha_laws.proofs.alpha_core.Due.{due-taken}
 use Rattle.alpha_laws.proofs.alpha_core.Wires.{legal-front}
 use Rattle.alpha_laws.specs.Kept.{KeptAt, NodeKept}
 use Rattle.alpha_laws.proofs.Lawful.{legal_emitted}
-use Rattle.link_rule.specs.declared.name.LinkName.{LinkName}
-use Rattle.link_rule.specs.Legal.{IsLegalOn, LegalFor, name_of}
+use Rattle.link_queue.specs.link_rule.LinkName.{LinkName}
+use Rattle.link_queue.specs.link_rule.Legal.{IsLegalOn, LegalFor, name_of}
 use Rattle.actor.proofs.Lists.{first_is}
 
 -- a wire that a node refuses isn't due

@@ -5,3 +5,6 @@ pub mod Written
 pub mod Writes
 pub mod Rows
 pub mod alpha_core
+pub mod StampedEntries
+pub mod HasStamps
+pub mod stamps

@@ -7,7 +7,9 @@ use Rattle.std.proofs.Math.Seq.{map-set_same}
 use Rattle.std.proofs.lemmas.List.{map-set, set-get_or, get_or-map, get_or-set_same, get_or-set_other, length-map, length-append}
 use Rattle.std.proofs.lemmas.List.FromFn.{length-range_with_len, get_or-range_with_len}
 use Rattle.alpha_laws.specs.alpha_core.Wire.{Wire}
+use Rattle.alpha_laws.specs.alpha_core.Stamped.{Stamped}
 use Rattle.alpha_laws.specs.Laws.{OneMore}
+use Rattle.stamps.specs.Keeps as stamps
 use Rattle.actor.specs.declared.aside.Aside.{Aside}
 use Rattle.actor.specs.Node.{by_port, all_but_last, reacted_to}
 
@@ -44,6 +46,37 @@ pub first_is : {A : Type 0} (xs : List A) (x : A) → slice_get xs 0 ≡ Some x 
 first_is [] x e = absurd cc
 first_is (y ∷ ys) x e = let same : y ≡ x = cc in ap (λ z. z ∷ ys) same
 
+module _ {A B : Type 0} (f : A → List B) where
+  -- one thing more at the end of one list
+  pub grows : (xs : List A) (i : ℕ) (x y : A) (w : B) → i < length xs → x ≡ get_or xs i x → f y ≡ f x ++ (w ∷ [])
+      → map f (set xs i y) ≡ set (map f xs) i (by_port (map f xs) i ++ (w ∷ []))
+  grows xs i x y w lt is more = map-set f xs i y ∙ ap (λ z. set (map f xs) i z) (more ∙ ap (λ z. z ++ (w ∷ [])) (get_map f xs i x [] lt is))
+
+  grown_here : (xs : List A) (i : ℕ) (x y : A) (w : B) → i < length xs → x ≡ get_or xs i x → f y ≡ f x ++ (w ∷ [])
+      → by_port (map f (set xs i y)) i ≡ by_port (map f xs) i ++ (w ∷ [])
+  grown_here xs i x y w lt is more =
+      let within : i < length (map f xs) = omega (arith, length-map xs f) in
+      ap (λ l. get_or l i []) (grows xs i x y w lt is more) ∙ get_or-set_same (map f xs) i (by_port (map f xs) i ++ (w ∷ [])) [] within
+
+  grown_other : (xs : List A) (i : ℕ) (x y : A) (w : B) → i < length xs → x ≡ get_or xs i x → f y ≡ f x ++ (w ∷ []) → (j : ℕ) → (j ≡ i → ⊥)
+      → by_port (map f xs) j ≡ by_port (map f (set xs i y)) j
+  grown_other xs i x y w lt is more j ne =
+      sym (ap (λ l. get_or l j []) (grows xs i x y w lt is more) ∙ get_or-set_other (map f xs) i j (by_port (map f xs) i ++ (w ∷ [])) [] ne)
+
+  -- nothing stands in a list where all are empty
+  pub none_at : (xs : List A) → All (λ x. f x ≡ []) xs → (i : ℕ) → [] ≡ by_port (map f xs) i
+  none_at [] all i = refl
+  none_at (x ∷ xs) all zero = sym (all 0 x (omega arith))
+  none_at (x ∷ xs) all (suc i) = none_at xs (λ k d lt. all (suc k) d (omega arith)) i
+
+module _ {A M : Type 0} (f : A → List (Stamped M)) where
+  pub one_more_stamped : (xs : List A) (i : ℕ) (x y : A) (w : Stamped M) → i < length xs → x ≡ get_or xs i x → f y ≡ f x ++ (w ∷ [])
+      → stamps.OneMore i w (by_port (map f xs)) (by_port (map f (set xs i y)))
+  one_more_stamped xs i x y w lt is more = record {
+    here = grown_here f xs i x y w lt is more;
+    others = λ j ne. grown_other f xs i x y w lt is more j ne;
+  }
+
 module _ {M : Type 0} where
   pub but_last-more : (ws : List (Wire M)) (w : Wire M) → all_but_last (ws ++ (w ∷ [])) ≡ ws
   but_last-more ws w =
@@ -52,19 +85,12 @@ module _ {M : Type 0} where
 
   module _ {A : Type 0} (f : A → List (Wire M)) where
     -- one wire more at the end of one list
-    pub grows : (xs : List A) (i : ℕ) (x y : A) (w : Wire M) → i < length xs → x ≡ get_or xs i x → f y ≡ f x ++ (w ∷ [])
-        → map f (set xs i y) ≡ set (map f xs) i (by_port (map f xs) i ++ (w ∷ []))
-    grows xs i x y w lt is more = map-set f xs i y ∙ ap (λ z. set (map f xs) i z) (more ∙ ap (λ z. z ++ (w ∷ [])) (get_map f xs i x [] lt is))
-
     pub one_more : (xs : List A) (i : ℕ) (x y : A) (w : Wire M) → i < length xs → x ≡ get_or xs i x → f y ≡ f x ++ (w ∷ [])
         → OneMore i w (by_port (map f xs)) (by_port (map f (set xs i y)))
-    one_more xs i x y w lt is more =
-        let lists = grows xs i x y w lt is more in
-        let within : i < length (map f xs) = omega (arith, length-map xs f) in
-        record {
-          here = ap (λ l. get_or l i []) lists ∙ get_or-set_same (map f xs) i (by_port (map f xs) i ++ (w ∷ [])) [] within;
-          others = λ j ne. sym (ap (λ l. get_or l j []) lists ∙ get_or-set_other (map f xs) i j (by_port (map f xs) i ++ (w ∷ [])) [] ne);
-        }
+    one_more xs i x y w lt is more = record {
+      here = grown_here f xs i x y w lt is more;
+      others = λ j ne. grown_other f xs i x y w lt is more j ne;
+    }
 
     -- without the wire that came last, the lists are those from before
     pub set_aside : (xs : List A) (i : ℕ) (x y : A) (w : Wire M) (aside : Aside M) → aside.port ≡ i → i < length xs → x ≡ get_or xs i x → f y ≡ f x ++ (w ∷ [])
@@ -72,14 +98,8 @@ module _ {M : Type 0} where
     set_aside xs i x y w aside port lt is more =
         let within : i < length (map f xs) = omega (arith, length-map xs f) in
         let longer = by_port (map f xs) i ++ (w ∷ []) in
-        ap (λ l. set l aside.port (all_but_last (get_or l aside.port []))) (grows xs i x y w lt is more)
+        ap (λ l. set l aside.port (all_but_last (get_or l aside.port []))) (grows f xs i x y w lt is more)
         ∙ ap (λ k. set (set (map f xs) i longer) k (all_but_last (get_or (set (map f xs) i longer) k []))) port
         ∙ set_back (map f xs) i longer _
         ∙ ap (λ z. set (map f xs) i z) (ap all_but_last (get_or-set_same (map f xs) i longer [] within) ∙ but_last-more (by_port (map f xs) i) w)
         ∙ set-get_or (map f xs) i []
-
-    -- nothing stands in a list where all are empty
-    pub none_at : (xs : List A) → All (λ x. f x ≡ []) xs → (i : ℕ) → [] ≡ by_port (map f xs) i
-    none_at [] all i = refl
-    none_at (x ∷ xs) all zero = sym (all 0 x (omega arith))
-    none_at (x ∷ xs) all (suc i) = none_at xs (λ k d lt. all (suc k) d (omega arith)) i

@@ -1,5 +1,5 @@
 -- What one call on an end, or on the node alone, leaves of what a node with its ends keeps.
-use Rattle.std.proofs.Common.{◌≡◌, ℕ, ◌<◌, List, [], ◌∷◌, ◌++◌, length, map, drop, set, get_or, sym, ap, ◌∙◌, subst, arith}
+use Rattle.std.proofs.Common.{◌≡◌, ℕ, ◌<◌, false, List, [], ◌∷◌, ◌++◌, length, map, drop, set, get_or, sym, ap, ◌∙◌, subst, arith}
 use Rattle.std.proofs.Common.{Some, None, Ok, Err, slice_get}
 use Rattle.std.specs.Prelude.{Option, Result, IsTrue, MatchResult}
 use Rattle.std.proofs.lemmas.List.{length-map, length-set}
@@ -9,12 +9,14 @@ use Rattle.alpha_laws.specs.node_api.Laws.{IsProgram}
 use Rattle.alpha_laws.specs.alpha_core.Wire.{Wire}
 use Rattle.alpha_laws.specs.alpha_core.AlphaRefused.{AlphaRefused}
 use Rattle.alpha_laws.specs.alpha_core.View.{Node, port_at, can_pulse}
+use Rattle.alpha_laws.specs.alpha_core.Table.{is_due}
 use Rattle.alpha_laws.specs.alpha_core.Alpha.{reaction, pulse, put_done}
 use Rattle.alpha_laws.specs.alpha_core.Program.{IsLegal}
 use Rattle.alpha_laws.specs.Kept.{NodeKept}
 use Rattle.alpha_laws.proofs.NodeLaws.{puts_keep, takes_keep, pulses_keep}
 use Rattle.alpha_laws.proofs.Runs.{runs}
 use Rattle.actor.specs.declared.aside.Aside.{Aside}
+use Rattle.actor.specs.declared.aside.WhyAside.TheVariants.{Refused}
 use Rattle.actor.specs.Node.{by_port, reacted_to, all_but_last, IsAside}
 use Rattle.actor.proofs.Lists.{same_all, get_map, one_more, set_aside, but_last-more, first_is}
 use Rattle.actor.proofs.Kept.{not_due}
@@ -74,20 +76,20 @@ module _ {S M R X Y : Type 0} (program : Program S M R) (net : Net) (put : X →
       subst (λ s. NodeKept program net v record { state = s; view = new.view } sent' ts) (sym same)
       (subst (λ u. NodeKept program net v record { state = node.state; view = u } sent' ts) (sym view) after)
 
--- what a node knows of a wire that it refused
+-- what a node knows of a wire that it set aside, and of one that it refused
 module _ {S M R Y : Type 0} (program : Program S M R) (net : Net) (taken : Y → List (Wire M)) where
-  pub refused_is : (node new : Node S M) (ys : List Y) (i : ℕ) (x y : Y) (w : Wire M) (aside : Aside M) (e : AlphaRefused) (last : ℕ)
-      → last ≡ last_pulse_on program net → aside.port ≡ i → aside.wire ≡ w → i < length ys → x ≡ get_or ys i x
-      → taken y ≡ taken x ++ (w ∷ []) → new ≡ node → reaction last node.view i w ≡ Err e
+  pub aside_is : (node new : Node S M) (ys : List Y) (i : ℕ) (x y : Y) (w : Wire M) (aside : Aside M) → aside.port ≡ i → aside.wire ≡ w → i < length ys
+      → x ≡ get_or ys i x → taken y ≡ taken x ++ (w ∷ []) → new ≡ node
+      → (aside.why ≡ Refused → is_due (last_pulse_on program net) node.view.pulse node.view.said (port_at node.view i) w ≡ false)
       → (a : Aside M) → Some aside ≡ Some a → IsAside (last_pulse_on program net) new.view (map taken (set ys i y)) a
-  refused_is node new ys i x y w aside e last last_is port wire within is more same refused a given =
+  aside_is node new ys i x y w aside port wire within is more same due a given =
       let lists = map taken (set ys i y) in
       let within' : i < length (map taken ys) = omega (arith, length-map ys taken) in
       let here : by_port lists i ≡ by_port (map taken ys) i ++ (w ∷ []) = (one_more taken ys i x y w within is more).here in
       let ends : by_port lists i ≡ all_but_last (by_port lists i) ++ (w ∷ []) =
       here ∙ ap (λ l. l ++ (w ∷ [])) (sym (ap all_but_last here ∙ but_last-more (by_port (map taken ys) i) w)) in
-      let due = not_due (last_pulse_on program net) node.view i w e (subst (λ l. reaction l node.view i w ≡ Err e) last_is refused) in
-      let P : ℕ → Wire M → Node S M → Type 0 = λ k u n. IsAside (last_pulse_on program net) n.view lists record { port = k; wire = u } in
+      let P : ℕ → Wire M → Node S M → Type 0 =
+      λ k u n. IsAside (last_pulse_on program net) n.view lists record { port = k; wire = u; why = aside.why } in
       subst (λ b. IsAside (last_pulse_on program net) new.view lists b) (some_same given) (subst (λ k. P k aside.wire new) (sym port) (subst (λ u. P i u
       new) (sym wire) (subst (λ n. P i w n) (sym same) record {
         port = omega (arith, length-map (set ys i y) taken, length-set ys i y);
@@ -97,6 +99,14 @@ module _ {S M R Y : Type 0} (program : Program S M R) (net : Net) (taken : Y →
     where
       some_same : {A : Type 0} {x y : A} → Some x ≡ Some y → x ≡ y
       some_same e = cc
+
+  pub refused_is : (node new : Node S M) (ys : List Y) (i : ℕ) (x y : Y) (w : Wire M) (aside : Aside M) (e : AlphaRefused) (last : ℕ)
+      → last ≡ last_pulse_on program net → aside.port ≡ i → aside.wire ≡ w → i < length ys → x ≡ get_or ys i x
+      → taken y ≡ taken x ++ (w ∷ []) → new ≡ node → reaction last node.view i w ≡ Err e
+      → (a : Aside M) → Some aside ≡ Some a → IsAside (last_pulse_on program net) new.view (map taken (set ys i y)) a
+  refused_is node new ys i x y w aside e last last_is port wire within is more same refused =
+      aside_is node new ys i x y w aside port wire within is more same
+      (λ why. not_due (last_pulse_on program net) node.view i w e (subst (λ l. reaction l node.view i w ≡ Err e) last_is refused))
 
 -- what is so at an answer that no refusal may be
 pub answered : {A B C : Type 0} {P : A → Type 0} {Q : B → Type 0} (r : Result A B) → MatchResult r P Q → ((x : A) → P x → C) → ((e : B) → Q e → ⊥) → C

@@ -7,8 +7,8 @@ use Rattle.alpha_laws.specs.node_api.Program.{Program, last_pulse_on}
 use Rattle.alpha_laws.specs.alpha_core.Wire.{Wire}
 use Rattle.alpha_laws.specs.alpha_core.View.{Node, port_at, can_pulse}
 use Rattle.alpha_laws.specs.alpha_core.Alpha.{reaction, pulse, put_done}
-use Rattle.entries.specs.declared.entry.Entry.{Entry}
-use Rattle.entries.specs.declared.entry.Entry.TheVariants.{Pulse, Put, Take}
+use Rattle.stamps.specs.entries.Entry.{Entry}
+use Rattle.stamps.specs.entries.Entry.TheVariants.{Pulse, Put, Take}
 use Rattle.actor.specs.declared.aside.Aside.{Aside}
 use Rattle.actor.specs.Node.{by_port, reacted_to}
 use Rattle.actor.specs.Written.{IsTranscript}

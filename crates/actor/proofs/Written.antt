@@ -14,8 +14,8 @@ use Rattle.alpha_laws.specs.alpha_core.Alpha.{pulse, put_done, reaction, reacts}
 use Rattle.alpha_laws.specs.alpha_core.Program.{start_node}
 use Rattle.alpha_laws.specs.Laws.{OneMore}
 use Rattle.alpha_laws.proofs.PulseAfter.{pulsed_pulse, reaction_pulse, start_pulse}
-use Rattle.entries.specs.declared.entry.Entry.{Entry}
-use Rattle.entries.specs.declared.entry.Entry.TheVariants.{Pulse, Put, Take}
+use Rattle.stamps.specs.entries.Entry.{Entry}
+use Rattle.stamps.specs.entries.Entry.TheVariants.{Pulse, Put, Take}
 use Rattle.actor.specs.Written.{Leads, IsWritten, IsTranscript, puts_in, takes_in, pulses_in}
 
 -- ---- a list that is read off the entries gets what the last entry has

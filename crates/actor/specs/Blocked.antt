@@ -9,10 +9,12 @@ use Rattle.actor.specs.declared.node.Node.{Node}
 
 module _ {J P T : Type 0} {j : wiring.Ghosts J} {p : program.Ghosts P T} {t : text.Ghosts T}
     {q : equality.Ghosts T} where
-  -- It is as it was: its pulse, state and ports, what it set aside, what its ends put and took, and what it wrote down.
+  -- It is as it was: its pulse, state and ports, what it set aside, what its ends put and took, what it wrote down, and
+  -- its counter.
   pub record IsUnmoved (old new : Node J P T j p t q) : Type 0 where
     pub alpha : new.alpha ≡ old.alpha
     pub aside : new.aside ≡ old.aside
     pub puts : map (λ e. put_list e.end) new.puts.items ≡ map (λ e. put_list e.end) old.puts.items
     pub takes : map (λ e. taken_list e.end) new.takes.items ≡ map (λ e. taken_list e.end) old.takes.items
     pub entries : new.entries.items ≡ old.entries.items
+    pub counter : new.counter ≡ old.counter

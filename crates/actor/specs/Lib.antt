@@ -1,4 +1,5 @@
 pub mod Written
+pub mod HasStamps
 pub mod Blocked
 pub mod Props
 pub mod Node
@@ -8,3 +9,4 @@ pub mod alpha_core
 pub mod link_rule
 pub mod entries
 pub mod link_queue
+pub mod stamps

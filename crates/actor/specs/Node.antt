@@ -7,6 +7,7 @@ use Rattle.alpha_laws.specs.alpha_core.Wire.{Wire}
 use Rattle.alpha_laws.specs.alpha_core.View.{View, port_at}
 use Rattle.alpha_laws.specs.alpha_core.Table.{is_due}
 use Rattle.actor.specs.declared.aside.Aside.{Aside}
+use Rattle.actor.specs.declared.aside.WhyAside.TheVariants.{Refused}
 
 -- the links out of v, by port: each by its vertex and port
 abbrev pub links_out : Net → ℕ → List (ℕ × ℕ)
@@ -16,11 +17,11 @@ links_out net v = map (λ i. (v, i)) (range_with_len 0 (degree_of net v))
 abbrev pub links_in : Net → ℕ → List (ℕ × ℕ)
 links_in net v = map (λ i. (neighbour_of net v i, back_port_of net v i)) (range_with_len 0 (degree_of net v))
 
-module _ {M : Type 0} where
-  -- the list of a port
-  abbrev pub by_port : List (List (Wire M)) → ℕ → List (Wire M)
-  by_port lists = λ i. slice_index_or lists i []
+-- the list of a port
+abbrev pub by_port : {A : Type 0} → List (List A) → ℕ → List A
+by_port lists = λ i. slice_index_or lists i []
 
+module _ {M : Type 0} where
   abbrev pub all_but_last : List (Wire M) → List (Wire M)
   all_but_last ws = take (length ws - 1) ws
 
@@ -30,8 +31,9 @@ module _ {M : Type 0} where
   reacted_to None takens = takens
   reacted_to (Some aside) takens = slice_set takens aside.port (all_but_last (by_port takens aside.port))
 
-  -- A wire that was set aside, by a node with this view: it was the last that came by its port, and isn't due.
+  -- A wire that was set aside, by a node with this view: it was the last that came by its port, and isn't due if the
+  -- node refused it.
   pub record IsAside (last : ℕ) (view : View M) (takens : List (List (Wire M))) (aside : Aside M) : Type 0 where
     pub port : aside.port < length takens
     pub came_last : by_port takens aside.port ≡ all_but_last (by_port takens aside.port) ++ (aside.wire ∷ [])
-    pub refused : is_due last view.pulse view.said (port_at view aside.port) aside.wire ≡ false
+    pub refused : aside.why ≡ Refused → is_due last view.pulse view.said (port_at view aside.port) aside.wire ≡ false

@@ -1,5 +1,5 @@
 -- Why a node's facts have at most one proof each, as a fact of a type has to.
-use Rattle.std.specs.Prelude.{ℕ, List, [], ◌∷◌, Option, Result, Ok, Err, MatchResult}
+use Rattle.std.specs.Prelude.{ℕ, Bool, List, [], ◌∷◌, Option, Result, Ok, Err, MatchResult}
 use Rattle.std.specs.Coded.{×_prop, Unit-prop}
 use Rattle.std.proofs.Props.{props}
 use Rattle.alpha_laws.specs.alpha_core.Wire.{Wire}
@@ -9,8 +9,11 @@ use Rattle.alpha_laws.specs.interference.Net.{Net, port_to}
 use Rattle.alpha_laws.specs.node_api.Program.{Program, last_pulse_on}
 use Rattle.alpha_laws.specs.alpha_core.View.{Node}
 use Rattle.alpha_laws.specs.alpha_core.Alpha.{pulse, put_done, reaction}
-use Rattle.entries.specs.declared.entry.Entry.{Entry}
-use Rattle.entries.specs.declared.entry.Entry.TheVariants.{Pulse, Put, Take}
+use Rattle.stamps.specs.entries.Entry.{Entry}
+use Rattle.stamps.specs.entries.Entry.TheVariants.{Pulse, Put, Take}
+use Rattle.alpha_laws.specs.alpha_core.Stamped.{Stamped}
+use Rattle.stamps.specs.Stamps.{StampedEntry}
+use Rattle.actor.specs.HasStamps.{HasStamps}
 use Rattle.actor.specs.Written.{Leads}
 
 module _ {M : Type 0} (payloads : IsSet M) where
@@ -24,6 +27,12 @@ module _ {M : Type 0} (payloads : IsSet M) where
       IsProp (Follows sends last at ws)
   Follows-prop sends last at [] = Unit-prop
   Follows-prop sends last at (w ∷ ws) = ×_prop (Allows-prop sends last at w) (Follows-prop sends last (move at w) ws)
+
+module _ {M : Type 0} (payloads : IsSet M) where
+  pub HasStamps-prop : (net : Net) (v : ℕ) (transcript : Bool) (counter : ℕ) (puts takens : ℕ → List (Stamped M))
+      (entries : List (Entry M)) (stamped : List (StampedEntry M))
+      → IsProp (HasStamps net v transcript counter puts takens entries stamped)
+  HasStamps-prop net v transcript counter puts takens entries stamped = Prim.hlevel (props, payloads)
 
 both-prop : {A B : Type 0} → IsProp A → IsProp B → IsProp (A × B)
 both-prop p q = ×_prop p q

@@ -2,8 +2,8 @@
 use Rattle.std.specs.Prelude.{◌≡◌, ℕ, ◌-◌, ◌≤◌, List, [], map, Option, Some, slice_get, slice_index_or}
 use Rattle.atomic_table.specs.Seated.{TableId}
 use Rattle.alpha_laws.specs.interference.Net.{Net}
-use Rattle.link_rule.specs.declared.name.LinkName.{LinkName}
-use Rattle.link_rule.specs.Legal.{name_of}
+use Rattle.link_queue.specs.link_rule.LinkName.{LinkName}
+use Rattle.link_queue.specs.link_rule.Legal.{name_of}
 use Rattle.alpha_laws.specs.alpha_core.Wire.{Wire}
 use Rattle.link_queue.specs.declared.link.Link.{Link}
 use Rattle.link_queue.specs.Ends.{WasFull}

@@ -1,2 +1,2 @@
 -- What crates above name of `entries`.
-pub use Rattle.entries.specs.declared.entry.Entry
+pub use Rattle.stamps.specs.entries.Entry

@@ -1,3 +1,3 @@
 -- What crates above name of `link_rule`.
-pub use Rattle.link_rule.specs.Legal
-pub use Rattle.link_rule.specs.declared.name.LinkName
+pub use Rattle.link_queue.specs.link_rule.Legal
+pub use Rattle.link_queue.specs.link_rule.LinkName

@@ -19,6 +19,10 @@
 //! refused leaves the node as after its last event. Without a transcript no turn can return
 //! out-of-memory.
 //!
+//! Each event moves the node's `Counter`, with a transcript or without: a wire has on its link the stamp of its put,
+//! and with a transcript each entry has its stamp (`specs/HasStamps.antt`). A turn returns `StampFull` if a stamp would
+//! pass 18446744073709551615; a put or pulse leaves the node as after its last event, and a take sets the wire aside.
+//!
 //! Limits: those of `alpha_core` and `link_queue`.
 #![tactic(auto)]
 
@@ -26,19 +30,21 @@ mod aside;
 mod gate;
 mod links;
 mod node;
+mod refused;
 mod turn;
 mod wired;
 mod wiring;
 mod writing;
 
-pub use aside::Aside;
+pub use aside::{Aside, WhyAside};
 pub use gate::{Gate, OpenGate};
 pub use links::Links;
 pub use node::Node;
+pub use refused::TurnRefused;
 pub use wired::{WiredPut, WiredTake};
 pub use wiring::Wiring;
 
 // What crates above name of lower ones.
 pub use alpha_laws::{AlphaNode, Memory, NodeProgram};
-pub use entries::Entries;
 pub use link_queue::{Link, Met, PutEnd, TakeEnd};
+pub use stamps::{Counter, Entries};

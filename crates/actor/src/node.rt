@@ -6,17 +6,18 @@ ghost use Rattle.alpha_laws.specs.interference.Net.{IsNetwork, IsVertex, degree_
 ghost use Rattle.alpha_laws.specs.node_api.Program.{last_pulse_on};
 ghost use Rattle.alpha_laws.specs.alpha_core.Program.{start_node};
 ghost use Rattle.alpha_laws.specs.Kept.{NodeKept};
-ghost use Rattle.link_queue.specs.Ends.{put_list, taken_list};
+ghost use Rattle.link_queue.specs.Ends.{put_list, put_stamped, taken_list, taken_stamped};
 ghost use Rattle.actor.specs.declared.aside.Aside.{Aside};
+ghost use Rattle.actor.specs.HasStamps.{HasStamps};
 ghost use Rattle.actor.specs.Node.{IsAside, by_port, links_in, links_out, reacted_to};
-ghost use Rattle.actor.specs.Props.{Follows-prop, Leads-prop};
+ghost use Rattle.actor.specs.Props.{Follows-prop, HasStamps-prop, Leads-prop};
 ghost use Rattle.actor.specs.Written.{IsTranscript};
 
 use crate::aside::Aside;
 use crate::wired::{WiredPut, WiredTake};
 use crate::wiring::Wiring;
 use alpha_laws::{AlphaNode, Memory, Network, NodeProgram};
-use entries::Entries;
+use stamps::{Counter, Entries};
 use std::alloc::Global;
 
 /// A node of a run, with the ends of its links by port. A node that has set a wire aside does nothing in a turn.
@@ -31,6 +32,8 @@ pub struct Node<J: Wiring, P: NodeProgram> {
     pub puts: Vec<WiredPut<J, P::Payload>>,
     pub takes: Vec<WiredTake<J, P::Payload>>,
     pub entries: Entries<P::Payload>,
+    /// From which its events and the wires that it puts have their stamps.
+    pub counter: Counter,
     // It is a vertex of the network, with an end that puts and one that takes for each port, and writes down what it
     // does if the run's nodes do.
     pub ghost network: { IsNetwork J.net },
@@ -51,6 +54,10 @@ pub struct Node<J: Wiring, P: NodeProgram> {
         (by_port (map (λ e. put_list e.end) puts.items))
         (by_port (reacted_to aside (map (λ e. taken_list e.end) takes.items)))
         entries.items } by { Prim.hlevel (props, Leads-prop) },
+    // With a transcript, its entries have the stamps that the counter gives them.
+    pub ghost stamps: { HasStamps J.net vertex transcript counter
+        (by_port (map (λ e. put_stamped e.end) puts.items)) (by_port (map (λ e. taken_stamped e.end) takes.items))
+        entries.items entries.stamped } by { Prim.hlevel (props, HasStamps-prop) },
 }
 
 impl<J: Wiring, P: NodeProgram> Node<J, P> {
@@ -89,6 +96,7 @@ impl<J: Wiring, P: NodeProgram> Node<J, P> {
             puts,
             takes,
             entries: Entries::new(alloc),
+            counter: Counter::new(),
         })
     }
 }

@@ -1,16 +1,19 @@
 //! What a node does in a turn.
 
-ghost use Rattle.std.specs.Prelude.{◌≡◌, ◌<◌, IfErr, IfOk, IsSome, IsTrue, None, false};
+ghost use Rattle.std.specs.Prelude.{◌≡◌, ◌<◌, ◌≤◌, ◌+◌, ◌^◌, max, IfErr, IfOk, IsSome, IsTrue, None, false};
 ghost use Rattle.alpha_laws.specs.alpha_core.View.{can_pulse, can_take};
 ghost use Rattle.actor.specs.Blocked.{IsUnmoved};
+ghost use Rattle.actor.specs.HasStamps.{aside_stamp};
+ghost use Rattle.actor.specs.declared.refused.TurnRefused.TheVariants as turn;
 
-use crate::aside::Aside;
+use crate::aside::{Aside, WhyAside};
 use crate::gate::Gate;
 use crate::links::Links;
 use crate::node::Node;
+use crate::refused::TurnRefused;
 use crate::wiring::Wiring;
 use crate::writing::{keep_room, write_pulse, write_put, write_take};
-use alpha_laws::{Memory, NodeProgram};
+use alpha_laws::{NodeProgram, Stamped};
 use std::sync::Wait;
 
 // How many wires a node takes by one port in a turn, at most.
@@ -21,22 +24,41 @@ const PUTS: u32 = 4;
 
 impl<J: Wiring, P: NodeProgram> Node<J, P> {
     // Takes a wire by a port, if there is one, and reacts to it. Returns whether there was one.
-    fn take_one<R: Wait>(&mut self, rt: &R, links: &Links<J, P>, port: u32) -> Result<bool, Memory>
+    fn take_one<R: Wait>(
+        &mut self,
+        rt: &R,
+        links: &Links<J, P>,
+        port: u32,
+    ) -> Result<bool, TurnRefused>
         requires port { port < self.old.degree }
         requires going { self.old.aside ≡ None }
         requires room { IsTrue (can_take self.old.alpha.node.view) }
         ensures same { (self.new.vertex ≡ self.old.vertex) × (self.new.degree ≡ self.old.degree) }
         ensures unmoved { IfOk result (λ did. did ≡ false → IsUnmoved self.old self.new) }
-        ensures refused { IfErr result (λ _. IsTrue J.transcript) }
+        ensures refused { IfErr result (λ error. error ≡ turn.Memory → IsTrue J.transcript) }
+        ensures full { IfErr result (λ error. error ≡ turn.StampFull
+            → 2 ^ 64 ≤ max self.new.counter (aside_stamp self.new.aside) + 1) }
     {
         keep_room(self.transcript, &mut self.entries)?;
         let end = &mut self.takes[port as usize];
         match links.take(rt, end) {
             None => Ok(false),
-            Some(wire) => {
+            Some(item) => {
+                let (stamp, wire) = (item.stamp, item.wire);
+                let Ok(next) = self.counter.peek_past(stamp) else {
+                    let why = WhyAside::StampFull(stamp);
+                    self.aside = Some(Aside { port, wire, why });
+                    return Err(TurnRefused::StampFull);
+                };
                 match self.alpha.on_wire(port, wire) {
-                    Ok(()) => write_take(self.transcript, &mut self.entries, end, wire),
-                    Err(_) => self.aside = Some(Aside { port, wire }),
+                    Ok(()) => {
+                        self.counter.advance(next);
+                        write_take(self.transcript, &mut self.entries, next, end, wire);
+                    }
+                    Err(_) => {
+                        let why = WhyAside::Refused;
+                        self.aside = Some(Aside { port, wire, why });
+                    }
                 }
                 Ok(true)
             }
@@ -44,12 +66,19 @@ impl<J: Wiring, P: NodeProgram> Node<J, P> {
     }
 
     // Takes a wire by a port, and further ones while it expects them, at most `TAKES`. Returns whether it took one.
-    fn take_some<R: Wait>(&mut self, rt: &R, links: &Links<J, P>, port: u32) -> Result<bool, Memory>
+    fn take_some<R: Wait>(
+        &mut self,
+        rt: &R,
+        links: &Links<J, P>,
+        port: u32,
+    ) -> Result<bool, TurnRefused>
         requires port { port < self.old.degree }
         ensures same { (self.new.vertex ≡ self.old.vertex) × (self.new.degree ≡ self.old.degree) }
         ensures unmoved { IfOk result (λ did. did ≡ false → IsUnmoved self.old self.new) }
         ensures stopped { IfOk result (λ did. IsSome self.old.aside → did ≡ false) }
-        ensures refused { IfErr result (λ _. IsTrue J.transcript) }
+        ensures refused { IfErr result (λ error. error ≡ turn.Memory → IsTrue J.transcript) }
+        ensures full { IfErr result (λ error. error ≡ turn.StampFull
+            → 2 ^ 64 ≤ max self.new.counter (aside_stamp self.new.aside) + 1) }
     {
         let mut took = false;
         for _ in 0..TAKES {
@@ -65,11 +94,13 @@ impl<J: Wiring, P: NodeProgram> Node<J, P> {
     }
 
     // Takes by each port, ascending. Returns whether it took a wire.
-    fn take_all<R: Wait>(&mut self, rt: &R, links: &Links<J, P>) -> Result<bool, Memory>
+    fn take_all<R: Wait>(&mut self, rt: &R, links: &Links<J, P>) -> Result<bool, TurnRefused>
         ensures same { (self.new.vertex ≡ self.old.vertex) × (self.new.degree ≡ self.old.degree) }
         ensures unmoved { IfOk result (λ did. did ≡ false → IsUnmoved self.old self.new) }
         ensures stopped { IfOk result (λ did. IsSome self.old.aside → did ≡ false) }
-        ensures refused { IfErr result (λ _. IsTrue J.transcript) }
+        ensures refused { IfErr result (λ error. error ≡ turn.Memory → IsTrue J.transcript) }
+        ensures full { IfErr result (λ error. error ≡ turn.StampFull
+            → 2 ^ 64 ≤ max self.new.counter (aside_stamp self.new.aside) + 1) }
     {
         let mut took = false;
         for port in 0..self.degree {
@@ -81,23 +112,27 @@ impl<J: Wiring, P: NodeProgram> Node<J, P> {
     }
 
     // Makes the next pulse, if the node can; its program doesn't refuse it. Returns whether it made one.
-    fn pulse(&mut self) -> Result<bool, Memory>
+    fn pulse(&mut self) -> Result<bool, TurnRefused>
         requires going { self.old.aside ≡ None }
         ensures same { (self.new.vertex ≡ self.old.vertex) × (self.new.degree ≡ self.old.degree) }
         ensures unmoved { IfOk result (λ did. did ≡ false → IsUnmoved self.old self.new) }
         ensures blocked { IfOk result
             (λ did. did ≡ false → can_pulse self.new.alpha.last self.new.alpha.node.view ≡ false) }
-        ensures refused { IfErr result (λ _. IsTrue J.transcript) }
+        ensures refused { IfErr result (λ error. error ≡ turn.Memory → IsTrue J.transcript) }
+        ensures full { IfErr result (λ error. error ≡ turn.StampFull
+            → 2 ^ 64 ≤ max self.new.counter (aside_stamp self.new.aside) + 1) }
         ensures going { self.new.aside ≡ None }
     {
         if !self.alpha.can_pulse() {
             return Ok(false);
         }
+        let stamp = self.counter.peek()?;
         keep_room(self.transcript, &mut self.entries)?;
         match self.alpha.pulse() {
             Ok(()) => {
+                self.counter.advance(stamp);
                 let number = self.alpha.pulse_number();
-                write_pulse(self.transcript, &mut self.entries, number);
+                write_pulse(self.transcript, &mut self.entries, stamp, number);
                 Ok(true)
             }
             Err(_) => unreachable!(),
@@ -105,36 +140,52 @@ impl<J: Wiring, P: NodeProgram> Node<J, P> {
     }
 
     // Puts the oldest wire of a port, if there is one and room for it. Returns whether it put one.
-    fn put_one<R: Wait>(&mut self, rt: &R, links: &Links<J, P>, port: u32) -> Result<bool, Memory>
+    fn put_one<R: Wait>(
+        &mut self,
+        rt: &R,
+        links: &Links<J, P>,
+        port: u32,
+    ) -> Result<bool, TurnRefused>
         requires port { port < self.old.degree }
         requires going { self.old.aside ≡ None }
         ensures same { (self.new.vertex ≡ self.old.vertex) × (self.new.degree ≡ self.old.degree) }
         ensures unmoved { IfOk result (λ did. did ≡ false → IsUnmoved self.old self.new) }
-        ensures refused { IfErr result (λ _. IsTrue J.transcript) }
+        ensures refused { IfErr result (λ error. error ≡ turn.Memory → IsTrue J.transcript) }
+        ensures full { IfErr result (λ error. error ≡ turn.StampFull
+            → 2 ^ 64 ≤ max self.new.counter (aside_stamp self.new.aside) + 1) }
         ensures going { self.new.aside ≡ None }
     {
         let Some(wire) = self.alpha.front(port) else {
             return Ok(false);
         };
+        let stamp = self.counter.peek()?;
         keep_room(self.transcript, &mut self.entries)?;
-        match links.put(rt, &mut self.puts[port as usize], wire) {
+        match links.put(rt, &mut self.puts[port as usize], Stamped { stamp, wire }) {
             Err(_) => Ok(false),
             Ok(()) => {
                 self.alpha.put_done(port);
+                self.counter.advance(stamp);
                 let neighbour = &self.takes[port as usize];
-                write_put(self.transcript, &mut self.entries, neighbour, wire);
+                write_put(self.transcript, &mut self.entries, stamp, neighbour, wire);
                 Ok(true)
             }
         }
     }
 
     // Puts by a port, until nothing is left or the link is full. Returns whether it put a wire.
-    fn put_some<R: Wait>(&mut self, rt: &R, links: &Links<J, P>, port: u32) -> Result<bool, Memory>
+    fn put_some<R: Wait>(
+        &mut self,
+        rt: &R,
+        links: &Links<J, P>,
+        port: u32,
+    ) -> Result<bool, TurnRefused>
         requires port { port < self.old.degree }
         requires going { self.old.aside ≡ None }
         ensures same { (self.new.vertex ≡ self.old.vertex) × (self.new.degree ≡ self.old.degree) }
         ensures unmoved { IfOk result (λ did. did ≡ false → IsUnmoved self.old self.new) }
-        ensures refused { IfErr result (λ _. IsTrue J.transcript) }
+        ensures refused { IfErr result (λ error. error ≡ turn.Memory → IsTrue J.transcript) }
+        ensures full { IfErr result (λ error. error ≡ turn.StampFull
+            → 2 ^ 64 ≤ max self.new.counter (aside_stamp self.new.aside) + 1) }
         ensures going { self.new.aside ≡ None }
     {
         let mut put = false;
@@ -148,11 +199,13 @@ impl<J: Wiring, P: NodeProgram> Node<J, P> {
     }
 
     // Puts by each port, ascending. Returns whether it put a wire.
-    fn put_all<R: Wait>(&mut self, rt: &R, links: &Links<J, P>) -> Result<bool, Memory>
+    fn put_all<R: Wait>(&mut self, rt: &R, links: &Links<J, P>) -> Result<bool, TurnRefused>
         requires going { self.old.aside ≡ None }
         ensures same { (self.new.vertex ≡ self.old.vertex) × (self.new.degree ≡ self.old.degree) }
         ensures unmoved { IfOk result (λ did. did ≡ false → IsUnmoved self.old self.new) }
-        ensures refused { IfErr result (λ _. IsTrue J.transcript) }
+        ensures refused { IfErr result (λ error. error ≡ turn.Memory → IsTrue J.transcript) }
+        ensures full { IfErr result (λ error. error ≡ turn.StampFull
+            → 2 ^ 64 ≤ max self.new.counter (aside_stamp self.new.aside) + 1) }
         ensures going { self.new.aside ≡ None }
     {
         let mut put = false;
@@ -169,20 +222,24 @@ impl<J: Wiring, P: NodeProgram> Node<J, P> {
     ///
     /// # Errors
     ///
-    /// `Memory` if memory for an entry is refused; the node is as after its last event.
+    /// `Memory` if memory for an entry is refused; the node is as after its last event. `StampFull` if a stamp would
+    /// pass 18446744073709551615; the node is as after its last event, but a wire whose take would have that stamp is
+    /// set aside.
     pub fn turn<R: Wait, G: Gate>(
         &mut self,
         rt: &R,
         links: &Links<J, P>,
         gate: &G,
         worker: u32,
-    ) -> Result<bool, Memory>
+    ) -> Result<bool, TurnRefused>
         ensures vertex { self.new.vertex ≡ self.old.vertex }
         ensures unmoved { IfOk result
             (λ did. did ≡ false → self.new.aside ≡ self.old.aside → IsUnmoved self.old self.new) }
         ensures blocked { IfOk result (λ did. did ≡ false → self.new.aside ≡ None
             → can_pulse self.new.alpha.last self.new.alpha.node.view ≡ false) }
-        ensures refused { IfErr result (λ _. IsTrue J.transcript) }
+        ensures refused { IfErr result (λ error. error ≡ turn.Memory → IsTrue J.transcript) }
+        ensures full { IfErr result (λ error. error ≡ turn.StampFull
+            → 2 ^ 64 ≤ max self.new.counter (aside_stamp self.new.aside) + 1) }
     {
         let took = self.take_all(rt, links)?;
         gate.middle(rt, worker, self.vertex);

@@ -12,5 +12,6 @@ mod KeptOuts
 mod Followed
 mod Settled
 mod Entered
+pub mod StampedWires
 pub mod interference
 pub mod node_api

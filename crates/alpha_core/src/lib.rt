@@ -29,6 +29,7 @@
 #![tactic(auto)]
 
 mod bare;
+mod counter;
 mod emitting;
 mod inboxes;
 pub mod laws;
@@ -38,12 +39,15 @@ mod out_lists;
 mod payloads;
 mod ports;
 mod refused;
+mod stamped;
 mod table;
 mod taking;
 mod wire;
 
+pub use counter::{Counter, StampFull};
 pub use node::AlphaNode;
 pub use refused::AlphaRefused;
+pub use stamped::Stamped;
 pub use wire::Wire;
 
 // What crates above name of lower ones.

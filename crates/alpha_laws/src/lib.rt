@@ -17,4 +17,6 @@
 pub mod laws;
 
 // What crates above name of lower ones.
-pub use alpha_core::{AlphaNode, MAX_DEGREE, Memory, Network, NodeProgram, PayloadText, Wire};
+pub use alpha_core::{
+    AlphaNode, MAX_DEGREE, Memory, Network, NodeProgram, PayloadText, Stamped, Wire,
+};

@@ -9,3 +9,4 @@ pub mod Judging
 mod Playing
 mod Replays
 mod RefusedLines
+mod WholeRefusals

@@ -1,5 +1,5 @@
 -- The number of a refused entry's line: the line is the entry (entry-at), whatever the refusal (refusal).
-use Rattle.std.proofs.Common.{◌≡◌, ◌≢◌, ◌++◌, ◌∷◌, [], ◌∙◌, ◌<◌, ℕ, zero, suc, Option, Some, None, Ok, List, ap, arith, get_or, length, map}
+use Rattle.std.proofs.Common.{◌≡◌, ◌≢◌, ◌++◌, ◌∷◌, [], ◌∙◌, ◌<◌, ℕ, zero, suc, Option, Some, None, Ok, List, ap, arith, codes, get_or, inl, length, map}
 use Rattle.std.proofs.Common.{refl, slice_get, slice_index_or, subst, sym, take}
 use Rattle.std.specs.declared.vec.Vec.{Vec}
 use Rattle.std.specs.declared.alloc.Global.{Global}
@@ -15,13 +15,16 @@ use Rattle.transcripts.specs.TranscriptText.{Row}
 use Rattle.replay.specs.declared.refused.ReplayRefused.{ReplayRefused}
 use Rattle.replay.specs.declared.refused.ReplayRefused.TheVariants as replay
 use Rattle.transcripts.specs.Behind.{entry_lines, entry_on}
+use Rattle.transcripts.specs.Editions.{One}
+use Rattle.transcripts.specs.EntryLines.{row_of}
 use Rattle.transcripts.specs.Reading.{Transcript}
+use Rattle.transcripts.proofs.Either.{read-one-behind}
 use Rattle.transcripts.proofs.EntryNumbers.{entries-have-lines}
 use Rattle.answers.specs.ReplayAnswers.{HasLineOf, IsFaultOfTranscript, IsRefusal, IsTold, IsToldAs, fault_at, index_of, transcript_in, words_text}
 use Rattle.answers.specs.declared.replaying.ReplayFault.{ReplayFault}
 use Rattle.answers.specs.declared.replaying.ReplayFault.TheVariants as fault
 
-entry-at : {X : Type 0} (f : ℕ → Option X) (numbers : List ℕ) (before : List X) (row : X) (after : List X) →
+pub entry-at : {X : Type 0} (f : ℕ → Option X) (numbers : List ℕ) (before : List X) (row : X) (after : List X) →
     map f numbers ≡ map (λ x. Some x) (before ++ row ∷ after) → f (slice_index_or numbers (length before) 0) ≡ Some row
 entry-at f [] [] row after e = absurd cc
 entry-at f [] (first ∷ before) row after e = absurd cc
@@ -49,7 +52,7 @@ take-at [] after = refl
 take-at (first ∷ before) after = ap (λ l. first ∷ l) (take-at before after)
 
 -- The entries before the refused one, replayed once more, lead to the state in which the entries stop.
-says-there : (net : Net) → IsNetwork net → (rows : List (Row Payload)) (numbers : List ℕ) (refused : ReplayRefused) (told : ReplayFault) →
+pub says-there : (net : Net) → IsNetwork net → (rows : List (Row Payload)) (numbers : List ℕ) (refused : ReplayRefused) (told : ReplayFault) →
     (stops : Stops colouring net rows refused) → (is : IsToldAs net rows numbers refused told) →
     is.words.items ≡ words_text net stops.reached stops.row refused
 says-there net ok rows numbers refused told stops is =
@@ -69,11 +72,11 @@ says-there net ok rows numbers refused told stops is =
     is.says ∙ ap (λ s. words_text net s is.row refused) state ∙ ap (λ r. words_text net stops.reached r refused) row
 
 refusal : (net : Net) → IsNetwork net → (lines : List Line) (read : Transcript Payload) (refused : ReplayRefused) (told : ReplayFault)
-    → transcript_in lines ≡ Ok read →
+    → transcript_in lines ≡ Ok (One read) →
     Stops colouring net read.1 refused → IsToldAs net read.1 (entry_lines lines) refused told → IsRefusal net lines told
 refusal net ok lines read refused told e stops so =
     let is = so.is_told in
-    let rows = (entries-have-lines payload_from lines read e).rows_are ∙ ap (map (λ x. Some x)) stops.splits in
+    let rows = (entries-have-lines (codes "1") (row_of payload_from) lines read (read-one-behind payload_from lines read e)).rows_are ∙ ap (map (λ x. Some x)) stops.splits in
     let numbers = entry_lines lines in
     let line = entry-at (entry_on payload_from lines) numbers stops.before stops.row stops.after rows in
     let has = by-index (λ r. HasLineOf lines stops.row (fault_at numbers so.words r)) (length stops.before) line line line line tt line stops.reason in
@@ -90,14 +93,16 @@ refusal net ok lines read refused told e stops so =
 
 by-fault : (net : Net) (lines : List Line) (told : ReplayFault) → (told ≢ fault.Memory → IsRefusal net lines told) → IsFaultOfTranscript net lines told
 by-fault net lines (fault.Syntax n) is = absurd ((is (λ e. cc)).has_line)
-by-fault net lines (fault.NotReady n words) is = is (λ e. cc)
-by-fault net lines (fault.NothingToPut n words) is = is (λ e. cc)
-by-fault net lines (fault.LinkEmpty n words) is = is (λ e. cc)
-by-fault net lines (fault.NoSuch n) is = is (λ e. cc)
-by-fault net lines (fault.WrongWire n words) is = is (λ e. cc)
+by-fault net lines (fault.NotReady n words) is = inl (is (λ e. cc))
+by-fault net lines (fault.NothingToPut n words) is = inl (is (λ e. cc))
+by-fault net lines (fault.LinkEmpty n words) is = inl (is (λ e. cc))
+by-fault net lines (fault.NoSuch n) is = inl (is (λ e. cc))
+by-fault net lines (fault.WrongWire n words) is = inl (is (λ e. cc))
+by-fault net lines (fault.WrongStamp n) is = inl (is (λ e. cc))
+by-fault net lines (fault.NotWhole n) is = inl (is (λ e. cc))
 by-fault net lines fault.Memory is = tt
 
-told-as : (net : Net) (rows : List (Row Payload)) (numbers : List ℕ) (refused : ReplayRefused) (told : ReplayFault) →
+pub told-as : (net : Net) (rows : List (Row Payload)) (numbers : List ℕ) (refused : ReplayRefused) (told : ReplayFault) →
     IsTold net rows numbers refused told → told ≢ fault.Memory → IsToldAs net rows numbers refused told
 told-as net rows numbers refused (fault.Syntax n) so isnt = so
 told-as net rows numbers refused (fault.NotReady n words) so isnt = so
@@ -105,6 +110,8 @@ told-as net rows numbers refused (fault.NothingToPut n words) so isnt = so
 told-as net rows numbers refused (fault.LinkEmpty n words) so isnt = so
 told-as net rows numbers refused (fault.NoSuch n) so isnt = so
 told-as net rows numbers refused (fault.WrongWire n words) so isnt = so
+told-as net rows numbers refused (fault.WrongStamp n) so isnt = so
+told-as net rows numbers refused (fault.NotWhole n) so isnt = so
 told-as net rows numbers refused fault.Memory so isnt = absurd (isnt refl)
 
 pub is-told : (net : Net) (rows : List (Row Payload)) (numbers : List ℕ) (refused : ReplayRefused) (told : ReplayFault) →
@@ -115,9 +122,11 @@ is-told net rows numbers refused (fault.NothingToPut n words) so = so
 is-told net rows numbers refused (fault.LinkEmpty n words) so = so
 is-told net rows numbers refused (fault.NoSuch n) so = so
 is-told net rows numbers refused (fault.WrongWire n words) so = so
+is-told net rows numbers refused (fault.WrongStamp n) so = so
+is-told net rows numbers refused (fault.NotWhole n) so = so
 is-told net rows numbers refused fault.Memory so = tt
 
-not-memory : (numbers : List ℕ) (words : Vec ℕ Global) (refused : ReplayRefused) (index : ℕ) → index_of refused ≡ Some index → refused ≢ replay.Run run.Memory
+pub not-memory : (numbers : List ℕ) (words : Vec ℕ Global) (refused : ReplayRefused) (index : ℕ) → index_of refused ≡ Some index → refused ≢ replay.Run run.Memory
 not-memory numbers words (replay.Run run.Memory) index e = absurd cc
 not-memory numbers words (replay.Run (run.NotReady k)) index e = λ same. cc
 not-memory numbers words (replay.Run (run.NothingToPut k)) index e = λ same. cc
@@ -126,7 +135,7 @@ not-memory numbers words (replay.Run (run.NoSuch k)) index e = λ same. cc
 not-memory numbers words (replay.WrongWire k) index e = λ same. cc
 
 pub fault-refused : (net : Net) → IsNetwork net → (lines : List Line) (read : Transcript Payload) (refused : ReplayRefused) (told : ReplayFault) →
-    transcript_in lines ≡ Ok read → (refused ≢ replay.Run run.Memory → Stops colouring net read.1 refused) →
+    transcript_in lines ≡ Ok (One read) → (refused ≢ replay.Run run.Memory → Stops colouring net read.1 refused) →
     IsTold net read.1 (entry_lines lines) refused told → IsFaultOfTranscript net lines told
 fault-refused net ok lines read refused told e stops is =
     by-fault net lines told (λ no.

@@ -1,5 +1,6 @@
 -- The answer to a network and the transcript behind it.
-use Rattle.std.specs.Prelude.{◌≡◌, ℕ, List, Option, Some, None, Result, Ok, Err, slice_get, slice_index_or, take}
+use Rattle.std.specs.Prelude.{◌≡◌, ◌⊎◌, ◌+◌, ◌-◌, ℕ, List, Option, Some, None, Result, Ok, Err, length, map, slice_get}
+use Rattle.std.specs.Prelude.{slice_index_or, take}
 use Rattle.std.specs.declared.vec.Vec.{Vec}
 use Rattle.std.specs.declared.alloc.Global.{Global}
 use Rattle.dimacs_col.specs.Lines.{Line, lines_of}
@@ -16,9 +17,13 @@ use Rattle.replay.specs.Replays.{IsReplay, Stops}
 use Rattle.replay.specs.Rows.{event_of}
 use Rattle.replay.specs.declared.refused.ReplayRefused.{ReplayRefused}
 use Rattle.replay.specs.declared.refused.ReplayRefused.TheVariants as replay
-use Rattle.transcripts.specs.Behind.{entry_lines, entry_on, network_lines, reading_behind}
-use Rattle.transcripts.specs.Reading.{Transcript}
-use Rattle.transcripts.specs.TranscriptText.{Row}
+use Rattle.replay.specs.declared.refused.WholeRefused.{WholeRefused}
+use Rattle.replay.specs.declared.refused.WholeRefused.TheVariants as whole
+use Rattle.replay.specs.Whole.{IsWholeReplay, StopsAtEntry, WhyNotWhole}
+use Rattle.transcripts.specs.Behind.{entry_lines, entry_on, network_lines, stamped_entry_on}
+use Rattle.transcripts.specs.Editions.{AnyTranscript, One, Two, any_reading_behind}
+use Rattle.transcripts.specs.Reading.{StampedTranscript, Transcript}
+use Rattle.transcripts.specs.TranscriptText.{Row, StampedRow}
 use Rattle.transcripts.specs.declared.fault.TextFault.{TextFault}
 use Rattle.transcripts.specs.declared.fault.TextFault.TheVariants as text
 use Rattle.answers.specs.Answers.{LinesReadAs}
@@ -28,13 +33,19 @@ use Rattle.answers.specs.declared.replaying.ReplayFault.{ReplayFault}
 use Rattle.answers.specs.declared.replaying.ReplayFault.TheVariants as fault
 
 -- the transcript of nodes of the colouring that follows a network, or the number of its first wrong line
-abbrev pub transcript_in : List Line → Result (Transcript Payload) ℕ
-transcript_in lines = reading_behind payload_from lines
+abbrev pub transcript_in : List Line → Result (AnyTranscript Payload) ℕ
+transcript_in lines = any_reading_behind payload_from lines
 
--- the entries of the transcript in the lines are a replay that leads to this state of the network
+-- The entries of a transcript are a replay that leads to this state of the network. Those of edition 2 are a whole one:
+-- they have the stamps that the nodes' counters give them, in their order, and the state is whole.
+abbrev pub LeadsTo : Net → AnyTranscript Payload → ColourState → Type 0
+LeadsTo net (One read) state = IsReplay colouring net read.1 state
+LeadsTo net (Two read) state = IsWholeReplay colouring net read.1 state
+
+-- the entries of the transcript in the lines lead to this state of the network
 abbrev pub IsReplayed : Net → List Line → ColourState → Type 0
 IsReplayed net lines state =
-    (read : Transcript Payload) × (transcript_in lines ≡ Ok read) × IsReplay colouring net read.1 state
+    (read : AnyTranscript Payload) × (transcript_in lines ≡ Ok read) × LeadsTo net read state
 
 -- the answer is the text of the state that the transcript leads to, on the network that stands before it
 abbrev pub IsReplayAnswer : List ℕ → List ℕ → Type 0
@@ -45,6 +56,18 @@ IsReplayAnswer input answer = LinesReadAs (network_lines (lines_of input)) (λ n
 abbrev pub fault_of_text : TextFault → ReplayFault
 fault_of_text (text.Syntax n) = fault.Syntax n
 fault_of_text text.Memory = fault.Memory
+
+-- the number of the transcript's first line
+abbrev pub first_line_in : List Line → ℕ
+first_line_in lines = length (network_lines lines) + 1
+
+-- the last of some numbers; another one if there are none
+abbrev pub last_of : ℕ → List ℕ → ℕ
+last_of other numbers = slice_index_or numbers (length numbers - 1) other
+
+-- the number of the last entry's line; without entries, of the transcript's first line
+abbrev pub last_line_in : List Line → ℕ
+last_line_in lines = last_of (first_line_in lines) (entry_lines lines)
 
 -- the number of the line of the entry at an index
 abbrev pub line_at : List ℕ → ℕ → ℕ
@@ -73,22 +96,28 @@ abbrev pub words_text : Net → ColourState → Row Payload → ReplayRefused �
 words_text net state row (replay.Run refused) = missing_text colouring net state (event_of net row)
 words_text net state row (replay.WrongWire k) = expected_text net state (event_of net row)
 
--- the line whose number a refusal has is this entry; out of memory has no number
-abbrev pub HasLineOf : List Line → Row Payload → ReplayFault → Type 0
-HasLineOf lines row (fault.Syntax n) = ⊥
-HasLineOf lines row (fault.NotReady n words) = entry_on payload_from lines n ≡ Some row
-HasLineOf lines row (fault.NothingToPut n words) = entry_on payload_from lines n ≡ Some row
-HasLineOf lines row (fault.LinkEmpty n words) = entry_on payload_from lines n ≡ Some row
-HasLineOf lines row (fault.NoSuch n) = entry_on payload_from lines n ≡ Some row
-HasLineOf lines row (fault.WrongWire n words) = entry_on payload_from lines n ≡ Some row
-HasLineOf lines row fault.Memory = Unit {0}
+-- a fact about the line whose number the refusal of an entry has; out of memory has no number
+abbrev pub HasLine : (ℕ → Type 0) → ReplayFault → Type 0
+HasLine at (fault.Syntax n) = ⊥
+HasLine at (fault.NotReady n words) = at n
+HasLine at (fault.NothingToPut n words) = at n
+HasLine at (fault.LinkEmpty n words) = at n
+HasLine at (fault.NoSuch n) = at n
+HasLine at (fault.WrongWire n words) = at n
+HasLine at (fault.WrongStamp n) = at n
+HasLine at (fault.NotWhole n) = ⊥
+HasLine at fault.Memory = Unit {0}
 
--- The entries of the transcript in the lines stop, and this is the refusal, with the number of a line in place of the
--- entry's index, and the words for the state in which the entries stop: that line is the entry.
+-- the line whose number a refusal has is this entry
+abbrev pub HasLineOf : List Line → Row Payload → ReplayFault → Type 0
+HasLineOf lines row told = HasLine (λ n. entry_on payload_from lines n ≡ Some row) told
+
+-- The entries of the transcript of edition 1 in the lines stop, and this is the refusal, with the number of a line in
+-- place of the entry's index, and the words for the state in which the entries stop: that line is the entry.
 pub record IsRefusal (net : Net) (lines : List Line) (told : ReplayFault) : Type 0 where
   pub read : Transcript Payload
   pub refused : ReplayRefused
-  pub is_read : transcript_in lines ≡ Ok read
+  pub is_read : transcript_in lines ≡ Ok (One read)
   pub stops : Stops colouring net read.1 refused
   pub words : Vec ℕ Global
   pub says : words.items ≡ words_text net stops.reached stops.row refused
@@ -113,12 +142,52 @@ abbrev pub IsTold : Net → List (Row Payload) → List ℕ → ReplayRefused �
 IsTold net rows lines refused fault.Memory = Unit {0}
 IsTold net rows lines refused told = IsToldAs net rows lines refused told
 
+-- ---- edition 2
+-- the entries behind their vertices alone
+abbrev pub bare_rows : List (StampedRow Payload) → List (Row Payload)
+bare_rows rows = map (λ row. (row.1, row.2)) rows
+
+-- What a refusal of stamped entries is told as, with the numbers of the first line and of the entries' lines.
+abbrev pub IsStampedTold : Net → List (StampedRow Payload) → ℕ → List ℕ → WholeRefused → ReplayFault → Type 0
+IsStampedTold net rows first numbers (whole.Replay refused) told = IsTold net (bare_rows rows) numbers refused told
+IsStampedTold net rows first numbers (whole.WrongStamp k) told = told ≡ fault.WrongStamp (line_at numbers k)
+IsStampedTold net rows first numbers whole.NotWhole told = told ≡ fault.NotWhole (last_of first numbers)
+
+-- the line of a number is this entry with its stamp
+abbrev pub IsStampedLine : List Line → StampedRow Payload → ℕ → Type 0
+IsStampedLine lines row n = stamped_entry_on payload_from lines n ≡ Some row
+
+-- the refusal of an entry that isn't possible, or has another pulse or wire, as for edition 1
+pub record IsEntryTold (net : Net) (lines : List Line) (rows : List (StampedRow Payload)) (refused : ReplayRefused)
+    (stops : StopsAtEntry colouring net rows refused) (told : ReplayFault) : Type 0 where
+  pub words : Vec ℕ Global
+  pub says : words.items ≡ words_text net stops.at.reached (stops.at.row.1, stops.at.row.2) refused
+  pub is_told : told ≡ fault_at (entry_lines lines) words refused
+  pub has_line : HasLine (IsStampedLine lines stops.at.row) told
+
+-- How the refusal of stamped entries is told: that of an entry with the number of its line, which is the entry; that of
+-- the state at the end with the number of the last entry's line.
+abbrev pub IsWholeTold : (net : Net) (lines : List Line) (rows : List (StampedRow Payload)) (refused : WholeRefused)
+    → WhyNotWhole colouring net rows refused → ReplayFault → Type 0
+IsWholeTold net lines rows (whole.Replay refused) why told = IsEntryTold net lines rows refused why told
+IsWholeTold net lines rows (whole.WrongStamp k) why told =
+    (told ≡ fault.WrongStamp (line_at (entry_lines lines) k)) × HasLine (IsStampedLine lines why.at.row) told
+IsWholeTold net lines rows whole.NotWhole why told = told ≡ fault.NotWhole (last_line_in lines)
+
+-- The entries of the transcript of edition 2 in the lines aren't a whole replay, and this is the refusal.
+pub record IsStampedRefusal (net : Net) (lines : List Line) (told : ReplayFault) : Type 0 where
+  pub read : StampedTranscript Payload
+  pub refused : WholeRefused
+  pub is_read : transcript_in lines ≡ Ok (Two read)
+  pub why : WhyNotWhole colouring net read.1 refused
+  pub is_told : IsWholeTold net lines read.1 refused why told
+
 -- the fault of the transcript in the lines: its first wrong line, or else the refusal of its entries; that memory ran
 -- out says nothing
 abbrev pub IsFaultOfTranscript : Net → List Line → ReplayFault → Type 0
 IsFaultOfTranscript net lines fault.Memory = Unit {0}
 IsFaultOfTranscript net lines (fault.Syntax n) = transcript_in lines ≡ Err n
-IsFaultOfTranscript net lines told = IsRefusal net lines told
+IsFaultOfTranscript net lines told = IsRefusal net lines told ⊎ IsStampedRefusal net lines told
 
 -- the fault of an input of `replay`: of the network text before the transcript, or else of the transcript
 abbrev pub IsFaultOfReplay : List ℕ → PlanFault → Type 0

@@ -1,2 +1,2 @@
 -- What crates above name of `colour_laws`.
-pub use Rattle.colour_laws.specs.Colours
+pub use Rattle.colour_program.specs.colour_laws.Colours

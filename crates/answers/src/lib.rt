@@ -39,5 +39,8 @@ pub use colour_program::{Colouring, Payload, laws};
 pub use dimacs_col::ColFault;
 pub use event_texts::EventFault;
 pub use pool::PoolFault;
-pub use replay::{ReplayRefused, replay};
-pub use transcripts::{TextFault, push_entries, push_first_line, read_transcript, transcript_text};
+pub use replay::{ReplayRefused, WholeRefused, replay, replay_whole};
+pub use transcripts::{
+    TextFault, Transcript, push_entries, push_first_line, read_any, read_transcript, stamped_text,
+    transcript_text,
+};

@@ -1,20 +1,26 @@
 //! The state that the entries of a transcript lead to.
 
-ghost use Rattle.std.specs.Prelude.{◌≡◌, IfOk, IfErr};
+ghost use Rattle.std.specs.Prelude.{◌≡◌, ℕ, IfOk, IfErr, IfSome, Ok};
 ghost use Rattle.dimacs_col.specs.Lines.{lines_of};
+ghost use Rattle.colour_program.specs.colour_rules.Program.{colouring};
+ghost use Rattle.replay.specs.Replays.{IsReplay};
+ghost use Rattle.replay.specs.Whole.{IsWholeReplay};
+ghost use Rattle.transcripts.specs.Editions.{One, Two};
 ghost use Rattle.answers.specs.ReplayAnswers.{IsFaultOfReplay, IsFaultOfTranscript, IsReplayAnswer, IsReplayed};
-ghost use Rattle.answers.specs.ReplayAnswers.{IsTold, fault_at, fault_of_text, index_of, line_at, words_text};
+ghost use Rattle.answers.specs.ReplayAnswers.{IsStampedTold, IsTold, bare_rows, fault_at, fault_of_text};
+ghost use Rattle.answers.specs.ReplayAnswers.{first_line_in, index_of, last_of, line_at, transcript_in, words_text};
 
 use crate::answer::network_of_text;
 use crate::fault::PlanFault;
 use alpha_core::Network;
+use channel_plan::text_start;
 use colour_program::{Colouring, Payload};
 use entries::Entry;
 use event_texts::{expected_words, missing_words, text_of_state};
 use net_core::{NetState, RunRefused};
-use replay::{ReplayRefused, event_of, replay};
+use replay::{ReplayRefused, WholeRefused, event_of, replay, replay_whole};
 use std::alloc::{AllocError, Global};
-use transcripts::{TextFault, entry_lines, network_text, read_behind_network};
+use transcripts::{TextFault, Transcript, entry_lines, network_text, read_any_behind_network};
 
 /// Why a transcript isn't replayed: its first line that is none, or its first entry that isn't possible or has another
 /// pulse or wire, with the number of its line. Behind it are words for what its event lacks or comes to, as
@@ -33,6 +39,10 @@ pub enum ReplayFault {
     NoSuch(usize),
     /// The event has another pulse or wire.
     WrongWire(usize, Vec<u8>),
+    /// The entry has another stamp than the counter of its node gives it, or comes too late in the order.
+    WrongStamp(usize),
+    /// A node isn't drained at the end, or a link isn't empty; the line is that of the last entry.
+    NotWhole(usize),
     /// Memory ran out.
     Memory,
 }
@@ -143,6 +153,107 @@ fn told(
     }
 }
 
+// The state of the nodes of the colouring after the entries of a transcript of edition 1.
+fn replayed_entries(
+    alloc: Global,
+    network: &Network,
+    input: &[u8],
+    rows: &[(u32, Entry<Payload>)],
+) -> Result<NetState<Colouring>, ReplayFault>
+    ensures net { IfOk result (λ view. view.net ≡ network.now) }
+    ensures ok { IfOk result (λ view. IsReplay colouring network.now rows.now view.state) }
+    ensures fault { IfErr result (λ told. (nodes : ℕ) → transcript_in (lines_of input.now) ≡ Ok (One (nodes, rows.now))
+        → IsFaultOfTranscript network.now (lines_of input.now) told) }
+{
+    network.is_network();
+    match replay::<Colouring>(alloc, network, rows) {
+        Ok(state) => Ok(state),
+        Err(refused) => {
+            let lines = entry_lines(alloc, input)?;
+            Err(told(alloc, network, rows, lines.as_slice(), refused))
+        }
+    }
+}
+
+// The entries behind their vertices alone.
+fn bare_rows(
+    alloc: Global,
+    rows: &[(u64, u32, Entry<Payload>)],
+) -> Result<Vec<(u32, Entry<Payload>)>, AllocError>
+    ensures { IfOk result (λ bare. bare.items ≡ bare_rows rows.now) }
+{
+    let mut bare = Vec::new(alloc);
+    for row in rows {
+        bare.push((row.1, row.2))?;
+    }
+    Ok(bare)
+}
+
+// The number of the transcript's first line.
+fn first_line_in(input: &[u8]) -> Option<usize>
+    ensures { IfSome result (λ line. line ≡ first_line_in (lines_of input.now)) }
+{
+    let start = text_start(input, &[b"transcript"])?;
+    Some(start.lines + 1)
+}
+
+// The last of some numbers.
+fn last_of(other: usize, numbers: &[usize]) -> usize
+    ensures { result ≡ last_of other numbers.now }
+{
+    match numbers.get(numbers.len().saturating_sub(1)) {
+        Some(number) => *number,
+        None => other,
+    }
+}
+
+// The refusal of stamped entries, with the number of a line, and words as of edition 1. `first` is the number of the
+// transcript's first line.
+fn stamped_told(
+    alloc: Global,
+    network: &Network,
+    rows: &[(u64, u32, Entry<Payload>)],
+    first: usize,
+    lines: &[usize],
+    refused: WholeRefused,
+) -> ReplayFault
+    ensures { IsStampedTold network.now rows.now first lines.now refused result }
+{
+    match refused {
+        WholeRefused::Replay(refused) => match bare_rows(alloc, rows) {
+            Ok(bare) => told(alloc, network, bare.as_slice(), lines, refused),
+            Err(_) => ReplayFault::Memory,
+        },
+        WholeRefused::WrongStamp(k) => ReplayFault::WrongStamp(line_at(lines, k)),
+        WholeRefused::NotWhole => ReplayFault::NotWhole(last_of(first, lines)),
+    }
+}
+
+// The state of the nodes of the colouring after the entries of a transcript of edition 2.
+fn replayed_whole(
+    alloc: Global,
+    network: &Network,
+    input: &[u8],
+    rows: &[(u64, u32, Entry<Payload>)],
+) -> Result<NetState<Colouring>, ReplayFault>
+    ensures net { IfOk result (λ view. view.net ≡ network.now) }
+    ensures ok { IfOk result (λ view. IsWholeReplay colouring network.now rows.now view.state) }
+    ensures fault { IfErr result (λ told. (nodes : ℕ) → transcript_in (lines_of input.now) ≡ Ok (Two (nodes, rows.now))
+        → IsFaultOfTranscript network.now (lines_of input.now) told) }
+{
+    network.is_network();
+    match replay_whole::<Colouring>(alloc, network, rows) {
+        Ok(state) => Ok(state),
+        Err(refused) => {
+            let lines = entry_lines(alloc, input)?;
+            let Some(first) = first_line_in(input) else {
+                return Err(ReplayFault::Memory);
+            };
+            Err(stamped_told(alloc, network, rows, first, lines.as_slice(), refused))
+        }
+    }
+}
+
 // The state of the nodes of the colouring after the entries of the transcript that follows a network text.
 fn replayed(
     alloc: Global,
@@ -153,26 +264,23 @@ fn replayed(
     ensures ok { IfOk result (λ view. IsReplayed network.now (lines_of input.now) view.state) }
     ensures fault { IfErr result (IsFaultOfTranscript network.now (lines_of input.now)) }
 {
-    network.is_network();
-    let (_, rows) = read_behind_network::<Payload>(alloc, input)?;
-    match replay::<Colouring>(alloc, network, rows.as_slice()) {
-        Ok(state) => Ok(state),
-        Err(refused) => {
-            let lines = entry_lines(alloc, input)?;
-            Err(told(alloc, network, rows.as_slice(), lines.as_slice(), refused))
-        }
+    match read_any_behind_network::<Payload>(alloc, input)? {
+        Transcript::One(_, rows) => replayed_entries(alloc, network, input, rows.as_slice()),
+        Transcript::Two(_, rows) => replayed_whole(alloc, network, input, rows.as_slice()),
     }
 }
 
 /// The state of the nodes of the colouring after the entries of a transcript, as `events_bytes` writes it: the
 /// input is a DIMACS text, and then a transcript, which begins at the first line whose first field is
-/// `transcript`. The entries are played in the order in which they stand.
+/// `transcript`. The entries are played in the order in which they stand. Those of edition 2 have to have the stamps of
+/// their nodes' counters, in their order, and to lead to a whole state.
 ///
 /// # Errors
 /// As of `forest_bytes` for the lines before the transcript; if there is none, `Replay` with the first line that
 /// is none of a transcript; if there is none, `Replay` with the first entry that isn't possible, or has another
-/// pulse or wire. Lines count from the first of the input. Any call may instead fail for lack of memory:
-/// `ReplayFault::Memory` or as `forest_bytes`.
+/// pulse or wire, or, of edition 2, another stamp than its node comes to, or comes too late; if there is none, of
+/// edition 2, `Replay` with the last line if the state isn't whole. Lines count from the first of the input. Any call
+/// may instead fail for lack of memory: `ReplayFault::Memory` or as `forest_bytes`.
 pub fn replay_bytes(alloc: Global, input: &[u8]) -> Result<Vec<u8>, PlanFault>
     ensures ok { IfOk result (λ text. IsReplayAnswer input.now text.items) }
     ensures fault { IfErr result (IsFaultOfReplay input.now) }

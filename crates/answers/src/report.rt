@@ -23,7 +23,7 @@ const REFUSED_WORDS: u8 = 2;
 // The status if the workers stopped before every node was done.
 const STOPPED: u8 = 3;
 
-// The status if memory ran out, or a thread was refused.
+// The status if memory ran out, a thread was refused, or a stamp would be too great.
 const NOT_DONE: u8 = 4;
 
 /// The report of a fault.
@@ -162,6 +162,7 @@ fn report_of_pool(alloc: Global, name: &str, fault: PoolFault) -> Result<FaultRe
     match fault {
         PoolFault::Memory => memory_report(alloc, name),
         PoolFault::Spawn => report_with(alloc, name, "threads", NOT_DONE),
+        PoolFault::StampFull => report_with(alloc, name, "stamps", NOT_DONE),
         PoolFault::BadOptions => report_with(alloc, name, "options", REFUSED_WORDS),
     }
 }
@@ -225,6 +226,8 @@ fn report_of_replay(
         ReplayFault::WrongWire(n, words) => {
             refusal_in_words(alloc, name, "WrongWire", n, words.as_slice())
         }
+        ReplayFault::WrongStamp(n) => refusal_at_line(alloc, name, "WrongStamp", n),
+        ReplayFault::NotWhole(n) => refusal_at_line(alloc, name, "NotWhole", n),
         ReplayFault::Memory => memory_report(alloc, name),
     }
 }

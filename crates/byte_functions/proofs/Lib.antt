@@ -1,2 +1,3 @@
 mod Working
 mod Recording
+mod Merging

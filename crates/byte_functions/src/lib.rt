@@ -4,7 +4,8 @@
 //!
 //! `serving` calls `forest_bytes`, `plain_bytes`, `plan_bytes`, `transcript_bytes`, `check_bytes`, `events_bytes`,
 //! `replay_bytes` or `rounds_bytes` for a command, and `fault_report` if they fail. The two that run worker threads,
-//! `plan_bytes` and `transcript_bytes`, are here; the others are in `answers`, which is proved beside the worker threads.
+//! `plan_bytes` and `transcript_bytes`, are here; the others are in `answers`, which is proved beside the worker
+//! threads.
 //!
 //! ```
 //! let text = b"p edge 3 3\ne 1 2\ne 1 3\ne 2 3\n";
@@ -16,6 +17,7 @@
 #![tactic(auto)]
 
 pub mod laws;
+mod merged;
 mod plan_text;
 mod transcript;
 mod workers;
@@ -29,7 +31,9 @@ pub use workers::plan_bytes;
 
 // What crates above name of lower ones.
 pub use answers::{
-    ColFault, Colouring, EventFault, Network, Payload, PoolFault, ReplayRefused, TextFault, Wire,
-    read_transcript, replay, transcript_text,
+    ColFault, Colouring, EventFault, Network, Payload, PoolFault, ReplayRefused, TextFault,
+    Transcript, WholeRefused, Wire, read_any, read_transcript, replay, replay_whole, stamped_text,
+    transcript_text,
 };
 pub use node_pool::{Gate, OpenGate, Options, Outcome, run_workers};
+pub use run_options::Edition;

@@ -1,14 +1,19 @@
 //! The transcript of a run of worker threads.
 
-ghost use Rattle.std.specs.Prelude.{◌≡◌, IfOk, IfErr, map};
+ghost use Rattle.std.specs.Prelude.{◌≡◌, All, IfOk, IfErr, length, map};
 ghost use Rattle.node_pool.specs.run_options.Ranges.{AreInRange};
 ghost use Rattle.node_pool.specs.Gathers.{gathered_of};
-ghost use Rattle.byte_functions.specs.Transcripts.{IsTranscriptAnswer, entries_text};
+ghost use Rattle.stamps.specs.Stamps.{Rises};
+ghost use Rattle.byte_functions.specs.Transcripts.{IsTextIn, IsTranscriptAnswer, entries_text, stamped_of};
 ghost use Rattle.byte_functions.specs.Workers.{IsFaultOfWorkers};
 
+use crate::merged::merged_text;
 use crate::workers::whole_run;
-use answers::{Colouring, Memory, PlanFault, network_of_text, push_entries, push_first_line};
-use node_pool::{Actor, Gate, Options};
+use answers::{
+    Colouring, Memory, Payload, PlanFault, Refused, network_of_text, push_entries, push_first_line,
+};
+use node_pool::{Actor, Gate, Options, whole_outcomes_replay};
+use run_options::Edition;
 use std::alloc::Global;
 use std::sync::Wait;
 use std::thread::Threads;
@@ -29,9 +34,28 @@ fn text_of_actors(
     Ok(text)
 }
 
+// The transcript of nodes in an edition.
+fn text_in(
+    alloc: Global,
+    edition: Edition,
+    count: u32,
+    actors: Vec<Actor<Colouring>>,
+) -> Result<Vec<u8>, Memory>
+    requires count { length actors.items ≡ count }
+    requires rising { All Rises (map stamped_of (map gathered_of actors.items)) }
+    ensures { IfOk result (λ text. IsTextIn edition count (map gathered_of actors.items) text.items) }
+{
+    match edition {
+        Edition::One => text_of_actors(alloc, count, actors),
+        Edition::Two => merged_text(alloc, count, actors),
+    }
+}
+
 /// The transcript of a run on the network that a DIMACS text describes: what each node put, took and did until its
-/// colour was found, in the node's own order, vertex by vertex. The run is that of `plan_bytes`, but has a transcript,
-/// whatever the options say. With more than one worker two calls may give different transcripts.
+/// colour was found. In edition 1 it has the entries of each node in its own order, vertex by vertex; in edition 2 all
+/// entries in the order of their stamps and then of their vertices, which is a run that `replay_bytes` accepts. The run
+/// is that of `plan_bytes`, but has a transcript, whatever the options say. With more than one worker two calls may
+/// give different transcripts.
 ///
 /// It is not promised that the call returns, nor that any number of turns is enough.
 ///
@@ -42,16 +66,19 @@ pub fn transcript_bytes<G: Gate + Sync, R: Threads + Wait + Sync>(
     alloc: Global,
     input: &[u8],
     options: Options,
+    edition: Edition,
     gate: &G,
 ) -> Result<Vec<u8>, PlanFault>
-    ensures ok { IfOk result (λ text. IsTranscriptAnswer input.now text.items) }
+    ensures ok { IfOk result (λ text. IsTranscriptAnswer edition input.now text.items) }
     ensures in_range { IfOk result (λ _. AreInRange options) }
     ensures fault { IfErr result (IsFaultOfWorkers options input.now) }
 {
+    whole_outcomes_replay::<Colouring, Payload, Refused>();
     let network = network_of_text(alloc, input)?;
+    network.is_network();
     let outcome = whole_run(rt, alloc, &network, options, true, gate)?;
     let count = network.nodes();
     // The text takes the room of what it doesn't speak of any more.
     drop(network);
-    Ok(text_of_actors(alloc, count, outcome.into_actors())?)
+    Ok(text_in(alloc, edition, count, outcome.into_actors())?)
 }

@@ -1,7 +1,7 @@
 //! The words of each command, and the texts of clap by their openings; the black-box tests compare them whole.
 
 use command_line::{Declined, Program, Request, parse};
-use run_options::Options;
+use run_options::{Edition, Options};
 use std::alloc::Global;
 use std::test::Fail;
 
@@ -140,6 +140,31 @@ fn reads_the_options_of_a_transcript(rt: HostRuntime) -> Result<(), Fail> {
     };
     let words = ["p", "transcript", "--workers=1", "--turns=2"];
     let request = parse(rt.alloc(), Program::Forestplan, &words);
-    assert!(rt; request.is_ok_and(|request| request == Request::Transcript(options)));
+    assert!(rt; request.is_ok_and(|request| request == Request::Transcript(options, Edition::Two)));
+    let words = ["p", "transcript", "--workers=1", "--turns=2", "--edition=1"];
+    let request = parse(rt.alloc(), Program::Forestplan, &words);
+    assert!(rt; request.is_ok_and(|request| request == Request::Transcript(options, Edition::One)));
+    Ok(())
+}
+
+#[test]
+fn declines_other_editions(rt: HostRuntime) -> Result<(), Fail> {
+    let alloc = rt.alloc();
+    for value in ["0", "3", "two", ""] {
+        let words = ["p", "transcript", "--edition", value];
+        assert!(rt;
+            is_declined(alloc, &words, false, "error: invalid value"),
+            "{value}"
+        );
+    }
+    let words = ["p", "plan", "--edition", "2"];
+    assert!(rt;
+        is_declined(
+            alloc,
+            &words,
+            false,
+            "error: unexpected argument '--edition'"
+        )
+    );
     Ok(())
 }

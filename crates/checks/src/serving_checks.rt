@@ -20,7 +20,7 @@ const TRIANGLE_PLAN: &[u8] = b"plan\n1 2\n2 3\n3 1\n";
 const STREAM: &[u8] = b"forestplan: stream\n";
 
 // Of each command the program, the words, a text, and the answer.
-const COMMANDS: [(Program, &[&str], &[u8], &[u8]); 8] = [
+const COMMANDS: [(Program, &[&str], &[u8], &[u8]); 9] = [
     (Program::Forestplan, &FORESTS, TRIANGLE, TRIANGLE_FORESTS),
     (
         Program::Forestplan,
@@ -37,6 +37,16 @@ const COMMANDS: [(Program, &[&str], &[u8], &[u8]); 8] = [
     (
         Program::Forestplan,
         &["forestplan", "transcript", "--workers", "2"],
+        b"p edge 2 0\n",
+        b"transcript 2 2\n\
+1 1 pulse 1\n1 2 pulse 1\n2 1 pulse 2\n2 2 pulse 2\n3 1 pulse 3\n3 2 pulse 3\n\
+4 1 pulse 4\n4 2 pulse 4\n5 1 pulse 5\n5 2 pulse 5\n6 1 pulse 6\n6 2 pulse 6\n\
+7 1 pulse 7\n7 2 pulse 7\n8 1 pulse 8\n8 2 pulse 8\n9 1 pulse 9\n9 2 pulse 9\n\
+10 1 pulse 10\n10 2 pulse 10\n11 1 pulse 11\n11 2 pulse 11\n12 1 pulse 12\n12 2 pulse 12\n",
+    ),
+    (
+        Program::Forestplan,
+        &["forestplan", "transcript", "--workers=2", "--edition=1"],
         b"p edge 2 0\n",
         b"transcript 1 2\n\
 1 pulse 1\n1 pulse 2\n1 pulse 3\n1 pulse 4\n1 pulse 5\n1 pulse 6\n\

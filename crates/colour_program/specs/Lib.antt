@@ -1,1 +1,2 @@
 pub mod colour_rules
+pub mod colour_laws

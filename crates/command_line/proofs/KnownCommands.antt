@@ -1,5 +1,5 @@
 -- The command line computes, and each of its commands has a request, if clap finds no fault.
-use Rattle.std.proofs.Common.{◌≡◌, ◌≢◌, ◌⊎◌, inl, inr, subst, sym, refl, ap, ◌∙◌, cond}
+use Rattle.std.proofs.Common.{◌≡◌, ◌≢◌, ◌⊎◌, inl, inr, subst, sym, refl, ap, ap₂, ◌∙◌, cond}
 use Rattle.std.proofs.Common.{Bool, true, false, List, [], ◌∷◌, Option, Some, None, is_some, find, option_map, codes}
 use Rattle.std.specs.List.{AllByRecursion}
 use Rattle.std.specs.Option.{option_map_or}
@@ -10,13 +10,11 @@ use Rattle.clap.specs.Kinds.{IsAmong, Kinds}
 use Rattle.clap.specs.declared.error.kind.ErrorKind.{ErrorKind}
 use Rattle.clap.specs.declared.error.kind.ErrorKind.TheVariants.{DisplayHelp, OutOfMemory}
 use Rattle.clap.proofs.OnLiterals.{clap_on_literals}
-use Rattle.run_options.specs.Ranges.{AreInRange}
-use Rattle.run_options.specs.declared.Options.{Options}
 use Rattle.command_line.specs.Line.{line}
-use Rattle.command_line.specs.RunOptions.{options_of}
+use Rattle.command_line.specs.RunOptions.{edition_of, options_of}
 use Rattle.command_line.proofs.Passing.{split}
-use Rattle.command_line.proofs.RunOptions.{run_found, run_rules}
-use Rattle.command_line.specs.Asked.{IsDeclinedBy, IsInRange, MayDecline, choice_of, named, request_of, unless_at_fault}
+use Rattle.command_line.proofs.RunOptions.{run_found, run_rules, transcript_found, transcript_rules}
+use Rattle.command_line.specs.Asked.{IsDeclinedBy, IsInRange, MayDecline, choice_of, named, request_of, transcript_with, unless_at_fault}
 use Rattle.command_line.specs.declared.program.Program.{Program}
 use Rattle.command_line.specs.declared.program.Program.TheVariants.{Forestplan, Forestplay}
 use Rattle.command_line.specs.declared.request.Declined.{Declined}
@@ -65,10 +63,13 @@ plan_has_request s name rules words none =
     let good : IsGood (named (codes "plan") (rows_after s.rules [] words)) = (Plan found.0, ap (option_map Plan) found.1, found.2) in
     subst (λ t. IsGood (named t (rows_after s.rules [] words))) (sym name) good
 
-transcript_has_request : (s : Shape) → s.name ≡ codes "transcript" → s.rules ≡ run_rules → HasRequest s
+transcript_has_request : (s : Shape) → s.name ≡ codes "transcript" → s.rules ≡ transcript_rules → HasRequest s
 transcript_has_request s name rules words none =
-    let found = run_found s words rules none true in
-    let good : IsGood (named (codes "transcript") (rows_after s.rules [] words)) = (Transcript found.0, ap (option_map Transcript) found.1, found.2) in
+    let found = transcript_found s words rules none in
+    let rows = rows_after s.rules [] words in
+    let asked : transcript_with (options_of true rows) (edition_of rows) ≡ Some (Transcript found.0.0 found.1.0) =
+    ap₂ transcript_with found.0.1 found.1.1 in
+    let good : IsGood (named (codes "transcript") rows) = (Transcript found.0.0 found.1.0, asked, found.0.2) in
     subst (λ t. IsGood (named t (rows_after s.rules [] words))) (sym name) good
 
 -- a command that was entered is one of those listed

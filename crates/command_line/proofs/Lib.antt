@@ -1,4 +1,5 @@
 mod Defaults
+mod Entered
 mod KnownCommands
 mod Numbers
 mod Passing

@@ -8,8 +8,10 @@ use Rattle.clap.specs.Kinds.{IsAmong, Kinds}
 use Rattle.clap.specs.declared.error.kind.ErrorKind.{ErrorKind}
 use Rattle.clap.specs.declared.error.kind.ErrorKind.TheVariants.{DisplayHelp, OutOfMemory}
 use Rattle.run_options.specs.Ranges.{AreInRange}
+use Rattle.run_options.specs.declared.Edition.{Edition}
+use Rattle.run_options.specs.declared.Options.{Options}
 use Rattle.command_line.specs.Line.{line}
-use Rattle.command_line.specs.RunOptions.{options_of}
+use Rattle.command_line.specs.RunOptions.{edition_of, options_of}
 use Rattle.command_line.specs.declared.program.Program.{Program}
 use Rattle.command_line.specs.declared.request.Declined.{Declined}
 use Rattle.command_line.specs.declared.request.Declined.TheVariants as declined
@@ -17,13 +19,18 @@ use Rattle.command_line.specs.declared.request.Request.{Request}
 use Rattle.command_line.specs.declared.request.Request.TheVariants.{Check, Events, Forests, Plain, Plan, Replay, Rounds}
 use Rattle.command_line.specs.declared.request.Request.TheVariants.{Transcript}
 
+-- a transcript with options and an edition, if both are there
+abbrev pub transcript_with : Option Options → Option Edition → Option Request
+transcript_with options edition =
+    option_and_then (λ given. option_map (λ form. Transcript given form) edition) options
+
 -- what the command of a name asks for, given the values of its options; each command is a line
 abbrev pub named : Text → List Row → Option Request
 named name rows =
     if bytes_eq name (codes "forests") then Some Forests
     else if bytes_eq name (codes "plain") then Some Plain
     else if bytes_eq name (codes "plan") then option_map Plan (options_of false rows)
-    else if bytes_eq name (codes "transcript") then option_map Transcript (options_of true rows)
+    else if bytes_eq name (codes "transcript") then transcript_with (options_of true rows) (edition_of rows)
     else if bytes_eq name (codes "check") then Some Check
     else if bytes_eq name (codes "events") then Some Events
     else if bytes_eq name (codes "replay") then Some Replay
@@ -33,7 +40,7 @@ named name rows =
 -- a run of workers has options in range
 abbrev pub IsInRange : Request → Type 0
 IsInRange (Plan options) = AreInRange options
-IsInRange (Transcript options) = AreInRange options
+IsInRange (Transcript options edition) = AreInRange options
 IsInRange _ = Unit {0}
 
 -- what the command that was found asks for

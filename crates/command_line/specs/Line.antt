@@ -1,7 +1,7 @@
 -- The command lines in clap's own words: a program, and its commands.
 use Rattle.std.specs.Prelude.{true, codes}
 use Rattle.clap.specs.Words.{App, Text, new_app, with_subcommand}
-use Rattle.command_line.specs.RunOptions.{with_run_options}
+use Rattle.command_line.specs.RunOptions.{with_edition, with_run_options}
 use Rattle.command_line.specs.declared.program.Program.{Program}
 use Rattle.command_line.specs.declared.program.Program.TheVariants.{Forestplan, Forestplay}
 
@@ -28,7 +28,7 @@ with_network_commands program =
 abbrev pub with_worker_commands : App → App
 with_worker_commands program =
     let with_plan : App = with_subcommand program (with_run_options (new_app (codes "plan"))).top in
-    with_subcommand with_plan (with_run_options (new_app (codes "transcript"))).top
+    with_subcommand with_plan (with_edition (with_run_options (new_app (codes "transcript")))).top
 
 -- all of these, and the one that checks a plan
 abbrev pub with_plan_commands : App → App

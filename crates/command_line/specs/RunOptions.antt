@@ -1,11 +1,13 @@
 -- The options of a run of workers in clap's own words, and what they read from the rows of a command.
-use Rattle.std.specs.Prelude.{◌&&◌, ◌^◌, ◌∷◌, [], ℕ, Bool, List, Option, Some, None, if◌then◌else◌, nat_lt, codes}
-use Rattle.std.specs.Prelude.{option_and_then}
+use Rattle.std.specs.Prelude.{◌&&◌, ◌==◌, ◌^◌, ◌∷◌, [], ℕ, Bool, List, Option, Some, None, if◌then◌else◌, nat_lt, codes}
+use Rattle.std.specs.Prelude.{option_and_then, option_map}
 use Rattle.std.specs.Str.Parse.{digits_value, without_leading_plus}
 use Rattle.clap.specs.Words.{App, Row, Rule, Text, new_rule, one_of, with_rule}
 use Rattle.clap.specs.ValueTests.{is_numeral}
 use Rattle.clap.specs.declared.builder.value_parser.ValueParser.TheVariants.{Unsigned}
-use Rattle.run_options.specs.declared.TheConstants.{MAX_CAPACITY, MAX_TURNS, MAX_WORKERS}
+use Rattle.run_options.specs.declared.TheConstants.{MAX_CAPACITY, MAX_EDITION, MAX_TURNS, MAX_WORKERS}
+use Rattle.run_options.specs.declared.Edition.{Edition}
+use Rattle.run_options.specs.declared.Edition.TheVariants.{One, Two}
 use Rattle.run_options.specs.declared.Options.{Options}
 
 -- an option with a number from `least` to `most`, and a default
@@ -27,9 +29,17 @@ capacity_rule = number_rule (codes "capacity") 1 MAX_CAPACITY (codes "4")
 abbrev pub turns_rule : Rule
 turns_rule = number_rule (codes "turns") 0 MAX_TURNS (codes "1000000000")
 
--- a command with these options
+-- the option of a transcript
+abbrev pub edition_rule : Rule
+edition_rule = number_rule (codes "edition") 1 MAX_EDITION (codes "2")
+
+-- a command with the options of a run
 abbrev pub with_run_options : App → App
 with_run_options command = with_rule (with_rule (with_rule command workers_rule) capacity_rule) turns_rule
+
+-- a command with the option of a transcript behind its others
+abbrev pub with_edition : App → App
+with_edition command = with_rule command edition_rule
 
 -- the number below a bound that a text is; a plus may stand before it
 abbrev pub number_below : ℕ → Text → Option ℕ
@@ -49,3 +59,11 @@ options_of transcript rows =
     (number_of (2 ^ 64) (codes "turns") rows))
     (number_of (2 ^ 32) (codes "capacity") rows))
     (number_of (2 ^ 32) (codes "workers") rows)
+
+-- the edition of a number
+abbrev pub edition_with : ℕ → Edition
+edition_with number = if number == 1 then One else Two
+
+-- the edition that a transcript has, if it is a number
+abbrev pub edition_of : List Row → Option Edition
+edition_of rows = option_map edition_with (number_of (2 ^ 32) (codes "edition") rows)

@@ -47,6 +47,7 @@ Status, and what standard error then holds:
   3  the turns were used up         forestplan: stopped
   4  a thread could not be started  forestplan: threads
      memory ran out                 forestplan: memory
+     a stamp would pass 2^64 - 1    forestplan: stamps
      a read or a write failed       forestplan: stream
 `stream` also comes if the reader of the output leaves before its end, as `| head`
 does: then nothing is wrong.
@@ -172,39 +173,52 @@ A long run is silent until all nodes are done.",
     format: "Input: a graph in the DIMACS format, as `p edge NODES EDGES` and then `e V W`.
 
 Output, a line each:
-  transcript 1 NODES   the first line
-  V pulse P            node V made pulse P
-  V put W WIRE         V put a wire on its link to its neighbour W
-  V take W WIRE        V took a wire from the link of its neighbour W
-First come all lines of node 1 in the order in which it did them, then those of
-node 2, and so on. They do not say what two nodes did first. A WIRE is one of
+  transcript 2 NODES   the first line
+  S V pulse P          node V made pulse P
+  S V put W WIRE       V put a wire on its link to its neighbour W
+  S V take W WIRE      V took a wire from the link of its neighbour W
+A WIRE is one of
   payload P WORD NUMBER  what is sent at pulse P
   ack P                  what the other sent at pulse P has been taken
   safe P                 all that was sent at pulse P has been taken
   close                  the last wire
-So `1 put 2 payload 0 hello 1` says that node 1 put its greeting for node 2 on
+So `1 1 put 2 payload 0 hello 1` says that node 1 put its greeting for node 2 on
 the link, before its first pulse.
+
+S is a stamp, from Lamport's clock: a node adds one to its count for a put and for
+a pulse, and a take gets one more than the greater of the count and the stamp of
+the put. So each wire is taken at a greater stamp than it was put at. The lines
+are in ascending order by stamp, then by vertex. This order is one run, which
+`forestplay replay` accepts; it is not the order of real time.
+
+With --edition 1 the first line is `transcript 1 NODES`, the lines have no stamp,
+and all lines of node 1 come first, then those of node 2, and so on. They do not
+say what two nodes did first.
 
 Each wire has two lines, one where it was put and one where it was taken, and
 each node a line for each pulse. With D as the greatest number of neighbours of
 a vertex, B as that of its barred channels, U as that of its neighbours of higher
 identifier, N nodes and P messages on E edges make behind the first line
   2 (2 P + 2 E (R + 1)) + N R    lines, where R = 12 + 3 U (D + B + 1)
-On the complete graph of 100 nodes that is 594 million lines, of 13 GB.
+On the complete graph of 100 nodes that is 594 million lines, of 13 GB in
+edition 1.
 A run that is cut off by --turns prints none: it reports `forestplan: stopped`
-(status 3).
+(status 3). If a stamp would be above 18446744073709551615 it reports
+`forestplan: stamps` (status 4).
 
 Example: two transmitters, out of reach of each other
   printf 'p edge 2 0\\n' | forestplan transcript
 prints 25 lines
-  transcript 1 2
-  1 pulse 1
-  1 pulse 2
+  transcript 2 2
+  1 1 pulse 1
+  1 2 pulse 1
+  2 1 pulse 2
+  2 2 pulse 2
   ...
-  1 pulse 12
-  2 pulse 1
-  ...
-  2 pulse 12",
+  12 2 pulse 12
+
+Example: where the run leads
+  (cat net.col; forestplan transcript < net.col) | forestplay replay",
 };
 
 pub const WORKERS: &'static str = "How many threads run the nodes, 1 to 64";
@@ -212,6 +226,8 @@ pub const WORKERS: &'static str = "How many threads run the nodes, 1 to 64";
 pub const CAPACITY: &'static str = "How many wires a link holds, 1 to 64";
 
 pub const TURNS: &'static str = "How often a worker looks for a node";
+
+pub const EDITION: &'static str = "The form: 2 with stamps, 1 without";
 
 pub const CHECK: Help = Help {
     about: "Checks a channel plan of a graph",
@@ -327,19 +343,22 @@ pub const REPLAY: Help = Help {
 `forestplan transcript` writes what each node did in a run of worker threads. Such
 entries, whoever wrote them, are played here in the order in which they stand, by
 the machine that plays events. Nothing is taken on trust: each entry has to be
-possible, and its pulse or wire has to be the one that the node comes to there.",
+possible, and its pulse or wire has to be the one that the node comes to there.
+Of edition 2 each stamp has to be right too, and all nodes have to be done at the
+end.",
     format: "Input: a graph in the DIMACS format, as `p edge NODES EDGES` and then `e V W`, and
 behind it a transcript, a line each:
-  transcript 1 NODES   the first line
-  V pulse P            node V made pulse P
-  V put W WIRE         V put a wire on its link to its neighbour W
-  V take W WIRE        V took a wire from the link of its neighbour W
-where WIRE is `payload P WORD NUMBER`, `ack P`, `safe P` or `close`, as
-`forestplan transcript --help` says. The transcript begins at the first line whose
-first field is `transcript`. From there empty lines are skipped. NODES is not
-compared with the graph.
+  transcript 2 NODES   the first line
+  S V pulse P          node V made pulse P
+  S V put W WIRE       V put a wire on its link to its neighbour W
+  S V take W WIRE      V took a wire from the link of its neighbour W
+where WIRE is `payload P WORD NUMBER`, `ack P`, `safe P` or `close`, and S is the
+stamp, as `forestplan transcript --help` says. The first line of edition 1 is
+`transcript 1 NODES`, and its lines have no stamp. The transcript begins at the
+first line whose first field is `transcript`. From there empty lines are skipped.
+NODES is not compared with the graph.
 
-The transcripts of forestplan list all entries of node 1, then those of node 2, and
+A transcript of edition 1 lists all entries of node 1, then those of node 2, and
 so on. If two nodes are neighbours that is no order in which they are possible;
 `./replay NETWORK TRANSCRIPT`, a script beside this program, puts them into one and
 replays them.
@@ -356,8 +375,12 @@ says, or what was expected:
   NothingToPut  the out-list is empty
   LinkEmpty     no wire of the neighbour waits
   WrongWire     the node comes to another pulse or wire than the entry has
-The first line that is X1 is looked for first. If there is none, the first entry
-that is refused is reported.
+  WrongStamp    the entry has another stamp than its node comes to, or is behind
+                one that it has to come before
+  NotWhole      the last line: a node is not done, or a wire was not taken
+The last two are of edition 2. The first line that is X1 is looked for first. If
+there is none, the first entry that is refused is reported, and if there is none,
+NotWhole.
 
 Example: node 1 puts its greeting for node 2
   printf 'p edge 2 1\\ne 1 2\\ntranscript 1 2\\n1 put 2 payload 0 hello 1\\n' |

@@ -5,11 +5,11 @@ ghost use Rattle.clap.specs.Words.{app_of, new_app, with_subcommand};
 ghost use Rattle.clap.specs.declared.builder.command.Command.TheViews.{out-Command};
 ghost use Rattle.command_line.specs.Line.{line, with_network_commands, with_plan_commands, with_play_commands};
 ghost use Rattle.command_line.specs.Line.{with_worker_commands, without_commands};
-ghost use Rattle.command_line.specs.RunOptions.{with_run_options};
+ghost use Rattle.command_line.specs.RunOptions.{with_edition, with_run_options};
 
 use crate::help;
 use crate::help::Help;
-use crate::options::with_run_options;
+use crate::options::{with_edition, with_run_options};
 use crate::program::Program;
 use clap::Command;
 use std::alloc::{AllocError, Global};
@@ -76,7 +76,7 @@ fn with_worker_commands<'a>(alloc: Global, program: Command<'a>) -> Result<Comma
     let plan = worker_command(alloc, "plan", help::PLAN)?;
     let program = with_command(program, plan)?;
     let transcript = worker_command(alloc, "transcript", help::TRANSCRIPT)?;
-    with_command(program, transcript)
+    with_command(program, with_edition(alloc, transcript)?)
 }
 
 // All of these, and the command that checks a plan.

@@ -1,15 +1,16 @@
 //! The options of a run of workers in `clap`'s builders, and the numbers that they have. A command that runs workers
-//! takes all three.
+//! takes the first three, and one that prints a transcript the edition too.
 
 ghost use Rattle.std.specs.Prelude.{◌≡◌, ◌^◌, IfOk, false};
 ghost use Rattle.clap.specs.Words.{app_of, found_of, rows_of, rule_of, with_rule};
 ghost use Rattle.clap.specs.declared.builder.command.Command.TheViews.{out-Command};
-ghost use Rattle.command_line.specs.RunOptions.{number_of, number_rule, options_of, with_run_options};
+ghost use Rattle.command_line.specs.RunOptions.{edition_of, number_of, number_rule, options_of, with_edition};
+ghost use Rattle.command_line.specs.RunOptions.{with_run_options};
 
-use crate::help::{CAPACITY, TURNS, WORKERS};
+use crate::help::{CAPACITY, EDITION, TURNS, WORKERS};
 use clap::builder::ValueParser;
 use clap::{Arg, ArgMatches, Command};
-use run_options::{MAX_CAPACITY, MAX_TURNS, MAX_WORKERS, Options};
+use run_options::{Edition, MAX_CAPACITY, MAX_EDITION, MAX_TURNS, MAX_WORKERS, Options};
 use std::alloc::{AllocError, Global};
 
 // An option with a number, of which clap checks the range.
@@ -58,6 +59,19 @@ pub fn with_run_options<'a>(alloc: Global, command: Command<'a>) -> Result<Comma
     with_number(command, turns)
 }
 
+/// A command with the option `--edition` behind its others.
+///
+/// # Errors
+/// If memory ran out.
+pub fn with_edition<'a>(alloc: Global, command: Command<'a>) -> Result<Command<'a>, AllocError>
+    requires { (out-Command command).has_globals ≡ false }
+    ensures shape { IfOk result (λ c. app_of c ≡ with_edition (app_of command.entry)) }
+    ensures local { IfOk result (λ c. (out-Command c).has_globals ≡ false) }
+{
+    let edition = number(alloc, "edition", 1, u64::from(MAX_EDITION), "2", EDITION);
+    with_number(command, edition)
+}
+
 // The number that an option has, if it fits.
 fn small_number(matches: &ArgMatches<'_>, name: &str) -> Option<u32>
     ensures { result ≡ number_of (2 ^ 32) name.now (rows_of (found_of matches.now)) }
@@ -84,4 +98,14 @@ pub fn options_of(matches: &ArgMatches<'_>, transcript: bool) -> Option<Options>
         turns,
         transcript,
     })
+}
+
+/// The edition that a command has, from the words or by default.
+pub fn edition_of(matches: &ArgMatches<'_>) -> Option<Edition>
+    ensures { result ≡ edition_of (rows_of (found_of matches.now)) }
+{
+    match small_number(matches, "edition")? {
+        1 => Some(Edition::One),
+        _ => Some(Edition::Two),
+    }
 }

@@ -5,11 +5,11 @@ ghost use Rattle.clap.specs.Words.{found_of, kind_of, rows_of, subcommand_rows_o
 ghost use Rattle.command_line.specs.Asked.{IsDeclinedBy, IsInRange, MayDecline, choice_of, named, request_of};
 
 use crate::line::whole_line;
-use crate::options::options_of;
+use crate::options::{edition_of, options_of};
 use crate::program::Program;
 use clap::error::ErrorKind;
 use clap::{ArgMatches, Error};
-use run_options::Options;
+use run_options::{Edition, Options};
 use std::alloc::Global;
 
 /// What the program is asked for.
@@ -21,8 +21,8 @@ pub enum Request {
     Plain,
     /// The same plan, by nodes that worker threads run without a common clock.
     Plan(Options),
-    /// What each node put, took and did in such a run.
-    Transcript(Options),
+    /// What each node put, took and did in such a run, in an edition.
+    Transcript(Options, Edition),
     /// The verdict on a channel plan of a network.
     Check,
     /// The state that events lead to.
@@ -51,7 +51,7 @@ fn request_named(name: &str, matches: &ArgMatches<'_>) -> Option<Request>
         "forests" => Some(Request::Forests),
         "plain" => Some(Request::Plain),
         "plan" => Some(Request::Plan(options_of(matches, false)?)),
-        "transcript" => Some(Request::Transcript(options_of(matches, true)?)),
+        "transcript" => Some(Request::Transcript(options_of(matches, true)?, edition_of(matches)?)),
         "check" => Some(Request::Check),
         "events" => Some(Request::Events),
         "replay" => Some(Request::Replay),

@@ -1,5 +1,6 @@
 -- What one entry more at the end of the list leaves of it.
 use Rattle.std.proofs.Common.{◌≡◌, ℕ, ◌+◌, ◌≤◌, List, [], ◌∷◌, ◌++◌, length, drop, map, refl, sym, ap, ap₂, ◌∙◌, arith}
+use Rattle.std.specs.List.{zip}
 use Rattle.std.proofs.lemmas.List.{append-nil, append_assoc, drop-append-le, length-append, length-drop, length-map}
 use Rattle.entries.specs.declared.entry.Entry.{Entry}
 use Rattle.entries.specs.declared.entry.Entry.TheVariants as entry
@@ -64,3 +65,11 @@ module _ {M : Type 0} where
 pub payloads-more : (bares : List BareEntry) (bare : BareEntry) → payloads_in (bares ++ bare ∷ []) ≡ payloads_in bares + payloads_by bare.act
 payloads-more [] bare = omega arith
 payloads-more (b ∷ bs) bare = omega (arith, payloads-more bs bare)
+
+-- two lists as long as each other that get one item more, side by side
+pub zip-more : {A B : Type 0} (xs : List A) (ys : List B) (x : A) (y : B) → length xs ≡ length ys
+    → zip (xs ++ x ∷ []) (ys ++ y ∷ []) ≡ zip xs ys ++ (x, y) ∷ []
+zip-more [] [] x y long = refl
+zip-more [] (b ∷ ys) x y long = absurd (omega (arith, long))
+zip-more (a ∷ xs) [] x y long = absurd (omega (arith, long))
+zip-more (a ∷ xs) (b ∷ ys) x y long = ap (λ l. (a, b) ∷ l) (zip-more xs ys x y (omega (arith, long)))

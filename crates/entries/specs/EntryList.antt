@@ -2,7 +2,8 @@
 use Rattle.std.specs.Prelude.{ℕ, List}
 use Rattle.entries.specs.declared.entry.Entry.{Entry}
 
--- The entries in order, and how many more have room, whatever their wires.
+-- The entries in order, without their stamps and with them, and how many more have room, whatever their wires.
 pub record EntryList (M : Type 0) : Type 0 where
   pub items : List (Entry M)
+  pub stamped : List (ℕ × Entry M)
   pub room : ℕ

@@ -1,3 +1,5 @@
 pub mod Bare
 pub mod Blocks
 pub mod EntryList
+pub mod alpha_core
+pub mod interference

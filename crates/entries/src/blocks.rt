@@ -17,9 +17,9 @@ const SMALL_BLOCK: usize = 128;
 // From how many items on the next block is large.
 const MANY_ITEMS: usize = 1_024;
 
-// How many items a large block has. At 12 bytes an item it has more than 128 KiB, from which on the C library maps a
-// block by itself, unless a mapped block as large was freed before. Places of a mapped block that were never written
-// take address space alone, and it goes back to the system when it is dropped.
+// How many items a large block has. At 8 bytes an item or more it has 128 KiB at least, from which on the C library
+// maps a block by itself, unless a mapped block as large was freed before. Places of a mapped block that were never
+// written take address space alone, and it goes back to the system when it is dropped.
 const LARGE_BLOCK: usize = 16_384;
 
 /// A list that grows by whole blocks. Contracts see the list (`items`), and for how many more there is room (`room`).
@@ -85,7 +85,7 @@ impl<X> Blocks<X> {
     pub(crate) fn reserve(&mut self) -> Result<(), AllocError>
         ensures items { self.new.items ≡ self.old.items }
         ensures room { OnOk result (0 < self.new.room) }
-        ensures refused { OnErr result (self.new ≡ self.old) }
+        ensures refused { OnErr result ((self.new ≡ self.old) × (self.old.room ≡ 0)) }
     {
         if self.last.len() < self.last.capacity() {
             return Ok(());

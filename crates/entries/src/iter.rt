@@ -52,3 +52,37 @@ impl<'a, T: Copy> Iterator for Iter<'a, T> {
         }
     }
 }
+
+/// The entries of an `Entries` with their stamps, by value, seen as the list of those that are left.
+#[derive(Drop)]
+pub struct StampedIter<'a, T> {
+    pub(crate) stamps: BlockIter<'a, u64>,
+    pub(crate) entries: Iter<'a, T>,
+}
+
+impl<'a, T> Model for StampedIter<'a, T> {
+    ghost use Rattle.std.specs.Prelude.{◌≡◌, ℕ, List, length};
+    ghost use Rattle.std.specs.List.{zip};
+    ghost use Rattle.entries.specs.declared.entry.Entry.{Entry};
+
+    ghost Value = { List (ℕ × Entry T) };
+
+    ghost view = { λ it. zip it.stamps it.entries };
+
+    // There is a stamp for each entry.
+    ghost invariant = { λ it. length it.stamps ≡ length it.entries };
+}
+
+impl<'a, T: Copy> Iterator for StampedIter<'a, T> {
+    type Item = (u64, Entry<T>);
+
+    ghost next_gives = { YieldsFirst (λ rest. rest) };
+
+    ghost remaining = { item_count (λ rest. rest) };
+
+    fn next(&mut self) -> Option<(u64, Entry<T>)> {
+        let entry = self.entries.next()?;
+        let stamp = self.stamps.next()?;
+        Some((stamp, entry))
+    }
+}

@@ -1,14 +1,15 @@
 //! What a node writes down of each of its events, so that its run can be read and replayed.
 //!
-//! `actor` writes a node's own entries into an `Entries`, which takes 12 bytes an entry and the bytes of a payload
-//! where there is one. The 12 bytes lie in blocks that are never moved. `replay` plays lists of entries, and
-//! `transcripts` writes them as text and reads them.
+//! `actor` writes a node's own entries into an `Entries`, each with its stamp (`Counter` of `alpha_core`). It takes 20
+//! bytes an entry and the bytes of a payload where there is one. The 20 bytes lie in blocks that are never moved.
+//! `replay` plays lists of entries, and `transcripts` writes them as text and reads them.
 //!
 //! ```text
 //! let mut entries = Entries::new(alloc);
 //! entries.reserve()?;                                             // room for one more, of any kind
-//! entries.push_reserved(Entry::Put(2, Wire::Payload(0, Payload::Hello(1))));     // can't be refused
+//! entries.push_reserved(1, Entry::Put(2, Wire::Payload(0, Payload::Hello(1))));  // can't be refused
 //! for entry in entries.iter() { .. }                              // each by value, from the first
+//! for (stamp, entry) in entries.stamped() { .. }
 //! ```
 #![tactic(auto)]
 
@@ -19,5 +20,8 @@ mod iter;
 mod list;
 
 pub use entry::Entry;
-pub use iter::Iter;
+pub use iter::{Iter, StampedIter};
 pub use list::Entries;
+
+// What crates above name of lower ones.
+pub use alpha_core::{Counter, Memory, StampFull, Stamped};

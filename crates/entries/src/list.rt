@@ -5,15 +5,18 @@ ghost use Rattle.std.specs.Prelude.{◌≡◌, ◌<◌, ◌≤◌, ◌+◌, ◌+
 use crate::bare::{BareEntry, split};
 use crate::blocks::Blocks;
 use crate::entry::Entry;
-use crate::iter::Iter;
+use crate::iter::{Iter, StampedIter};
 use alpha_core::Memory;
 use std::alloc::{AllocError, Global};
 use std::marker::Model;
 
-/// The entries of a node in its own order, in 12 bytes each and those of the payloads. Contracts see the list of them
-/// (`items`), and for how many more there is room, whatever their wires (`room`).
+/// The entries of a node in its own order with their stamps, in 20 bytes each and those of the payloads. Contracts see
+/// the list of entries (`items`), the same list with the stamps (`stamped`), and for how many more there is room,
+/// whatever their wires (`room`).
 #[derive(Drop)]
 pub struct Entries<T> {
+    // The stamp of each entry.
+    stamps: Blocks<u64>,
     bares: Blocks<BareEntry>,
     // The payloads of those that have one, in the same order.
     payloads: Vec<T>,
@@ -21,6 +24,7 @@ pub struct Entries<T> {
 
 impl<T> Model for Entries<T> {
     ghost use Rattle.std.specs.Prelude.{◌≡◌, ◌-◌, length, min, vec_capacity, vec_len};
+    ghost use Rattle.std.specs.List.{zip};
     ghost use Rattle.entries.specs.EntryList.{EntryList};
 
     ghost Value = { EntryList T };
@@ -29,10 +33,12 @@ impl<T> Model for Entries<T> {
 
     ghost view = { λ e. record {
       items = entries_of e.bares.items e.payloads.items;
-      room = min e.bares.room (vec_capacity e.payloads - vec_len e.payloads);
+      stamped = zip e.stamps.items (entries_of e.bares.items e.payloads.items);
+      room = min e.stamps.room (min e.bares.room (vec_capacity e.payloads - vec_len e.payloads));
     } };
 
-    ghost invariant = { λ e. payloads_in e.bares.items ≡ length e.payloads.items };
+    ghost invariant = { λ e. (payloads_in e.bares.items ≡ length e.payloads.items)
+        × (length e.stamps.items ≡ length e.bares.items) };
 }
 
 // Room for one payload more. Few entries have one, so these lie in one list, which grows by a quarter.
@@ -54,8 +60,10 @@ impl<T> Entries<T> {
     /// No entries, which take no memory.
     pub fn new(alloc: Global) -> Entries<T>
         ensures items { result.items ≡ [] }
+        ensures stamped { result.stamped ≡ [] }
     {
         Entries {
+            stamps: Blocks::new(alloc),
             bares: Blocks::new(alloc),
             payloads: Vec::new(alloc),
         }
@@ -75,20 +83,24 @@ impl<T> Entries<T> {
     /// `Memory` if memory is refused.
     pub fn reserve(&mut self) -> Result<(), Memory>
         ensures items { self.new.items ≡ self.old.items }
+        ensures stamped { self.new.stamped ≡ self.old.stamped }
         ensures room { OnOk result (0 < self.new.room) }
         ensures refused { OnErr result (self.new ≡ self.old) }
     {
+        self.stamps.reserve()?;
         self.bares.reserve()?;
         reserve_payload(&mut self.payloads)?;
         Ok(())
     }
 
-    /// Appends an entry, for which there is room.
-    pub fn push_reserved(&mut self, entry: Entry<T>)
+    /// Appends an entry with its stamp, for which there is room.
+    pub fn push_reserved(&mut self, stamp: u64, entry: Entry<T>)
         requires room { 0 < self.old.room }
         ensures items { self.new.items ≡ self.old.items ++ entry ∷ [] }
+        ensures stamped { self.new.stamped ≡ self.old.stamped ++ (stamp, entry) ∷ [] }
         ensures room { self.old.room ≤ self.new.room + 1 }
     {
+        self.stamps.push_reserved(stamp);
         let (bare, payload) = split(entry);
         self.bares.push_reserved(bare);
         if let Some(payload) = payload {
@@ -103,6 +115,16 @@ impl<T> Entries<T> {
         Iter {
             bares: self.bares.iter(),
             payloads: self.payloads.as_slice(),
+        }
+    }
+
+    /// The entries from the first with their stamps, each by value.
+    pub fn stamped(&self) -> StampedIter<'_, T>
+        ensures stamped { result ≡ self.now.stamped }
+    {
+        StampedIter {
+            stamps: self.stamps.iter(),
+            entries: self.iter(),
         }
     }
 }

@@ -2,3 +2,4 @@ pub mod Asides
 pub mod Whole
 pub mod Counts
 pub mod Progress
+pub mod Merged

@@ -5,8 +5,8 @@ use Rattle.std.proofs.lemmas.List.{append-nil, length-map}
 use Rattle.std.proofs.lemmas.List.FromFn.{length-range_with_len}
 use Rattle.alpha_laws.specs.interference.Net.{Net, IsNetwork, IsVertex, count_of, degree_of}
 use Rattle.alpha_laws.specs.node_api.Program.{Program, last_pulse_on}
-use Rattle.actor.specs.alpha_core.Wire.{Wire}
-use Rattle.actor.specs.alpha_core.View.{Alpha, is_drained}
+use Rattle.stamp_laws.specs.alpha_core.Wire.{Wire}
+use Rattle.stamp_laws.specs.alpha_core.View.{Alpha, is_drained}
 use Rattle.alpha_laws.specs.Progress.{IsWhole, Splits}
 use Rattle.alpha_laws.proofs.Across.{over}
 use Rattle.alpha_laws.proofs.Whole.{complete}
@@ -62,7 +62,7 @@ module _ {S M E : Type 0} (program : Program S M E) (net : Net) (ok : IsNetwork 
   abbrev last : ℕ
   last = last_pulse_on program net
 
-  drained : (v : ℕ) → IsVertex net v → is_drained last (node_in program net outcome v).view ≡ true
+  pub drained : (v : ℕ) → IsVertex net v → is_drained last (node_in program net outcome v).view ≡ true
   drained v vertex =
       let alpha = alpha_in program net outcome v in
       let size : length outcome.nodes ≡ count_of net =
@@ -70,7 +70,7 @@ module _ {S M E : Type 0} (program : Program S M E) (net : Net) (ok : IsNetwork 
       subst (λ l. is_drained l alpha.node.view ≡ true) (is.last v vertex)
       (drained_at outcome.nodes (v - 1) (start_of program net v) (and_parts _ _ whole).0 (omega (arith, size, vertex.0, vertex.1)))
 
-  empty : (v i : ℕ) → IsVertex net v → i < degree_of net v → (link_in outcome v i).held ≡ []
+  pub empty : (v i : ℕ) → IsVertex net v → i < degree_of net v → (link_in outcome v i).held ≡ []
   empty v i vertex lt =
       let in_rows : v - 1 < length outcome.links = omega (arith, is.rows, length-range_with_len 1 (count_of net), vertex.0, vertex.1) in
       let in_row : i < length (row_in outcome v) = omega (arith, is.row v vertex, lt) in

@@ -2,15 +2,16 @@
 use Rattle.std.specs.Prelude.{◌≡◌, ℕ, ◌<◌, List, ◌++◌, length, Option, Some, None}
 use Rattle.alpha_laws.specs.interference.Net.{Net, IsVertex, degree_of}
 use Rattle.alpha_laws.specs.node_api.Program.{Program, last_pulse_on}
-use Rattle.actor.specs.alpha_core.Wire.{Wire}
-use Rattle.actor.specs.alpha_core.View.{Node}
+use Rattle.stamp_laws.specs.alpha_core.Wire.{Wire}
+use Rattle.stamp_laws.specs.alpha_core.View.{Node}
 use Rattle.alpha_laws.specs.Kept.{NodeKept}
 use Rattle.alpha_laws.specs.Simulates.{Simulates, taken_over}
-use Rattle.actor.specs.declared.aside.Aside.{Aside}
-use Rattle.actor.specs.Node.{by_port, reacted_to, IsAside}
+use Rattle.stamp_laws.specs.actor.Aside.{Aside}
+use Rattle.stamp_laws.specs.actor.WhyAside.TheVariants.{Refused}
+use Rattle.stamp_laws.specs.actor.Node.{by_port, reacted_to, IsAside}
 
--- Each node keeps its links with the lists that its ends put and took, but for a wire that it set aside, if it did; and
--- what was put on each link is what was taken from it, followed by what it holds.
+-- Each node keeps its links with the lists that its ends put and took, but for a wire that it refused and set aside, if
+-- it did; and what was put on each link is what was taken from it, followed by what it holds.
 pub record EndsHaveMet {S M E : Type 0} (program : Program S M E) (net : Net) (nodes : ℕ → Node S M)
     (asides : ℕ → Option (Aside M)) (puts takens : ℕ → List (List (Wire M))) (held : ℕ → ℕ → List (Wire M))
     : Type 0 where
@@ -18,6 +19,7 @@ pub record EndsHaveMet {S M E : Type 0} (program : Program S M E) (net : Net) (n
       → NodeKept program net v (nodes v) (by_port (puts v)) (by_port (reacted_to (asides v) (takens v)))
   pub refused : (v : ℕ) → IsVertex net v → (a : Aside M) → asides v ≡ Some a
       → IsAside (last_pulse_on program net) (nodes v).view (takens v) a
+  pub by_refusal : (v : ℕ) → IsVertex net v → (a : Aside M) → asides v ≡ Some a → a.why ≡ Refused
   pub ports : (v : ℕ) → IsVertex net v → length (takens v) ≡ degree_of net v
   pub splits : (v i : ℕ) → IsVertex net v → i < degree_of net v
       → by_port (puts v) i ≡ taken_over net (λ w j. by_port (takens w) j) v i ++ held v i

@@ -3,3 +3,4 @@ pub mod Laws
 pub mod Whole
 pub mod Counts
 pub mod Progress
+pub mod Merged

@@ -1,14 +1,19 @@
 -- What a run of workers leaves, and what it promises of it.
-use Rattle.std.specs.Prelude.{◌≡◌, ℕ, ◌-◌, ◌<◌, ◌≤◌, Bool, true, ◌&&◌, nat_eq}
+use Rattle.std.specs.Prelude.{◌≡◌, ℕ, ◌-◌, ◌<◌, ◌≤◌, Bool, true, ◌&&◌, nat_eq, IsTrue}
 use Rattle.std.specs.Prelude.{List, [], ◌∷◌, ◌++◌, map, length, slice_index_or}
-use Rattle.alpha_laws.specs.interference.Net.{Net, IsVertex, vertices, degree_of, neighbour_of, back_port_of}
+use Rattle.alpha_laws.specs.interference.Net.{Net, IsVertex, count_of, vertices, degree_of, neighbour_of, back_port_of}
 use Rattle.alpha_laws.specs.node_api.Program.{Program, last_pulse_on}
-use Rattle.actor.specs.alpha_core.Wire.{Wire}
-use Rattle.actor.specs.alpha_core.View.{Alpha, Node, is_drained}
-use Rattle.actor.specs.alpha_core.Program.{start_node}
+use Rattle.stamp_laws.specs.alpha_core.Wire.{Wire}
+use Rattle.stamp_laws.specs.alpha_core.View.{Alpha, Node, is_drained}
+use Rattle.stamp_laws.specs.alpha_core.Program.{start_node}
 use Rattle.alpha_laws.specs.Simulates.{Simulates}
-use Rattle.actor.specs.entries.Entry.{Entry}
-use Rattle.actor.specs.Written.{IsTranscript}
+use Rattle.stamp_laws.specs.entries.Entry.{Entry}
+use Rattle.stamp_laws.specs.actor.Written.{IsTranscript}
+use Rattle.stamp_laws.specs.stamps.Merged.{StampedRow, IsMerge}
+use Rattle.stamp_laws.specs.stamps.Stamps.{StampedEntry, Rises, bare_of}
+use Rattle.stamp_laws.specs.net_core.State.{Link}
+use Rattle.stamp_laws.specs.replay.Whole.{IsStampedReplay}
+use Rattle.stamp_laws.specs.Laws.{IsReplayTo}
 
 -- One direction of a link after the run: all that was put on it, what was taken from it, and what it still holds.
 pub record History (M : Type 0) : Type 0 where
@@ -16,11 +21,12 @@ pub record History (M : Type 0) : Type 0 where
   pub taken : List (Wire M)
   pub held : List (Wire M)
 
--- A node after the run, with its vertex and its entries.
+-- A node after the run, with its vertex and its entries, without their stamps and with them.
 pub record Gathered (S M : Type 0) : Type 0 where
   pub vertex : ℕ
   pub alpha : Alpha S M
   pub entries : List (Entry M)
+  pub stamped : List (StampedEntry M)
 
 -- Entry v - 1 of each list is of vertex v: its node, and the links out of it, by port.
 pub record Outcome (S M : Type 0) : Type 0 where
@@ -46,6 +52,10 @@ node_in program net outcome v = (alpha_in program net outcome v).node
 abbrev pub entries_in : {S M : Type 0} → Outcome S M → ℕ → List (Entry M)
 entries_in outcome v = slice_index_or (map (λ g. g.entries) outcome.nodes) (v - 1) []
 
+-- the same with stamps
+abbrev pub stamped_in : {S M : Type 0} → Outcome S M → ℕ → List (StampedEntry M)
+stamped_in outcome v = slice_index_or (map (λ g. g.stamped) outcome.nodes) (v - 1) []
+
 -- the links out of a vertex, by port
 abbrev pub row_in : {S M : Type 0} → Outcome S M → ℕ → List (History M)
 row_in outcome v = slice_index_or outcome.links (v - 1) []
@@ -57,6 +67,10 @@ link_in outcome v i = slice_index_or (row_in outcome v) i no_history
 -- the link that comes to v by port i
 abbrev pub link_into : {S M : Type 0} → Net → Outcome S M → ℕ → ℕ → History M
 link_into net outcome v i = link_in outcome (neighbour_of net v i) (back_port_of net v i)
+
+-- a link in the event machine
+abbrev pub link_of : {M : Type 0} → History M → Link M
+link_of history = record { taken = history.taken; held = history.held }
 
 -- every node is drained
 abbrev pub all_drained : {S M : Type 0} → List (Gathered S M) → Bool
@@ -99,3 +113,11 @@ pub record IsOutcome {S M E : Type 0} (program : Program S M E) (net : Net) (cap
   pub written : (v : ℕ) → IsVertex net v
       → IsTranscript program net v transcript (node_in program net outcome v) (λ i. (link_in outcome v i).put)
       (λ i. (link_into net outcome v i).taken) (entries_in outcome v)
+  -- The stamped entries are the same entries. With a transcript the stamps of each node rise, and the entries of all
+  -- nodes, in the order of their stamps and then of their vertices, are one run of the event machine. It leads to these
+  -- nodes and links, and each entry has the stamp that those before it give it.
+  pub same : (v : ℕ) → IsVertex net v → bare_of (stamped_in outcome v) ≡ entries_in outcome v
+  pub rises : IsTrue transcript → (v : ℕ) → IsVertex net v → Rises (stamped_in outcome v)
+  pub merged : IsTrue transcript → (rows : List (StampedRow M)) → IsMerge (count_of net) (stamped_in outcome) rows
+      → (to : IsReplayTo program net rows (node_in program net outcome) (λ v i. link_of (link_in outcome v i)))
+      × IsStampedReplay program net rows to.last

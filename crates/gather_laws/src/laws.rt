@@ -5,6 +5,7 @@ ghost use Rattle.alpha_laws.specs.node_api.Program.{Program};
 ghost use Rattle.alpha_laws.specs.Laws.{OnEveryNetwork};
 ghost use Rattle.gather_laws.specs.Counts.{WholeOutcomesAreCounted};
 ghost use Rattle.gather_laws.specs.Laws.{MetNodesSimulate};
+ghost use Rattle.gather_laws.specs.Merged.{WholeOutcomesReplay};
 ghost use Rattle.gather_laws.specs.Progress.{OutcomesAreBounded, OutcomesCanGoOn, WholeOutcomesHaveEnded};
 ghost use Rattle.gather_laws.specs.Whole.{WholeOutcomesAreComplete};
 ghost use Rattle.alpha_laws.specs.interference.Net.{IsNetwork, Net};
@@ -43,4 +44,10 @@ pub fn outcomes_are_bounded<S, M, E>()
 /// the same node in every whole outcome, and after every list of events that can't be continued.
 pub fn whole_outcomes_have_ended<S, M, E>()
     ensures law { (program : Program S M E) → OnEveryNetwork program (WholeOutcomesHaveEnded program) }
+{}
+
+/// If an outcome is whole, `replay_whole` of `replay` accepts the entries of all nodes in the order of their stamps and
+/// then of their vertices: they are a whole replay, which leads to the nodes of the outcome.
+pub fn whole_outcomes_replay<S, M, E>()
+    ensures law { (program : Program S M E) (net : Net) → IsNetwork net → WholeOutcomesReplay program net }
 {}

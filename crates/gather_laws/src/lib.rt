@@ -5,7 +5,8 @@
 //! of both ends of each link show that none was, and that the nodes simulate the synchronous run, in the very record
 //! that lists of events have: `Simulates` of `alpha_laws`. `IsOutcome` of `specs/Outcome.antt` is what a run promises
 //! (`node_pool`); if it is whole, `IsCompleteRun` of `specs/Whole.antt` holds of it too, and its wires are counted
-//! (`specs/Counts.antt`). If it isn't, one of its nodes can go on (`specs/Progress.antt`).
+//! (`specs/Counts.antt`). If it isn't, one of its nodes can go on (`specs/Progress.antt`). With a transcript the
+//! entries of all nodes, in the order of their stamps, are one run (`merged` of `IsOutcome`, `specs/Merged.antt`).
 //!
 //! ```text
 //! gather_laws::laws::met_nodes_simulate::<S, M, E>(); // brings the law into a proof

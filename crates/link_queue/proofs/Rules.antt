@@ -1,13 +1,15 @@
 -- Each step keeps the rule of a link.
-use Rattle.std.proofs.Common.{◌≡◌, ◌≢◌, ℕ, zero, suc, Bool, true, false, true≢false, List, [], ◌∷◌, ◌++◌, ◌||◌, length, set, sym, refl, ap, ◌∙◌, subst}
+use Rattle.std.proofs.Common.{◌≡◌, ◌≢◌, ◌<◌, ℕ, zero, suc, Bool, true, false, true≢false, List, [], ◌∷◌, ◌++◌, ◌||◌, length, set, sym, refl, ap, ◌∙◌, subst}
 use Rattle.std.proofs.Common.{⊎_elim, append_assoc, arith, Option, Some, None}
 use Rattle.std.specs.Prelude.{Contains, IsTrue, ◌↔◌}
+use Rattle.std.proofs.lemmas.List.{map-append}
 use Rattle.std.proofs.lemmas.List.Elements.{Contains-append_cases, Contains-append_right}
 use Rattle.std.proofs.Math.Bool.{or_assoc, or-false, false-or}
 use mathlib.Core.Option as option
 use lib.ListN.{get_elem?}
 use Rattle.crossbeam_queue.specs.Fifo.{Pushes, Pops, Forks, Merges, Learns}
 use Rattle.crossbeam_queue.proofs.Lists.{at_set, at_snoc}
+use Rattle.alpha_core.specs.declared.stamped.Stamped.{Stamped}
 use Rattle.alpha_core.specs.declared.wire.Wire.{Wire}
 use Rattle.alpha_core.specs.declared.wire.Wire.TheVariants.{Payload, Ack, Safe, Close}
 use Rattle.link_rule.specs.declared.name.LinkName.{LinkName}
@@ -16,6 +18,8 @@ use Rattle.alpha_core.specs.node_api.Program.{Program}
 use Rattle.alpha_core.proofs.Wires.{legal-front}
 use Rattle.link_rule.proofs.Orders.{contains_nil, contains_one}
 use Rattle.link_rule.specs.Legal.{IsLegalOn, LegalFor}
+use Rattle.alpha_core.specs.StampedWires.{StampsRise, last_stamp, wires_of}
+use Rattle.alpha_core.proofs.StampedWires.{rise_front, rise_more}
 use Rattle.link_queue.specs.Rule.{end_view, has_close, is_close, AreLastOf, IsAllOf, Knows, Linked, MayFollow, Taking}
 
 module _ {T : Type 0} where
@@ -44,14 +48,15 @@ module _ {T : Type 0} (legal : LinkName → List (Wire T) → Type 0) where
     taken = [];
     in_order = refl;
     is_legal = λ n e. absurd (cc e);
+    rises = tt;
     known = all_set (Knows None 0 0 [] []) (end_view None true true [] [] ∷ []) 0 (end_view None true true [] [])
         ((λ _. (refl, refl, refl)), λ _. (refl, refl, refl))
         (λ j u other e. absurd (other (at_end [] _ u j (λ x. option.some-ne-none u (sym x)) e)));
   }
 
-  pub puts : (n port : ℕ) (v : EndView T) (x : Wire T) → v.puts ≡ true → LegalFor legal v.name (v.put ++ x ∷ [])
-      → Pushes (Linked legal) n port v x (λ w. w ≡ end_view v.name v.puts v.takes (v.put ++ x ∷ []) v.taken)
-  puts n port v x may fits items views _ h at =
+  pub puts : (n port : ℕ) (v : EndView T) (x : Stamped T) → v.puts ≡ true → LegalFor legal v.name (wires_of (v.put ++ x ∷ []))
+      → last_stamp v.put < x.stamp → Pushes (Linked legal) n port v x (λ w. w ≡ end_view v.name v.puts v.takes (v.put ++ x ∷ []) v.taken)
+  puts n port v x may fits above items views _ h at =
       let w : EndView T = end_view v.name v.puts v.takes (v.put ++ x ∷ []) v.taken in
       let mine = h.known port v at in
       let p = mine.0 may in
@@ -64,14 +69,15 @@ module _ {T : Type 0} (legal : LinkName → List (Wire T) → Type 0) where
           put = put;
           taken = h.taken;
           in_order = ap (λ l. l ++ x ∷ []) h.in_order ∙ append_assoc h.taken items (x ∷ []);
-          is_legal = λ m e. subst (λ (l : List (Wire T)). legal m (l ++ x ∷ [])) p.2 (fits m (p.1 ∙ e));
+          is_legal = λ m e. subst (λ (l : List (Stamped T)). legal m (wires_of (l ++ x ∷ []))) p.2 (fits m (p.1 ∙ e));
+          rises = rise_more 0 h.put x h.rises (subst (λ (l : List (Stamped T)). last_stamp l < x.stamp) p.2 above);
           known = all_set (Knows h.name h.putter h.taker put h.taken) views port w ((λ _. (p.0, p.1, ap (λ l. l ++ x ∷ []) p.2)), mine.1)
               (λ j u other e. ((λ q. absurd (other (((h.known j u e).0 q).0 ∙ sym p.0))), (h.known j u e).1));
         },
         refl,
       )
 
-  pub takes : (port : ℕ) (v : EndView T) → v.takes ≡ true → ((n : LinkName) (xs ys : List (Wire T)) → legal n (xs ++ ys) → legal n xs)
+  pub takes : (port : ℕ) (v : EndView T) → v.takes ≡ true → ((n : LinkName) (xs ys : List (Stamped T)) → legal n (wires_of (xs ++ ys)) → legal n (wires_of xs))
       → Pops (Linked legal) port v (Taking legal v)
   takes port v may begin x items views h at =
       let w : EndView T = end_view v.name v.puts v.takes v.put (v.taken ++ x ∷ []) in
@@ -88,18 +94,21 @@ module _ {T : Type 0} (legal : LinkName → List (Wire T) → Type 0) where
           taken = taken;
           in_order = whole;
           is_legal = h.is_legal;
+          rises = h.rises;
           known = all_set (Knows h.name h.putter h.taker h.put taken) views port w (mine.0, λ _. (p.0, p.1, ap (λ l. l ++ x ∷ []) p.2))
               (λ j u other e. ((h.known j u e).0, λ q. absurd (other (((h.known j u e).1 q).0 ∙ sym p.0))));
         },
         (
           refl,
-          λ n e. begin n (v.taken ++ x ∷ []) items (subst (λ (l : List (Wire T)). legal n l) (whole ∙
+          λ n e. begin n (v.taken ++ x ∷ []) items (subst (λ (l : List (Stamped T)). legal n (wires_of l)) (whole ∙
               ap (λ l. (l ++ x ∷ []) ++ items) (sym p.2)) (h.is_legal n (sym p.1 ∙ e))),
+          rise_front 0 (v.taken ++ x ∷ []) items (subst (λ (l : List (Stamped T)). StampsRise l) (whole ∙ ap (λ l. (l ++ x ∷ []) ++ items) (sym p.2))
+              h.rises),
         ),
       )
 
   -- the one view of a link is named, by any name under which all that was put is legal
-  pub names : (port : ℕ) (v : EndView T) (name : Option LinkName) → v.puts ≡ true → v.takes ≡ true → LegalFor legal name v.put
+  pub names : (port : ℕ) (v : EndView T) (name : Option LinkName) → v.puts ≡ true → v.takes ≡ true → LegalFor legal name (wires_of v.put)
       → Forks (Linked legal) port v (end_view name v.puts v.takes v.put v.taken) (end_view None false false [] [])
   names port v name a b fits items views h at =
       let l : EndView T = end_view name v.puts v.takes v.put v.taken in
@@ -118,7 +127,8 @@ module _ {T : Type 0} (legal : LinkName → List (Wire T) → Type 0) where
         put = h.put;
         taken = h.taken;
         in_order = h.in_order;
-        is_legal = λ m e. subst (λ (xs : List (Wire T)). legal m xs) p.2 (fits m e);
+        is_legal = λ m e. subst (λ (xs : List (Stamped T)). legal m (wires_of xs)) p.2 (fits m e);
+        rises = h.rises;
         known = λ j u e. ⊎_elim (λ x. now j u x)
             (λ (is : r ≡ u). (
               (λ q. absurd (true≢false (sym (ap (λ (y : EndView T). y.puts) is ∙ q)))),
@@ -127,7 +137,7 @@ module _ {T : Type 0} (legal : LinkName → List (Wire T) → Type 0) where
       }
 
   -- the two ends of one view: the left one puts, the right one takes, under any name under which all that was put is legal
-  pub forks : (port : ℕ) (v : EndView T) (name : Option LinkName) → v.puts ≡ true → v.takes ≡ true → LegalFor legal name v.put
+  pub forks : (port : ℕ) (v : EndView T) (name : Option LinkName) → v.puts ≡ true → v.takes ≡ true → LegalFor legal name (wires_of v.put)
       → Forks (Linked legal) port v (end_view name true false v.put []) (end_view name false true [] v.taken)
   forks port v name a b fits items views h at =
       let l : EndView T = end_view name true false v.put [] in
@@ -146,7 +156,8 @@ module _ {T : Type 0} (legal : LinkName → List (Wire T) → Type 0) where
         put = h.put;
         taken = h.taken;
         in_order = h.in_order;
-        is_legal = λ m e. subst (λ (xs : List (Wire T)). legal m xs) p.2 (fits m e);
+        is_legal = λ m e. subst (λ (xs : List (Stamped T)). legal m (wires_of xs)) p.2 (fits m e);
+        rises = h.rises;
         known = λ j u e. ⊎_elim (λ x. ((old j u x).0, λ q. absurd ((old j u x).1 q)))
             (λ (is : r ≡ u). (
               (λ q. absurd (true≢false (sym (ap (λ (y : EndView T). y.puts) is ∙ q)))),
@@ -175,24 +186,29 @@ module _ {T : Type 0} (legal : LinkName → List (Wire T) → Type 0) where
         taken = h.taken;
         in_order = h.in_order;
         is_legal = h.is_legal;
+        rises = h.rises;
         known = all_set (Knows h.name h.putter port h.put h.taken) vs other none
             ((λ q. absurd (true≢false (sym q))), λ q. absurd (true≢false (sym q))) (λ j y apart e. now j y e apart);
       }
 
-  pub fronts : (port : ℕ) (v : EndView T) → v.puts ≡ true → Learns (Linked legal) port v (AreLastOf v.put)
-  fronts port v a items views h at = (h.taken, ((h.known port v at).0 a).2 ∙ h.in_order)
+  pub fronts : (port : ℕ) (v : EndView T) → v.puts ≡ true → Learns (Linked legal) port v (AreLastOf (wires_of v.put))
+  fronts port v a items views h at = (
+    wires_of h.taken,
+    ap (λ l. wires_of l) (((h.known port v at).0 a).2 ∙ h.in_order) ∙ map-append (λ (x : Stamped T). x.wire) h.taken items,
+  )
 
-  pub backs : (port : ℕ) (v : EndView T) → v.takes ≡ true → Learns (Linked legal) port v (MayFollow legal v.name v.taken)
+  pub backs : (port : ℕ) (v : EndView T) → v.takes ≡ true → Learns (Linked legal) port v (MayFollow legal v.name (wires_of v.taken))
   backs port v b items views h at n e =
       let t = (h.known port v at).1 b in
-      subst (λ (l : List (Wire T)). legal n l) (h.in_order ∙ ap (λ l. l ++ items) (sym t.2)) (h.is_legal n (sym t.1 ∙ e))
+      subst (λ (l : List (Wire T)). legal n l) (map-append (λ (x : Stamped T). x.wire) v.taken items)
+      (subst (λ (l : List (Stamped T)). legal n (wires_of l)) (h.in_order ∙ ap (λ l. l ++ items) (sym t.2)) (h.is_legal n (sym t.1 ∙ e)))
 
   pub totals : (port : ℕ) (v : EndView T) → v.puts ≡ true → v.takes ≡ true → Learns (Linked legal) port v (IsAllOf legal v)
   totals port v a b items views h at =
       let mine = h.known port v at in
       let p = mine.0 a in (
         p.2 ∙ h.in_order ∙ ap (λ l. l ++ items) (sym (mine.1 b).2),
-        λ n e. subst (λ (l : List (Wire T)). legal n l) (sym p.2) (h.is_legal n (sym p.1 ∙ e)),
+        λ n e. subst (λ (l : List (Stamped T)). legal n (wires_of l)) (sym p.2) (h.is_legal n (sym p.1 ∙ e)),
       )
 
 or_last : (b : Bool) → b || true ≡ true
@@ -211,12 +227,19 @@ module _ {T : Type 0} where
   not_close Close n = absurd (n refl)
 
   -- a list that got a close has one
-  pub closes : (xs ws : List (Wire T)) (x : Wire T) → x ≡ Close → ws ≡ xs ++ x ∷ [] → true ≡ has_close ws
-  closes xs ws x is e = sym (ap has_close e ∙ close_last xs x ∙ ap (λ w. has_close xs || is_close w) is ∙ or_last (has_close xs))
+  pub closes : (xs ws : List (Stamped T)) (x : Stamped T) → x.wire ≡ Close → ws ≡ xs ++ x ∷ [] → true ≡ has_close (wires_of ws)
+  closes old new item is e =
+      let xs = wires_of old in
+      let x = item.wire in
+      sym (ap (λ l. has_close (wires_of l)) e ∙ ap has_close (map-append (λ (y : Stamped T). y.wire) old (item ∷ [])) ∙ close_last xs x ∙ ap (λ w. has_close xs || is_close w) is ∙ or_last (has_close xs))
 
   -- a list that got any other wire has a close exactly if it had one
-  pub stays : (b : Bool) (xs ws : List (Wire T)) (x : Wire T) → (x ≡ Close → ⊥) → b ≡ has_close xs → ws ≡ xs ++ x ∷ [] → b ≡ has_close ws
-  stays b xs ws x other was e = was ∙ sym (ap has_close e ∙ close_last xs x ∙ ap (λ c. has_close xs || c) (not_close x other) ∙ or-false (has_close xs))
+  pub stays : (b : Bool) (xs ws : List (Stamped T)) (x : Stamped T) → (x.wire ≡ Close → ⊥) → b ≡ has_close (wires_of xs) → ws ≡ xs ++ x ∷ []
+      → b ≡ has_close (wires_of ws)
+  stays b old new item other was e =
+      let xs = wires_of old in
+      let x = item.wire in
+      was ∙ sym (ap (λ l. has_close (wires_of l)) e ∙ ap has_close (map-append (λ (y : Stamped T). y.wire) old (item ∷ [])) ∙ close_last xs x ∙ ap (λ c. has_close xs || c) (not_close x other) ∙ or-false (has_close xs))
 
   passes : (w : Wire T) (ws : List (Wire T)) → (w ≡ Close → ⊥) → (IsTrue (has_close ws) ↔ Contains ws Close) → IsTrue (has_close ws) ↔ Contains (w ∷ ws) Close
   passes w ws other rest = (
@@ -234,8 +257,9 @@ module _ {T : Type 0} where
 
 module _ {S M E : Type 0} (program : Program S M E) where
   -- a beginning of a legal list is legal
-  pub legal_begin : (n : LinkName) (xs ys : List (Wire M)) → IsLegalOn program n (xs ++ ys) → IsLegalOn program n xs
-  legal_begin n xs ys legal = legal-front _ _ _ xs ys legal
+  pub legal_begin : (n : LinkName) (xs ys : List (Stamped M)) → IsLegalOn program n (wires_of (xs ++ ys)) → IsLegalOn program n (wires_of xs)
+  legal_begin n xs ys legal =
+      legal-front _ _ _ (wires_of xs) (wires_of ys) (subst (λ l. IsLegalOn program n l) (map-append (λ (x : Stamped M). x.wire) xs ys) legal)
 
   -- the empty list is legal
   pub legal_none : (name : Option LinkName) → LegalFor (IsLegalOn program) name []

@@ -2,6 +2,7 @@
 use Rattle.std.specs.Prelude.{◌≡◌, ℕ, List, [], ◌++◌, Option, Some}
 use Rattle.crossbeam_queue.specs.Fifo.{Held}
 use Rattle.crossbeam_queue.specs.Passes.{view, IsPassOf, ruled_capacity}
+use Rattle.alpha_core.specs.declared.stamped.Stamped.{Stamped}
 use Rattle.alpha_core.specs.declared.wire.Wire.{Wire}
 use Rattle.link_rule.specs.declared.name.LinkName.{LinkName}
 use Rattle.link_rule.specs.Legal.{LegalFor}
@@ -9,6 +10,7 @@ use Rattle.link_queue.specs.declared.ends.PutSide.{PutSide}
 use Rattle.link_queue.specs.declared.ends.TakeSide.{TakeSide}
 use Rattle.link_queue.specs.declared.met.Met.{Met}
 use Rattle.link_queue.specs.declared.link.Link.{Link}
+use Rattle.alpha_core.specs.StampedWires.{wires_of}
 use Rattle.link_queue.specs.Rule.{AreLastOf, MayFollow}
 
 module _ {T : Type 0} where
@@ -16,27 +18,36 @@ module _ {T : Type 0} where
   abbrev pub put_name : PutSide T → Option LinkName
   put_name end = (view end.pass).name
 
-  -- all that an end put, oldest first
+  -- all that an end put, oldest first, each wire with its stamp; and without
+  abbrev pub put_stamped : PutSide T → List (Stamped T)
+  put_stamped end = (view end.pass).put
+
   abbrev pub put_list : PutSide T → List (Wire T)
-  put_list end = (view end.pass).put
+  put_list end = wires_of (put_stamped end)
 
   abbrev pub take_name : TakeSide T → Option LinkName
   take_name end = (view end.pass).name
 
-  -- all that an end took, oldest first
-  abbrev pub taken_list : TakeSide T → List (Wire T)
-  taken_list end = (view end.pass).taken
+  -- all that an end took, oldest first, each wire with its stamp; and without
+  abbrev pub taken_stamped : TakeSide T → List (Stamped T)
+  taken_stamped end = (view end.pass).taken
 
-  -- the wires put and not taken when the ends met, oldest first
+  abbrev pub taken_list : TakeSide T → List (Wire T)
+  taken_list end = wires_of (taken_stamped end)
+
+  -- the wires put and not taken when the ends met, oldest first, each with its stamp; and without
+  abbrev pub held_stamped : Met T → List (Stamped T)
+  held_stamped met = met.held.items
+
   abbrev pub held_of : Met T → List (Wire T)
-  held_of met = met.held.items
+  held_of met = wires_of (held_stamped met)
 
   -- Of a link whose ends met: its name, all that was put, and what was taken before. What was put is what was taken
   -- and then what is held.
-  pub record HasMet (met : Met T) (name : Option LinkName) (put taken : List (Wire T)) : Type 0 where
+  pub record HasMet (met : Met T) (name : Option LinkName) (put taken : List (Stamped T)) : Type 0 where
     pub of_link : (view met.pass).name ≡ name
     pub all_put : (view met.pass).put ≡ put
-    pub in_order : put ≡ taken ++ held_of met
+    pub in_order : put ≡ taken ++ held_stamped met
 
   -- What an end knows of the moment at which the queue was empty: what it took is legal. That there was such a moment
   -- is the queue's own promise.
@@ -83,6 +94,6 @@ module _ {P T : Type 0} where
       : Type 0 where
     pub same_link : now ≡ link
     pub put_end : StaysPutEnd now put_before put_now
-    pub put : put_list put_now ≡ put_list put_before
+    pub put : put_stamped put_now ≡ put_stamped put_before
     pub take_end : StaysTakeEnd now take_before take_now
-    pub taken : taken_list take_now ≡ taken_list take_before
+    pub taken : taken_stamped take_now ≡ taken_stamped take_before

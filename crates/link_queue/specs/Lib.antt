@@ -1,2 +1,3 @@
 pub mod Rule
 pub mod Ends
+pub mod link_rule

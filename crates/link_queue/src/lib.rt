@@ -2,7 +2,7 @@
 //!
 //! ```text
 //! let (link, mut put_end, mut take_end) = Link::<Colouring>::new(alloc, &network, 1, 0, 4)?;
-//! link.put(&rt, &mut put_end, Wire::Payload(0, Hello(1)));       // in one thread
+//! link.put(&rt, &mut put_end, Stamped { stamp: 1, wire });        // in one thread
 //! link.take(&rt, &mut take_end);                                 // in another
 //! let met = link.meet(&rt, alloc, put_end, take_end)?;           // once both ends are back
 //! ```

@@ -5,16 +5,18 @@ ghost use Rattle.std.specs.Prelude.{vec_capacity, IsTrue, ◌↔◌, Contains};
 ghost use Rattle.alpha_core.specs.declared.wire.Wire.{Wire};
 ghost use Rattle.crossbeam_queue.specs.Passes.{view, IsPassOf};
 ghost use Rattle.link_rule.specs.Legal.{name_of, IsLegalOn, LegalFor};
+ghost use Rattle.alpha_core.specs.StampedWires.{StampsRise, last_stamp, wires_of};
 ghost use Rattle.link_queue.specs.Rule.{end_view, has_close};
 ghost use Rattle.link_queue.specs.Ends.{AreAsBefore, HasMet, IsNewPutEnd, IsNewTakeEnd, IsPutEndOf, IsTakeEndOf};
-ghost use Rattle.link_queue.specs.Ends.{StaysPutEnd, StaysTakeEnd, WasEmpty, WasFull, held_of, link_capacity};
-ghost use Rattle.link_queue.specs.Ends.{put_list, put_name, take_name, taken_list};
+ghost use Rattle.link_queue.specs.Ends.{StaysPutEnd, StaysTakeEnd, WasEmpty, WasFull, held_stamped};
+ghost use Rattle.link_queue.specs.Ends.{link_capacity, put_list, put_name, put_stamped, take_name, taken_list};
+ghost use Rattle.link_queue.specs.Ends.{taken_stamped};
 
 use crate::ends::{PutEnd, PutSide, TakeEnd, TakeSide};
 use crate::met::{Full, Met};
 use crate::rule::{LinkRule, Named, Naming, Puts, Takes, TakesAll, TwoEnds};
 use crate::view::EndView;
-use alpha_core::{Memory, Network, NodeProgram, Wire};
+use alpha_core::{Memory, Network, NodeProgram, Stamped, Wire};
 use crossbeam_queue::{Pass, RuledArrayQueue};
 use run_options::MAX_CAPACITY;
 use std::alloc::Global;
@@ -25,7 +27,7 @@ use std::sync::Wait;
 /// It stands outside the scope of the threads that use it.
 #[derive(Drop)]
 pub struct Link<P: NodeProgram> {
-    queue: RuledArrayQueue<Wire<P::Payload>, EndView<P::Payload>, LinkRule<P>>,
+    queue: RuledArrayQueue<Stamped<P::Payload>, EndView<P::Payload>, LinkRule<P>>,
 }
 
 /// Link and ends, as they were, where memory for what is held was refused.
@@ -46,16 +48,16 @@ impl<T> PutSide<T> {
 }
 
 // The end that puts, of a pass that may.
-fn put_end_of<T>(pass: Pass<Wire<T>, EndView<T>>, closed: bool) -> PutSide<T>
+fn put_end_of<T>(pass: Pass<Stamped<T>, EndView<T>>, closed: bool) -> PutSide<T>
     requires puts { (pass.me.1 ≡ []) × ((view pass).puts ≡ true) }
-    requires closed { closed ≡ has_close (view pass).put }
+    requires closed { closed ≡ has_close (wires_of (view pass).put) }
     ensures { result.pass ≡ pass }
 {
     PutSide { pass, closed }
 }
 
 // The end that takes, of a pass that may.
-fn take_end_of<T>(pass: Pass<Wire<T>, EndView<T>>) -> TakeSide<T>
+fn take_end_of<T>(pass: Pass<Stamped<T>, EndView<T>>) -> TakeSide<T>
     requires { (pass.me.1 ≡ []) × ((view pass).takes ≡ true) }
     ensures { result.pass ≡ pass }
 {
@@ -104,46 +106,51 @@ impl<P: NodeProgram> Link<P> {
         named::<Brand, P>(alloc, network, vertex, port, capacity)
     }
 
-    /// Puts a wire at the end of the link. It can't return out-of-memory, and may spin.
+    /// Puts a wire with its stamp at the end of the link. It can't return out-of-memory, and may spin.
     ///
     /// What the end has put and then the wire has to begin a legal list of the link; so nothing is put after a close.
+    /// The stamp has to be above that of the last wire that the end put, or above 0 if it is the first.
     ///
     /// # Errors
-    /// `Full` hands the same wire back, and the end's list is as it was. That the link was full at a moment of the call
-    /// is the queue's promise; the clause `full` says less.
+    /// `Full` hands the same wire back with its stamp, and the end's list is as it was. That the link was full at a
+    /// moment of the call is the queue's promise; the clause `full` says less.
     pub fn put<R: Wait>(
         &self,
         rt: &R,
         end: &mut PutEnd<P>,
-        wire: Wire<P::Payload>,
-    ) -> Result<(), Full<Wire<P::Payload>>>
+        item: Stamped<P::Payload>,
+    ) -> Result<(), Full<Stamped<P::Payload>>>
         requires end { IsPutEndOf self.now end.old }
-        requires legal { LegalFor (IsLegalOn P.program) (put_name end.old) (put_list end.old ++ wire ∷ []) }
+        requires legal { LegalFor (IsLegalOn P.program) (put_name end.old) (put_list end.old ++ item.wire ∷ []) }
+        requires above { last_stamp (put_stamped end.old) < item.stamp }
         ensures end { StaysPutEnd self.now end.old end.new }
-        ensures put { IfOk result (λ _. put_list end.new ≡ put_list end.old ++ wire ∷ []) }
-        ensures same_wire { IfErr result (λ full. full.0 ≡ wire) }
-        ensures unchanged { IfErr result (λ _. put_list end.new ≡ put_list end.old) }
+        ensures put { IfOk result (λ _. put_list end.new ≡ put_list end.old ++ item.wire ∷ []) }
+        ensures stamped { IfOk result (λ _. put_stamped end.new ≡ put_stamped end.old ++ item ∷ []) }
+        ensures same_wire { IfErr result (λ full. full.0 ≡ item) }
+        ensures unchanged { IfErr result (λ _. put_stamped end.new ≡ put_stamped end.old) }
         ensures full { IfErr result (λ _. WasFull self.now (put_list end.old)) }
     {
-        match self.queue.push_as::<Puts, R>(rt, &mut end.pass, wire) {
+        match self.queue.push_as::<Puts, R>(rt, &mut end.pass, item) {
             Ok(()) => {
-                if let Wire::Close = wire {
+                if let Wire::Close = item.wire {
                     end.closed = true;
                 }
                 Ok(())
             }
-            Err(wire) => Err(Full(wire)),
+            Err(item) => Err(Full(item)),
         }
     }
 
     /// Takes the oldest wire off the link; `None` if the queue is empty. That it was, at a moment of the call, is the
     /// queue's promise; the clause `empty` says less. It can't return out-of-memory, and may spin.
-    pub fn take<R: Wait>(&self, rt: &R, end: &mut TakeEnd<P>) -> Option<Wire<P::Payload>>
+    pub fn take<R: Wait>(&self, rt: &R, end: &mut TakeEnd<P>) -> Option<Stamped<P::Payload>>
         requires end { IsTakeEndOf self.now end.old }
         ensures end { StaysTakeEnd self.now end.old end.new }
-        ensures taken { IfSome result (λ wire. taken_list end.new ≡ taken_list end.old ++ wire ∷ []) }
+        ensures taken { IfSome result (λ item. taken_list end.new ≡ taken_list end.old ++ item.wire ∷ []) }
+        ensures stamped { IfSome result (λ item. taken_stamped end.new ≡ taken_stamped end.old ++ item ∷ []) }
         ensures legal { IfSome result (λ _. LegalFor (IsLegalOn P.program) (take_name end.old) (taken_list end.new)) }
-        ensures unchanged { IfNone result (taken_list end.new ≡ taken_list end.old) }
+        ensures rise { IfSome result (λ _. StampsRise (taken_stamped end.new)) }
+        ensures unchanged { IfNone result (taken_stamped end.new ≡ taken_stamped end.old) }
         ensures empty { IfNone result (WasEmpty (IsLegalOn P.program) (take_name end.old) (taken_list end.old)) }
     {
         self.queue.pop_as::<Takes<P>, R>(rt, &mut end.pass)
@@ -153,12 +160,12 @@ impl<P: NodeProgram> Link<P> {
     fn take_all<R: Wait>(
         &self,
         rt: &R,
-        mut pass: Pass<Wire<P::Payload>, EndView<P::Payload>>,
-        mut held: Vec<Wire<P::Payload>>,
+        mut pass: Pass<Stamped<P::Payload>, EndView<P::Payload>>,
+        mut held: Vec<Stamped<P::Payload>>,
         n: usize,
     ) -> (
-        Pass<Wire<P::Payload>, EndView<P::Payload>>,
-        Vec<Wire<P::Payload>>,
+        Pass<Stamped<P::Payload>, EndView<P::Payload>>,
+        Vec<Stamped<P::Payload>>,
     )
         requires pass { IsPassOf self.now.queue pass × ((view pass).puts ≡ true) × ((view pass).takes ≡ true) }
         requires count { length (view pass).put ≡ length (view pass).taken + n }
@@ -170,7 +177,7 @@ impl<P: NodeProgram> Link<P> {
     {
         for _ in 0..n {
             match self.queue.pop_as::<TakesAll<P>, R>(rt, &mut pass) {
-                Some(wire) => held.push_reserved(wire),
+                Some(item) => held.push_reserved(item),
                 None => unreachable!(),
             }
         }
@@ -193,9 +200,10 @@ impl<P: NodeProgram> Link<P> {
         requires put_end { IsPutEndOf self put_end }
         requires take_end { IsTakeEndOf self take_end }
         requires name { put_name put_end ≡ take_name take_end }
-        ensures met { IfOk result (λ met. HasMet met (put_name put_end) (put_list put_end) (taken_list take_end)) }
+        ensures met { IfOk result
+            (λ met. HasMet met (put_name put_end) (put_stamped put_end) (taken_stamped take_end)) }
         ensures legal { IfOk result (λ _. LegalFor (IsLegalOn P.program) (put_name put_end) (put_list put_end)) }
-        ensures room { IfOk result (λ met. length (held_of met) ≤ link_capacity self) }
+        ensures room { IfOk result (λ met. length (held_stamped met) ≤ link_capacity self) }
         ensures refused { IfErr result
             (λ back. AreAsBefore back.link self back.put_end put_end back.take_end take_end) }
     {

@@ -4,7 +4,7 @@
 //! the making of the queue, the naming of its view, the splitting into two ends and their joining.
 
 use crate::view::EndView;
-use alpha_core::{NodeProgram, Wire};
+use alpha_core::{NodeProgram, Stamped};
 use crossbeam_queue::protocol::{Join, Lesson, Outcome, Protocol, Split};
 use std::marker::{Brand, PhantomData};
 
@@ -13,7 +13,7 @@ pub struct LinkRule<P> {
     program: PhantomData<P>,
 }
 
-impl<P: NodeProgram> Protocol<Wire<P::Payload>, EndView<P::Payload>> for LinkRule<P> {
+impl<P: NodeProgram> Protocol<Stamped<P::Payload>, EndView<P::Payload>> for LinkRule<P> {
     ghost use Rattle.std.specs.Prelude.{None, true, []};
     ghost use Rattle.link_rule.specs.Legal.{IsLegalOn};
     ghost use Rattle.link_queue.specs.Rule.{end_view, Linked};
@@ -74,17 +74,18 @@ impl<T> Join<EndView<T>> for TwoEnds {
 // A put, and what a refused one says.
 pub struct Puts;
 
-impl<T> Outcome<Wire<T>, EndView<T>> for Puts {
+impl<T> Outcome<Stamped<T>, EndView<T>> for Puts {
     ghost use Rattle.std.specs.Prelude.{◌≡◌, [], ◌∷◌, ◌++◌};
     ghost use Rattle.link_queue.specs.Rule.{end_view};
 
     ghost then = { λ v x w. w ≡ end_view v.name v.puts v.takes (v.put ++ x ∷ []) v.taken };
 }
 
-impl<T> Lesson<Wire<T>, EndView<T>> for Puts {
+impl<T> Lesson<Stamped<T>, EndView<T>> for Puts {
+    ghost use Rattle.alpha_core.specs.StampedWires.{wires_of};
     ghost use Rattle.link_queue.specs.Rule.{AreLastOf};
 
-    ghost fact = { λ v. AreLastOf v.put };
+    ghost fact = { λ v. AreLastOf (wires_of v.put) };
 }
 
 // A take, and what a refused one says.
@@ -92,18 +93,19 @@ pub struct Takes<P> {
     program: PhantomData<P>,
 }
 
-impl<P: NodeProgram> Outcome<Wire<P::Payload>, EndView<P::Payload>> for Takes<P> {
+impl<P: NodeProgram> Outcome<Stamped<P::Payload>, EndView<P::Payload>> for Takes<P> {
     ghost use Rattle.link_rule.specs.Legal.{IsLegalOn};
     ghost use Rattle.link_queue.specs.Rule.{Taking};
 
     ghost then = { Taking (IsLegalOn P.program) };
 }
 
-impl<P: NodeProgram> Lesson<Wire<P::Payload>, EndView<P::Payload>> for Takes<P> {
+impl<P: NodeProgram> Lesson<Stamped<P::Payload>, EndView<P::Payload>> for Takes<P> {
     ghost use Rattle.link_rule.specs.Legal.{IsLegalOn};
+    ghost use Rattle.alpha_core.specs.StampedWires.{wires_of};
     ghost use Rattle.link_queue.specs.Rule.{MayFollow};
 
-    ghost fact = { λ v. MayFollow (IsLegalOn P.program) v.name v.taken };
+    ghost fact = { λ v. MayFollow (IsLegalOn P.program) v.name (wires_of v.taken) };
 }
 
 // A take by a view of both ends, which knows all wires on the queue.
@@ -111,14 +113,14 @@ pub struct TakesAll<P> {
     program: PhantomData<P>,
 }
 
-impl<P: NodeProgram> Lesson<Wire<P::Payload>, EndView<P::Payload>> for TakesAll<P> {
+impl<P: NodeProgram> Lesson<Stamped<P::Payload>, EndView<P::Payload>> for TakesAll<P> {
     ghost use Rattle.link_rule.specs.Legal.{IsLegalOn};
     ghost use Rattle.link_queue.specs.Rule.{IsAllOf};
 
     ghost fact = { IsAllOf (IsLegalOn P.program) };
 }
 
-impl<P: NodeProgram> Outcome<Wire<P::Payload>, EndView<P::Payload>> for TakesAll<P> {
+impl<P: NodeProgram> Outcome<Stamped<P::Payload>, EndView<P::Payload>> for TakesAll<P> {
     ghost use Rattle.link_rule.specs.Legal.{IsLegalOn};
     ghost use Rattle.link_queue.specs.Rule.{Taking};
 

@@ -1,15 +1,15 @@
 //! What an end of a link knows.
 
-use alpha_core::Wire;
+use alpha_core::Stamped;
 use link_rule::LinkName;
 use std::collections::LinkedList;
 
 /// What an end of a link knows: the link's name, whether it may put and may take, what it put and what it took, oldest
-/// first. Contracts speak of it; no value of it is made.
+/// first, each wire with its stamp. Contracts speak of it; no value of it is made.
 pub struct EndView<T> {
     pub name: Option<LinkName>,
     pub puts: bool,
     pub takes: bool,
-    pub put: LinkedList<Wire<T>>,
-    pub taken: LinkedList<Wire<T>>,
+    pub put: LinkedList<Stamped<T>>,
+    pub taken: LinkedList<Stamped<T>>,
 }

@@ -9,12 +9,15 @@ use Rattle.alpha_laws.specs.alpha_core.Wire.TheVariants.{Payload, Ack, Safe, Clo
 use Rattle.alpha_laws.specs.alpha_core.Wires.{acks_of, payloads_of, safes_of}
 use Rattle.alpha_laws.proofs.alpha_core.Wires.{acks-append, payloads-append}
 use Rattle.link_rule.specs.Order.{MayFollow, IsInOrder}
-use Rattle.link_rule.specs.Progress.{Progress, WasFed, at_start, may_come, goes_on, advanced, after_wire}
-use Rattle.std.proofs.lemmas.List.{take-append-drop}
+use Rattle.link_rule.specs.Progress.{Progress, HasCome, WasFed, at_start, may_come, goes_on, advanced, after_wire}
+use Rattle.std.proofs.lemmas.List.{map-append, take-append-drop}
+use Rattle.alpha_laws.specs.alpha_core.Stamped.{Stamped}
+use Rattle.alpha_laws.specs.alpha_core.StampedWires.{StampsRise, wires_of}
+use Rattle.alpha_laws.proofs.alpha_core.StampedWires.{last_more, rise_last, rise_more}
 use Rattle.link_rule.proofs.Orders.{contains_nil, contains_snoc, order-front, order-more, order-last, order-nil, safes-append}
 
-pub new_fed : {M : Type 0} (last : ℕ) → WasFed {M = M} (at_start last) []
-new_fed {M} last = record {
+new_come : {M : Type 0} (last : ℕ) → HasCome {M = M} (at_start last) []
+new_come {M} last = record {
   order = order-nil {M = M} last;
   safes = refl;
   paid = ((λ e. absurd cc), λ c. absurd (contains_nil 0 c));
@@ -50,7 +53,7 @@ of_lt a b e = lt-ltb a b e
 of_le : (a b : ℕ) → a ≤ b → nat_le a b ≡ true
 of_le a b e = grind (arith, e)
 
-module _ {M : Type 0} (p : Progress) (ws : List (Wire M)) (fed : WasFed p ws) where
+module _ {M : Type 0} (p : Progress) (ws : List (Wire M)) (fed : HasCome p ws) where
   -- what the check allows may follow
   may : (w : Wire M) → may_come p w ≡ true → MayFollow p.last ws w
   may (Payload q x) e =
@@ -93,7 +96,7 @@ module _ {M : Type 0} (p : Progress) (ws : List (Wire M)) (fed : WasFed p ws) wh
   keeps_safes : (w : Wire M) → safes_of (w ∷ []) ≡ 0 → safes_of ws ≡ safes_of (ws ++ w ∷ [])
   keeps_safes w e = let a = safes-append ws (w ∷ []) in omega arith
 
-  pub fed_true : (w : Wire M) → goes_on p w ≡ true → WasFed (advanced p w) (ws ++ w ∷ [])
+  pub fed_true : (w : Wire M) → goes_on p w ≡ true → HasCome (advanced p w) (ws ++ w ∷ [])
   fed_true (Payload q x) e =
       let w : Wire M = Payload q x in
       let g = goes-may w e in
@@ -155,8 +158,8 @@ module _ {M : Type 0} (p : Progress) (ws : List (Wire M)) (fed : WasFed p ws) wh
       }
 
   pub feeds : (w : Wire M) (b : Bool) (now : Progress) → b ≡ goes_on p w → now ≡ after_wire p w →
-      MatchBool b (WasFed now (ws ++ w ∷ [])) (IsInOrder p.last (ws ++ w ∷ []) → ⊥)
-  feeds w true now e f = subst (λ n. WasFed n (ws ++ w ∷ [])) (sym (f ∙ rw (sym e) refl)) (fed_true w (sym e))
+      MatchBool b (HasCome now (ws ++ w ∷ [])) (IsInOrder p.last (ws ++ w ∷ []) → ⊥)
+  feeds w true now e f = subst (λ n. HasCome n (ws ++ w ∷ [])) (sym (f ∙ rw (sym e) refl)) (fed_true w (sym e))
   feeds w false now e f = λ h. let yes = may-goes w h in absurd cc
 
 -- a list in which some wire doesn't go on isn't in order
@@ -164,3 +167,39 @@ pub stops : {M : Type 0} (last i : ℕ) (wires : List (Wire M)) (w : Wire M) →
     (IsInOrder last (take i wires ++ w ∷ []) → ⊥) → IsInOrder last wires → ⊥
 stops last i wires w e broken h = broken (subst (λ l. IsInOrder last l) e (order-front last (take (i + 1) wires) (drop (i + 1) wires)
     (subst (λ l. IsInOrder last l) (sym (take-append-drop (i + 1) wires)) h)))
+
+-- what has come says nothing of stamps
+restamped : {M : Type 0} (p : Progress) (s : ℕ) (ws : List (Wire M)) → HasCome p ws → HasCome record p { stamp = s } ws
+restamped p s ws come = record {
+  order = come.order;
+  safes = come.safes;
+  paid = come.paid;
+  payloads = come.payloads;
+  acks = come.acks;
+  closed = come.closed;
+}
+
+module _ {M : Type 0} where
+  pub new_fed : (last : ℕ) → WasFed {M = M} (at_start last) []
+  new_fed last = record { come = new_come last; rise = tt; stamp = refl }
+
+  -- a wire that goes on, with a stamp above the last one
+  pub fed_more : (p now : Progress) (items : List (Stamped M)) (item : Stamped M) → WasFed p items → p.stamp < item.stamp → true ≡ goes_on p item.wire
+      → now ≡ after_wire p item.wire → WasFed record now { stamp = item.stamp } (items ++ item ∷ [])
+  fed_more p now items item fed above goes after = record {
+    come = restamped now item.stamp (wires_of (items ++ item ∷ []))
+        (subst (λ l. HasCome now l) (sym (map-append (λ x. x.wire) items (item ∷ []))) (feeds p (wires_of items) fed.come item.wire true now goes after));
+    rise = rise_more 0 items item fed.rise (let is = fed.stamp in omega arith);
+    stamp = sym (last_more 0 items item);
+  }
+
+  -- a wire that doesn't go on
+  pub not_fed : (p now : Progress) (items : List (Stamped M)) (item : Stamped M) → WasFed p items → false ≡ goes_on p item.wire → now ≡ after_wire p item.wire
+      → IsInOrder p.last (wires_of (items ++ item ∷ [])) → ⊥
+  not_fed p now items item fed goes after order =
+      feeds p (wires_of items) fed.come item.wire false now goes after
+      (subst (λ l. IsInOrder p.last l) (map-append (λ x. x.wire) items (item ∷ [])) order)
+
+  -- a stamp that isn't above the last one
+  pub not_above : (p : Progress) (items : List (Stamped M)) (item : Stamped M) → WasFed p items → item.stamp ≤ p.stamp → StampsRise (items ++ item ∷ []) → ⊥
+  not_above p items item fed le rise = let is = fed.stamp in let lt = rise_last 0 items item rise in absurd (omega arith)

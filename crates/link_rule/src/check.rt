@@ -1,18 +1,20 @@
 //! Whether wires come in order.
 
 ghost use Rattle.std.specs.Prelude.{◌≡◌, ◌++◌, [], ◌∷◌, List, MatchBool};
-ghost use Rattle.alpha_laws.specs.alpha_core.Wire.{Wire};
+ghost use Rattle.alpha_laws.specs.alpha_core.Stamped.{Stamped};
+ghost use Rattle.alpha_laws.specs.alpha_core.StampedWires.{StampsRise, wires_of};
 ghost use Rattle.link_rule.specs.Order.{IsInOrder};
 ghost use Rattle.link_rule.specs.Progress.{WasFed, after_wire, at_start, goes_on};
 
-use alpha_laws::Wire;
+use alpha_laws::{Stamped, Wire};
 use std::marker::Model;
 
-/// How far one direction of a link has come, by the order of its wires alone.
+/// How far one direction of a link has come, by the order of its wires and their stamps alone.
 ///
 /// The pulses of payloads and safes are the number of safes before them, a pulse has one payload at most, the
 /// pulses of acknowledgements rise, all of these are below the last pulse, and close comes after the safe of each
-/// pulse below the last and before nothing else. Contracts say of which wires a check was fed: `WasFed`.
+/// pulse below the last and before nothing else. The stamps are above 0 and rise. Contracts say of which wires a check
+/// was fed: `WasFed`.
 #[derive(Drop)]
 pub struct StreamCheck {
     last: u32,
@@ -21,6 +23,8 @@ pub struct StreamCheck {
     // One more than the pulse of the last acknowledgement, or 0.
     next_ack: u32,
     closed: bool,
+    // The stamp of the last wire, or 0.
+    stamp: u64,
 }
 
 impl Model for StreamCheck {
@@ -34,6 +38,7 @@ impl Model for StreamCheck {
       paid = a.paid;
       next_ack = a.next_ack;
       closed = a.closed;
+      stamp = a.stamp;
     } };
 }
 
@@ -48,6 +53,7 @@ impl StreamCheck {
             paid: false,
             next_ack: 0,
             closed: false,
+            stamp: 0,
         }
     }
 
@@ -89,14 +95,22 @@ impl StreamCheck {
         true
     }
 
-    /// Whether a wire goes on in order after those that the check was fed; if not, the check stays as it was.
-    pub fn feed<T>(&mut self, wire: &Wire<T>) -> bool
-        ensures fed { (wires : List (Wire T)) → WasFed self.old wires
-            → MatchBool result (WasFed self.new (wires ++ wire.now ∷ []))
-            (IsInOrder self.old.last (wires ++ wire.now ∷ []) → ⊥) }
+    /// Whether a wire goes on in order after those that the check was fed, with a stamp above theirs; if not, the check
+    /// stays as it was.
+    pub fn feed<T>(&mut self, item: &Stamped<T>) -> bool
+        ensures fed { (items : List (Stamped T)) → WasFed self.old items
+            → MatchBool result (WasFed self.new (items ++ item.now ∷ []))
+            (IsInOrder self.old.last (wires_of (items ++ item.now ∷ [])) → StampsRise (items ++ item.now ∷ []) → ⊥) }
         ensures last { self.new.last ≡ self.old.last }
         ensures unchanged { MatchBool result (Unit {0}) (self.new ≡ self.old) }
     {
-        self.step(wire)
+        if item.stamp <= self.stamp {
+            return false;
+        }
+        if !self.step(&item.wire) {
+            return false;
+        }
+        self.stamp = item.stamp;
+        true
     }
 }

@@ -2,13 +2,14 @@
 //!
 //! ```text
 //! let mut check = StreamCheck::new(last);
-//! check.feed(&Wire::Safe(0)) && check.feed(&Wire::Close)      // for a last pulse of 1
+//! let (first, second) = (Wire::Safe(0), Wire::Close);            // in order for a last pulse of 1
+//! check.feed(&Stamped { stamp: 1, wire: first }) && check.feed(&Stamped { stamp: 2, wire: second })
 //! ```
 //!
 //! A node's link sends a fixed list of wires in the synchronous run of its program: the stream. A list is legal
 //! if its payloads, safes and close begin that stream and its acknowledgements begin those that are due.
-//! `StreamCheck` looks at the order of wires alone, as they come one by one, and not at what they carry; no program
-//! uses it. `laws` says that every legal list passes it, and what a legal list with a close is.
+//! `StreamCheck` looks at the order of wires and at their stamps, as they come one by one, and not at what they carry;
+//! no program uses it. `laws` says that every legal list passes it, and what a legal list with a close is.
 //! `link_queue` stands on the names and the legality of this crate (`specs/Legal.antt`).
 #![tactic(auto)]
 

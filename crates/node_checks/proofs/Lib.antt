@@ -1,2 +1,3 @@
 pub mod LinkRows
 pub mod OnePort
+pub mod Rising

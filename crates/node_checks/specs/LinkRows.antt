@@ -12,3 +12,7 @@ pair_net = record { ids = 1 ∷ 2 ∷ []; ports = (2 ∷ []) ∷ (1 ∷ []) ∷ 
 abbrev pub echoes : ℕ → ℕ → List (Wire Best)
 echoes best zero = []
 echoes best (suc n) = echoes best n ++ (Payload n (record { 0 = best }) ∷ Ack n ∷ Safe n ∷ [])
+
+-- the network of one node
+abbrev pub lone_net : Net
+lone_net = record { ids = 1 ∷ []; ports = [] ∷ []; bars = [] ∷ [] }

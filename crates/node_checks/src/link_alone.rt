@@ -3,7 +3,7 @@
 ghost use Rattle.std.specs.Prelude.{◌≡◌};
 ghost use Rattle.node_checks.specs.LinkRows.{pair_net};
 
-use alpha_core::{Memory, Network, Wire};
+use alpha_core::{Memory, Network, Stamped, Wire};
 use colour_program::{Colouring, Payload};
 use link_queue::{Full, Link, MeetRefused};
 use std::alloc::Global;
@@ -13,11 +13,11 @@ use std::sync::Wait;
 #[derive(Drop)]
 pub struct Steps {
     pub put: bool,
-    pub full: Option<Wire<Payload>>,
-    pub taken: Option<Wire<Payload>>,
-    pub none: Option<Wire<Payload>>,
+    pub full: Option<Stamped<Payload>>,
+    pub taken: Option<Stamped<Payload>>,
+    pub none: Option<Stamped<Payload>>,
     pub put_again: bool,
-    pub taken_again: Option<Wire<Payload>>,
+    pub taken_again: Option<Stamped<Payload>>,
     pub held: usize,
 }
 
@@ -26,17 +26,25 @@ pub fn one_after_another<R: Wait>(rt: &R, alloc: Global, network: &Network) -> R
     requires network { network.now ≡ pair_net }
 {
     let (link, mut put_end, mut take_end) = Link::<Colouring>::new(alloc, network, 1, 0, 1)?;
-    let put = match link.put(rt, &mut put_end, Wire::Payload(0, Payload::Hello(1))) {
+    let hello = Stamped {
+        stamp: 1,
+        wire: Wire::Payload(0, Payload::Hello(1)),
+    };
+    let put = match link.put(rt, &mut put_end, hello) {
         Ok(()) => true,
         Err(_) => return Err(Memory),
     };
-    let full = match link.put(rt, &mut put_end, Wire::Safe(0)) {
+    let safe = Stamped {
+        stamp: u64::MAX,
+        wire: Wire::Safe(0),
+    };
+    let full = match link.put(rt, &mut put_end, safe) {
         Ok(()) => return Err(Memory),
-        Err(Full(wire)) => Some(wire),
+        Err(Full(item)) => Some(item),
     };
     let taken = link.take(rt, &mut take_end);
     let none = link.take(rt, &mut take_end);
-    let put_again = link.put(rt, &mut put_end, Wire::Safe(0)).is_ok();
+    let put_again = link.put(rt, &mut put_end, safe).is_ok();
     let taken_again = link.take(rt, &mut take_end);
     let held = match link.meet(rt, alloc, put_end, take_end) {
         Ok(met) => met.held().len(),
@@ -59,18 +67,20 @@ pub fn met_again<R: Wait>(
     rt: &R,
     alloc: Global,
     network: &Network,
-) -> Result<Option<Wire<Payload>>, Memory>
+) -> Result<Option<Stamped<Payload>>, Memory>
     requires network { network.now ≡ pair_net }
 {
     let (link, mut put_end, mut take_end) = Link::<Colouring>::new(alloc, network, 1, 0, 1)?;
-    match link.put(rt, &mut put_end, Wire::Payload(0, Payload::Hello(1))) {
+    let (stamp, wire) = (2, Wire::Payload(0, Payload::Hello(1)));
+    match link.put(rt, &mut put_end, Stamped { stamp, wire }) {
         Ok(()) => (),
         Err(_) => return Ok(None),
     }
     if link.take(rt, &mut take_end).is_none() {
         return Ok(None);
     }
-    if link.put(rt, &mut put_end, Wire::Safe(0)).is_err() {
+    let (stamp, wire) = (3, Wire::Safe(0));
+    if link.put(rt, &mut put_end, Stamped { stamp, wire }).is_err() {
         return Ok(None);
     }
     let met = match link.meet(rt, alloc, put_end, take_end) {
@@ -87,7 +97,7 @@ pub fn met_again<R: Wait>(
         },
     };
     match met.held() {
-        [wire] => Ok(Some(*wire)),
+        [item] => Ok(Some(*item)),
         _ => Ok(None),
     }
 }

@@ -5,8 +5,9 @@ ghost use Rattle.node_checks.specs.LinkRows.{pair_net};
 
 use crate::link_alone::{met_again, one_after_another};
 use crate::link_threads::hand_over;
-use alpha_core::{NetFault, Network, Wire, bars_fit, edges_fit};
+use alpha_core::{NetFault, Network, Stamped, Wire, bars_fit, edges_fit};
 use colour_program::Payload;
+use link_rule::StreamCheck;
 use run_options::MAX_CAPACITY;
 use std::alloc::Global;
 use std::process::Abort;
@@ -25,18 +26,39 @@ fn pair(rt: &impl Abort, alloc: Global) -> Result<Network, NetFault>
     Network::new(alloc, 2, &ids, &edges, &[])
 }
 
+// A wire with its stamp.
+fn item<T>(stamp: u64, wire: Wire<T>) -> Stamped<T> {
+    Stamped { stamp, wire }
+}
+
 #[test]
 fn one_thread_puts_and_takes(rt: HostRuntime) -> Result<(), Fail> {
     let alloc: Global = rt.alloc();
     let network = pair(&rt, alloc)?;
     let steps = one_after_another(&rt, alloc, &network)?;
+    let hello = item(1, Wire::Payload(0, Payload::Hello(1)));
+    let safe = item(u64::MAX, Wire::Safe(0));
     assert!(rt; steps.put);
-    assert!(rt; steps.full == Some(Wire::Safe(0)));
-    assert!(rt; steps.taken == Some(Wire::Payload(0, Payload::Hello(1))));
+    assert!(rt; steps.full == Some(safe));
+    assert!(rt; steps.taken == Some(hello));
     assert!(rt; steps.none == None);
     assert!(rt; steps.put_again);
-    assert!(rt; steps.taken_again == Some(Wire::Safe(0)));
+    assert!(rt; steps.taken_again == Some(safe));
     assert_eq!(rt; steps.held, 0);
+    // A check refuses a wire out of order or a stamp that doesn't rise, and then goes on as if it hadn't come.
+    let mut check = StreamCheck::new(1);
+    for (stamp, wire, passes) in [
+        (0, Wire::Payload(0, Payload::Hello(1)), false),
+        (7, Wire::Safe(1), false),
+        (5, Wire::Payload(0, Payload::Hello(1)), true),
+        (5, Wire::Safe(0), false),
+        (4, Wire::Safe(0), false),
+        (6, Wire::Safe(0), true),
+        (u64::MAX, Wire::Close, true),
+        (u64::MAX, Wire::Ack(0), false),
+    ] {
+        assert!(rt; check.feed(&item(stamp, wire)) == passes, "{stamp}");
+    }
     Ok(())
 }
 
@@ -53,7 +75,7 @@ fn a_link_meets_again_after_a_refused_growth(rt: HostRuntime) -> Result<(), Fail
         Ok(held) => held,
         Err(_) => met_again(&rt, alloc, &network)?,
     };
-    assert!(rt; held == Some(Wire::Safe(0)));
+    assert!(rt; held == Some(item(3, Wire::Safe(0))));
     Ok(())
 }
 
@@ -65,10 +87,10 @@ fn two_threads_hand_over_four_wires(rt: HostRuntime) -> Result<(), Fail> {
     let (done, held) = hand_over::<1, _>(&rt, alloc, &network, 1, 1, 1, &mut got)?;
     assert!(rt; done);
     assert_eq!(rt; held, 0);
-    assert!(rt; got[0] == Some(Wire::Payload(0, Best(1))));
-    assert!(rt; got[1] == Some(Wire::Ack(0)));
-    assert!(rt; got[2] == Some(Wire::Safe(0)));
-    assert!(rt; got[3] == Some(Wire::Close));
+    assert!(rt; got[0] == Some(item(1, Wire::Payload(0, Best(1)))));
+    assert!(rt; got[1] == Some(item(2, Wire::Ack(0))));
+    assert!(rt; got[2] == Some(item(3, Wire::Safe(0))));
+    assert!(rt; got[3] == Some(item(4, Wire::Close)));
     Ok(())
 }
 
@@ -108,8 +130,8 @@ fn hand_over_all<R: Abort + Threads + Wait + Sync>(
     assert!(rt; done);
     assert_eq!(rt; held, 0);
     let mut place = 0u32;
-    for wire in &got {
-        assert!(rt; *wire == Some(wire_at(place)));
+    for taken in &got {
+        assert!(rt; *taken == Some(item(u64::from(place) + 1, wire_at(place))));
         place = place.wrapping_add(1);
     }
     assert_eq!(rt; place, 100_000);

@@ -1,16 +1,17 @@
 //! A link between two threads, at `Greatest<D>`: one puts the whole legal list, the other takes it. Each try is
 //! bounded by a count, so a run ends on every schedule.
 
-ghost use Rattle.std.specs.Prelude.{◌≡◌, ◌≤◌, ◌<◌, ◌+◌, [], ◌∷◌, ◌++◌, Some, IsTrue, MatchBool, length, suc};
+ghost use Rattle.std.specs.Prelude.{◌≡◌, ◌≤◌, ◌<◌, ◌+◌, ◌*◌, [], ◌∷◌, ◌++◌, Some, IsTrue, MatchBool, length, suc};
 ghost use Rattle.std.specs.Prelude.{vec_capacity};
 ghost use Rattle.alpha_core.specs.declared.wire.Wire.{Wire};
+ghost use Rattle.alpha_core.specs.StampedWires.{last_stamp};
 ghost use Rattle.sync_rounds.specs.Spread.{spread};
 ghost use Rattle.link_rule.specs.Legal.{IsLegalOn, LegalFor, name_of};
 ghost use Rattle.link_queue.specs.Ends.{IsPutEndOf, IsTakeEndOf, StaysPutEnd, StaysTakeEnd, put_list, put_name};
-ghost use Rattle.link_queue.specs.Ends.{take_name};
+ghost use Rattle.link_queue.specs.Ends.{put_stamped, take_name};
 ghost use Rattle.node_checks.specs.LinkRows.{echoes};
 
-use alpha_core::{Memory, Network, Wire};
+use alpha_core::{Memory, Network, Stamped, Wire};
 use link_queue::{Link, PutEnd, TakeEnd};
 use run_options::MAX_CAPACITY;
 use std::alloc::Global;
@@ -21,20 +22,23 @@ use sync_rounds::{Best, Greatest};
 
 const TRIES: u32 = 100_000_000;
 
-// Tries to put a wire; whether it was put.
+// Tries to put a wire with its stamp; whether it was put.
 fn put_one<const D: u32, R: Wait>(
     rt: &R,
     link: &Link<Greatest<D>>,
     end: &mut PutEnd<Greatest<D>>,
+    stamp: u64,
     wire: Wire<Best>,
 ) -> bool
     requires end { IsPutEndOf link.now end.old }
     requires legal { LegalFor (IsLegalOn (spread D)) (put_name end.old) (put_list end.old ++ wire ∷ []) }
+    requires above { last_stamp (put_stamped end.old) < stamp }
     ensures end { StaysPutEnd link.now end.old end.new }
     ensures put { IsTrue result → put_list end.new ≡ put_list end.old ++ wire ∷ [] }
+    ensures stamp { IsTrue result → last_stamp (put_stamped end.new) ≡ stamp }
 {
     for _ in 0..TRIES {
-        match link.put(rt, end, wire) {
+        match link.put(rt, end, Stamped { stamp, wire }) {
             Ok(()) => return true,
             Err(_) => thread::yield_now(),
         }
@@ -42,7 +46,7 @@ fn put_one<const D: u32, R: Wait>(
     false
 }
 
-// Puts the payload of a pulse, an acknowledgement and the safe; whether all were put.
+// Puts the payload of a pulse, an acknowledgement and the safe, with the next three stamps; whether all were put.
 fn put_round<const D: u32, R: Wait>(
     rt: &R,
     link: &Link<Greatest<D>>,
@@ -53,20 +57,23 @@ fn put_round<const D: u32, R: Wait>(
     requires end { IsPutEndOf link.now end.old }
     requires pulse { pulse < D }
     requires so_far { put_list end.old ≡ echoes best pulse }
+    requires stamp { last_stamp (put_stamped end.old) ≡ 3 * pulse }
     requires legal { LegalFor (IsLegalOn (spread D)) (put_name end.old) (echoes best D ++ Wire.Close ∷ []) }
     ensures end { StaysPutEnd link.now end.old end.new }
     ensures put { IsTrue result → put_list end.new ≡ echoes best (suc pulse) }
+    ensures stamp { IsTrue result → last_stamp (put_stamped end.new) ≡ 3 * suc pulse }
 {
-    if !put_one(rt, link, end, Wire::Payload(pulse, Best(best))) {
+    let stamp = 3 * u64::from(pulse);
+    if !put_one(rt, link, end, stamp + 1, Wire::Payload(pulse, Best(best))) {
         return false;
     }
-    if !put_one(rt, link, end, Wire::Ack(pulse)) {
+    if !put_one(rt, link, end, stamp + 2, Wire::Ack(pulse)) {
         return false;
     }
-    put_one(rt, link, end, Wire::Safe(pulse))
+    put_one(rt, link, end, stamp + 3, Wire::Safe(pulse))
 }
 
-// Puts the whole list; whether all of it was put.
+// Puts the whole list, with the stamps from 1 on; whether all of it was put.
 fn put_all<const D: u32, R: Wait>(
     rt: &R,
     link: &Link<Greatest<D>>,
@@ -83,7 +90,7 @@ fn put_all<const D: u32, R: Wait>(
             return (end, false);
         }
     }
-    let done = put_one(rt, link, &mut end, Wire::Close);
+    let done = put_one(rt, link, &mut end, 3 * u64::from(D) + 1, Wire::Close);
     (end, done)
 }
 
@@ -92,13 +99,13 @@ fn take_one<const D: u32, R: Wait>(
     rt: &R,
     link: &Link<Greatest<D>>,
     end: &mut TakeEnd<Greatest<D>>,
-) -> Option<Wire<Best>>
+) -> Option<Stamped<Best>>
     requires end { IsTakeEndOf link.now end.old }
     ensures end { StaysTakeEnd link.now end.old end.new }
 {
     for _ in 0..TRIES {
-        if let Some(wire) = link.take(rt, end) {
-            return Some(wire);
+        if let Some(item) = link.take(rt, end) {
+            return Some(item);
         }
         thread::yield_now();
     }
@@ -110,7 +117,7 @@ fn take_all<const D: u32, R: Wait>(
     rt: &R,
     link: &Link<Greatest<D>>,
     mut end: TakeEnd<Greatest<D>>,
-    got: &mut [Option<Wire<Best>>],
+    got: &mut [Option<Stamped<Best>>],
 ) -> TakeEnd<Greatest<D>>
     requires end { IsTakeEndOf link.now end }
     ensures end { StaysTakeEnd link.now end result }
@@ -133,7 +140,7 @@ pub fn hand_over<const D: u32, R: Threads + Wait + Sync>(
     vertex: u32,
     best: u128,
     capacity: usize,
-    got: &mut [Option<Wire<Best>>],
+    got: &mut [Option<Stamped<Best>>],
 ) -> Result<(bool, usize), Memory>
     requires capacity { (0 < capacity) × (capacity ≤ MAX_CAPACITY) }
     requires legal { IsLegalOn (spread D) (name_of network.now vertex 0) (echoes best D ++ Wire.Close ∷ []) }

@@ -5,12 +5,12 @@ use Rattle.std.proofs.lemmas.List.{get_or-map, length-map}
 use Rattle.std.proofs.lemmas.Option.{slice_get-get_or}
 use Rattle.atomic_table.specs.Seated.{TableId}
 use Rattle.alpha_laws.specs.interference.Net.{Net, IsNetwork, IsVertex, count_of, degree_of, neighbour_of, back_port_of}
-use Rattle.actor.specs.link_queue.PutSide.{PutSide}
-use Rattle.actor.specs.link_queue.TakeSide.{TakeSide}
-use Rattle.actor.specs.link_queue.Link.{Link}
-use Rattle.actor.specs.link_queue.Ends.{link_capacity}
-use Rattle.actor.specs.link_rule.LinkName.{LinkName}
-use Rattle.actor.specs.Tables.{IsEndAt, table_of, tables_of, table_at}
+use Rattle.pool.specs.link_queue.PutSide.{PutSide}
+use Rattle.pool.specs.link_queue.TakeSide.{TakeSide}
+use Rattle.pool.specs.link_queue.Link.{Link}
+use Rattle.pool.specs.link_queue.Ends.{link_capacity}
+use Rattle.pool.specs.link_rule.LinkName.{LinkName}
+use Rattle.pool.specs.actor.Tables.{IsEndAt, table_of, tables_of, table_at}
 use Rattle.node_pool.specs.Rows.{AreCrossed, row_at, thing_at}
 use Rattle.node_pool.specs.Makes.{AreLinksOf, AreMade}
 use Rattle.node_pool.specs.News.{AreNewEnds, AreNewPutsFrom, AreNewTakesTo}

@@ -7,10 +7,10 @@ use Rattle.std.proofs.lemmas.Option.{slice_get-map}
 use Rattle.atomic_table.specs.Seated.{TableId}
 use Rattle.alpha_laws.specs.interference.Net.{Net, IsNetwork, degree_of, neighbour_of, back_port_of, vertices}
 use Rattle.alpha_laws.proofs.Across.{over}
-use Rattle.actor.specs.Node.{links_in, links_out}
+use Rattle.pool.specs.actor.Node.{links_in, links_out}
 use Rattle.node_pool.proofs.ReadLists.{map-twice}
 use Rattle.node_pool.specs.Rows.{AreCrossed, HasShape, row_at}
-use Rattle.actor.specs.Tables.{table_at}
+use Rattle.pool.specs.actor.Tables.{table_at}
 use Rattle.node_pool.proofs.Rows.{by_entries, by_nodes, entry_of, row_by, row_map}
 
 module _ {A E : Type 0} (net : Net) (ok : IsNetwork net) (vertex_of : A → ℕ) (nodes : List A) (order : map vertex_of nodes ≡ vertices net)

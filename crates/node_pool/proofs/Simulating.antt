@@ -4,28 +4,33 @@
 -- 3. So the nodes simulate the synchronous run; the rest is read of the rows (`is_outcome`).
 use Rattle.std.proofs.Common.{◌≡◌, ℕ, ◌-◌, ◌<◌, ◌≤◌, List, [], ◌++◌, length, map, get_or, sym, ap, ◌∙◌, subst, arith}
 use Rattle.std.proofs.Common.{Some, None, slice_get}
-use Rattle.std.specs.Prelude.{Bool, Option, All}
+use Rattle.std.specs.Prelude.{Bool, Option, All, IsTrue}
 use Rattle.std.proofs.lemmas.List.{length-map}
 use Rattle.std.proofs.lemmas.List.FromFn.{length-range_with_len}
+use Rattle.std.proofs.lemmas.Option.{get_or_from_slice_get}
 use Rattle.alpha_laws.specs.interference.Net.{Net, IsNetwork, IsVertex, count_of, degree_of, neighbour_of, back_port_of, vertices}
 use Rattle.alpha_laws.specs.node_api.Program.{Program, last_pulse_on}
 use Rattle.alpha_laws.specs.node_api.Laws.{IsProgram}
-use Rattle.actor.specs.alpha_core.Wire.{Wire}
-use Rattle.actor.specs.alpha_core.View.{Alpha, Node}
+use Rattle.pool.specs.alpha_core.Wire.{Wire}
+use Rattle.pool.specs.alpha_core.View.{Alpha, Node}
 use Rattle.alpha_laws.specs.Kept.{AllKept, NodeKept}
 use Rattle.alpha_laws.specs.Simulates.{taken_over}
 use Rattle.alpha_laws.proofs.Across.{over}
 use Rattle.alpha_laws.proofs.Runs.{runs}
 use Rattle.alpha_laws.proofs.Claims.{simulates}
-use Rattle.actor.proofs.Kept.{node_same}
-use Rattle.actor.specs.declared.aside.Aside.{Aside}
-use Rattle.actor.specs.Node.{IsAside, by_port, reacted_to}
-use Rattle.actor.specs.Written.{IsTranscript}
-use Rattle.actor.specs.entries.Entry.{Entry}
+use Rattle.pool.proofs.actor.Kept.{node_same}
+use Rattle.pool.specs.actor.Aside.{Aside}
+use Rattle.pool.specs.actor.WhyAside.TheVariants.{Refused}
+use Rattle.pool.specs.actor.Node.{IsAside, by_port, reacted_to}
+use Rattle.pool.specs.actor.Written.{IsTranscript}
+use Rattle.pool.specs.entries.Entry.{Entry}
 use Rattle.node_pool.specs.Rows.{AreCrossed, row_at}
 use Rattle.gather_laws.specs.Laws.{EndsHaveMet}
-use Rattle.gather_laws.specs.Outcome.{IsOutcome, Outcome, alpha_in, entries_in, link_in, link_into, no_history, node_in, row_in, start_of}
+use Rattle.gather_laws.specs.Outcome.{IsOutcome, Outcome, alpha_in, entries_in, link_in, link_into, no_history, node_in, row_in, stamped_in, start_of}
 use Rattle.gather_laws.proofs.Asides.{met_simulate}
+use Rattle.gather_laws.proofs.Merged.{AreStamped, runs_merge, stamps_rise}
+use Rattle.pool.specs.alpha_core.Stamped.{Stamped}
+use Rattle.pool.specs.stamps.Stamps.{bare_of}
 use Rattle.node_pool.proofs.Rows.{some_there, get_map, row_map, get_field, node_of, as_many}
 
 module _ {S M E : Type 0} (program : Program S M E) (net : Net) where
@@ -74,6 +79,7 @@ pub record AreGathered {S M E A F : Type 0} (program : Program S M E) (net : Net
   pub last : (a : A) → (alpha a).last ≡ last_pulse_on program net
   pub keeps : (a : A) → NodeKept program net (vertex a) (alpha a).node (by_port (puts a)) (by_port (reacted_to (aside a) (map taken (takes a))))
   pub set_aside : (a : A) (x : Aside M) → aside a ≡ Some x → IsAside (last_pulse_on program net) (alpha a).node.view (map taken (takes a)) x
+  pub by_refusal : All (λ a. (x : Aside M) → aside a ≡ Some x → x.why ≡ Refused) nodes
   pub writes : (a : A) → IsTranscript program net (vertex a) transcript (alpha a).node (by_port (puts a))
       (by_port (reacted_to (aside a) (map taken (takes a)))) (entries a)
   pub outs : (a : A) → length (puts a) ≡ degree_of net (vertex a)
@@ -157,6 +163,10 @@ module _ {S M E A F : Type 0} (program : Program S M E) (laws : IsProgram progra
         (sym (get_map (λ a. map taken (takes a)) nodes (v - 1) n.0 [] n.1))
         (subst (λ b. IsAside (last_pulse_on program net) b.node.view (map taken (takes n.0)) x) (sym (alpha_is v is))
         (are.set_aside n.0 x (sym (get_map aside nodes (v - 1) n.0 None n.1) ∙ e)));
+    by_refusal = λ v is x e.
+        let n = here v is in
+        are.by_refusal (v - 1) n.0 (omega (arith, is.0, is.1, as_many net vertex nodes are.order)) x
+        (ap aside (get_or_from_slice_get nodes (v - 1) n.0 n.0 n.1) ∙ sym (get_map aside nodes (v - 1) n.0 None n.1) ∙ e);
     ports = λ v is.
         let n = here v is in
         ap (λ l. length l) (get_map (λ a. map taken (takes a)) nodes (v - 1) n.0 [] n.1) ∙ length-map (takes n.0) taken ∙ are.ins n.0
@@ -186,7 +196,7 @@ module _ {S M E A F : Type 0} (program : Program S M E) (laws : IsProgram progra
   }
 
   -- and its entries are those of what the links say
-  written : (v : ℕ) → IsVertex net v
+  pub written : (v : ℕ) → IsVertex net v
       → IsTranscript program net v transcript (node_in program net outcome v) (λ i. (link_in outcome v i).put) (λ i. (link_into net outcome v i).taken)
       (entries_in outcome v)
   written v is =
@@ -199,8 +209,10 @@ module _ {S M E A F : Type 0} (program : Program S M E) (laws : IsProgram progra
       (sym (get_map (λ a. map taken (takes a)) nodes (v - 1) n.0 [] n.1))
       (sym (ap (λ l. get_or l (v - 1) []) are.entries_are ∙ get_map entries nodes (v - 1) n.0 [] n.1)) (are.writes n.0))
 
-  pub is_outcome : (capacity : ℕ) → All (λ row. All (λ h. length h.held ≤ capacity) row) outcome.links → IsOutcome program net capacity transcript outcome
-  is_outcome capacity room = record {
+  pub is_outcome : (capacity : ℕ) → All (λ row. All (λ h. length h.held ≤ capacity) row) outcome.links
+      → ((v : ℕ) → IsVertex net v → bare_of (stamped_in outcome v) ≡ entries_in outcome v) → (counters : ℕ → ℕ) (puts takens held : ℕ → ℕ → List (Stamped M))
+      → (IsTrue transcript → AreStamped program net outcome counters puts takens held) → IsOutcome program net capacity transcript outcome
+  is_outcome capacity room same counters puts takens held stamps = record {
     each_once = are.vertices_are ∙ are.order;
     last = λ v is. ap (λ a. a.last) (alpha_is v is) ∙ are.last (here v is).0;
     rows = many ∙ as_many net vertex nodes are.order ∙ sym (length-range_with_len 1 (count_of net));
@@ -210,4 +222,7 @@ module _ {S M E A F : Type 0} (program : Program S M E) (laws : IsProgram progra
         room (v - 1) [] (omega (arith, is.0, is.1, many, as_many net vertex nodes are.order)) i no_history (omega (arith, lt, row_long v is));
     simulates = simulates ok (runs program laws net ok) kept;
     written = written;
+    same = same;
+    rises = λ yes. stamps_rise program net ok outcome counters puts takens held (stamps yes);
+    merged = λ yes. runs_merge program net ok outcome counters puts takens held (stamps yes);
   }

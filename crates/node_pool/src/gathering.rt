@@ -1,18 +1,19 @@
 //! The nodes and links of a run become its outcome.
 
-ghost use Rattle.std.specs.Prelude.{◌≡◌, ◌≤◌, ℕ, All, IfOk, map};
+ghost use Rattle.std.specs.Prelude.{◌≡◌, ◌≢◌, ◌≤◌, ℕ, All, IfErr, IfOk, map};
 ghost use Rattle.alpha_laws.specs.interference.Net.{vertices};
 ghost use Rattle.node_pool.specs.Rows.{HasShape};
-ghost use Rattle.actor.specs.link_queue.Ends.{link_capacity};
-ghost use Rattle.actor.specs.Tables.{tables_of};
+ghost use Rattle.pool.specs.link_queue.Ends.{link_capacity};
+ghost use Rattle.pool.specs.actor.Tables.{tables_of};
 ghost use Rattle.gather_laws.specs.Outcome.{IsOutcome};
+ghost use Rattle.pool.specs.declared.fault.PoolFault.TheVariants.{BadOptions};
 
 use crate::cross::crossed;
 use crate::meeting::meet_rows;
 use crate::outcome::Outcome;
-use crate::taking_apart::{NodesAndEnds, apart};
-use actor::{Link, Node, Wiring};
-use alpha_laws::{Memory, Network, NodeProgram};
+use crate::taking_apart::{NodesAndEnds, apart, some_full};
+use alpha_laws::{Network, NodeProgram};
+use pool::{Link, Node, PoolFault, Wiring};
 use std::alloc::Global;
 use std::sync::Wait;
 
@@ -21,14 +22,15 @@ use std::sync::Wait;
 ///
 /// # Errors
 ///
-/// `Memory` if memory is refused.
+/// `Memory` if memory is refused; `StampFull` if a node set a wire aside since the stamp of its take would be too
+/// great.
 pub(crate) fn gathered<J: Wiring, P: NodeProgram, R: Wait>(
     rt: &R,
     alloc: Global,
     net: &Network,
     links: Vec<Vec<Link<P>>>,
     nodes: Vec<Node<J, P>>,
-) -> Result<Outcome<P>, Memory>
+) -> Result<Outcome<P>, PoolFault>
     requires network { J.net ≡ net.now }
     requires tables { tables_of (map (λ row. row.items) links.items) ≡ J.tables }
     requires shape { HasShape net.now (map (λ row. row.items) links.items) }
@@ -36,7 +38,11 @@ pub(crate) fn gathered<J: Wiring, P: NodeProgram, R: Wait>(
     ensures outcome { IfOk result (λ outcome. (capacity : ℕ)
         → All (λ row. All (λ link. link_capacity link ≤ capacity) row.items) links.items
         → IsOutcome P.program net.now capacity J.transcript outcome) }
+    ensures fault { IfErr result (λ fault. fault ≢ BadOptions) }
 {
+    if some_full(&nodes) {
+        return Err(PoolFault::StampFull);
+    }
     net.is_network();
     let NodesAndEnds {
         actors,

@@ -29,11 +29,10 @@ mod taking_apart;
 mod wires;
 
 pub use crate::taking_apart::Actor;
-pub use actor::{Gate, OpenGate};
 pub use outcome::Outcome;
-pub use pool::PoolFault;
+pub use pool::{Gate, OpenGate, PoolFault};
 pub use run::run_workers;
 
 // What crates above name of lower ones.
-pub use gather_laws::laws::whole_outcomes_are_complete;
+pub use gather_laws::laws::{whole_outcomes_are_complete, whole_outcomes_replay};
 pub use run_options::{MAX_CAPACITY, MAX_WORKERS, Options};

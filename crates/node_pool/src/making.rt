@@ -4,8 +4,8 @@ ghost use Rattle.std.specs.Prelude.{◌≡◌, ◌<◌, ◌≤◌, IfOk, map};
 ghost use Rattle.alpha_laws.specs.interference.Net.{IsVertex, degree_of};
 ghost use Rattle.node_pool.specs.Makes.{AreLinksOf, AreMade};
 
-use actor::{Link, PutEnd, TakeEnd};
 use alpha_laws::{Memory, Network, NodeProgram};
+use pool::{Link, PutEnd, TakeEnd};
 use run_options::MAX_CAPACITY;
 use std::alloc::Global;
 

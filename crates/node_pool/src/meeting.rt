@@ -1,13 +1,13 @@
 //! Each link's ends meet.
 
 ghost use Rattle.std.specs.Prelude.{◌≡◌, ◌≤◌, ℕ, All, IfOk, Some, length, map};
-ghost use Rattle.actor.specs.link_queue.Ends.{HasMet, held_of, link_capacity, put_list, put_name, taken_list};
-ghost use Rattle.actor.specs.Tables.{table_at, table_of};
+ghost use Rattle.pool.specs.link_queue.Ends.{HasMet, held_stamped, link_capacity, put_stamped, put_name, taken_stamped};
+ghost use Rattle.pool.specs.actor.Tables.{table_at, table_of};
 ghost use Rattle.node_pool.specs.Meets.{AreMet, RowsAreMet};
 
 use crate::pairs::pairs;
-use actor::{Link, Met, WiredPut, WiredTake, Wiring};
 use alpha_laws::{Memory, NodeProgram};
+use pool::{Link, Met, WiredPut, WiredTake, Wiring};
 use std::alloc::Global;
 use std::sync::Wait;
 
@@ -27,8 +27,8 @@ fn meet_one<J: Wiring, P: NodeProgram, R: Wait>(
 ) -> Result<Met<P::Payload>, Memory>
     requires link { table_at J.tables put.vertex put.port ≡ Some (table_of link) }
     requires same { (take.vertex ≡ put.vertex) × (take.port ≡ put.port) }
-    ensures met { IfOk result (λ met. HasMet met (put_name put.end) (put_list put.end) (taken_list take.end)) }
-    ensures room { IfOk result (λ met. length (held_of met) ≤ link_capacity link) }
+    ensures met { IfOk result (λ met. HasMet met (put_name put.end) (put_stamped put.end) (taken_stamped take.end)) }
+    ensures room { IfOk result (λ met. length (held_stamped met) ≤ link_capacity link) }
 {
     match link.meet(rt, alloc, put.end, take.end) {
         Ok(met) => Ok(met),
@@ -44,10 +44,10 @@ fn meet_row<J: Wiring, P: NodeProgram, R: Wait>(
 ) -> Result<Vec<Met<P::Payload>>, Memory>
     requires links { All (λ x. table_at J.tables x.1.0.vertex x.1.0.port ≡ Some (table_of x.0)) row.items }
     requires same { All (λ x. (x.1.1.vertex ≡ x.1.0.vertex) × (x.1.1.port ≡ x.1.0.port)) row.items }
-    ensures met { IfOk result (λ mets. AreMet mets.items (map (λ x. put_list x.1.0.end) row.items)
-        (map (λ x. taken_list x.1.1.end) row.items)) }
+    ensures met { IfOk result (λ mets. AreMet mets.items (map (λ x. put_stamped x.1.0.end) row.items)
+        (map (λ x. taken_stamped x.1.1.end) row.items)) }
     ensures room { IfOk result (λ mets. (capacity : ℕ) → All (λ x. link_capacity x.0 ≤ capacity) row.items
-        → All (λ met. length (held_of met) ≤ capacity) mets.items) }
+        → All (λ met. length (held_stamped met) ≤ capacity) mets.items) }
 {
     let mut mets = Vec::new(alloc);
     for (link, (put, take)) in row {
@@ -72,10 +72,10 @@ pub fn meet_ends<J: Wiring, P: NodeProgram, R: Wait>(
         ≡ map (λ link. Some (table_of link)) links.items }
     requires takes { map {B = ℕ × ℕ} (λ e. (e.vertex, e.port)) takes.items
         ≡ map {B = ℕ × ℕ} (λ e. (e.vertex, e.port)) puts.items }
-    ensures met { IfOk result (λ mets. AreMet mets.items (map (λ e. put_list e.end) puts.items)
-        (map (λ e. taken_list e.end) takes.items)) }
+    ensures met { IfOk result (λ mets. AreMet mets.items (map (λ e. put_stamped e.end) puts.items)
+        (map (λ e. taken_stamped e.end) takes.items)) }
     ensures room { IfOk result (λ mets. (capacity : ℕ) → All (λ link. link_capacity link ≤ capacity) links.items
-        → All (λ met. length (held_of met) ≤ capacity) mets.items) }
+        → All (λ met. length (held_stamped met) ≤ capacity) mets.items) }
 {
     let ends = pairs(alloc, puts, takes)?;
     let row = pairs(alloc, links, ends)?;
@@ -93,11 +93,11 @@ fn meet_each<J: Wiring, P: NodeProgram, R: Wait>(
     requires takes { All (λ x. map {B = ℕ × ℕ} (λ e. (e.vertex, e.port)) x.1.1.items
         ≡ map {B = ℕ × ℕ} (λ e. (e.vertex, e.port)) x.1.0.items) rows.items }
     ensures met { IfOk result (λ all. RowsAreMet (map (λ mets. mets.items) all.items)
-        (map (λ x. map (λ e. put_list e.end) x.1.0.items) rows.items)
-        (map (λ x. map (λ e. taken_list e.end) x.1.1.items) rows.items)) }
+        (map (λ x. map (λ e. put_stamped e.end) x.1.0.items) rows.items)
+        (map (λ x. map (λ e. taken_stamped e.end) x.1.1.items) rows.items)) }
     ensures room { IfOk result (λ all. (capacity : ℕ)
         → All (λ x. All (λ link. link_capacity link ≤ capacity) x.0.items) rows.items
-        → All (λ mets. All (λ met. length (held_of met) ≤ capacity) mets.items) all.items) }
+        → All (λ mets. All (λ met. length (held_stamped met) ≤ capacity) mets.items) all.items) }
 {
     let mut all = Vec::new(alloc);
     for (links, (puts, takes)) in rows {
@@ -123,11 +123,11 @@ pub fn meet_rows<J: Wiring, P: NodeProgram, R: Wait>(
     requires takes { map (λ row. map {B = ℕ × ℕ} (λ e. (e.vertex, e.port)) row.items) takes.items
         ≡ map (λ row. map {B = ℕ × ℕ} (λ e. (e.vertex, e.port)) row.items) puts.items }
     ensures met { IfOk result (λ all. RowsAreMet (map (λ mets. mets.items) all.items)
-        (map (λ row. map (λ e. put_list e.end) row.items) puts.items)
-        (map (λ row. map (λ e. taken_list e.end) row.items) takes.items)) }
+        (map (λ row. map (λ e. put_stamped e.end) row.items) puts.items)
+        (map (λ row. map (λ e. taken_stamped e.end) row.items) takes.items)) }
     ensures room { IfOk result (λ all. (capacity : ℕ)
         → All (λ row. All (λ link. link_capacity link ≤ capacity) row.items) links.items
-        → All (λ mets. All (λ met. length (held_of met) ≤ capacity) mets.items) all.items) }
+        → All (λ mets. All (λ met. length (held_stamped met) ≤ capacity) mets.items) all.items) }
 {
     let ends = pairs(alloc, puts, takes)?;
     let rows = pairs(alloc, links, ends)?;

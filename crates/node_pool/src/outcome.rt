@@ -6,8 +6,8 @@ ghost use Rattle.gather_laws.specs.Outcome.{all_drained, all_empty, is_whole, li
 ghost use Rattle.node_pool.specs.Gathers.{gathered_of};
 
 use crate::taking_apart::Actor;
-use actor::Met;
 use alpha_laws::NodeProgram;
+use pool::Met;
 use std::marker::Model;
 
 /// What a run of workers leaves: every node, ascending by vertex, and every link with what it still holds.

@@ -1,7 +1,7 @@
 //! A run of workers, from a network to its outcome.
 
 ghost use Rattle.std.specs.Prelude.{◌≡◌, ◌≢◌, ◌↔◌, IfErr, IfOk, IsTrue, Result, Err, map};
-ghost use Rattle.actor.specs.Tables.{tables_of};
+ghost use Rattle.pool.specs.actor.Tables.{tables_of};
 ghost use Rattle.gather_laws.specs.Outcome.{IsOutcome};
 ghost use Rattle.pool.specs.declared.fault.PoolFault.TheVariants.{BadOptions};
 ghost use Rattle.run_options.specs.Ranges.{AreInRange};
@@ -11,9 +11,8 @@ use crate::gathering::gathered;
 use crate::making::{Made, make_links};
 use crate::outcome::Outcome;
 use crate::starting::start_nodes;
-use actor::{Gate, Links, Wiring};
 use alpha_laws::{Network, NodeProgram};
-use pool::{PoolFault, by_vertex, run_nodes};
+use pool::{Gate, Links, PoolFault, Wiring, by_vertex, run_nodes};
 use run_options::{MAX_CAPACITY, MAX_WORKERS, Options};
 use std::alloc::Global;
 use std::marker::Brand;
@@ -62,7 +61,7 @@ fn run_made<J: Wiring + Send + Sync, P: NodeProgram, G: Gate + Sync, R: Threads 
         options.turns,
     )?;
     let nodes = by_vertex(alloc, nodes)?;
-    Ok(gathered(rt, alloc, net, links.into_rows(), nodes)?)
+    gathered(rt, alloc, net, links.into_rows(), nodes)
 }
 
 /// Runs all nodes of a network asynchronously, on worker threads with links between the nodes.
@@ -74,7 +73,8 @@ fn run_made<J: Wiring + Send + Sync, P: NodeProgram, G: Gate + Sync, R: Threads 
 /// # Errors
 ///
 /// `BadOptions`, which is looked at first, exactly if the options are out of range; `Memory` if memory is refused;
-/// `Spawn` if a thread is, and those that had begun are joined. Nothing is left of the run.
+/// `Spawn` if a thread is, and those that had begun are joined; `StampFull` if a stamp would pass
+/// 18446744073709551615, and no other fault is told. Nothing is left of the run.
 pub fn run_workers<P: NodeProgram, G: Gate + Sync, R: Threads + Wait + Sync>(
     rt: &R,
     alloc: Global,

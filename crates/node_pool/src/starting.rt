@@ -2,13 +2,13 @@
 
 ghost use Rattle.std.specs.Prelude.{◌≡◌, ◌∷◌, ◌++◌, ◌<◌, [], All, IfOk, map, reverse, vec_len};
 ghost use Rattle.alpha_laws.specs.interference.Net.{IsVertex, vertices};
-ghost use Rattle.actor.specs.alpha_core.Program.{start_node};
+ghost use Rattle.pool.specs.alpha_core.Program.{start_node};
 ghost use Rattle.node_pool.specs.News.{AreNewEnds, AreNewPutsFrom, AreNewTakesTo};
 
 use crate::cross::crossed;
 use crate::wires::{wired_puts, wired_takes};
-use actor::{Node, PutEnd, TakeEnd, Wiring};
 use alpha_laws::{Memory, Network, NodeProgram};
+use pool::{Node, PutEnd, TakeEnd, Wiring};
 use std::alloc::Global;
 
 // Takes the last row off.

@@ -1,9 +1,10 @@
 //! A node after the run, and the nodes taken apart.
 
 ghost use Rattle.std.specs.Prelude.{◌≡◌, IfOk, map};
+ghost use Rattle.node_pool.specs.Full.{is_full, some_full};
 
-use actor::{AlphaNode, Entries, Node, WiredPut, WiredTake, Wiring};
 use alpha_laws::NodeProgram;
+use pool::{AlphaNode, Entries, Node, WhyAside, WiredPut, WiredTake, Wiring};
 use std::alloc::{AllocError, Global};
 
 /// A node after the run, with its vertex and its entries.
@@ -29,7 +30,7 @@ impl<P: NodeProgram> Actor<P> {
         &self.alpha
     }
 
-    /// What it did, in order; empty without a transcript.
+    /// What it did, in order, each entry with its stamp; empty without a transcript.
     pub fn entries(&self) -> &Entries<P::Payload>
         ensures entries { result.now ≡ self.now.entries }
     {
@@ -43,6 +44,31 @@ pub struct NodesAndEnds<J: Wiring, P: NodeProgram> {
     pub actors: Vec<Actor<P>>,
     pub puts: Vec<Vec<WiredPut<J, P::Payload>>>,
     pub takes: Vec<Vec<WiredTake<J, P::Payload>>>,
+}
+
+// Whether a node has set a wire aside since the stamp of its take would be too great.
+fn is_full<J: Wiring, P: NodeProgram>(node: &Node<J, P>) -> bool
+    ensures { result ≡ is_full node.now.aside }
+{
+    match &node.aside {
+        None => false,
+        Some(aside) => match aside.why {
+            WhyAside::Refused => false,
+            WhyAside::StampFull(_) => true,
+        },
+    }
+}
+
+/// Whether one of the nodes has set a wire aside since the stamp of its take would be too great.
+pub fn some_full<J: Wiring, P: NodeProgram>(nodes: &Vec<Node<J, P>>) -> bool
+    ensures { result ≡ some_full (map (λ n. n.aside) nodes.now.items) }
+{
+    for node in nodes.as_slice() {
+        if is_full(node) {
+            return true;
+        }
+    }
+    false
 }
 
 /// The nodes without their ends, and the ends, in the order of the nodes.
@@ -60,6 +86,8 @@ pub fn apart<J: Wiring, P: NodeProgram>(
         (λ both. map (λ a. a.alpha) both.actors.items ≡ map (λ n. n.alpha) nodes.items) }
     ensures entries { IfOk result
         (λ both. map (λ a. a.entries.items) both.actors.items ≡ map (λ n. n.entries.items) nodes.items) }
+    ensures stamped { IfOk result
+        (λ both. map (λ a. a.entries.stamped) both.actors.items ≡ map (λ n. n.entries.stamped) nodes.items) }
     ensures puts { IfOk result
         (λ both. map (λ row. row.items) both.puts.items ≡ map (λ n. n.puts.items) nodes.items) }
     ensures takes { IfOk result
@@ -78,6 +106,7 @@ pub fn apart<J: Wiring, P: NodeProgram>(
             aside: _,
             transcript: _,
             entries,
+            counter: _,
         } = node;
         actors.push(Actor {
             vertex,

@@ -3,12 +3,12 @@
 ghost use Rattle.std.specs.Prelude.{◌≡◌, ◌≤◌, [], All, IfOk, map};
 ghost use Rattle.alpha_laws.specs.interference.Net.{IsVertex, degree_of};
 ghost use Rattle.alpha_laws.below.interference.specs.declared.limits.TheConstants.{MAX_DEGREE};
-ghost use Rattle.actor.specs.link_queue.Ends.{put_list, taken_list};
-ghost use Rattle.actor.specs.Node.{links_in, links_out};
+ghost use Rattle.pool.specs.link_queue.Ends.{put_list, taken_list};
+ghost use Rattle.pool.specs.actor.Node.{links_in, links_out};
 ghost use Rattle.node_pool.specs.News.{AreNewPutsFrom, AreNewTakesTo};
 
-use actor::{PutEnd, TakeEnd, WiredPut, WiredTake, Wiring};
 use alpha_laws::{Network, NodeProgram};
+use pool::{PutEnd, TakeEnd, WiredPut, WiredTake, Wiring};
 use std::alloc::{AllocError, Global};
 
 /// The ends that put, of the links out of a vertex.

@@ -8,3 +8,5 @@ pub mod Pushed
 pub mod Rule
 pub mod Steps
 pub mod Views
+mod Ends
+pub mod actor

@@ -1,18 +1,23 @@
 //! What workers hand back becomes all nodes of the run.
 
-ghost use Rattle.std.specs.Prelude.{◌≡◌, ◌<◌, ◌≤◌, ◌+◌, ◌++◌, ℕ, [], All, IfErr, IfOk, map, vec_len};
+ghost use Rattle.std.specs.Prelude.{◌≡◌, ◌≢◌, ◌<◌, ◌≤◌, ◌+◌, ◌++◌, ℕ, [], All, IfErr, IfOk, map, vec_len};
+ghost use Rattle.std.specs.Prelude.{Contains, Err, false};
+ghost use Rattle.actor.specs.declared.refused.TurnRefused.TheVariants as turn;
 ghost use Rattle.actor.specs.interference.Net.{vertices};
 ghost use Rattle.crossbeam_deque.specs.Handles.{view, worker_deque, worker_view};
 ghost use Rattle.pool.specs.Ledgers.{AreDealt, AreSame, all_shares, in_hand, in_rows, pushed_by, shares_of, taken_by};
 ghost use Rattle.pool.specs.Ledgers.{weigh};
 ghost use Rattle.pool.specs.Deques.{deque_of};
+ghost use Rattle.pool.specs.Ends.{told_after};
+ghost use Rattle.pool.specs.declared.fault.PoolFault.TheVariants.{BadOptions, Memory};
 ghost use Rattle.run_options.specs.declared.TheConstants.{MAX_WORKERS};
 
 use crate::desk::Desk;
+use crate::fault::PoolFault;
 use crate::guest::{Guest, Own};
 use crate::ledger::{Gets, OneShare};
 use crate::looks::Worked;
-use actor::{Memory, Node, NodeProgram, Wiring};
+use actor::{Node, NodeProgram, TurnRefused, Wiring};
 use std::alloc::{AllocError, Global};
 use std::sync::Wait;
 
@@ -118,11 +123,30 @@ fn with_those_of<J: Wiring, P: NodeProgram>(
     Ok(nodes)
 }
 
-// What workers handed back, apart, unless one of them was refused memory.
+// The fault of a run in which a turn of a worker ended early, if there is such a turn. Memory is told first.
+fn told<J: Wiring, P: NodeProgram>(done: &Vec<Worked<J, P>>) -> Result<(), PoolFault>
+    ensures told { result ≡ told_after tt (map (λ w. w.written) done.now.items) false }
+    ensures fault { IfErr result (λ fault. fault ≢ BadOptions) }
+{
+    let mut full = false;
+    for worked in done.as_slice() {
+        match worked.written {
+            Ok(()) => {}
+            Err(TurnRefused::Memory) => return Err(PoolFault::Memory),
+            Err(TurnRefused::StampFull) => full = true,
+        }
+    }
+    if full {
+        return Err(PoolFault::StampFull);
+    }
+    Ok(())
+}
+
+// What workers handed back, apart.
 fn apart<J: Wiring, P: NodeProgram>(
     alloc: Global,
     done: Vec<Worked<J, P>>,
-) -> Result<Back<J, P>, Memory>
+) -> Result<Back<J, P>, AllocError>
     ensures owns { IfOk result
         (λ b. map worker_deque b.owns.items ≡ map (λ w. worker_deque w.desk.own) done.items) }
     ensures rows { IfOk result (λ b. map (λ row. map (λ g. deque_of g.pass) row.items) b.rows.items
@@ -135,14 +159,12 @@ fn apart<J: Wiring, P: NodeProgram>(
         ≡ pushed_by h (map worker_view b.owns.items)
         + in_rows (pushed_by h) (map (λ row. map (λ g. view g.pass) row.items) b.rows.items)
         + weigh h (map (λ b. b.value.vertex) b.nodes.items)) }
-    ensures memory { IfOk result (λ _. All (λ w. IfErr w.written (λ _. ⊥)) done.items) }
 {
     let mut owns = Vec::new(alloc);
     let mut rows = Vec::new(alloc);
     let mut nodes = Vec::new(alloc);
     for worked in done {
-        let Worked { desk, written } = worked;
-        written?;
+        let Worked { desk, written: _ } = worked;
         let Desk {
             own,
             guests,
@@ -160,20 +182,28 @@ fn apart<J: Wiring, P: NodeProgram>(
 ///
 /// # Errors
 ///
-/// `Memory` if memory is refused, or was refused to a worker.
+/// `Memory` if memory is refused, or was refused to a worker. `StampFull` if no worker was refused memory, and a stamp
+/// of one would pass 18446744073709551615.
 pub fn gather<J: Wiring, P: NodeProgram, R: Wait>(
     rt: &R,
     alloc: Global,
     dealt: Vec<Guest<J, P>>,
     done: Vec<Worked<J, P>>,
-) -> Result<Vec<Box<Node<J, P>>>, Memory>
+) -> Result<Vec<Box<Node<J, P>>>, PoolFault>
     requires deques { map (λ g. deque_of g.pass) dealt.items ≡ map (λ w. worker_deque w.desk.own) done.items }
     requires guests { All (λ w. map (λ g. deque_of g.pass) w.desk.guests.items
         ≡ map (λ g. deque_of g.pass) dealt.items) done.items }
     requires few { vec_len dealt ≤ MAX_WORKERS }
     requires dealt { AreDealt (map (λ g. view g.pass) dealt.items) (vertices J.net) }
     ensures once { IfOk result (λ all. AreSame (map (λ b. b.value.vertex) all.items) (vertices J.net)) }
+    ensures ended { IfOk result (λ _. All (λ w. IfErr w.written (λ _. ⊥)) done.items) }
+    ensures memory_first { Contains (map (λ w. w.written) done.items) (Err turn.Memory) → result ≡ Err Memory }
+    ensures fault { IfErr result (λ fault. fault ≢ BadOptions) }
 {
+    match told(&done) {
+        Ok(()) => {}
+        Err(fault) => return Err(fault),
+    }
     let Back {
         mut owns,
         rows,

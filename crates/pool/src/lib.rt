@@ -36,3 +36,9 @@ mod signals;
 pub use fault::PoolFault;
 pub use order::by_vertex;
 pub use run::run_nodes;
+
+// What crates above name of lower ones.
+pub use actor::{
+    AlphaNode, Entries, Gate, Link, Links, Met, Node, OpenGate, PutEnd, TakeEnd, WhyAside,
+    WiredPut, WiredTake, Wiring,
+};

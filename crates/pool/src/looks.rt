@@ -8,7 +8,7 @@ use crate::desk::Desk;
 use crate::guest::Thief;
 use crate::ledger::Gives;
 use crate::signals::Signals;
-use actor::{Gate, Links, Memory, Node, NodeProgram, Wiring};
+use actor::{Gate, Links, Node, NodeProgram, TurnRefused, Wiring};
 use std::sync::Wait;
 use std::thread;
 
@@ -21,11 +21,11 @@ pub struct Crew<'a, J: Wiring, P: NodeProgram, G: Gate> {
     pub nodes: u64,
 }
 
-/// What a worker hands back: what it has, and whether all entries were written down.
+/// What a worker hands back: what it has, and whether all its turns came to their end.
 #[derive(Drop)]
 pub struct Worked<J: Wiring, P: NodeProgram> {
     pub desk: Desk<J, P>,
-    pub written: Result<(), Memory>,
+    pub written: Result<(), TurnRefused>,
 }
 
 // The node goes to the finished places, if nothing is left for it to do, or else to the worker's own deque. If that
@@ -54,7 +54,7 @@ fn turn<J: Wiring, P: NodeProgram, R: Wait, G: Gate>(
     crew: &Crew<J, P, G>,
     worker: u32,
     node: &mut Box<Node<J, P>>,
-) -> Result<bool, Memory>
+) -> Result<bool, TurnRefused>
     ensures vertex { node.new.value.vertex ≡ node.old.value.vertex }
 {
     crew.gate.enter(rt, worker, node.vertex);
@@ -72,7 +72,7 @@ fn turn_in_hand<J: Wiring, P: NodeProgram, R: Wait, G: Gate>(
     crew: &Crew<J, P, G>,
     worker: u32,
     desk: &mut Desk<J, P>,
-) -> Result<bool, Memory>
+) -> Result<bool, TurnRefused>
     ensures own { desk.new.own ≡ desk.old.own }
     ensures guests { desk.new.guests ≡ desk.old.guests }
 {
@@ -83,14 +83,14 @@ fn turn_in_hand<J: Wiring, P: NodeProgram, R: Wait, G: Gate>(
 }
 
 // One look. A node that is found makes a turn and is put back. Returns whether a node was found and did something, or
-// that memory for an entry of it was refused.
+// why its turn ended early.
 fn look<J: Wiring, P: NodeProgram, R: Wait, G: Gate>(
     rt: &R,
     crew: &Crew<J, P, G>,
     thieves: &Vec<Thief<J, P>>,
     worker: u32,
     desk: &mut Desk<J, P>,
-) -> Result<bool, Memory>
+) -> Result<bool, TurnRefused>
     requires worker { worker < vec_len thieves.now }
     requires deques { map (λ g. deque_of g.pass) desk.old.guests.items ≡ map stealer_deque thieves.now.items }
     ensures own { worker_deque desk.new.own ≡ worker_deque desk.old.own }
@@ -104,7 +104,7 @@ fn look<J: Wiring, P: NodeProgram, R: Wait, G: Gate>(
     turned
 }
 
-/// At most so many looks, and none after memory for an entry was refused.
+/// At most so many looks, and none after a turn that ended early.
 pub fn work<J: Wiring, P: NodeProgram, R: Wait, G: Gate>(
     rt: &R,
     crew: &Crew<J, P, G>,
@@ -126,8 +126,8 @@ pub fn work<J: Wiring, P: NodeProgram, R: Wait, G: Gate>(
         match look(rt, crew, thieves, worker, &mut desk) {
             Ok(true) => {}
             Ok(false) => thread::yield_now(),
-            Err(memory) => {
-                written = Err(memory);
+            Err(refused) => {
+                written = Err(refused);
                 break;
             }
         }

@@ -127,7 +127,8 @@ fn join_all<J: Wiring, P: NodeProgram, R: Threads + Wait>(
 /// # Errors
 ///
 /// `Memory` if memory is refused, also for an entry of a node: its worker stops at once. `Spawn` if a thread is
-/// refused. The workers that had begun are joined.
+/// refused. `StampFull` if a stamp would pass 18446744073709551615, and no other fault is told: its worker stops at
+/// once. The workers that had begun are joined.
 pub fn run_nodes<J: Wiring + Send + Sync, P: NodeProgram, G: Gate + Sync, R: Threads + Wait + Sync>(
     rt: &R,
     alloc: Global,
@@ -172,5 +173,5 @@ pub fn run_nodes<J: Wiring + Send + Sync, P: NodeProgram, G: Gate + Sync, R: Thr
             join_all(rt, crew.signals, children)
         },
     )?;
-    Ok(gather(rt, alloc, dealt, done)?)
+    gather(rt, alloc, dealt, done)
 }

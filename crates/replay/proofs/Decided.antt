@@ -7,7 +7,7 @@ use Rattle.alpha_laws.proofs.interference.Neighbours.{port_to-is}
 use Rattle.alpha_laws.specs.node_api.Program.{Program}
 use Rattle.alpha_laws.specs.alpha_core.Wire.{Wire}
 use Rattle.alpha_laws.specs.alpha_core.View.{port_at}
-use Rattle.entries.specs.declared.entry.Entry.TheVariants as entry
+use Rattle.stamps.specs.entries.Entry.TheVariants as entry
 use Rattle.net_core.specs.declared.event.Event.{Event}
 use Rattle.net_core.specs.declared.event.Event.TheVariants.{Pulse, Put, Take}
 use Rattle.net_core.specs.declared.refused.StepRefused.{StepRefused}

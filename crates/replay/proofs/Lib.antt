@@ -1,4 +1,6 @@
 pub mod Ports
 pub mod Writes
 pub mod Replayed
+pub mod WholeReplays
 pub mod Decided
+pub mod net_core

@@ -4,8 +4,8 @@ use Rattle.std.specs.Option.{option_map}
 use Rattle.alpha_laws.specs.interference.Net.{Net, neighbours, degree_of, neighbour_of, port_to}
 use Rattle.alpha_laws.proofs.interference.Members.{place_of-is}
 use Rattle.alpha_laws.specs.alpha_core.Wire.{Wire}
-use Rattle.entries.specs.declared.entry.Entry.{Entry}
-use Rattle.entries.specs.declared.entry.Entry.TheVariants as entry
+use Rattle.stamps.specs.entries.Entry.{Entry}
+use Rattle.stamps.specs.entries.Entry.TheVariants as entry
 use Rattle.replay.specs.Rows.{Row}
 
 leads : (net : Net) (v w : ℕ) → port_to net v w < degree_of net v → neighbour_of net v (port_to net v w) ≡ w

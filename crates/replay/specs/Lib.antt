@@ -1,3 +1,5 @@
 pub mod Rows
 pub mod Replays
 pub mod Laws
+pub mod Whole
+pub mod net_core

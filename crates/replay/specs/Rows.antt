@@ -3,8 +3,8 @@ use Rattle.std.specs.Prelude.{ℕ, ◌+◌, Bool, Option, Some, option_map, Resu
 use Rattle.alpha_laws.specs.interference.Net.{Net, neighbour_of, port_to}
 use Rattle.alpha_laws.specs.node_api.Program.{Program}
 use Rattle.alpha_laws.specs.alpha_core.View.{port_at}
-use Rattle.entries.specs.declared.entry.Entry.{Entry}
-use Rattle.entries.specs.declared.entry.Entry.TheVariants as entry
+use Rattle.stamps.specs.entries.Entry.{Entry}
+use Rattle.stamps.specs.entries.Entry.TheVariants as entry
 use Rattle.net_core.specs.declared.event.Event.{Event}
 use Rattle.net_core.specs.declared.event.Event.TheVariants.{Pulse, Put, Take}
 use Rattle.net_core.specs.State.{State, link_to, node_of, start}

@@ -2,15 +2,15 @@
 
 ghost use Rattle.std.specs.Prelude.{◌≡◌, ◌<◌, ◌≤◌, false, IfErr, IfNone, IfOk, IfSome};
 ghost use Rattle.alpha_laws.specs.interference.Net.{IsVertex, degree_of, port_to};
-ghost use Rattle.entries.specs.declared.entry.Entry.TheVariants.{Pulse, Put, Take};
+ghost use Rattle.stamps.specs.entries.Entry.TheVariants.{Pulse, Put, Take};
 ghost use Rattle.replay.specs.Replays.{IsMade, IsRefusedEntry};
 ghost use Rattle.replay.specs.Rows.{event_of, has_place};
 
 use crate::refused::EntryRefused;
 use crate::same_wire::carries;
 use alpha_laws::{Network, NodeProgram, Wire};
-use entries::Entry;
 use net_core::{Event, NetState, StepRefused};
+use stamps::Entry;
 
 // The port of a vertex that leads to a neighbour; `None` if it is none.
 fn port_to(net: &Network, v: u32, w: u32) -> Option<u32>

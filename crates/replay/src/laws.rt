@@ -3,9 +3,16 @@
 ghost use Rattle.alpha_laws.specs.node_api.Program.{Program};
 ghost use Rattle.alpha_laws.specs.Laws.{OnEveryNetwork};
 ghost use Rattle.replay.specs.Laws.{ReplaysAreExact};
+ghost use Rattle.replay.specs.Whole.{WholeReplaysAreExact};
 
 /// Entries that are a replay stop nowhere, and lead to one state alone: the events of a replay are those that its
 /// entries are of. So what `replay` refuses is no replay.
 pub fn replays_are_exact<S, M, E>()
     ensures law { (program : Program S M E) → OnEveryNetwork program (ReplaysAreExact program) }
+{}
+
+/// No list of stamped entries is both a whole replay and refused, so `replay_whole` accepts every whole replay that it
+/// has memory for.
+pub fn whole_replays_are_exact<S, M, E>()
+    ensures law { (program : Program S M E) → OnEveryNetwork program (WholeReplaysAreExact program) }
 {}

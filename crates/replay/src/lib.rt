@@ -20,7 +20,10 @@ pub mod laws;
 mod refused;
 mod replaying;
 mod same_wire;
+mod whole;
+mod whole_state;
 
 pub use entry_event::event_of;
-pub use refused::ReplayRefused;
+pub use refused::{ReplayRefused, WholeRefused};
 pub use replaying::replay;
+pub use whole::replay_whole;

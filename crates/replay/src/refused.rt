@@ -29,6 +29,33 @@ impl From<Memory> for ReplayRefused {
     }
 }
 
+/// Why `replay_whole` refuses a list of stamped entries: by the first that isn't in place, or by the state at the end.
+#[derive(Debug, Clone, Copy, PartialEq, Eq, Error)]
+pub enum WholeRefused {
+    /// As `replay` refuses the entry.
+    #[error("{0}")]
+    Replay(ReplayRefused),
+    /// The entry of this index, from 0, has another stamp than the counter of its node gives it, or comes too late in
+    /// the order of the stamps and vertices.
+    #[error("entry {0}: another stamp, or out of order")]
+    WrongStamp(usize),
+    /// A node isn't drained at the end, or a link isn't empty.
+    #[error("the entries end before the run does")]
+    NotWhole,
+}
+
+impl From<Memory> for WholeRefused {
+    ghost use Rattle.net_core.specs.declared.refused.RunRefused.TheVariants as run;
+    ghost use Rattle.replay.specs.declared.refused.ReplayRefused.TheVariants.{Run};
+    ghost use Rattle.replay.specs.declared.refused.WholeRefused.TheVariants.{Replay};
+
+    ghost from_gives = { λ _ refused. refused ≡ Replay (Run run.Memory) };
+
+    fn from(memory: Memory) -> WholeRefused {
+        WholeRefused::Replay(memory.into())
+    }
+}
+
 /// Why one entry is refused.
 pub(crate) enum EntryRefused {
     /// The event isn't possible.

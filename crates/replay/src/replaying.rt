@@ -9,8 +9,8 @@ ghost use Rattle.replay.specs.Replays.{IsReplay, Stops};
 use crate::entry_event::make_entry;
 use crate::refused::ReplayRefused;
 use alpha_laws::{Network, NodeProgram};
-use entries::Entry;
 use net_core::NetState;
+use stamps::Entry;
 use std::alloc::Global;
 
 /// Plays entries, each behind the vertex of its node, from the start, and returns the state that they lead to.

@@ -1,4 +1,5 @@
-//! How many workers run the nodes of a network, over what links, and how long.
+//! How many workers run the nodes of a network, over what links, and how long; and in which form their transcript is
+//! written.
 //!
 //! `command_line` reads the options from words, and `node_pool` runs nodes by them.
 //!
@@ -18,6 +19,9 @@ pub const MAX_CAPACITY: u32 = 64;
 /// The greatest number of looks of a worker that the command line takes; `node_pool` has no limit.
 pub const MAX_TURNS: u64 = 1_000_000_000_000;
 
+/// The number of the last edition of transcripts.
+pub const MAX_EDITION: u32 = 2;
+
 const _: () = prove!(MAX_WORKERS == 64 && MAX_CAPACITY == 64 && MAX_TURNS == 1_000_000_000_000);
 
 /// How the nodes of a network are run.
@@ -31,4 +35,13 @@ pub struct Options {
     pub turns: u64,
     /// Whether each node writes down what it puts, takes and does.
     pub transcript: bool,
+}
+
+/// A form of transcripts.
+#[derive(Debug, Clone, Copy, PartialEq, Eq)]
+pub enum Edition {
+    /// The entries of each node, by ascending vertex.
+    One,
+    /// All entries in the order of their stamps, each with its stamp.
+    Two,
 }

@@ -22,7 +22,7 @@ memory-may : (request : Request) (input : List ℕ) → MayAnswer request input 
 memory-may Forests input = tt
 memory-may Plain input = tt
 memory-may (Plan options) input = (tt, λ e. cc)
-memory-may (Transcript options) input = (tt, λ e. cc)
+memory-may (Transcript options edition) input = (tt, λ e. cc)
 memory-may Check input = tt
 memory-may Events input = tt
 memory-may Replay input = tt

@@ -19,7 +19,7 @@ abbrev pub IsGoodAnswer : Request → List ℕ → List ℕ → Type 0
 IsGoodAnswer Forests input answer = IsForestsAnswer input answer
 IsGoodAnswer Plain input answer = IsPlainAnswer input answer
 IsGoodAnswer (Plan options) input answer = IsPlainAnswer input answer
-IsGoodAnswer (Transcript options) input answer = IsTranscriptAnswer input answer
+IsGoodAnswer (Transcript options edition) input answer = IsTranscriptAnswer edition input answer
 IsGoodAnswer Check input answer = IsCheckAnswer input answer
 IsGoodAnswer Events input answer = IsEventsAnswer input answer
 IsGoodAnswer Replay input answer = IsReplayAnswer input answer
@@ -30,7 +30,8 @@ abbrev pub IsFaultAnswer : Request → List ℕ → PlanFault → Type 0
 IsFaultAnswer Forests input fault = IsFaultOfText input fault
 IsFaultAnswer Plain input fault = IsFaultOfText input fault
 IsFaultAnswer (Plan options) input fault = IsFaultOfWorkers options input fault × (fault ≢ Pool BadOptions)
-IsFaultAnswer (Transcript options) input fault = IsFaultOfWorkers options input fault × (fault ≢ Pool BadOptions)
+IsFaultAnswer (Transcript options edition) input fault =
+    IsFaultOfWorkers options input fault × (fault ≢ Pool BadOptions)
 IsFaultAnswer Check input fault = IsFaultOfCheck input fault
 IsFaultAnswer Events input fault = IsFaultOfEvents input fault
 IsFaultAnswer Replay input fault = IsFaultOfReplay input fault

@@ -32,7 +32,9 @@ pub fn answer_bytes<T: Threads + Wait + Sync>(
         Request::Forests => forest_bytes(alloc, input),
         Request::Plain => plain_bytes(alloc, input),
         Request::Plan(options) => plan_bytes(rt, alloc, input, options, &OpenGate),
-        Request::Transcript(options) => transcript_bytes(rt, alloc, input, options, &OpenGate),
+        Request::Transcript(options, edition) => {
+            transcript_bytes(rt, alloc, input, options, edition, &OpenGate)
+        }
         Request::Check => check_bytes(alloc, input),
         Request::Events => events_bytes(alloc, input),
         Request::Replay => replay_bytes(alloc, input),

@@ -9,9 +9,8 @@ use Rattle.std.specs.List.Sorted.{IsStrictlyIncreasing}
 use Rattle.dimacs_col.specs.Lines.{Line}
 use Rattle.channel_plan.specs.Reading.{has_fields}
 use Rattle.channel_plan.specs.Split.{begins, lines_before, lines_from}
-use Rattle.transcripts.specs.Behind.{AreEntryLines, entry_lines, entry_on, network_lines, numbers_from, reading_behind, transcript_lines, transcript_word}
-use Rattle.transcripts.specs.EntryLines.{row_of}
-use Rattle.transcripts.specs.Reading.{IsTranscriptText, Transcript}
+use Rattle.transcripts.specs.Behind.{AreRowLines, entry_lines, network_lines, numbers_from, read_behind, row_on, transcript_lines, transcript_word}
+use Rattle.transcripts.specs.Reading.{Contents, IsText}
 use Rattle.transcripts.proofs.Texts.{texts-are-read-from}
 
 -- ---- the numbers increase
@@ -65,49 +64,49 @@ line-here : (before : List Line) (line : Line) (lines : List Line) → slice_get
 line-here [] line lines = refl
 line-here (first ∷ before) line lines = line-here before line lines
 
-module _ {M : Type 0} (payload_of : List ℕ → ℕ → Option M) where
+module _ {R : Type 0} (edition : List ℕ) (row_of : Line → Option R) where
   rows-numbered : (before lines : List Line) (n : ℕ) → n ≡ suc (length before) →
-      map (entry_on payload_of (before ++ lines)) (numbers_from n lines) ≡ map (row_of payload_of) (filter has_fields lines)
+      map (row_on row_of (before ++ lines)) (numbers_from n lines) ≡ map row_of (filter has_fields lines)
   rows-numbered before [] n s = refl
   rows-numbered before (line ∷ lines) n s =
       numbered-by line refl (rows-numbered (before ++ line ∷ []) lines (n + 1) (omega (arith, s, length-append before (line ∷ []))))
     where
       More : Type 0
-      More = map (entry_on payload_of ((before ++ line ∷ []) ++ lines)) (numbers_from (n + 1) lines) ≡ map (row_of payload_of) (filter has_fields lines)
+      More = map (row_on row_of ((before ++ line ∷ []) ++ lines)) (numbers_from (n + 1) lines) ≡ map row_of (filter has_fields lines)
 
-      later : More → map (entry_on payload_of (before ++ line ∷ lines)) (numbers_from (n + 1) lines) ≡ map (row_of payload_of) (filter has_fields lines)
-      later more = ap (λ ls. map (entry_on payload_of ls) (numbers_from (n + 1) lines)) (sym (append_assoc before (line ∷ []) lines)) ∙ more
+      later : More → map (row_on row_of (before ++ line ∷ lines)) (numbers_from (n + 1) lines) ≡ map row_of (filter has_fields lines)
+      later more = ap (λ ls. map (row_on row_of ls) (numbers_from (n + 1) lines)) (sym (append_assoc before (line ∷ []) lines)) ∙ more
 
-      here : entry_on payload_of (before ++ line ∷ lines) n ≡ row_of payload_of line
-      here = ap (entry_on payload_of (before ++ line ∷ lines)) s ∙ ap (option_and_then (row_of payload_of)) (line-here before line lines)
+      here : row_on row_of (before ++ line ∷ lines) n ≡ row_of line
+      here = ap (row_on row_of (before ++ line ∷ lines)) s ∙ ap (option_and_then row_of) (line-here before line lines)
 
       numbered-by : (l : Line) → line ≡ l → More →
-          map (entry_on payload_of (before ++ line ∷ lines)) (numbers_from n (line ∷ lines)) ≡ map (row_of payload_of) (filter has_fields (line ∷ lines))
+          map (row_on row_of (before ++ line ∷ lines)) (numbers_from n (line ∷ lines)) ≡ map row_of (filter has_fields (line ∷ lines))
       numbered-by [] e more = rw e (rw e at (later more))
       numbered-by (word ∷ words) e more =
-          rw e (rw e at (ap (λ o. o ∷ map (entry_on payload_of (before ++ line ∷ lines)) (numbers_from (n + 1) lines)) here
-          ∙ ap (λ os. row_of payload_of line ∷ os) (later more)))
+          rw e (rw e at (ap (λ o. o ∷ map (row_on row_of (before ++ line ∷ lines)) (numbers_from (n + 1) lines)) here
+          ∙ ap (λ os. row_of line ∷ os) (later more)))
 
-  rows-behind : (network lines : List Line) (read : Transcript M) → HasHead transcript_word lines → IsTranscriptText payload_of lines read →
-      map (entry_on payload_of (network ++ lines)) (numbers_from (length network + 2) (drop 1 lines)) ≡ map (λ row. Some row) read.1
+  rows-behind : (network lines : List Line) (read : Contents R) → HasHead transcript_word lines → IsText edition row_of lines read →
+      map (row_on row_of (network ++ lines)) (numbers_from (length network + 2) (drop 1 lines)) ≡ map (λ row. Some row) read.1
   rows-behind network [] read h is = let wrong : [] ≡ is.first ∷ is.body = is.lines_are in absurd cc
   rows-behind network ([] ∷ lines) read h is = absurd h
   rows-behind network ((word ∷ words) ∷ lines) read h is =
       let line : Line = word ∷ words in
       let all : line ∷ filter has_fields lines ≡ is.first ∷ is.body = is.lines_are in
       let body : filter has_fields lines ≡ is.body = cc in
-      ap (λ ls. map (entry_on payload_of ls) (numbers_from (length network + 2) lines)) (sym (append_assoc network (line ∷ []) lines))
+      ap (λ ls. map (row_on row_of ls) (numbers_from (length network + 2) lines)) (sym (append_assoc network (line ∷ []) lines))
       ∙ rows-numbered (network ++ line ∷ []) lines (length network + 2) (omega (arith, length-append network (line ∷ [])))
-      ∙ ap (map (row_of payload_of)) body ∙ is.rows_are
+      ∙ ap (map row_of) body ∙ is.rows_are
 
-  pub entries-have-lines : (lines : List Line) (read : Transcript M) → reading_behind payload_of lines ≡ Ok read →
-      AreEntryLines payload_of lines read.1 (entry_lines lines)
+  pub entries-have-lines : (lines : List Line) (read : Contents R) → read_behind edition row_of lines ≡ Ok read →
+      AreRowLines row_of lines read.1 (entry_lines lines)
   entries-have-lines lines read e =
       let n = length (network_lines lines) in
       let behind = drop 1 (transcript_lines lines) in
-      let is = (texts-are-read-from payload_of (n + 1) (transcript_lines lines) read).0 e in record {
+      let is = (texts-are-read-from edition row_of (n + 1) (transcript_lines lines) read).0 e in record {
         increase = numbers-increase (n + 2) behind;
         behind = numbers-above (n + 1) (n + 2) behind (omega arith);
-        rows_are = subst (λ ls. map (entry_on payload_of ls) (entry_lines lines) ≡ map (λ row. Some row) read.1) (lines-parted transcript_word lines)
+        rows_are = subst (λ ls. map (row_on row_of ls) (entry_lines lines) ≡ map (λ row. Some row) read.1) (lines-parted transcript_word lines)
             (rows-behind (network_lines lines) (transcript_lines lines) read (from-head transcript_word lines) is);
       }

@@ -3,7 +3,10 @@ pub mod FieldNumbers
 pub mod Payloads
 pub mod Readings
 pub mod Spaced
+pub mod Words
+pub mod WrittenRows
 pub mod Written
 pub mod Texts
 pub mod LinesBehind
+pub mod Either
 pub mod EntryNumbers

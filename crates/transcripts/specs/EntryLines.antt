@@ -8,11 +8,15 @@ use Rattle.alpha_core.specs.declared.wire.Wire.TheVariants.{Payload, Ack, Safe, 
 use Rattle.entries.specs.declared.entry.Entry.{Entry}
 use Rattle.entries.specs.declared.entry.Entry.TheVariants.{Pulse, Put, Take}
 use Rattle.channel_plan.specs.Reading.{small_number}
-use Rattle.transcripts.specs.TranscriptText.{Row}
+use Rattle.transcripts.specs.TranscriptText.{Row, StampedRow}
 
 -- the number that a field spells, if it is below 2^128
 abbrev pub wide_number : List ℕ → Option ℕ
 wide_number field = option_and_then (λ n. if nat_lt n (2 ^ 128) then Some n else None) (number_of field)
+
+-- the number that a field spells, if it is below 2^64
+abbrev pub stamp_number : List ℕ → Option ℕ
+stamp_number field = option_and_then (λ n. if nat_lt n (2 ^ 64) then Some n else None) (number_of field)
 
 -- a value, if no field is left
 abbrev pub only : {A : Type 0} → Line → A → Option A
@@ -71,8 +75,13 @@ module _ {M : Type 0} (payload_of : List ℕ → ℕ → Option M) where
   abbrev pub row_of : Line → Option (Row M)
   row_of line = with_number (λ v others. option_map (λ entry. (v, entry)) (entry_of others)) line
 
--- how many nodes the first line says that there are: it is `transcript 1 NODES`
-abbrev pub header_of : Line → Option ℕ
-header_of line = with_next (λ first others. with_next (λ edition rest.
-    if bytes_eq first (codes "transcript") && bytes_eq edition (codes "1")
+  -- the stamp, the vertex and the entry that a line is
+  abbrev pub stamped_row_of : Line → Option (StampedRow M)
+  stamped_row_of line = with_next (λ field others. option_and_then (λ stamp.
+      option_map (λ row. (stamp, row.0, row.1)) (row_of others)) (stamp_number field)) line
+
+-- how many nodes the first line says that there are: it is `transcript EDITION NODES`
+abbrev pub header_of : List ℕ → Line → Option ℕ
+header_of edition line = with_next (λ first others. with_next (λ second rest.
+    if bytes_eq first (codes "transcript") && bytes_eq second edition
     then with_number (λ nodes left. only left nodes) rest else None) others) line

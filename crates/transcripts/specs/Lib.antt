@@ -2,4 +2,5 @@ pub mod TranscriptText
 pub mod EntryLines
 pub mod Reading
 pub mod Behind
+pub mod Editions
 pub mod Reader

@@ -10,9 +10,21 @@ use Rattle.wire_texts.specs.WireText.{numbered, wire_text}
 abbrev pub Row : Type 0 → Type 0
 Row M = ℕ × Entry M
 
+-- the same behind its stamp
+abbrev pub StampedRow : Type 0 → Type 0
+StampedRow M = ℕ × ℕ × Entry M
+
+-- the line `transcript EDITION NODES`
+abbrev pub first_line_of : List ℕ → ℕ → List ℕ
+first_line_of edition nodes = numbered (codes "transcript " ++ edition ++ codes " ") nodes ++ 10 ∷ []
+
+-- that line, and a line for each row
+abbrev pub text_of : {R : Type 0} → List ℕ → (R → List ℕ) → ℕ → List R → List ℕ
+text_of edition line_of nodes rows = first_line_of edition nodes ++ flat_map line_of rows
+
 -- the line `transcript 1 NODES`
 abbrev pub first_line : ℕ → List ℕ
-first_line nodes = numbered (codes "transcript 1 ") nodes ++ 10 ∷ []
+first_line nodes = first_line_of (codes "1") nodes
 
 module _ {M : Type 0} (word_of : M → List ℕ) (number_of : M → ℕ) where
   -- an entry, with a space before each of its words
@@ -25,9 +37,17 @@ module _ {M : Type 0} (word_of : M → List ℕ) (number_of : M → ℕ) where
   abbrev pub row_text : Row M → List ℕ
   row_text row = (decimal row.0 ++ entry_text row.1) ++ 10 ∷ []
 
+  -- the same with the stamp and a space before it
+  abbrev pub stamped_row_text : StampedRow M → List ℕ
+  stamped_row_text row = decimal row.0 ++ 32 ∷ row_text (row.1, row.2)
+
   -- the line `transcript 1 NODES`, and a line for each entry
   abbrev pub transcript_of : ℕ → List (Row M) → List ℕ
-  transcript_of nodes rows = first_line nodes ++ flat_map row_text rows
+  transcript_of nodes rows = text_of (codes "1") row_text nodes rows
+
+  -- the line `transcript 2 NODES`, and a line for each entry with its stamp
+  abbrev pub stamped_transcript_of : ℕ → List (StampedRow M) → List ℕ
+  stamped_transcript_of nodes rows = text_of (codes "2") stamped_row_text nodes rows
 
   -- an entry that can be read from its line
   abbrev pub IsReadableEntry : (List ℕ → ℕ → Option M) → Entry M → Type 0
@@ -37,3 +57,6 @@ module _ {M : Type 0} (word_of : M → List ℕ) (number_of : M → ℕ) where
 
   abbrev pub IsReadable : (List ℕ → ℕ → Option M) → Row M → Type 0
   IsReadable payload_of row = (row.0 < 2 ^ 32) × IsReadableEntry payload_of row.1
+
+  abbrev pub IsReadableStamped : (List ℕ → ℕ → Option M) → StampedRow M → Type 0
+  IsReadableStamped payload_of row = (row.0 < 2 ^ 64) × IsReadable payload_of (row.1, row.2)

@@ -2,9 +2,9 @@
 
 ghost use Rattle.std.specs.Prelude.{◌≡◌, ◌∷◌};
 ghost use Rattle.transcripts.specs.EntryLines.{entry_of, header_of, only, payload_in, payload_with};
-ghost use Rattle.transcripts.specs.EntryLines.{pulsed_wire, row_of, wire_of, wire_with};
+ghost use Rattle.transcripts.specs.EntryLines.{pulsed_wire, row_of, stamped_row_of, wire_of, wire_with};
 
-use crate::numbers::wide_number;
+use crate::numbers::{stamp_number, wide_number};
 use alpha_core::{PayloadText, Wire};
 use channel_plan::small_number;
 use dimacs_col::Fields;
@@ -99,11 +99,24 @@ pub(crate) fn row_of<T: PayloadText>(first: &[u8], others: Fields) -> Option<(u3
     Some((v, entry_of(others)?))
 }
 
-/// How many nodes a first line says that there are, of which the first field was taken.
-pub(crate) fn header_of(first: &[u8], mut others: Fields) -> Option<u32>
-    ensures { result ≡ header_of (first.now ∷ others.entry) }
+/// The stamp, the vertex and the entry that a line is, of which the first field was taken.
+pub(crate) fn stamped_row_of<T: PayloadText>(
+    first: &[u8],
+    mut others: Fields,
+) -> Option<(u64, u32, Entry<T>)>
+    ensures { result ≡ stamped_row_of T.payload_of (first.now ∷ others.entry) }
 {
-    if first != b"transcript".as_slice() || others.next()? != b"1".as_slice() {
+    let stamp = stamp_number(first)?;
+    let vertex = others.next()?;
+    let (v, entry) = row_of(vertex, others)?;
+    Some((stamp, v, entry))
+}
+
+/// How many nodes a first line of an edition says that there are, of which the first field was taken.
+pub(crate) fn header_of(edition: &[u8], first: &[u8], mut others: Fields) -> Option<u32>
+    ensures { result ≡ header_of edition.now (first.now ∷ others.entry) }
+{
+    if first != b"transcript".as_slice() || others.next()? != edition {
         return None;
     }
     let nodes = small_number(others.next()?)?;

@@ -3,14 +3,27 @@
 
 ghost use Rattle.std.specs.Prelude.{◌≡◌, ◌↔◌, List, ℕ, Ok, Option};
 ghost use Rattle.dimacs_col.specs.Lines.{Line};
-ghost use Rattle.transcripts.specs.Behind.{AreEntryLines, entry_lines, reading_behind, transcript_lines};
-ghost use Rattle.transcripts.specs.Reading.{IsTranscriptText, Transcript, reading_of};
+ghost use Rattle.transcripts.specs.Behind.{AreEntryLines, AreStampedEntryLines, entry_lines, reading_behind};
+ghost use Rattle.transcripts.specs.Behind.{transcript_lines};
+ghost use Rattle.transcripts.specs.Editions.{One, Two, any_reading_behind, any_reading_of};
+ghost use Rattle.transcripts.specs.Reading.{IsStampedText, IsTranscriptText, StampedTranscript, Transcript};
+ghost use Rattle.transcripts.specs.Reading.{reading_of, stamped_reading_of};
 
 /// A text is read as a transcript exactly if its lines that have fields are `transcript 1 NODES` and then an entry
-/// each.
+/// each; with stamps, exactly if they are `transcript 2 NODES` and then an entry with its stamp each.
 pub fn transcript_texts_are_read<M>()
     ensures law { (payload_of : List ℕ → ℕ → Option M) (lines : List Line) (read : Transcript M)
         → (reading_of payload_of lines ≡ Ok read) ↔ IsTranscriptText payload_of lines read }
+    ensures stamped { (payload_of : List ℕ → ℕ → Option M) (lines : List Line) (read : StampedTranscript M)
+        → (stamped_reading_of payload_of lines ≡ Ok read) ↔ IsStampedText payload_of lines read }
+{}
+
+/// What is read of either edition is what is read of one of them.
+pub fn either_edition_is_read<M>()
+    ensures one { (payload_of : List ℕ → ℕ → Option M) (lines : List Line) (read : Transcript M)
+        → (any_reading_of payload_of lines ≡ Ok (One read)) ↔ IsTranscriptText payload_of lines read }
+    ensures two { (payload_of : List ℕ → ℕ → Option M) (lines : List Line) (read : StampedTranscript M)
+        → (any_reading_of payload_of lines ≡ Ok (Two read)) ↔ IsStampedText payload_of lines read }
 {}
 
 /// A transcript is read behind a network text exactly if the lines from the first one that begins with `transcript` on
@@ -21,4 +34,17 @@ pub fn transcripts_behind_are_read<M>()
         → (reading_behind payload_of lines ≡ Ok read) ↔ IsTranscriptText payload_of (transcript_lines lines) read }
     ensures entry_lines { (payload_of : List ℕ → ℕ → Option M) (lines : List Line) (read : Transcript M)
         → reading_behind payload_of lines ≡ Ok read → AreEntryLines payload_of lines read.1 (entry_lines lines) }
+{}
+
+/// The same for a transcript of either edition.
+pub fn either_edition_behind_is_read<M>()
+    ensures one { (payload_of : List ℕ → ℕ → Option M) (lines : List Line) (read : Transcript M)
+        → (any_reading_behind payload_of lines ≡ Ok (One read))
+        ↔ IsTranscriptText payload_of (transcript_lines lines) read }
+    ensures two { (payload_of : List ℕ → ℕ → Option M) (lines : List Line) (read : StampedTranscript M)
+        → (any_reading_behind payload_of lines ≡ Ok (Two read))
+        ↔ IsStampedText payload_of (transcript_lines lines) read }
+    ensures entry_lines { (payload_of : List ℕ → ℕ → Option M) (lines : List Line) (read : StampedTranscript M)
+        → any_reading_behind payload_of lines ≡ Ok (Two read)
+        → AreStampedEntryLines payload_of lines read.1 (entry_lines lines) }
 {}

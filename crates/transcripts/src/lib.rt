@@ -5,6 +5,9 @@
 //! writes one entry, for texts that have other lines too. A caller that has the entries node by node writes the same
 //! text by `push_first_line`, and by `push_entries` for each node.
 //!
+//! In edition 2 the first line is `transcript 2 NODES`, and each entry has its stamp before the vertex. `stamped_text`
+//! writes it, and `read_any` reads both editions.
+//!
 //! ```text
 //! let rows = [(1, Entry::Put(2, Wire::Close)), (2, Entry::Take(1, Wire::Close))];
 //! let text = transcript_text(alloc, 2, &rows)?;          // "transcript 1 2", "1 put 2 close", "2 take 1 close"
@@ -12,13 +15,14 @@
 //! ```
 //!
 //! `read_behind_network` reads a transcript behind a network text, with lines that count from the first one of the
-//! whole input; `network_text` is what stands before it.
+//! whole input, and `read_any_behind_network` one of either edition; `network_text` is what stands before it.
 //!
-//! Nodes, vertices and pulses that are read are below 2^32, numbers of payloads below 2^128. Whether a vertex is there
-//! is for `replay` to say.
+//! Nodes, vertices and pulses that are read are below 2^32, stamps below 2^64, numbers of payloads below 2^128. Whether
+//! a vertex is there, and whether a stamp is right, is for `replay` to say.
 #![tactic(auto)]
 
 mod behind;
+mod editions;
 mod entry_line;
 mod fault;
 pub mod laws;
@@ -26,10 +30,12 @@ mod line_end;
 mod node_lines;
 mod numbers;
 mod reading;
+mod stamped;
 mod writing;
 
 pub use behind::{entry_lines, network_text, read_behind_network};
+pub use editions::{Transcript, read_any, read_any_behind_network};
 pub use fault::TextFault;
 pub use node_lines::push_entries;
 pub use reading::read_transcript;
-pub use writing::{push_first_line, push_row, transcript_text};
+pub use writing::{push_first_line, push_row, stamped_text, transcript_text};

@@ -2,7 +2,7 @@
 
 ghost use Rattle.std.specs.Prelude.{◌≡◌, ◌≢◌, MatchOption, Option, get_or};
 ghost use Rattle.dimacs_col.specs.Lines.{number_of};
-ghost use Rattle.transcripts.specs.EntryLines.{wide_number};
+ghost use Rattle.transcripts.specs.EntryLines.{stamp_number, wide_number};
 
 use std::str::from_utf8;
 
@@ -23,6 +23,13 @@ fn unsigned(field: &[u8]) -> Option<&str>
 /// The number that a field spells, if it is below 2^128.
 pub(crate) fn wide_number(field: &[u8]) -> Option<u128>
     ensures { result ≡ wide_number field.now }
+{
+    unsigned(field)?.parse().ok()
+}
+
+/// The number that a field spells, if it is below 2^64.
+pub(crate) fn stamp_number(field: &[u8]) -> Option<u64>
+    ensures { result ≡ stamp_number field.now }
 {
     unsigned(field)?.parse().ok()
 }

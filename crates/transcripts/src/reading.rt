@@ -1,8 +1,8 @@
-//! The reading of a transcript.
+//! The reading of a transcript of edition 1, and what a reader of either edition keeps.
 
 ghost use Rattle.std.specs.Prelude.{◌≡◌, ◌+◌, ◌<◌, ◌^◌, IfOk, IfErr, None, Ok, Err, Some, length};
 ghost use Rattle.dimacs_col.specs.Lines.{lines_of};
-ghost use Rattle.transcripts.specs.Reading.{IsFaultOf, known_after, read_at_end, read_from, reading_of};
+ghost use Rattle.transcripts.specs.Reading.{IsFaultOf, entries_from, entry_after, read_at_end, reading_of};
 ghost use Rattle.transcripts.specs.Reader.{IsSyntaxFault};
 
 use crate::entry_line::{header_of, row_of};
@@ -13,72 +13,78 @@ use entries::Entry;
 use std::alloc::Global;
 use std::marker::Model;
 
-// What the lines so far say: how many nodes there are, and the entries.
+// What the lines so far say: how many nodes there are, and the rows.
 #[derive(Drop)]
-struct Beginning<T> {
-    nodes: u32,
-    rows: Vec<(u32, Entry<T>)>,
+pub(crate) struct Beginning<R> {
+    pub(crate) nodes: u32,
+    pub(crate) rows: Vec<R>,
 }
 
-impl<T> Model for Beginning<T> {
-    ghost use Rattle.transcripts.specs.Reading.{Transcript};
+impl<R> Model for Beginning<R> {
+    ghost use Rattle.transcripts.specs.Reading.{Contents};
 
-    ghost Value = { Transcript T };
+    ghost Value = { Contents R };
 
     ghost view = { λ a. (a.nodes, a.rows.items) };
 }
 
 #[derive(Drop)]
-struct Reader<T> {
+pub(crate) struct Reader<R> {
     // What the lines so far say, once the first one came.
-    known: Option<Beginning<T>>,
+    pub(crate) known: Option<Beginning<R>>,
 }
 
-impl<T: PayloadText> Reader<T> {
-    fn new() -> Reader<T>
+impl<R: Drop> Reader<R> {
+    pub(crate) fn new() -> Reader<R>
         ensures { result.known ≡ None }
     {
         Reader { known: None }
     }
 
-    /// Takes the fields of the next line, whose number this is.
-    fn step(&mut self, alloc: Global, number: usize, mut fields: Fields) -> Result<(), TextFault>
-        ensures ok { IfOk result (λ _. known_after T.payload_of self.old.known fields.entry ≡ Some self.new.known) }
-        ensures fault { IfErr result (IsSyntaxFault (known_after T.payload_of self.old.known fields.entry ≡ None)
-            number) }
-    {
-        let Some(first) = fields.next() else {
-            return Ok(());
-        };
-        match &mut self.known {
-            Some(known) => {
-                let Some(row) = row_of(first, fields) else {
-                    return Err(TextFault::Syntax(number));
-                };
-                known.rows.push(row)?;
-            }
-            None => {
-                let Some(nodes) = header_of(first, fields) else {
-                    return Err(TextFault::Syntax(number));
-                };
-                self.known = Some(Beginning {
-                    nodes,
-                    rows: Vec::new(alloc),
-                });
-            }
-        }
-        Ok(())
-    }
-
-    fn finish(self) -> Result<(u32, Vec<(u32, Entry<T>)>), TextFault>
-        ensures ok { IfOk result (λ read. read_at_end T.payload_of self.known ≡ Ok (read.0, read.1.items)) }
-        ensures fault { IfErr result (IsSyntaxFault (read_at_end T.payload_of self.known ≡ Err 1) 1) }
+    pub(crate) fn finish(self) -> Result<(u32, Vec<R>), TextFault>
+        ensures ok { IfOk result (λ read. read_at_end self.known ≡ Ok (read.0, read.1.items)) }
+        ensures fault { IfErr result (IsSyntaxFault (read_at_end self.known ≡ Err 1) 1) }
     {
         match self.known {
             Some(known) => Ok((known.nodes, known.rows)),
             None => Err(TextFault::Syntax(1)),
         }
     }
+}
+
+// Takes the fields of the next line, whose number this is.
+fn step<T: PayloadText>(
+    reader: &mut Reader<(u32, Entry<T>)>,
+    alloc: Global,
+    number: usize,
+    mut fields: Fields,
+) -> Result<(), TextFault>
+    ensures ok { IfOk result (λ _.
+        entry_after T.payload_of reader.old.known fields.entry ≡ Some reader.new.known) }
+    ensures fault { IfErr result (IsSyntaxFault
+        (entry_after T.payload_of reader.old.known fields.entry ≡ None) number) }
+{
+    let Some(first) = fields.next() else {
+        return Ok(());
+    };
+    match &mut reader.known {
+        Some(known) => {
+            let Some(row) = row_of(first, fields) else {
+                return Err(TextFault::Syntax(number));
+            };
+            known.rows.push(row)?;
+        }
+        None => {
+            let Some(nodes) = header_of(b"1", first, fields) else {
+                return Err(TextFault::Syntax(number));
+            };
+            reader.known = Some(Beginning {
+                nodes,
+                rows: Vec::new(alloc),
+            });
+        }
+    }
+    Ok(())
 }
 
 /// The transcript that a text is, which so many other lines stand before.
@@ -88,14 +94,14 @@ pub(crate) fn read_lines<T: PayloadText>(
     text: &[u8],
 ) -> Result<(u32, Vec<(u32, Entry<T>)>), TextFault>
     requires room { before + length text.now + 1 < 2 ^ 64 }
-    ensures ok { IfOk result (λ read. read_from T.payload_of (before + 1) None (lines_of text.now)
-        ≡ Ok (read.0, read.1.items)) }
-    ensures fault { IfErr result (IsFaultOf (read_from T.payload_of (before + 1) None (lines_of text.now))) }
+    ensures ok { IfOk result (λ read.
+        entries_from T.payload_of (before + 1) (lines_of text.now) ≡ Ok (read.0, read.1.items)) }
+    ensures fault { IfErr result (IsFaultOf (entries_from T.payload_of (before + 1) (lines_of text.now))) }
 {
     let mut reader = Reader::new();
     let mut lines = Lines::behind(before, text);
     'each: while let Some((number, fields)) = lines.next() {
-        reader.step(alloc, number, fields)?;
+        step(&mut reader, alloc, number, fields)?;
     }
     reader.finish()
 }

@@ -1,9 +1,12 @@
 //! The writing of a transcript.
 
-ghost use Rattle.std.specs.Prelude.{◌≡◌, ◌++◌, All, IfOk, Ok, flat_map};
+ghost use Rattle.std.specs.Prelude.{◌≡◌, ◌++◌, ◌∷◌, [], All, IfOk, Ok, flat_map};
 ghost use Rattle.dimacs_col.specs.Lines.{lines_of};
-ghost use Rattle.transcripts.specs.Reading.{reading_of};
-ghost use Rattle.transcripts.specs.TranscriptText.{IsReadable, first_line, row_text, transcript_of};
+ghost use Rattle.transcripts.specs.Reading.{reading_of, stamped_reading_of};
+ghost use Rattle.transcripts.specs.TranscriptText.{IsReadable, IsReadableStamped, first_line};
+ghost use Rattle.transcripts.specs.TranscriptText.{row_text, stamped_row_text, stamped_transcript_of};
+ghost use Rattle.transcripts.specs.TranscriptText.{transcript_of};
+ghost use Rattle.wire_texts.specs.WireText.{numbered};
 
 use alpha_core::{Memory, PayloadText};
 use entries::Entry;
@@ -36,6 +39,21 @@ pub fn push_row<T: PayloadText>(text: &mut Vec<u8>, row: &(u32, Entry<T>)) -> Re
     Ok(())
 }
 
+// Appends the line of an entry, behind its stamp and the vertex of its node.
+fn push_stamped_row<T: PayloadText>(
+    text: &mut Vec<u8>,
+    row: &(u64, u32, Entry<T>),
+) -> Result<(), AllocError>
+    ensures text { IfOk result (λ _.
+        text.new.items ≡ text.old.items ++ stamped_row_text T.word_of T.number_of row.now) }
+    ensures readable { IfOk result (λ _. IsReadableStamped T.word_of T.number_of T.payload_of row.now) }
+{
+    let (stamp, v, entry) = *row;
+    push_numbered(text, b"", u128::from(stamp))?;
+    text.push(b' ')?;
+    push_row(text, &(v, entry))
+}
+
 // Appends the lines of entries.
 fn push_rows<T: PayloadText>(text: &mut Vec<u8>, rows: &[(u32, Entry<T>)]) -> Result<(), AllocError>
     ensures text { IfOk result (λ _. text.new.items
@@ -48,7 +66,30 @@ fn push_rows<T: PayloadText>(text: &mut Vec<u8>, rows: &[(u32, Entry<T>)]) -> Re
     Ok(())
 }
 
-/// Appends the first line of a transcript of so many nodes.
+// Appends the lines of entries with their stamps.
+fn push_stamped_rows<T: PayloadText>(
+    text: &mut Vec<u8>,
+    rows: &[(u64, u32, Entry<T>)],
+) -> Result<(), AllocError>
+    ensures text { IfOk result (λ _. text.new.items
+        ≡ text.old.items ++ flat_map (stamped_row_text T.word_of T.number_of) rows.now) }
+    ensures readable { IfOk result (λ _. All (IsReadableStamped T.word_of T.number_of T.payload_of) rows.now) }
+{
+    for row in rows {
+        push_stamped_row(text, row)?;
+    }
+    Ok(())
+}
+
+// Appends words, a number and a line feed.
+fn push_header(text: &mut Vec<u8>, words: &[u8], nodes: u32) -> Result<(), AllocError>
+    ensures text { IfOk result (λ _. text.new.items ≡ text.old.items ++ (numbered words.now nodes ++ 10 ∷ [])) }
+{
+    push_numbered(text, words, u128::from(nodes))?;
+    Ok(text.push(b'\n')?)
+}
+
+/// Appends the first line of a transcript of so many nodes, of edition 1.
 ///
 /// # Errors
 ///
@@ -56,8 +97,7 @@ fn push_rows<T: PayloadText>(text: &mut Vec<u8>, rows: &[(u32, Entry<T>)]) -> Re
 pub fn push_first_line(text: &mut Vec<u8>, nodes: u32) -> Result<(), AllocError>
     ensures text { IfOk result (λ _. text.new.items ≡ text.old.items ++ first_line nodes) }
 {
-    push_numbered(text, b"transcript 1 ", u128::from(nodes))?;
-    Ok(text.push(b'\n')?)
+    push_header(text, b"transcript 1 ", nodes)
 }
 
 /// The transcript of so many nodes: `transcript 1 NODES`, and a line for each entry, in the order given. Read by
@@ -77,5 +117,26 @@ pub fn transcript_text<T: PayloadText>(
     let mut text = Vec::new(alloc);
     push_first_line(&mut text, nodes)?;
     push_rows(&mut text, rows)?;
+    Ok(text)
+}
+
+/// The transcript of so many nodes with stamps: `transcript 2 NODES`, and a line for each entry, in the order given.
+/// Read by `read_any`, it is these entries.
+///
+/// # Errors
+///
+/// If memory is refused.
+pub fn stamped_text<T: PayloadText>(
+    alloc: Global,
+    nodes: u32,
+    rows: &[(u64, u32, Entry<T>)],
+) -> Result<Vec<u8>, Memory>
+    ensures text { IfOk result (λ text. text.items ≡ stamped_transcript_of T.word_of T.number_of nodes rows.now) }
+    ensures reads_back { IfOk result (λ text.
+        stamped_reading_of T.payload_of (lines_of text.items) ≡ Ok (nodes, rows.now)) }
+{
+    let mut text = Vec::new(alloc);
+    push_header(&mut text, b"transcript 2 ", nodes)?;
+    push_stamped_rows(&mut text, rows)?;
     Ok(text)
 }

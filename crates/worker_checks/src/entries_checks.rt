@@ -1,7 +1,7 @@
-//! A long list of entries, through all sizes of the blocks in which they lie.
+//! A long list of entries with their stamps, through all sizes of the blocks in which both lie.
 
 use byte_functions::Wire;
-use entries::{Entries, Entry};
+use stamps::{Entries, Entry};
 use std::test::Fail;
 
 // More than fit into the small blocks and the first large one.
@@ -17,16 +17,27 @@ fn entry_at(index: u32) -> Entry<u64> {
     }
 }
 
+// The stamp at an index: some have numbers that 32 bits can't hold.
+fn stamp_at(index: u32) -> u64 {
+    u64::from(index) * 1_000_003 + 1
+}
+
 #[test]
 fn entries_are_read_as_they_were_appended(rt: HostRuntime) -> Result<(), Fail> {
     let mut entries = Entries::new(rt.alloc());
     for index in 0..MANY {
         entries.reserve()?;
-        entries.push_reserved(entry_at(index));
+        entries.push_reserved(stamp_at(index), entry_at(index));
     }
     assert!(rt; entries.len() == MANY as usize);
     for (entry, index) in entries.iter().zip(0..MANY) {
         assert!(rt; entry == entry_at(index));
     }
+    let mut read = 0;
+    for ((stamp, entry), index) in entries.stamped().zip(0..MANY) {
+        assert!(rt; stamp == stamp_at(index) && entry == entry_at(index));
+        read = index + 1;
+    }
+    assert_eq!(rt; read, MANY);
     Ok(())
 }

@@ -17,6 +17,8 @@ mod replay_checks;
 #[cfg(test)]
 mod runs;
 #[cfg(test)]
+mod stamp_checks;
+#[cfg(test)]
 mod stealing;
 #[cfg(test)]
 mod stopped_checks;

@@ -2,7 +2,7 @@
 //! turn.
 
 use byte_functions::{
-    OpenGate, Options, PlanFault, check_bytes, events_bytes, fault_report, forest_bytes,
+    Edition, OpenGate, Options, PlanFault, check_bytes, events_bytes, fault_report, forest_bytes,
     plain_bytes, plan_bytes, replay_bytes, rounds_bytes, transcript_bytes,
 };
 use std::alloc::Global;
@@ -30,6 +30,10 @@ const ONE_NODE_TRANSCRIPT: &[u8] = b"transcript 1 1\n\
 1 pulse 1\n1 pulse 2\n1 pulse 3\n1 pulse 4\n1 pulse 5\n1 pulse 6\n\
 1 pulse 7\n1 pulse 8\n1 pulse 9\n1 pulse 10\n1 pulse 11\n1 pulse 12\n";
 
+const ONE_NODE_MERGED: &[u8] = b"transcript 2 1\n\
+1 1 pulse 1\n2 1 pulse 2\n3 1 pulse 3\n4 1 pulse 4\n5 1 pulse 5\n6 1 pulse 6\n\
+7 1 pulse 7\n8 1 pulse 8\n9 1 pulse 9\n10 1 pulse 10\n11 1 pulse 11\n12 1 pulse 12\n";
+
 const TRIANGLE_PLAN: &[u8] = b"plan\n1 2\n2 3\n3 1\n";
 
 const BY_ONE: Options = Options {
@@ -39,11 +43,11 @@ const BY_ONE: Options = Options {
     transcript: false,
 };
 
-// The bytes of the triangle's transcript by one worker, as tests/one_worker.py writes it.
-const TRIANGLE_TRANSCRIPT: usize = 11_134;
+// The bytes of the triangle's transcript of edition 2 by one worker, as tests/one_worker.py writes it.
+const TRIANGLE_TRANSCRIPT: usize = 13_603;
 
 fn is_of_the_triangle(transcript: &[u8]) -> bool {
-    transcript.len() == TRIANGLE_TRANSCRIPT && transcript.starts_with(b"transcript 1 3\n")
+    transcript.len() == TRIANGLE_TRANSCRIPT && transcript.starts_with(b"transcript 2 3\n")
 }
 
 // Whether a fault is reported as memory; or as a thread, which takes memory to start.
@@ -57,8 +61,8 @@ fn is_memory(alloc: Global, fault: PlanFault) -> Result<bool, Fail> {
 #[test]
 fn a_transcript_is_whole_or_runs_out_of_memory(rt: HostRuntime) -> Result<(), Fail> {
     let alloc = rt.alloc();
-    let first = transcript_bytes(&rt, alloc, TRIANGLE, BY_ONE, &OpenGate);
-    let second = transcript_bytes(&rt, alloc, TRIANGLE, BY_ONE, &OpenGate);
+    let first = transcript_bytes(&rt, alloc, TRIANGLE, BY_ONE, Edition::Two, &OpenGate);
+    let second = transcript_bytes(&rt, alloc, TRIANGLE, BY_ONE, Edition::Two, &OpenGate);
     match (first, second) {
         (Ok(one), Ok(other)) => {
             assert!(rt; is_of_the_triangle(one.as_slice()) && one.as_slice() == other.as_slice())
@@ -86,8 +90,12 @@ fn each_function_returns_its_bytes_or_runs_out_of_memory(rt: HostRuntime) -> Res
             TRIANGLE_PLAN,
         ),
         (
-            transcript_bytes(&rt, alloc, ONE_NODE, BY_ONE, &OpenGate),
+            transcript_bytes(&rt, alloc, ONE_NODE, BY_ONE, Edition::One, &OpenGate),
             ONE_NODE_TRANSCRIPT,
+        ),
+        (
+            transcript_bytes(&rt, alloc, ONE_NODE, BY_ONE, Edition::Two, &OpenGate),
+            ONE_NODE_MERGED,
         ),
         (
             check_bytes(alloc, TRIANGLE_AND_PLAN),

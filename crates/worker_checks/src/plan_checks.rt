@@ -3,7 +3,8 @@
 use crate::meeting::Meeting;
 use crate::node_pool_checks::PULSES;
 use byte_functions::{
-    ColFault, OpenGate, Options, PlanFault, PoolFault, plan_bytes, transcript_bytes,
+    ColFault, Edition, OpenGate, Options, PlanFault, PoolFault, plan_bytes, replay_bytes,
+    transcript_bytes,
 };
 use std::test::Fail;
 
@@ -106,20 +107,36 @@ const APART_TRANSCRIPT: &[u8] = b"transcript 1 2\n\
 2 pulse 1\n2 pulse 2\n2 pulse 3\n2 pulse 4\n2 pulse 5\n2 pulse 6\n\
 2 pulse 7\n2 pulse 8\n2 pulse 9\n2 pulse 10\n2 pulse 11\n2 pulse 12\n";
 
-// Nodes that send each other nothing have one transcript, for any number of workers.
+const APART_MERGED: &[u8] = b"transcript 2 2\n\
+1 1 pulse 1\n1 2 pulse 1\n2 1 pulse 2\n2 2 pulse 2\n3 1 pulse 3\n3 2 pulse 3\n\
+4 1 pulse 4\n4 2 pulse 4\n5 1 pulse 5\n5 2 pulse 5\n6 1 pulse 6\n6 2 pulse 6\n\
+7 1 pulse 7\n7 2 pulse 7\n8 1 pulse 8\n8 2 pulse 8\n9 1 pulse 9\n9 2 pulse 9\n\
+10 1 pulse 10\n10 2 pulse 10\n11 1 pulse 11\n11 2 pulse 11\n12 1 pulse 12\n12 2 pulse 12\n";
+
+// Nodes that send each other nothing have one transcript of each edition, for any number of workers.
 #[test]
 fn transcripts_by_workers(rt: HostRuntime) -> Result<(), Fail> {
     let alloc = rt.alloc();
-    for (text, options, wanted) in [
-        (APART, options(1, 4, AMPLE), Ok(APART_TRANSCRIPT)),
-        (APART, options(2, 4, AMPLE), Ok(APART_TRANSCRIPT)),
-        (APART, options(4, 1, AMPLE), Ok(APART_TRANSCRIPT)),
-        (TRIANGLE, options(1, 4, 1), Err(PlanFault::Stopped)),
-        (TRIANGLE, options(0, 4, 0), OUT_OF_RANGE),
+    for (text, options, edition, wanted) in [
+        (
+            APART,
+            options(1, 4, AMPLE),
+            Edition::One,
+            Ok(APART_TRANSCRIPT),
+        ),
+        (APART, options(2, 4, AMPLE), Edition::Two, Ok(APART_MERGED)),
+        (APART, options(4, 1, AMPLE), Edition::Two, Ok(APART_MERGED)),
+        (
+            TRIANGLE,
+            options(1, 4, 1),
+            Edition::Two,
+            Err(PlanFault::Stopped),
+        ),
+        (TRIANGLE, options(0, 4, 0), Edition::One, OUT_OF_RANGE),
     ] {
         let workers = options.workers;
         match (
-            transcript_bytes(&rt, alloc, text, options, &OpenGate),
+            transcript_bytes(&rt, alloc, text, options, edition, &OpenGate),
             wanted,
         ) {
             (Ok(answer), Ok(transcript)) => {
@@ -134,9 +151,16 @@ fn transcripts_by_workers(rt: HostRuntime) -> Result<(), Fail> {
 
 #[test]
 fn two_workers_make_a_transcript_at_once(rt: HostRuntime) -> Result<(), Fail> {
+    let (alloc, edition) = (rt.alloc(), Edition::Two);
     let gate = Meeting::new();
-    let transcript = transcript_bytes(&rt, rt.alloc(), TRIANGLE, options(2, 4, AMPLE), &gate)?;
+    let options = options(2, 4, AMPLE);
+    let transcript = transcript_bytes(&rt, alloc, TRIANGLE, options, edition, &gate)?;
     assert!(rt; gate.saw_two_at_once(PULSES));
-    assert!(rt; transcript.as_slice().starts_with(b"transcript 1 3\n"));
+    assert!(rt; transcript.as_slice().starts_with(b"transcript 2 3\n"));
+    // Behind its network it is replayed.
+    let mut text = Vec::new(alloc);
+    text.extend_from_slice(TRIANGLE)?;
+    text.extend_from_slice(&transcript)?;
+    assert!(rt; replay_bytes(alloc, &text).is_ok());
     Ok(())
 }

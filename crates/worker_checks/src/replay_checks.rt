@@ -5,14 +5,18 @@ ghost use Rattle.std.specs.Prelude.{◌≡◌};
 ghost use Rattle.byte_functions.specs.interference.Net.{count_of};
 
 use byte_functions::{Network, ReplayRefused, Wire, read_transcript, replay};
-use entries::Entry;
 use net_core::{NetState, RunRefused};
+use stamps::Entry;
 use std::alloc::Global;
 use std::test::Fail;
 use sync_rounds::{Best, Greatest};
 
 pub const WHOLE: &[u8] =
     b"transcript 1 2\n1 put 2 close\n2 put 1 close\n1 take 2 close\n2 take 1 close\n";
+
+// The same as one merged run, of edition 2.
+pub const MERGED: &[u8] = b"transcript 2 2\n\
+1 1 put 2 close\n2 2 take 1 close\n3 2 put 1 close\n4 1 take 2 close\n";
 
 fn drained(state: &NetState<Greatest<0>>) -> (bool, bool)
     requires two { count_of state.now.net ≡ 2 }

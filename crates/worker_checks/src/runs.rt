@@ -4,7 +4,8 @@ ghost use Rattle.std.specs.Prelude.{◌≡◌, length};
 ghost use Rattle.byte_functions.specs.interference.Net.{IsVertex, degree_of, vertices};
 ghost use Rattle.byte_functions.specs.gather_laws.Outcome.{row_in};
 
-use byte_functions::{Colouring, Network, OpenGate, Options, Outcome, Payload, Wire, run_workers};
+use byte_functions::{Colouring, Network, OpenGate, Options, Outcome, Payload, run_workers};
+use stamps::Stamped;
 use std::alloc::Global;
 use std::sync::Wait;
 use std::test::Fail;
@@ -74,12 +75,12 @@ pub fn greatest<const D: u32, R: Threads + Wait + Sync>(
     Ok(Some(bests))
 }
 
-/// Whether the links out of a vertex hold just these wires after a run of the colouring, by port.
+/// Whether the links out of a vertex hold just these wires after a run of the colouring, by port, each with its stamp.
 pub fn holds(
     net: &Network,
     outcome: &Outcome<Colouring>,
     vertex: u32,
-    by_port: &[&[Wire<Payload>]],
+    by_port: &[&[Stamped<Payload>]],
 ) -> bool
     requires vertex { IsVertex net.now vertex }
     requires rows { length outcome.now.links ≡ length (vertices net.now) }

@@ -3,7 +3,7 @@
 
 use crate::runs::{holds, run_of_one, triangle};
 use byte_functions::{Colouring, Network, OpenGate, Options, Payload, Wire, run_workers};
-use entries::{Entries, Entry};
+use stamps::{Entries, Entry, Stamped};
 use std::alloc::Global;
 use std::sync::Wait;
 use std::test::Fail;
@@ -13,40 +13,73 @@ const FROM_1: Wire<Payload> = Wire::Payload(0, Payload::Hello(1));
 
 const FROM_2: Wire<Payload> = Wire::Payload(0, Payload::Hello(2));
 
+type StampedEntry = (u64, Entry<Payload>);
+
 // What nodes 1 and 2 of the triangle did by the first and by the second look, and node 2 over links that hold one wire.
-static FIRST: [Entry<Payload>; 2] = [Entry::Put(2, FROM_1), Entry::Put(3, FROM_1)];
+static FIRST: [StampedEntry; 2] = [(1, Entry::Put(2, FROM_1)), (2, Entry::Put(3, FROM_1))];
 
-static SECOND: [Entry<Payload>; 4] = [
-    Entry::Take(1, FROM_1),
-    Entry::Put(1, FROM_2),
-    Entry::Put(1, Wire::Ack(0)),
-    Entry::Put(3, FROM_2),
+static SECOND: [StampedEntry; 4] = [
+    (2, Entry::Take(1, FROM_1)),
+    (3, Entry::Put(1, FROM_2)),
+    (4, Entry::Put(1, Wire::Ack(0))),
+    (5, Entry::Put(3, FROM_2)),
 ];
 
-static SECOND_OF_ONE: [Entry<Payload>; 3] = [
-    Entry::Take(1, FROM_1),
-    Entry::Put(1, FROM_2),
-    Entry::Put(3, FROM_2),
+static SECOND_OF_ONE: [StampedEntry; 3] = [
+    (2, Entry::Take(1, FROM_1)),
+    (3, Entry::Put(1, FROM_2)),
+    (4, Entry::Put(3, FROM_2)),
 ];
+
+// What they have put, by stamp.
+const PUT_1: Stamped<Payload> = Stamped {
+    stamp: 1,
+    wire: FROM_1,
+};
+
+const PUT_2: Stamped<Payload> = Stamped {
+    stamp: 2,
+    wire: FROM_1,
+};
+
+const PUT_3: Stamped<Payload> = Stamped {
+    stamp: 3,
+    wire: FROM_2,
+};
+
+const ACK_4: Stamped<Payload> = Stamped {
+    stamp: 4,
+    wire: Wire::Ack(0),
+};
+
+const PUT_4: Stamped<Payload> = Stamped {
+    stamp: 4,
+    wire: FROM_2,
+};
+
+const PUT_5: Stamped<Payload> = Stamped {
+    stamp: 5,
+    wire: FROM_2,
+};
 
 // Whether these are the entries of a node.
-fn are(entries: &Entries<Payload>, wanted: &[Entry<Payload>]) -> bool {
+fn are(entries: &Entries<Payload>, wanted: &[StampedEntry]) -> bool {
     entries.len() == wanted.len()
         && entries
-            .iter()
+            .stamped()
             .zip(wanted.iter())
             .all(|(entry, other)| entry == *other)
 }
 
 // Whether a run of so many looks isn't whole and leaves these entries by node, and by node and port these wires in the
-// links.
+// links, each with its stamp.
 fn leaves<R: Threads + Wait + Sync>(
     rt: &R,
     alloc: Global,
     net: &Network,
     options: Options,
-    entries: &[&[Entry<Payload>]],
-    links: &[[&[Wire<Payload>]; 2]],
+    entries: &[&[StampedEntry]],
+    links: &[[&[Stamped<Payload>]; 2]],
 ) -> Result<bool, Fail> {
     let outcome = run_workers::<Colouring, OpenGate, R>(rt, alloc, net, options, &OpenGate)?;
     if outcome.is_whole() || outcome.actors().len() != entries.len() {
@@ -75,17 +108,19 @@ fn leaves<R: Threads + Wait + Sync>(
 fn the_first_looks_leave_a_run_that_is_not_whole(rt: HostRuntime) -> Result<(), Fail> {
     let alloc: Global = rt.alloc();
     let net = triangle(alloc)?;
-    let (first, second): (&[Entry<Payload>], &[Entry<Payload>]) = (&FIRST, &SECOND);
-    let (second_of_one, idle): (&[Entry<Payload>], &[Entry<Payload>]) = (&SECOND_OF_ONE, &[]);
-    let (one, two): (&[Wire<Payload>], &[Wire<Payload>]) = (&[FROM_1], &[FROM_2]);
-    let (both, empty): (&[Wire<Payload>], &[Wire<Payload>]) = (&[FROM_2, Wire::Ack(0)], &[]);
+    let (first, second): (&[StampedEntry], &[StampedEntry]) = (&FIRST, &SECOND);
+    let (second_of_one, idle): (&[StampedEntry], &[StampedEntry]) = (&SECOND_OF_ONE, &[]);
+    let (to_2, to_3): (&[Stamped<Payload>], &[Stamped<Payload>]) = (&[PUT_1], &[PUT_2]);
+    let (both, hello): (&[Stamped<Payload>], &[Stamped<Payload>]) = (&[PUT_3, ACK_4], &[PUT_3]);
+    let (fourth, fifth): (&[Stamped<Payload>], &[Stamped<Payload>]) = (&[PUT_4], &[PUT_5]);
+    let empty: &[Stamped<Payload>] = &[];
     for (turns, capacity, of_1, of_2, from_1, from_2) in [
         (0, 4, idle, idle, [empty, empty], [empty, empty]),
         (0, 1, idle, idle, [empty, empty], [empty, empty]),
-        (1, 4, first, idle, [one, one], [empty, empty]),
-        (1, 1, first, idle, [one, one], [empty, empty]),
-        (2, 4, first, second, [empty, one], [both, two]),
-        (2, 1, first, second_of_one, [empty, one], [two, two]),
+        (1, 4, first, idle, [to_2, to_3], [empty, empty]),
+        (1, 1, first, idle, [to_2, to_3], [empty, empty]),
+        (2, 4, first, second, [empty, to_3], [both, fifth]),
+        (2, 1, first, second_of_one, [empty, to_3], [hello, fourth]),
     ] {
         let options = Options {
             workers: 1,
@@ -107,8 +142,8 @@ fn the_first_looks_leave_a_run_that_is_not_whole(rt: HostRuntime) -> Result<(), 
 fn begin(entries: &Entries<Payload>, others: &Entries<Payload>) -> bool {
     entries.len() <= others.len()
         && entries
-            .iter()
-            .zip(others.iter())
+            .stamped()
+            .zip(others.stamped())
             .all(|(entry, other)| entry == other)
 }
 

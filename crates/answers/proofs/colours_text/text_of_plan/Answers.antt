@@ -5,7 +5,7 @@ use Rattle.alpha_core.specs.node_api.Run.{state_at}
 use Rattle.channel_plan.specs.PlanText.{plan_of}
 use Rattle.colour_program.specs.colour_rules.Node.{Node}
 use Rattle.colour_program.specs.colour_rules.Program.{colouring}
-use Rattle.colour_laws.specs.Colours.{colours}
+use Rattle.colour_program.specs.colour_laws.Colours.{colours}
 use Rattle.answers.proofs.Ends.{at-vertices}
 use Rattle.answers.proofs.colours_text.text_of_plan.Goals as goal
 

@@ -1,17 +1,27 @@
-use Rattle.std.proofs.Common.{◌∙◌, subst}
+use Rattle.std.proofs.Common.{◌≡◌, ◌∙◌, Ok, ap, subst}
+use Rattle.std.proofs.lemmas.Result.{IfOk-weaker}
 use Rattle.dimacs_col.specs.Lines.{lines_of}
 use Rattle.colour_program.specs.colour_rules.Program.{colouring}
-use Rattle.replay.specs.Replays.{Stops}
-use Rattle.answers.specs.ReplayAnswers.{IsTold}
-use Rattle.answers.proofs.RefusedLines.{fault-refused}
+use Rattle.replay.specs.Replays.{IsReplay}
+use Rattle.replay.specs.Whole.{IsWholeReplay}
+use Rattle.transcripts.specs.Editions.{One, Two, said_by}
+use Rattle.answers.specs.ReplayAnswers.{transcript_in}
 use Rattle.answers.proofs.replaying.replayed.Goals as goal
 
-pub returns-clause-fault : goal.returns-clause-fault
-returns-clause-fault c =
-    let refused = c.in-Err.refused in
-    let net = c.args.network.now in
-    fault-refused net c.is_network.ensures (lines_of c.args.input.now) (c.in_ok-rows.field-0-0, c.in_ok-rows.rows.items) refused c.told.result
-    c.in_ok-rows.ensures.ok
-    (λ no. subst (λ rows. Stops colouring net rows refused) c.as_slice.ensures.value (c.in-Err.ensures.refuses no))
-    (subst (λ numbers. IsTold net c.in_ok-rows.rows.items numbers refused c.told.result) (c.as_slice-in-Err-2.ensures.value ∙ c.in_ok-lines-in-Err.ensures)
-    (subst (λ rows. IsTold net rows c.as_slice-in-Err-2.result.now refused c.told.result) c.as_slice-in-Err.ensures.value c.told.ensures))
+pub returns-in-One-clause-ok : goal.returns-in-One-clause-ok
+returns-in-One-clause-ok c =
+    let nodes = c.in-One.field-0 in
+    let rows = c.in-One.rows.items in
+    let read : transcript_in (lines_of c.args.input.now) ≡ Ok (One (nodes, rows)) = c.in_ok-rows.ensures.ok ∙ ap (λ r. Ok (said_by r)) c.in-One.is in
+    IfOk-weaker c.replayed_entries.result _ _
+    (λ view is. (One (nodes, rows), read, subst (λ l. IsReplay colouring c.args.network.now l view.state) c.as_slice.ensures.value is))
+    c.replayed_entries.ensures.ok
+
+pub returns-in-Two-clause-ok : goal.returns-in-Two-clause-ok
+returns-in-Two-clause-ok c =
+    let nodes = c.in-Two.field-0 in
+    let rows = c.in-Two.rows.items in
+    let read : transcript_in (lines_of c.args.input.now) ≡ Ok (Two (nodes, rows)) = c.in_ok-rows.ensures.ok ∙ ap (λ r. Ok (said_by r)) c.in-Two.is in
+    IfOk-weaker c.replayed_whole.result _ _
+    (λ view is. (Two (nodes, rows), read, subst (λ l. IsWholeReplay colouring c.args.network.now l view.state) c.as_slice-in-Two.ensures.value is))
+    c.replayed_whole.ensures.ok

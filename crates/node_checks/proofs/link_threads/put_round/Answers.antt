@@ -10,8 +10,11 @@ put_one-requires g c =
       omega arith,
       (
         c.requires.end,
-        may_put _ c.args.best c.args.pulse _ _ _ (best ∷ []) (Ack c.args.pulse ∷ Safe c.args.pulse ∷ [])
-            c.requires.pulse c.requires.legal refl (ap (λ l. l ++ best ∷ []) c.requires.so_far) refl,
+        (
+          may_put _ c.args.best c.args.pulse _ _ _ (best ∷ []) (Ack c.args.pulse ∷ Safe c.args.pulse ∷ [])
+              c.requires.pulse c.requires.legal refl (ap (λ l. l ++ best ∷ []) c.requires.so_far) refl,
+          omega (arith, c.requires.stamp),
+        ),
       ),
     )
 
@@ -22,9 +25,12 @@ put_one-requires-2 g c =
       omega arith,
       (
         c.put_one.ensures.end.0,
-        may_put _ c.args.best c.args.pulse _ _ _ (best ∷ Ack c.args.pulse ∷ []) (Safe c.args.pulse ∷ [])
-            c.requires.pulse c.requires.legal c.put_one.ensures.end.1
-            (ap (λ l. l ++ Ack c.args.pulse ∷ []) first ∙ append_assoc (echoes c.args.best c.args.pulse) (best ∷ []) (Ack c.args.pulse ∷ [])) refl,
+        (
+          may_put _ c.args.best c.args.pulse _ _ _ (best ∷ Ack c.args.pulse ∷ []) (Safe c.args.pulse ∷ [])
+              c.requires.pulse c.requires.legal c.put_one.ensures.end.1
+              (ap (λ l. l ++ Ack c.args.pulse ∷ []) first ∙ append_assoc (echoes c.args.best c.args.pulse) (best ∷ []) (Ack c.args.pulse ∷ [])) refl,
+          let last = c.put_one.ensures.stamp c.if-not-put_one.false in omega (arith, last),
+        ),
       ),
     )
 
@@ -37,9 +43,12 @@ put_one-requires-3 g c =
       omega arith,
       (
         c.put_one-2.ensures.end.0,
-        may_put _ c.args.best c.args.pulse _ _ _ (best ∷ Ack c.args.pulse ∷ Safe c.args.pulse ∷ []) []
-            c.requires.pulse c.requires.legal (c.put_one-2.ensures.end.1 ∙ c.put_one.ensures.end.1)
-            (ap (λ l. l ++ Safe c.args.pulse ∷ []) second ∙ append_assoc (echoes c.args.best c.args.pulse) (best ∷ Ack c.args.pulse ∷ [])
-            (Safe c.args.pulse ∷ [])) refl,
+        (
+          may_put _ c.args.best c.args.pulse _ _ _ (best ∷ Ack c.args.pulse ∷ Safe c.args.pulse ∷ []) []
+              c.requires.pulse c.requires.legal (c.put_one-2.ensures.end.1 ∙ c.put_one.ensures.end.1)
+              (ap (λ l. l ++ Safe c.args.pulse ∷ []) second ∙ append_assoc (echoes c.args.best c.args.pulse) (best ∷ Ack c.args.pulse ∷ [])
+              (Safe c.args.pulse ∷ [])) refl,
+          let last = c.put_one-2.ensures.stamp c.if-not-put_one-2.false in omega (arith, last),
+        ),
       ),
     )

@@ -1,6 +1,6 @@
 use Rattle.std.proofs.Common.{◌≡◌}
-use Rattle.actor.specs.link_rule.Legal.{name_of}
-use Rattle.actor.specs.link_queue.Ends.{IsNewPutEnd, IsNewTakeEnd, link_capacity}
+use Rattle.pool.specs.link_rule.Legal.{name_of}
+use Rattle.pool.specs.link_queue.Ends.{IsNewPutEnd, IsNewTakeEnd, link_capacity}
 use Rattle.node_pool.proofs.Growth.{beside_more, each_more, longer}
 use Rattle.node_pool.proofs.making.make_row.Goals as goal
 

@@ -1,7 +1,7 @@
 use Rattle.std.proofs.Common.{◌≤◌, ℕ, Some, map, sym, ap, ◌∙◌, subst}
 use Rattle.std.specs.Prelude.{All}
-use Rattle.actor.specs.link_queue.Ends.{link_capacity, put_list, taken_list}
-use Rattle.actor.specs.Tables.{table_at, table_of}
+use Rattle.pool.specs.link_queue.Ends.{link_capacity, put_stamped, taken_stamped}
+use Rattle.pool.specs.actor.Tables.{table_at, table_of}
 use Rattle.node_pool.specs.Meets.{AreMet}
 use Rattle.node_pool.proofs.Sides.{all_by, firsts, middles, lasts, same_each, ok_says}
 use Rattle.node_pool.proofs.meeting.meet_ends.Goals as goal
@@ -27,12 +27,12 @@ meet_row-requires-clause-same g c κs within =
 pub returns : goal.returns
 returns g c =
     let row = c.in_ok-row.row.items in
-    let puts = middles row _ c.in_ok-row.ensures.right c.args.puts.items (λ e. put_list e.end) c.in_ok-ends.ensures.left in
-    let takes = lasts row _ c.in_ok-row.ensures.right c.args.takes.items (λ e. taken_list e.end) c.in_ok-ends.ensures.right in
+    let puts = middles row _ c.in_ok-row.ensures.right c.args.puts.items (λ e. put_stamped e.end) c.in_ok-ends.ensures.left in
+    let takes = lasts row _ c.in_ok-row.ensures.right c.args.takes.items (λ e. taken_stamped e.end) c.in_ok-ends.ensures.right in
     record {
       met = ok_says c.meet_row.result
-          (λ mets are. subst (λ l. AreMet mets.items l (map (λ e. taken_list e.end) c.args.takes.items)) puts
-          (subst (λ l. AreMet mets.items (map (λ x. put_list x.1.0.end) row) l) takes are)) c.meet_row.ensures.met;
+          (λ mets are. subst (λ l. AreMet mets.items l (map (λ e. taken_stamped e.end) c.args.takes.items)) puts
+          (subst (λ l. AreMet mets.items (map (λ x. put_stamped x.1.0.end) row) l) takes are)) c.meet_row.ensures.met;
       room = ok_says c.meet_row.result
           (λ mets says capacity below. says capacity (all_by (λ link. link_capacity link ≤ capacity) (λ x. x.0) row
           (subst (All (λ link. link_capacity link ≤ capacity)) (sym c.in_ok-row.ensures.left) below))) c.meet_row.ensures.room;

@@ -4,8 +4,8 @@ use Rattle.std.proofs.lemmas.List.{map-append}
 use Rattle.std.proofs.lemmas.List.Elements.{All-pop, All-push, All-same}
 use Rattle.std.proofs.lemmas.Iterator.Consumers.{YieldsList-end, YieldsList-turn}
 use Rattle.std.proofs.lemmas.Iterator.Adapters.{YieldsList-from_vec}
-use Rattle.actor.specs.link_queue.Ends.{held_of, link_capacity, put_list, taken_list}
-use Rattle.actor.specs.Tables.{table_at, table_of}
+use Rattle.pool.specs.link_queue.Ends.{held_stamped, link_capacity, put_stamped, taken_stamped}
+use Rattle.pool.specs.actor.Tables.{table_at, table_of}
 use Rattle.node_pool.proofs.MetRows.{one_met}
 use Rattle.node_pool.proofs.meeting.meet_row.Goals as goal
 
@@ -24,12 +24,12 @@ meet_one-requires-clause-same g c κs within =
 pub loop-link-preserved : goal.loop-link-preserved
 loop-link-preserved g c = record {
   met = one_met c.loop-link.mets.items _ _ _ _ _ _ _ _ _ c.in_ok-push.ensures.items
-      (map-append (λ x. put_list x.1.0.end) c.loop-link.yielded _) (map-append (λ x. taken_list x.1.1.end) c.loop-link.yielded _)
+      (map-append (λ x. put_stamped x.1.0.end) c.loop-link.yielded _) (map-append (λ x. taken_stamped x.1.1.end) c.loop-link.yielded _)
       c.in_ok-meet_one.ensures.met c.loop-link.invariant.met;
   room = λ capacity below.
       let parts = All-pop (λ x. link_capacity x.0 ≤ capacity) _ c.loop-link.yielded (Some _) refl below in
-      All-same (λ met. length (held_of met) ≤ capacity) _ _ c.in_ok-push.ensures.items
-      (All-push (λ met. length (held_of met) ≤ capacity) c.loop-link.mets.items _ (c.loop-link.invariant.room capacity parts.0)
+      All-same (λ met. length (held_stamped met) ≤ capacity) _ _ c.in_ok-push.ensures.items
+      (All-push (λ met. length (held_stamped met) ≤ capacity) c.loop-link.mets.items _ (c.loop-link.invariant.room capacity parts.0)
       (omega (arith, c.in_ok-meet_one.ensures.room, parts.1)));
 }
 

@@ -1,7 +1,7 @@
 use Rattle.std.proofs.Common.{◌≤◌, ℕ, Some, map, sym, ◌∙◌, subst}
 use Rattle.std.specs.Prelude.{All, List}
-use Rattle.actor.specs.link_queue.Ends.{link_capacity, put_list, taken_list}
-use Rattle.actor.specs.Tables.{table_at, table_of}
+use Rattle.pool.specs.link_queue.Ends.{link_capacity, put_stamped, taken_stamped}
+use Rattle.pool.specs.actor.Tables.{table_at, table_of}
 use Rattle.node_pool.specs.Meets.{RowsAreMet}
 use Rattle.node_pool.proofs.Sides.{all_by, firsts, middles, lasts, same_each, ok_says}
 use Rattle.node_pool.proofs.meeting.meet_rows.Goals as goal
@@ -28,13 +28,13 @@ meet_each-requires-clause-takes g c κs within =
 pub returns : goal.returns
 returns g c =
     let rows = c.in_ok-rows.rows.items in
-    let puts = middles rows _ c.in_ok-rows.ensures.right c.args.puts.items (λ row. map (λ e. put_list e.end) row.items) c.in_ok-ends.ensures.left in
-    let takes = lasts rows _ c.in_ok-rows.ensures.right c.args.takes.items (λ row. map (λ e. taken_list e.end) row.items) c.in_ok-ends.ensures.right in
+    let puts = middles rows _ c.in_ok-rows.ensures.right c.args.puts.items (λ row. map (λ e. put_stamped e.end) row.items) c.in_ok-ends.ensures.left in
+    let takes = lasts rows _ c.in_ok-rows.ensures.right c.args.takes.items (λ row. map (λ e. taken_stamped e.end) row.items) c.in_ok-ends.ensures.right in
     record {
       met = ok_says c.meet_each.result
-          (λ all are. subst (λ l. RowsAreMet (map (λ mets. mets.items) all.items) l (map (λ row. map (λ e. taken_list e.end) row.items) c.args.takes.items))
+          (λ all are. subst (λ l. RowsAreMet (map (λ mets. mets.items) all.items) l (map (λ row. map (λ e. taken_stamped e.end) row.items) c.args.takes.items))
           puts
-          (subst (λ l. RowsAreMet (map (λ mets. mets.items) all.items) (map (λ x. map (λ e. put_list e.end) x.1.0.items) rows) l) takes are))
+          (subst (λ l. RowsAreMet (map (λ mets. mets.items) all.items) (map (λ x. map (λ e. put_stamped e.end) x.1.0.items) rows) l) takes are))
           c.meet_each.ensures.met;
       room = ok_says c.meet_each.result
           (λ all says capacity below. says capacity (all_by (λ row. All (λ link. link_capacity link ≤ capacity) row.items) (λ x. x.0) rows

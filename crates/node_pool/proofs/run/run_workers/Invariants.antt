@@ -1,5 +1,5 @@
 use Rattle.std.proofs.Common.{map}
-use Rattle.actor.specs.Tables.{tables_of}
+use Rattle.pool.specs.actor.Tables.{tables_of}
 use Rattle.node_pool.proofs.run.run_workers.Given as goal
 
 abbrev pub ghosts-run_made : goal.ghosts-run_made

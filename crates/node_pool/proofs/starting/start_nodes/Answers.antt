@@ -3,7 +3,7 @@ use Rattle.std.specs.Prelude.{reverse}
 use Rattle.std.specs.List.{range_with_len}
 use Rattle.std.proofs.lemmas.List.{length-map, length_push}
 use Rattle.alpha_laws.specs.interference.Net.{IsNetwork, count_of, vertices}
-use Rattle.actor.specs.alpha_core.Program.{start_node}
+use Rattle.pool.specs.alpha_core.Program.{start_node}
 use Rattle.node_pool.specs.Rows.{AreCrossed}
 use Rattle.node_pool.specs.News.{AreNewPutsFrom, AreNewTakesTo}
 use Rattle.node_pool.proofs.Growth.{all_more, all_none, last_says, rows_less}

@@ -2,7 +2,7 @@ use Rattle.std.proofs.Common.{◌≡◌, ◌-◌, ◌≤◌, ◌++◌, ℕ, map,
 use Rattle.std.specs.Prelude.{All, reverse}
 use Rattle.std.specs.List.{range_with_len}
 use Rattle.alpha_laws.specs.interference.Net.{vertices}
-use Rattle.actor.specs.alpha_core.Program.{start_node}
+use Rattle.pool.specs.alpha_core.Program.{start_node}
 use Rattle.node_pool.specs.Rows.{row_at}
 use Rattle.node_pool.specs.News.{AreNewPutsFrom, AreNewTakesTo}
 use Rattle.node_pool.proofs.starting.start_nodes.Given as goal

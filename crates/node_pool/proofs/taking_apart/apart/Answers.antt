@@ -14,6 +14,7 @@ returns g c =
       vertices = inv.vertices ∙ ap (map (λ n. n.vertex)) all;
       alphas = inv.alphas ∙ ap (map (λ n. n.alpha)) all;
       entries = inv.entries ∙ ap (map (λ n. n.entries.items)) all;
+      stamped = inv.stamped ∙ ap (map (λ n. n.entries.stamped)) all;
       puts = inv.puts ∙ ap (map (λ n. n.puts.items)) all;
       takes = inv.takes ∙ ap (map (λ n. n.takes.items)) all;
     }

@@ -1,7 +1,7 @@
 use Rattle.std.proofs.Common.{◌≡◌, ℕ, [], length, map}
 use Rattle.std.specs.Prelude.{All}
 use Rattle.std.specs.List.{range_with_len}
-use Rattle.actor.specs.link_queue.Ends.{put_list}
+use Rattle.pool.specs.link_queue.Ends.{put_list}
 use Rattle.node_pool.proofs.wires.wired_puts.Given as goal
 
 abbrev pub invariant-loop-end : goal.invariant-loop-end

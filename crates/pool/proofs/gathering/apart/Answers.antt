@@ -1,8 +1,6 @@
-use Rattle.std.proofs.Common.{map, map-id, refl, sym, ap, subst, ◌∙◌, arith, rules}
-use Rattle.std.specs.Prelude.{IfErr}
+use Rattle.std.proofs.Common.{map, map-id, refl, sym, ap, ◌∙◌, arith, rules}
 use Rattle.std.proofs.lemmas.Iterator.Adapters.{YieldsList-from_vec}
 use Rattle.std.proofs.lemmas.Iterator.Consumers.{YieldsList-end}
-use Rattle.std.proofs.lemmas.List.Elements.{All-push}
 use Rattle.crossbeam_deque.specs.Handles.{view, worker_deque, worker_view}
 use Rattle.pool.specs.Deques.{deque_of}
 use Rattle.pool.specs.Ledgers.{in_rows, pushed_by, shares_of, taken_by, weigh}
@@ -32,8 +30,6 @@ loop-worked-preserved g c =
           let rp = ap (λ rs. in_rows (pushed_by h) (map (λ row. map (λ g'. view g'.pass) row.items) rs)) rows
           ∙ in_rows_more (pushed_by h) (λ row. map (λ g'. view g'.pass) row.items) c.loop-worked.rows.items worked.desk.guests in
           omega arith;
-      memory = All-push (λ w. IfErr w.written (λ _. ⊥)) c.loop-worked.yielded worked inv.memory
-          (subst (λ w. IfErr w (λ _. ⊥)) (sym c.in_ok-written.was) (search rules));
     }
 
 -- at the end every worker's deque is there

@@ -1,5 +1,4 @@
 use Rattle.std.proofs.Common.{◌≡◌, ◌+◌, ℕ, map}
-use Rattle.std.specs.Prelude.{All, IfErr}
 use Rattle.crossbeam_deque.specs.Handles.{view, worker_deque, worker_view}
 use Rattle.pool.specs.Ledgers.{in_rows, pushed_by, shares_of, taken_by, weigh}
 use Rattle.pool.specs.Deques.{deque_of}
@@ -13,5 +12,4 @@ invariant-loop-worked g l = record {
   out : (h : ℕ → ℕ) → taken_by h (map worker_view l.owns.items) + in_rows (taken_by h) (map (λ row. map (λ g'. view g'.pass) row.items) l.rows.items)
       ≡ pushed_by h (map worker_view l.owns.items) + in_rows (pushed_by h) (map (λ row. map (λ g'. view g'.pass) row.items) l.rows.items)
       + weigh h (map (λ b. b.value.vertex) l.nodes.items);
-  memory : All (λ w. IfErr w.written (λ _. ⊥)) l.yielded;
 }

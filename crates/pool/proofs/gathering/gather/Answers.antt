@@ -1,7 +1,8 @@
-use Rattle.std.proofs.Common.{◌≡◌, ◌+◌, ◌-◌, ◌<◌, ◌∙◌, length, map, get_or, sym, arith}
+use Rattle.std.proofs.Common.{◌≡◌, false, ◌+◌, ◌-◌, ◌<◌, ◌∙◌, length, map, get_or, sym, arith}
 use Rattle.crossbeam_deque.specs.Handles.{worker_deque, worker_view}
 use Rattle.pool.specs.Deques.{deque_of}
 use Rattle.pool.specs.Ledgers.{all_shares, shares_of}
+use Rattle.pool.proofs.Ends.{memory_told, no_memory, none_ended, same_fault}
 use Rattle.pool.proofs.Views.{as_many, carried}
 use Rattle.pool.proofs.gathering.gather.Goals as goal
 
@@ -37,17 +38,26 @@ drain_all-requires-clause-shares g c κ b k d lt =
     let few = c.requires.few in
     omega (arith, dealt.ok.0, c.in_ok-owns.rows.ok.0)
 
-pub returns : goal.returns
-returns g c = record {
-  once = λ h.
-      let apart = c.in_ok-owns.ensures.out h in
-      let row = c.absorb_row.ensures.taken h in
-      let row' = c.absorb_row.ensures.pushed h in
-      let rows = c.absorb_rows.ensures.taken h in
-      let rows' = c.absorb_rows.ensures.pushed h in
-      let dealt = c.requires.dealt h in
-      let none = dealt.0 in
-      let these = dealt.1 in
-      let drained = c.in_ok-drain_all.ensures.nodes h in
-      omega arith;
-}
+pub returns-clause-once : goal.returns-clause-once
+returns-clause-once g c h =
+    let apart = c.in_ok-owns.ensures.out h in
+    let row = c.absorb_row.ensures.taken h in
+    let row' = c.absorb_row.ensures.pushed h in
+    let rows = c.absorb_rows.ensures.taken h in
+    let rows' = c.absorb_rows.ensures.pushed h in
+    let dealt = c.requires.dealt h in
+    let none = dealt.0 in
+    let these = dealt.1 in
+    let drained = c.in_ok-drain_all.ensures.nodes h in
+    omega arith
+
+-- no turn ended early
+pub returns-clause-ended : goal.returns-clause-ended
+returns-clause-ended g c = none_ended tt (λ w. w.written) c.args.done.items tt (sym c.told.ensures.told ∙ c.in-Ok.is)
+
+pub returns-clause-memory_first : goal.returns-clause-memory_first
+returns-clause-memory_first g c some = absurd (no_memory tt (map (λ w. w.written) c.args.done.items) tt (sym c.told.ensures.told ∙ c.in-Ok.is) some)
+
+pub returns-in-Err-clause-memory_first : goal.returns-in-Err-clause-memory_first
+returns-in-Err-clause-memory_first g c some =
+    same_fault _ _ (sym c.in-Err.is ∙ c.told.ensures.told ∙ memory_told tt false (map (λ w. w.written) c.args.done.items) some)

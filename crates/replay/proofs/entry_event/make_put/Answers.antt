@@ -2,7 +2,7 @@
 use Rattle.std.proofs.Common.{Ok, ◌≡◌, ◌<◌, ap, sym, ◌∙◌, subst, slice_get}
 use Rattle.alpha_laws.specs.interference.Net.{degree_of, port_to}
 use Rattle.alpha_laws.specs.alpha_core.View.{port_at}
-use Rattle.entries.specs.declared.entry.Entry.TheVariants as entry
+use Rattle.stamps.specs.entries.Entry.TheVariants as entry
 use Rattle.net_core.specs.declared.event.Event.TheVariants.{Put}
 use Rattle.net_core.specs.State.{node_of}
 use Rattle.net_core.specs.Step.{step}

@@ -2,7 +2,7 @@
 -- writes down (oldest).
 use Rattle.std.proofs.Common.{Ok, ◌≡◌, ◌<◌, ap, sym, ◌∙◌, subst, slice_get}
 use Rattle.alpha_laws.specs.interference.Net.{degree_of, port_to, neighbour_of, back_port_of}
-use Rattle.entries.specs.declared.entry.Entry.TheVariants as entry
+use Rattle.stamps.specs.entries.Entry.TheVariants as entry
 use Rattle.net_core.specs.declared.event.Event.TheVariants.{Take}
 use Rattle.net_core.specs.State.{link_at, link_to}
 use Rattle.net_core.specs.Step.{step}

@@ -1,4 +1,6 @@
 use Rattle.std.proofs.Common.{sym, ◌∙◌}
+use Rattle.link_queue.specs.Ends.{put_stamped, taken_stamped}
+use Rattle.actor.proofs.HasStamps.{has_pulsed}
 use Rattle.actor.proofs.Writes.{wrote_pulsed}
 use Rattle.actor.proofs.Steps.{pulsed, never_refused}
 use Rattle.actor.proofs.node.Node.pulse.Goals as goal
@@ -29,4 +31,6 @@ invariant_of-self-in-Ok g c =
       set_aside = λ a e. absurd (let none = sym c.requires.going ∙ e in cc);
       writes = wrote_pulsed program net _ _ _ _ _ _ _ _ _ _ _ old.last can c.in-Ok.ensures.pulse
           c.pulse_number-number.ensures.pulse c.keep_room.ensures.same c.write_pulse.ensures.entries old.writes;
+      stamps = has_pulsed program net (λ e. put_stamped e.end) (λ e. taken_stamped e.end) _ _ old.network old.is_vertex _ _ _ _ _ _ _ _ _ _ _ _ c.keep_room.ensures.same
+          c.keep_room.ensures.stamped c.in_ok-stamp.ensures.stamp c.advance.ensures.value c.write_pulse.ensures.entries c.write_pulse.ensures.stamped old.stamps;
     }

@@ -5,10 +5,11 @@ use Rattle.alpha_laws.specs.alpha_core.Program.{start_node}
 use Rattle.alpha_laws.proofs.NodeLaws.{starts_keep}
 use Rattle.alpha_laws.specs.Kept.{NodeKept}
 use Rattle.alpha_laws.proofs.Runs.{runs}
-use Rattle.link_queue.specs.Ends.{put_list, taken_list}
+use Rattle.link_queue.specs.Ends.{put_list, put_stamped, taken_list, taken_stamped}
 use Rattle.actor.specs.Node.{by_port, links_in, links_out}
 use Rattle.actor.proofs.Lists.{none_at}
 use Rattle.actor.proofs.Kept.{node_same}
+use Rattle.actor.proofs.HasStamps.{has_at_start, none_stamped_at}
 use Rattle.actor.specs.Written.{IsTranscript}
 use Rattle.actor.proofs.Written.{starts_transcript}
 use Rattle.actor.proofs.node.Node.start.Goals as goal
@@ -41,4 +42,7 @@ invariant_of-result g c =
           (starts_transcript program c.args.net.now c.args.vertex c.args.transcript sent taken c.new.result.items
           (none_at (λ e. put_list e.end) c.args.puts.items c.requires.nothing_put)
           (none_at (λ e. taken_list e.end) c.args.takes.items c.requires.nothing_taken) c.new.ensures.items));
+      stamps = has_at_start g.J.Wiring.net c.args.vertex c.args.transcript c.new-2.result (by_port (map (λ e. put_stamped e.end) c.args.puts.items))
+          (by_port (map (λ e. taken_stamped e.end) c.args.takes.items)) c.new.result.items c.new.result.stamped c.new-2.ensures.zero
+          (none_stamped_at (λ e. put_stamped e.end) c.args.puts.items c.requires.nothing_put) c.new.ensures.items c.new.ensures.stamped;
     }

@@ -1,6 +1,7 @@
 use Rattle.std.proofs.Common.{ap, sym, subst, ◌∙◌}
 use Rattle.link_rule.specs.Legal.{IsLegalOn, LegalFor}
 use Rattle.link_queue.proofs.Rules.{merges, forks, totals}
+use Rattle.alpha_core.specs.StampedWires.{wires_of}
 use Rattle.link_queue.proofs.link.Link.meet.Goals as goal
 
 pub absorb-requires-clause-rule : goal.absorb-requires-clause-rule
@@ -11,7 +12,7 @@ another-other-requires-clause-rule g c =
     let legal = IsLegalOn g.P.NodeProgram.program in
     let same = c.len_as-n.ensures.queue.1 in
     let e = same ∙ c.absorb.ensures.rule in
-    forks legal _ _ _ (ap (λ v. v.puts) e) (ap (λ v. v.takes) e) (subst (λ v. LegalFor legal v.name v.put) (sym same) c.len_as-n.ensures.rule.1.2.1)
+    forks legal _ _ _ (ap (λ v. v.puts) e) (ap (λ v. v.takes) e) (subst (λ v. LegalFor legal v.name (wires_of v.put)) (sym same) c.len_as-n.ensures.rule.1.2.1)
 
 pub len_as-n-requires-clause-rule : goal.len_as-n-requires-clause-rule
 len_as-n-requires-clause-rule g c =
@@ -22,4 +23,4 @@ len_as-n-requires-clause-rule g c =
 pub returns-clause-legal : goal.returns-clause-legal
 returns-clause-legal g c =
     let legal = IsLegalOn g.P.NodeProgram.program in
-    subst (λ v. LegalFor legal v.name v.put) c.absorb.ensures.rule c.len_as-n.ensures.rule.1.2.1
+    subst (λ v. LegalFor legal v.name (wires_of v.put)) c.absorb.ensures.rule c.len_as-n.ensures.rule.1.2.1

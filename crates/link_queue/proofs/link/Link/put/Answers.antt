@@ -1,5 +1,8 @@
-use Rattle.std.proofs.Common.{ap, ◌∙◌}
-use Rattle.link_rule.specs.Legal.{IsLegalOn}
+use Rattle.std.proofs.Common.{[], ◌∷◌, ap, ◌∙◌, subst, sym}
+use Rattle.std.proofs.lemmas.List.{map-append}
+use Rattle.crossbeam_queue.specs.Passes.{view}
+use Rattle.alpha_core.specs.declared.stamped.Stamped.{Stamped}
+use Rattle.link_rule.specs.Legal.{IsLegalOn, LegalFor}
 use Rattle.link_queue.proofs.Rules.{puts, fronts, closes, stays}
 use Rattle.link_queue.proofs.link.Link.put.Goals as goal
 
@@ -7,7 +10,9 @@ pub push_as-requires-clause-rule : goal.push_as-requires-clause-rule
 push_as-requires-clause-rule g c =
     let legal = IsLegalOn g.P.NodeProgram.program in
     let may = c.args.end.now.puts.1 in
-    (puts legal _ _ _ _ may c.requires.legal, fronts legal _ _ may)
+    let end = view c.args.end.now.pass in
+    let more = map-append (λ (x : Stamped _). x.wire) end.put (c.args.item ∷ []) in
+    (puts legal _ _ _ _ may (subst (LegalFor legal end.name) (sym more) c.requires.legal) c.requires.above, fronts legal _ _ may)
 
 pub invariant_of-end : goal.invariant_of-end
 invariant_of-end g c =

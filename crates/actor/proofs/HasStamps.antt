@@ -1,0 +1,231 @@
+-- What one call on an end, or on the node alone, leaves of the stamps of a node with its ends.
+use Rattle.std.proofs.Common.{◌≡◌, ℕ, zero, suc, ◌+◌, ◌<◌, ◌≤◌, ◌==◌, true, false, if◌then◌else◌, List, [], ◌∷◌, ◌++◌, length, map, set, get_or, refl, sym, ap}
+use Rattle.std.proofs.Common.{ap₂, ◌∙◌, subst, arith, ⊎_elim, Some, None, Ok, Err}
+use Rattle.std.specs.Prelude.{All, Bool, Option, Result, IsTrue, MatchResult, max}
+use Rattle.std.proofs.lemmas.Bool.{cases_Bool, cases_eq, eqb-true}
+use Rattle.std.proofs.lemmas.List.{length-map, map-append}
+use Rattle.alpha_laws.specs.interference.Net.{Net, IsNetwork, IsVertex, degree_of, neighbour_of, port_to}
+use Rattle.alpha_laws.specs.node_api.Program.{Program, last_pulse_on}
+use Rattle.alpha_laws.specs.alpha_core.Stamped.{Stamped}
+use Rattle.alpha_laws.specs.alpha_core.StampedWires.{last_stamp, stamped, wires_of}
+use Rattle.alpha_laws.specs.alpha_core.Wire.{Wire}
+use Rattle.alpha_laws.specs.alpha_core.View.{Node}
+use Rattle.alpha_laws.specs.alpha_core.Alpha.{pulse, put_done, reaction}
+use Rattle.alpha_laws.specs.alpha_core.Program.{start_node}
+use Rattle.alpha_laws.proofs.alpha_core.StampedWires.{last_more}
+use Rattle.stamps.specs.entries.Entry.{Entry}
+use Rattle.stamps.specs.entries.Entry.TheVariants.{Pulse, Put, Take}
+use Rattle.stamps.specs.Keeps.{HasTaken, KeepsStamps, OneMore, TakesAreByPorts}
+use Rattle.stamps.specs.Stamps.{StampedEntry, bare_of, taken_in}
+use Rattle.stamps.proofs.Keeps.{keeps}
+use Rattle.actor.specs.declared.aside.Aside.{Aside}
+use Rattle.actor.specs.HasStamps.{HasStamps}
+use Rattle.actor.specs.Node.{by_port, reacted_to}
+use Rattle.actor.specs.Written.{IsTranscript, IsWritten, Leads, takes_in}
+use Rattle.actor.proofs.Lists.{none_at, one_more_stamped, same_all}
+use Rattle.actor.proofs.StampedEntries.{wires_taken}
+
+-- what follows from what a result that is no refusal says
+value_says : {A B C : Type 0} {P : A → Type 0} (r : Result A B) → MatchResult r P (λ _. ⊥) → ((x : A) → P x → C) → C
+value_says (Ok x) is more = more x is
+value_says (Err e) is more = absurd is
+
+-- a list by port, without stamps
+wires_at : {Y M : Type 0} (taken : Y → List (Stamped M)) (ys : List Y) (i : ℕ) → by_port (map (λ y. wires_of (taken y)) ys) i ≡ wires_of (by_port (map taken ys) i)
+wires_at taken [] i = refl
+wires_at taken (y ∷ ys) zero = refl
+wires_at taken (y ∷ ys) (suc i) = wires_at taken ys i
+
+-- a list without wires has no stamps
+none_stamped : {M : Type 0} (xs : List (Stamped M)) → wires_of xs ≡ [] → xs ≡ []
+none_stamped [] e = refl
+none_stamped (x ∷ xs) e = absurd cc
+
+pub none_stamped_at : {A M : Type 0} (f : A → List (Stamped M)) (xs : List A) → All (λ x. wires_of (f x) ≡ []) xs → (i : ℕ) → [] ≡ by_port (map f xs) i
+none_stamped_at f xs all = none_at f xs (λ k d lt. none_stamped (f (get_or xs k d)) (all k d lt))
+
+module _ {S M E : Type 0} (program : Program S M E) (net : Net) (v : ℕ) where
+  -- each take is from a neighbour
+  none_from : (entries : List (Entry M)) (from to : Node S M) → Leads program net v entries from to → (w : ℕ) → (port_to net v w < degree_of net v → ⊥)
+      → takes_in entries w ≡ []
+  none_from [] from to is w none = refl
+  none_from (Pulse p ∷ entries) from to is w none =
+      value_says (pulse program.next (last_pulse_on program net) from) is.1.1 (λ node more. none_from entries node to more w none)
+  none_from (Put u x ∷ entries) from to is w none =
+      none_from entries record from { view = put_done from.view (port_to net v u) } to is.1.1 w none
+  none_from (Take u x ∷ entries) from to is w none = ⊎_elim
+      (λ yes. absurd (none (subst (λ k. port_to net v k < degree_of net v) (eqb-true u w yes) is.0)))
+      (λ no. rw no (value_says (reaction (last_pulse_on program net) from.view (port_to net v u) x) is.1
+      (λ view more. none_from entries record from { view = view } to more w none)))
+      (cases_Bool (u == w))
+
+  module _ {Y : Type 0} (taken : Y → List (Stamped M)) (ys : List Y) (node : Node S M) (puts : ℕ → List (Wire M)) (es : List (Entry M))
+      (st : List (StampedEntry M)) (same : bare_of st ≡ es) (is : IsWritten program net v node puts (by_port (map (λ y. wires_of (taken y)) ys)) es) where
+    -- the entries took as many wires as the ends
+    counts : (i : ℕ) → i < degree_of net v → length (taken_in st (neighbour_of net v i)) ≡ length (by_port (map taken ys) i)
+    counts i lt =
+        let w = neighbour_of net v i in
+        let wires : wires_of (taken_in st w) ≡ wires_of (by_port (map taken ys) i) =
+        wires_taken st w ∙ ap (λ l. takes_in l w) same ∙ is.takes_are i lt ∙ wires_at taken ys i in
+        sym (length-map (taken_in st w) (λ x. x.wire)) ∙ ap (λ l. length l) wires ∙ length-map (by_port (map taken ys) i) (λ x. x.wire)
+
+    has_taken_all : HasTaken net v (by_port (map taken ys)) st
+    has_taken_all i lt = let n = counts i lt in omega (arith, n)
+
+    by_ports : TakesAreByPorts net v st
+    by_ports w none =
+        let wires : wires_of (taken_in st w) ≡ [] = wires_taken st w ∙ ap (λ l. takes_in l w) same ∙ none_from es (start_node program net v) node is.run w none in
+        sym (length-map (taken_in st w) (λ x. x.wire)) ∙ ap (λ l. length l) wires
+
+module _ {M : Type 0} (net : Net) (v : ℕ) where
+  -- an entry is written down, or there is none
+  next_stamps : (t : Bool) (counter counter' : ℕ) (puts puts' takens takens' : ℕ → List (Stamped M)) (es es' : List (Entry M)) (st st' : List (StampedEntry M))
+      (e : StampedEntry M) → es' ≡ (if t then es ++ (e.1 ∷ []) else es) → st' ≡ (if t then st ++ (e ∷ []) else st) → HasStamps net v t counter puts takens es st
+      → (IsTrue t → KeepsStamps net v counter puts takens st → KeepsStamps net v counter' puts' takens' (st ++ (e ∷ [])))
+      → ((i : ℕ) → last_stamp (puts' i) ≤ counter') → HasStamps net v t counter' puts' takens' es' st'
+  next_stamps true counter counter' puts puts' takens takens' es es' st st' e es_are st_are h more below = record {
+    keeps = λ yes. subst (λ l. KeepsStamps net v counter' puts' takens' l) (sym st_are) (more yes (h.keeps yes));
+    same = ap (λ l. bare_of l) st_are ∙ map-append (λ x. x.1) st (e ∷ []) ∙ ap (λ l. l ++ (e.1 ∷ [])) h.same ∙ sym es_are;
+    below = below;
+  }
+  next_stamps false counter counter' puts puts' takens takens' es es' st st' e es_are st_are h more below = record {
+    keeps = λ yes. absurd cc;
+    same = ap (λ l. bare_of l) st_are ∙ h.same ∙ sym es_are;
+    below = below;
+  }
+
+  -- nothing is put, taken or written down at the start
+  pub has_at_start : (t : Bool) (counter : ℕ) (puts takens : ℕ → List (Stamped M)) (es : List (Entry M)) (st : List (StampedEntry M)) → counter ≡ 0
+      → ((i : ℕ) → [] ≡ puts i) → es ≡ [] → st ≡ [] → HasStamps net v t counter puts takens es st
+  has_at_start t counter puts takens es st at_zero none_put none none_stamped =
+      subst (λ c. HasStamps net v t c puts takens es st) (sym at_zero)
+      (subst (λ l. HasStamps net v t 0 puts takens l st) (sym none)
+      (subst (λ l. HasStamps net v t 0 puts takens [] l) (sym none_stamped) record {
+        keeps = λ yes. record {
+          stamped = λ before e after is. absurd (no_split before e after is);
+          counter_is = refl;
+          put_are = λ i lt. none_put i;
+        };
+        same = refl;
+        below = λ i. let e = ap (λ l. last_stamp l) (none_put i) in omega (arith, e);
+      }))
+    where
+      no_split : (before : List (StampedEntry M)) (e : StampedEntry M) (after : List (StampedEntry M)) → [] ≡ before ++ (e ∷ after) → ⊥
+      no_split [] e after is = cc
+      no_split (x ∷ before) e after is = cc
+
+module _ {S M E X Y : Type 0} (program : Program S M E) (net : Net) (put : X → List (Stamped M)) (taken : Y → List (Stamped M)) (v : ℕ) (t : Bool) where
+  abbrev Has : ℕ → List X → List Y → List (Entry M) → List (StampedEntry M) → Type 0
+  Has counter xs ys es st = HasStamps net v t counter (by_port (map put xs)) (by_port (map taken ys)) es st
+
+  -- what it wrote down, without stamps
+  abbrev Wrote : Node S M → List X → List Y → Option (Aside M) → List (Entry M) → Type 0
+  Wrote node xs ys aside es =
+      IsTranscript program net v t node (by_port (map (λ x. wires_of (put x)) xs)) (by_port (reacted_to aside (map (λ y. wires_of (taken y)) ys))) es
+
+  -- nothing was taken, and nothing put
+  pub has_none_taken : (counter : ℕ) (xs : List X) (ys : List Y) (i : ℕ) (x y : Y) (es es' : List (Entry M)) (st st' : List (StampedEntry M))
+      → x ≡ get_or ys i x → taken y ≡ taken x → es' ≡ es → st' ≡ st → Has counter xs ys es st → Has counter xs (set ys i y) es' st'
+  has_none_taken counter xs ys i x y es es' st st' is same room room_st h =
+      subst (λ l. HasStamps net v t counter (by_port (map put xs)) (by_port l) es' st') (sym (same_all taken ys i x y is same))
+      (subst (λ l. Has counter xs ys l st') (sym room) (subst (λ l. Has counter xs ys es l) (sym room_st) h))
+
+  pub has_none_put : (counter : ℕ) (xs : List X) (ys : List Y) (i : ℕ) (x y : X) (es es' : List (Entry M)) (st st' : List (StampedEntry M))
+      → x ≡ get_or xs i x → put y ≡ put x → es' ≡ es → st' ≡ st → Has counter xs ys es st → Has counter (set xs i y) ys es' st'
+  has_none_put counter xs ys i x y es es' st st' is same room room_st h =
+      subst (λ l. HasStamps net v t counter (by_port l) (by_port (map taken ys)) es' st') (sym (same_all put xs i x y is same))
+      (subst (λ l. Has counter xs ys l st') (sym room) (subst (λ l. Has counter xs ys es l) (sym room_st) h))
+
+  -- room for an entry was made
+  pub has_room : (counter : ℕ) (xs : List X) (ys : List Y) (es es' : List (Entry M)) (st st' : List (StampedEntry M)) → es' ≡ es → st' ≡ st
+      → Has counter xs ys es st → Has counter xs ys es' st'
+  has_room counter xs ys es es' st st' room room_st h = subst (λ l. Has counter xs ys l st') (sym room) (subst (λ l. Has counter xs ys es l) (sym room_st) h)
+
+  module _ (ok : IsNetwork net) (vertex : IsVertex net v) where
+    -- a wire was taken and set aside
+    pub has_aside : (node : Node S M) (counter : ℕ) (xs : List X) (ys : List Y) (aside : Option (Aside M)) (i : ℕ) (x y : Y) (item : Stamped M)
+        (es es' : List (Entry M)) (st st' : List (StampedEntry M)) → length ys ≡ degree_of net v → i < degree_of net v → aside ≡ None → x ≡ get_or ys i x
+        → taken y ≡ taken x ++ (item ∷ []) → es' ≡ es → st' ≡ st → Wrote node xs ys aside es → Has counter xs ys es st → Has counter xs (set ys i y) es' st'
+    has_aside node counter xs ys aside i x y item es es' st st' count lt going is more room room_st wrote h =
+        let within : i < length ys = omega arith in
+        let wrote' : Wrote node xs ys None es = subst (λ a. Wrote node xs ys a es) going wrote in
+        let grown = one_more_stamped taken ys i x y item within is more in
+        has_room counter xs (set ys i y) es es' st st' room room_st record {
+          keeps = λ yes.
+              let written = wrote'.written yes in
+              let has = has_taken_all program net v taken ys node (by_port (map (λ x. wires_of (put x)) xs)) es st h.same written in
+              let by = by_ports program net v taken ys node (by_port (map (λ x. wires_of (put x)) xs)) es st h.same written in
+              (keeps net ok v vertex).asides i counter item (by_port (map put xs)) (by_port (map taken ys)) (by_port (map taken (set ys i y))) st lt
+              (h.keeps yes) has by grown;
+          same = h.same;
+          below = h.below;
+        }
+
+    -- a wire was taken, and the node reacted
+    pub has_taken : (node : Node S M) (counter counter' k n : ℕ) (xs : List X) (ys : List Y) (aside : Option (Aside M)) (i : ℕ) (x y : Y) (item : Stamped M)
+        (es es' es'' : List (Entry M)) (st st' st'' : List (StampedEntry M)) → length ys ≡ degree_of net v → i < degree_of net v → aside ≡ None
+        → x ≡ get_or ys i x → taken y ≡ taken x ++ (item ∷ []) → es' ≡ es → st' ≡ st → n ≡ neighbour_of net v i → counter' ≡ max counter item.stamp + 1 → k ≡ counter'
+        → es'' ≡ (if t then es' ++ (Take n item.wire ∷ []) else es') → st'' ≡ (if t then st' ++ ((counter', Take n item.wire) ∷ []) else st')
+        → Wrote node xs ys aside es → Has counter xs ys es st → Has k xs (set ys i y) es'' st''
+    has_taken node counter counter' k n xs ys aside i x y item es es' es'' st st' st'' count lt going is more room room_st neighbour next moved es_are st_are wrote h =
+        let within : i < length ys = omega arith in
+        let s = max counter item.stamp + 1 in
+        let e : StampedEntry M = (s, Take (neighbour_of net v i) item.wire) in
+        let wrote' : Wrote node xs ys None es = subst (λ a. Wrote node xs ys a es) going wrote in
+        let grown = one_more_stamped taken ys i x y item within is more in
+        let es_more : es'' ≡ (if t then es' ++ (e.1 ∷ []) else es') = es_are ∙ ap (λ k. if t then es' ++ (Take k item.wire ∷ []) else es') neighbour in
+        let st_more : st'' ≡ (if t then st' ++ (e ∷ []) else st') =
+        st_are ∙ ap₂ (λ c k. if t then st' ++ ((c, Take k item.wire) ∷ []) else st') next neighbour in
+        subst (λ c. Has c xs (set ys i y) es'' st'') (sym (moved ∙ next))
+        (next_stamps net v t counter s (by_port (map put xs)) (by_port (map put xs)) (by_port (map taken ys)) (by_port (map taken (set ys i y))) es' es'' st' st''
+        e es_more st_more (has_room counter xs ys es es' st st' room room_st h)
+        (λ yes kept.
+        let written = wrote'.written yes in
+        let kept' : KeepsStamps net v counter (by_port (map put xs)) (by_port (map taken ys)) st = h.keeps yes in
+        let has = has_taken_all program net v taken ys node (by_port (map (λ x. wires_of (put x)) xs)) es st h.same written in
+        let by = by_ports program net v taken ys node (by_port (map (λ x. wires_of (put x)) xs)) es st h.same written in
+        let all = counts program net v taken ys node (by_port (map (λ x. wires_of (put x)) xs)) es st h.same written i lt in
+        subst (λ l. KeepsStamps net v s (by_port (map put xs)) (by_port (map taken (set ys i y))) (l ++ (e ∷ []))) (sym room_st)
+        ((keeps net ok v vertex).takes i counter item (by_port (map put xs)) (by_port (map taken ys)) (by_port (map taken (set ys i y))) st lt kept' has all by
+        grown))
+        (λ j. let le = h.below j in omega (arith, le)))
+
+    -- the oldest wire of an out-list was put
+    pub has_put : (counter counter' k n : ℕ) (xs : List X) (ys : List Y) (i : ℕ) (x y : X) (w : Wire M)
+        (es es' es'' : List (Entry M)) (st st' st'' : List (StampedEntry M)) → length xs ≡ degree_of net v → i < degree_of net v
+        → x ≡ get_or xs i x → put y ≡ put x ++ (stamped counter' w ∷ []) → es' ≡ es → st' ≡ st → n ≡ neighbour_of net v i → counter' ≡ counter + 1 → k ≡ counter'
+        → es'' ≡ (if t then es' ++ (Put n w ∷ []) else es') → st'' ≡ (if t then st' ++ ((counter', Put n w) ∷ []) else st')
+        → Has counter xs ys es st → Has k (set xs i y) ys es'' st''
+    has_put counter counter' k n xs ys i x y w es es' es'' st st' st'' count lt is more room room_st neighbour next moved es_are st_are h =
+        let within : i < length xs = omega arith in
+        let s = counter + 1 in
+        let e : StampedEntry M = (s, Put (neighbour_of net v i) w) in
+        let more' : put y ≡ put x ++ (stamped s w ∷ []) = more ∙ ap (λ c. put x ++ (stamped c w ∷ [])) next in
+        let grown = one_more_stamped put xs i x y (stamped s w) within is more' in
+        let es_more : es'' ≡ (if t then es' ++ (e.1 ∷ []) else es') = es_are ∙ ap (λ k. if t then es' ++ (Put k w ∷ []) else es') neighbour in
+        let st_more : st'' ≡ (if t then st' ++ (e ∷ []) else st') = st_are ∙ ap₂ (λ c k. if t then st' ++ ((c, Put k w) ∷ []) else st') next neighbour in
+        subst (λ c. Has c (set xs i y) ys es'' st'') (sym (moved ∙ next))
+        (next_stamps net v t counter s (by_port (map put xs)) (by_port (map put (set xs i y))) (by_port (map taken ys)) (by_port (map taken ys)) es' es'' st' st''
+        e es_more st_more (has_room counter xs ys es es' st st' room room_st h)
+        (λ yes kept. (keeps net ok v vertex).puts i counter w (by_port (map put xs)) (by_port (map put (set xs i y))) (by_port (map taken ys)) st' lt kept grown)
+        (λ j. ⊎_elim
+        (λ here.
+        let last : last_stamp (by_port (map put (set xs i y)) j) ≡ s = ap (λ k. last_stamp (by_port (map put (set xs i y)) k)) here ∙ ap (λ l. last_stamp l) grown.here
+        ∙ last_more 0 (by_port (map put xs) i) (stamped s w) in
+        omega (arith, last))
+        (λ ne. let same = ap (λ l. last_stamp l) (grown.others j ne) in let le = h.below j in omega (arith, same, le))
+        (cases_eq j i)))
+
+    -- a pulse was made
+    pub has_pulsed : (counter counter' k p : ℕ) (xs : List X) (ys : List Y) (es es' es'' : List (Entry M)) (st st' st'' : List (StampedEntry M)) → es' ≡ es → st' ≡ st
+        → counter' ≡ counter + 1 → k ≡ counter' → es'' ≡ (if t then es' ++ (Pulse p ∷ []) else es') → st'' ≡ (if t then st' ++ ((counter', Pulse p) ∷ []) else st')
+        → Has counter xs ys es st → Has k xs ys es'' st''
+    has_pulsed counter counter' k p xs ys es es' es'' st st' st'' room room_st next moved es_are st_are h =
+        let s = counter + 1 in
+        let e : StampedEntry M = (s, Pulse p) in
+        let st_more : st'' ≡ (if t then st' ++ (e ∷ []) else st') = st_are ∙ ap (λ c. if t then st' ++ ((c, Pulse p) ∷ []) else st') next in
+        subst (λ c. Has c xs ys es'' st'') (sym (moved ∙ next))
+        (next_stamps net v t counter s (by_port (map put xs)) (by_port (map put xs)) (by_port (map taken ys)) (by_port (map taken ys)) es' es'' st' st''
+        e es_are st_more (has_room counter xs ys es es' st st' room room_st h)
+        (λ yes kept. (keeps net ok v vertex).pulses p counter (by_port (map put xs)) (by_port (map taken ys)) st' kept)
+        (λ j. let le = h.below j in omega (arith, le)))

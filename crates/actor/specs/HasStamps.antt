@@ -1,0 +1,30 @@
+-- What a node with its ends keeps of its stamps.
+use Rattle.std.specs.Prelude.{◌≡◌, ℕ, ◌≤◌, Bool, IsTrue, List, Option, Some, None}
+use Rattle.alpha_laws.specs.interference.Net.{Net}
+use Rattle.alpha_laws.specs.alpha_core.Stamped.{Stamped}
+use Rattle.alpha_laws.specs.alpha_core.StampedWires.{last_stamp}
+use Rattle.stamps.specs.entries.Entry.{Entry}
+use Rattle.stamps.specs.Keeps.{KeepsStamps}
+use Rattle.stamps.specs.Stamps.{StampedEntry, bare_of}
+use Rattle.actor.specs.declared.aside.Aside.{Aside}
+use Rattle.actor.specs.declared.aside.WhyAside.{WhyAside}
+use Rattle.actor.specs.declared.aside.WhyAside.TheVariants.{Refused, StampFull}
+
+-- The lists that the ends of a node of v put and took, by port, and its entries, without their stamps and with them.
+pub record HasStamps {M : Type 0} (net : Net) (v : ℕ) (transcript : Bool) (counter : ℕ)
+    (puts takens : ℕ → List (Stamped M)) (entries : List (Entry M)) (stamped : List (StampedEntry M)) : Type 0 where
+  -- With a transcript, each entry has the stamp that the counter gives it, and each wire that was put that of its put.
+  pub keeps : IsTrue transcript → KeepsStamps net v counter puts takens stamped
+  -- These are the same entries.
+  pub same : bare_of stamped ≡ entries
+  -- No end put a wire with a stamp above the counter.
+  pub below : (i : ℕ) → last_stamp (puts i) ≤ counter
+
+-- the stamp of a wire that was set aside since its take would have too great a stamp; 0 if there is none
+abbrev pub stamp_of_why : WhyAside → ℕ
+stamp_of_why Refused = 0
+stamp_of_why (StampFull stamp) = stamp
+
+abbrev pub aside_stamp : {M : Type 0} → Option (Aside M) → ℕ
+aside_stamp None = 0
+aside_stamp (Some aside) = stamp_of_why aside.why

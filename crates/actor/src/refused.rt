@@ -1,0 +1,32 @@
+//! Why a turn of a node ended early.
+
+ghost use Rattle.std.specs.Prelude.{◌≡◌};
+ghost use Rattle.actor.specs.declared.refused.TurnRefused.TheVariants as turn;
+
+use alpha_laws::Memory;
+use stamps::StampFull;
+
+/// Why a turn of a node ended early.
+#[derive(Debug, Clone, Copy, PartialEq, Eq)]
+pub enum TurnRefused {
+    /// Memory for an entry was refused.
+    Memory,
+    /// A stamp would pass 18446744073709551615.
+    StampFull,
+}
+
+impl From<Memory> for TurnRefused {
+    ghost from_gives = { λ _ result. result ≡ turn.Memory };
+
+    fn from(_error: Memory) -> TurnRefused {
+        TurnRefused::Memory
+    }
+}
+
+impl From<StampFull> for TurnRefused {
+    ghost from_gives = { λ _ result. result ≡ turn.StampFull };
+
+    fn from(_error: StampFull) -> TurnRefused {
+        TurnRefused::StampFull
+    }
+}

@@ -1,0 +1,14 @@
+use Rattle.std.proofs.Common.{◌∙◌, subst}
+use Rattle.dimacs_col.specs.Lines.{lines_of}
+use Rattle.answers.specs.ReplayAnswers.{IsTold}
+use Rattle.answers.proofs.RefusedLines.{fault-refused}
+use Rattle.answers.proofs.replaying.replayed_entries.Goals as goal
+
+pub returns-in_ok-lines-in-Err-clause-fault : goal.returns-in_ok-lines-in-Err-clause-fault
+returns-in_ok-lines-in-Err-clause-fault c =
+    let refused = c.in-Err.refused in
+    let net = c.args.network.now in
+    let rows = c.args.rows.now in
+    λ nodes e.
+    fault-refused net c.is_network.ensures (lines_of c.args.input.now) (nodes, rows) refused c.told.result e (λ no. c.in-Err.ensures.refuses no)
+    (subst (λ numbers. IsTold net rows numbers refused c.told.result) (c.as_slice.ensures.value ∙ c.in_ok-lines-in-Err.ensures) c.told.ensures)

@@ -1,0 +1,3 @@
+-- What crates above name of `net_core`.
+pub use Rattle.net_core.specs.State
+pub use Rattle.net_core.specs.Step

@@ -1,0 +1,5 @@
+pub mod MetNodes
+pub mod Steps
+pub mod Runs
+pub mod Clocks
+pub mod alpha_core

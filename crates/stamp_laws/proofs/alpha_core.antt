@@ -1,0 +1,2 @@
+-- What crates above cite of the lemmas of `alpha_core`.
+pub use Rattle.actor.proofs.alpha_core.Cells

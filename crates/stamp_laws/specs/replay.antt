@@ -1,0 +1,2 @@
+-- What crates above name of `replay`.
+pub use Rattle.replay.specs.Whole

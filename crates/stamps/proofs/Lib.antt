@@ -1,0 +1,11 @@
+pub mod Lists
+pub mod Appends
+pub mod Local
+pub mod Keeps
+pub mod Props
+pub mod Gathers
+pub mod Unique
+pub mod Sorts
+pub mod StepsUp
+pub mod Tables
+pub mod Growing

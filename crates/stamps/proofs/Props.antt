@@ -1,0 +1,12 @@
+-- What a node keeps of its stamps has at most one proof, as a fact of a type has to.
+use Rattle.std.specs.Prelude.{ℕ, List}
+use Rattle.std.proofs.Props.{props}
+use Rattle.entries.specs.interference.Net.{Net}
+use Rattle.entries.specs.alpha_core.Stamped.{Stamped}
+use Rattle.stamps.specs.Stamps.{StampedEntry}
+use Rattle.stamps.specs.Keeps.{KeepsStamps}
+
+module _ {M : Type 0} (payloads : IsSet M) where
+  pub KeepsStamps-prop : (net : Net) (v counter : ℕ) (puts takens : ℕ → List (Stamped M)) (entries : List (StampedEntry M))
+      → IsProp (KeepsStamps net v counter puts takens entries)
+  KeepsStamps-prop net v counter puts takens entries = Prim.hlevel (props, payloads)

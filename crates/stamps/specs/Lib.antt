@@ -1,0 +1,8 @@
+pub mod Stamps
+pub mod Merged
+pub mod Gathered
+pub mod Table
+pub mod Keeps
+pub mod Laws
+pub mod alpha_core
+pub mod entries

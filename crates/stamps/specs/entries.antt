@@ -1,0 +1,3 @@
+-- What crates above name of `entries`.
+pub use Rattle.entries.specs.declared.entry.Entry
+pub use Rattle.entries.specs.EntryList

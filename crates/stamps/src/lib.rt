@@ -1,0 +1,28 @@
+//! Stamps of entries and of wires, and the entries of all nodes in their order.
+//!
+//! Each node has a counter (`Counter` of `alpha_core`). A pulse or a put adds one to it; a take makes it one more than
+//! the greater of itself and the wire's stamp. The stamp of an entry is the counter after its event, and a wire has the
+//! stamp of its put. So a take has a greater stamp than the put of its wire.
+//!
+//! `specs/Stamps.antt` has the stamps of one node's entries, `specs/Merged.antt` those of all nodes in one list.
+//! `order` makes that list; `replay` plays it.
+//!
+//! ```text
+//! let lists = [..];                            // the stamped entries of node v in place v - 1
+//! if rising(&lists) {
+//!     let rows = order(alloc, &lists)?;        // each behind its stamp and the vertex of its node
+//! }
+//! ```
+#![tactic(auto)]
+
+pub mod laws;
+mod ordering;
+mod rise;
+mod table;
+
+pub use ordering::order;
+pub use rise::rising;
+pub use table::StampTable;
+
+// What crates above name of lower ones.
+pub use entries::{Counter, Entries, Entry, StampFull, Stamped, StampedIter};

@@ -1,0 +1,17 @@
+use Rattle.std.proofs.Common.{◌≡◌, ◌+◌, None, codes, length}
+use Rattle.dimacs_col.specs.Lines.{lines_of}
+use Rattle.transcripts.specs.EntryLines.{stamped_row_of}
+use Rattle.transcripts.specs.Reading.{read_from}
+use Rattle.transcripts.proofs.stamped.read_stamped_lines.Given as goal
+
+-- the reading of all lines is that of the lines that are left, from what the reader knows
+abbrev pub invariant-each : goal.invariant-each
+invariant-each g l =
+    let row = stamped_row_of g.T.PayloadText.payload_of in
+    record {
+      knows : read_from (codes "2") row (l.before + 1) None (lines_of l.text)
+          ≡ read_from (codes "2") row (l.lines.0 + 1) l.reader.known l.lines.1;
+    }
+
+abbrev pub decreases-each : goal.decreases-each
+decreases-each g l = length l.lines.1

@@ -1,0 +1,16 @@
+use Rattle.std.proofs.Common.{◌≡◌, ◌++◌, ◌∙◌, ap, codes, flat_map}
+use Rattle.dimacs_col.specs.Lines.{lines_of}
+use Rattle.transcripts.specs.Reading.{stamped_reading_of}
+use Rattle.transcripts.specs.TranscriptText.{first_line_of, stamped_row_text, stamped_transcript_of}
+use Rattle.transcripts.proofs.Written.{written-two}
+use Rattle.transcripts.proofs.writing.stamped_text.Goals as goal
+
+pub returns-clause-reads_back : goal.returns-clause-reads_back
+returns-clause-reads_back g c =
+    let m = g.T.PayloadText in
+    let rows = flat_map (stamped_row_text m.word_of m.number_of) c.args.rows.now in
+    let header = c.in_ok-push_header.ensures.text ∙ ap (λ t. t ++ first_line_of (codes "2") c.args.nodes) c.new-text.ensures.items in
+    let text : c.push_stamped_rows.new.text.items ≡ stamped_transcript_of m.word_of m.number_of c.args.nodes c.args.rows.now =
+    c.in_ok-push_stamped_rows.ensures.text ∙ ap (λ t. t ++ rows) header in
+    ap (λ t. stamped_reading_of m.payload_of (lines_of t)) text
+    ∙ written-two m.word_of m.number_of m.payload_of m.letters c.args.nodes c.args.rows.now c.ranges.nodes.fits c.in_ok-push_stamped_rows.ensures.readable

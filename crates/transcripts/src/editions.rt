@@ -1,0 +1,102 @@
+//! The reading of a transcript of either edition.
+
+ghost use Rattle.std.specs.Prelude.{◌≡◌, ◌<◌, ◌+◌, ◌^◌, ◌∷◌, IfOk, IfErr, Ok, length};
+ghost use Rattle.dimacs_col.specs.Lines.{lines_of};
+ghost use Rattle.transcripts.specs.Editions.{any_from, any_reading_behind, any_reading_of, begins_stamped, is_stamped};
+ghost use Rattle.transcripts.specs.Editions.{said_by};
+ghost use Rattle.transcripts.specs.Reading.{IsFaultOf};
+
+use crate::fault::TextFault;
+use crate::reading::read_lines;
+use crate::stamped::read_stamped_lines;
+use alpha_core::PayloadText;
+use channel_plan::text_start;
+use dimacs_col::{Fields, Lines};
+use entries::Entry;
+use std::alloc::Global;
+
+/// A transcript of either edition: how many nodes there are, and the entries.
+#[derive(Drop)]
+pub enum Transcript<T> {
+    /// Each entry behind the vertex of its node.
+    One(u32, Vec<(u32, Entry<T>)>),
+    /// Each entry behind its stamp and the vertex of its node.
+    Two(u32, Vec<(u64, u32, Entry<T>)>),
+}
+
+// Whether a line begins with `transcript 2`, of which the first field was taken.
+fn begins_stamped(first: &[u8], mut others: Fields) -> bool
+    ensures { result ≡ begins_stamped (first.now ∷ others.entry) }
+{
+    match others.next() {
+        Some(second) => first == b"transcript".as_slice() && second == b"2".as_slice(),
+        None => false,
+    }
+}
+
+// Whether the first line that has fields begins with `transcript 2`.
+fn is_stamped(before: usize, text: &[u8]) -> bool
+    requires room { before + length text.now + 1 < 2 ^ 64 }
+    ensures { result ≡ is_stamped (lines_of text.now) }
+{
+    let mut lines = Lines::behind(before, text);
+    'each: while let Some((_, mut fields)) = lines.next() {
+        if let Some(first) = fields.next() {
+            return begins_stamped(first, fields);
+        }
+    }
+    false
+}
+
+// The transcript of either edition that a text is, which so many other lines stand before.
+fn read_any_lines<T: PayloadText>(
+    alloc: Global,
+    before: usize,
+    text: &[u8],
+) -> Result<Transcript<T>, TextFault>
+    requires room { before + length text.now + 1 < 2 ^ 64 }
+    ensures ok { IfOk result (λ read. any_from T.payload_of (before + 1) (lines_of text.now) ≡ Ok (said_by read)) }
+    ensures fault { IfErr result (IsFaultOf (any_from T.payload_of (before + 1) (lines_of text.now))) }
+{
+    if is_stamped(before, text) {
+        let (nodes, rows) = read_stamped_lines(alloc, before, text)?;
+        Ok(Transcript::Two(nodes, rows))
+    } else {
+        let (nodes, rows) = read_lines(alloc, before, text)?;
+        Ok(Transcript::One(nodes, rows))
+    }
+}
+
+/// The transcript of either edition that a text is: the first line that has a field is `transcript 1 NODES` or
+/// `transcript 2 NODES`. Of edition 1 each later line is as for `read_transcript`; of edition 2 it has a stamp before.
+///
+/// # Errors
+///
+/// `Syntax` with the first line that is none of these, or with line 1 if no line has a field. `Memory` if memory is
+/// refused.
+pub fn read_any<T: PayloadText>(alloc: Global, text: &[u8]) -> Result<Transcript<T>, TextFault>
+    ensures ok { IfOk result (λ read. any_reading_of T.payload_of (lines_of text.now) ≡ Ok (said_by read)) }
+    ensures fault { IfErr result (IsFaultOf (any_reading_of T.payload_of (lines_of text.now))) }
+{
+    read_any_lines(alloc, 0, text)
+}
+
+/// The transcript that follows a network text, as `read_any` reads it. It begins at the first line whose first field is
+/// `transcript`.
+///
+/// # Errors
+///
+/// As of `read_any`, but lines count from the first one of the whole input. `Syntax` with line 1 if there is no
+/// transcript.
+pub fn read_any_behind_network<T: PayloadText>(
+    alloc: Global,
+    input: &[u8],
+) -> Result<Transcript<T>, TextFault>
+    ensures ok { IfOk result (λ read. any_reading_behind T.payload_of (lines_of input.now) ≡ Ok (said_by read)) }
+    ensures fault { IfErr result (IsFaultOf (any_reading_behind T.payload_of (lines_of input.now))) }
+{
+    match text_start(input, &[b"transcript"]) {
+        Some(start) => read_any_lines(alloc, start.lines, &input[start.bytes..]),
+        None => Err(TextFault::Syntax(1)),
+    }
+}
