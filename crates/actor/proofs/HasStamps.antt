@@ -19,7 +19,8 @@ use Rattle.stamps.specs.Keeps.{HasTaken, KeepsStamps, OneMore, TakesAreByPorts}
 use Rattle.stamps.specs.Stamps.{StampedEntry, bare_of, taken_in}
 use Rattle.stamps.proofs.Keeps.{keeps}
 use Rattle.actor.specs.declared.aside.Aside.{Aside}
-use Rattle.actor.specs.HasStamps.{HasStamps}
+use Rattle.actor.specs.declared.aside.WhyAside.TheVariants.{StampFull}
+use Rattle.actor.specs.HasStamps.{HasStamps, IsFullAside}
 use Rattle.actor.specs.Node.{by_port, reacted_to}
 use Rattle.actor.specs.Written.{IsTranscript, IsWritten, Leads, takes_in}
 use Rattle.actor.proofs.Lists.{none_at, one_more_stamped, same_all}
@@ -229,3 +230,15 @@ module _ {S M E X Y : Type 0} (program : Program S M E) (net : Net) (put : X →
         e es_are st_more (has_room counter xs ys es es' st st' room room_st h)
         (λ yes kept. (keeps net ok v vertex).pulses p counter (by_port (map put xs)) (by_port (map taken ys)) st' kept)
         (λ j. let le = h.below j in omega (arith, le)))
+
+-- the wire that was taken last, and was set aside, came with the stamp for which it was
+pub full_aside : {Y M : Type 0} (taken : Y → List (Stamped M)) (ys : List Y) (i : ℕ) (x y : Y) (w : Stamped M) (aside : Aside M) → i < length ys
+    → x ≡ get_or ys i x → taken y ≡ taken x ++ (w ∷ []) → aside.port ≡ i → ((s : ℕ) → aside.why ≡ StampFull s → w.stamp ≡ s)
+    → (a : Aside M) → Some aside ≡ Some a → IsFullAside (by_port (map taken (set ys i y))) a
+full_aside taken ys i x y w aside within is more port why a given =
+    subst (λ b. IsFullAside (by_port (map taken (set ys i y))) b) (some_same given)
+    (λ s e. ap (λ k. last_stamp (by_port (map taken (set ys i y)) k)) port
+    ∙ ap (λ l. last_stamp l) (one_more_stamped taken ys i x y w within is more).here ∙ last_more 0 (by_port (map taken ys) i) w ∙ why s e)
+  where
+    some_same : {A : Type 0} {x y : A} → Some x ≡ Some y → x ≡ y
+    some_same e = cc

@@ -28,3 +28,8 @@ stamp_of_why (StampFull stamp) = stamp
 abbrev pub aside_stamp : {M : Type 0} → Option (Aside M) → ℕ
 aside_stamp None = 0
 aside_stamp (Some aside) = stamp_of_why aside.why
+
+-- A wire that was set aside since its take would have too great a stamp, the last that came by its port, came with that
+-- stamp. The lists are those that the ends took, by port.
+abbrev pub IsFullAside : {M : Type 0} → (ℕ → List (Stamped M)) → Aside M → Type 0
+IsFullAside takens aside = (stamp : ℕ) → aside.why ≡ StampFull stamp → last_stamp (takens aside.port) ≡ stamp

@@ -8,7 +8,7 @@ ghost use Rattle.alpha_laws.specs.alpha_core.Program.{start_node};
 ghost use Rattle.alpha_laws.specs.Kept.{NodeKept};
 ghost use Rattle.link_queue.specs.Ends.{put_list, put_stamped, taken_list, taken_stamped};
 ghost use Rattle.actor.specs.declared.aside.Aside.{Aside};
-ghost use Rattle.actor.specs.HasStamps.{HasStamps};
+ghost use Rattle.actor.specs.HasStamps.{HasStamps, IsFullAside};
 ghost use Rattle.actor.specs.Node.{IsAside, by_port, links_in, links_out, reacted_to};
 ghost use Rattle.actor.specs.Props.{Follows-prop, HasStamps-prop, Leads-prop};
 ghost use Rattle.actor.specs.Written.{IsTranscript};
@@ -58,6 +58,9 @@ pub struct Node<J: Wiring, P: NodeProgram> {
     pub ghost stamps: { HasStamps J.net vertex transcript counter
         (by_port (map (λ e. put_stamped e.end) puts.items)) (by_port (map (λ e. taken_stamped e.end) takes.items))
         entries.items entries.stamped } by { Prim.hlevel (props, HasStamps-prop) },
+    // A wire that it set aside for its stamp came with that stamp.
+    pub ghost full: { (a : Aside P.Payload) → aside ≡ Some a →
+        IsFullAside (by_port (map (λ e. taken_stamped e.end) takes.items)) a },
 }
 
 impl<J: Wiring, P: NodeProgram> Node<J, P> {

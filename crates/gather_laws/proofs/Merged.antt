@@ -9,7 +9,7 @@ use Rattle.stamp_laws.specs.alpha_core.View.{is_drained}
 use Rattle.stamp_laws.specs.net_core.State.{State, node_of}
 use Rattle.stamp_laws.specs.replay.Whole.{IsStampedReplay, IsWholeReplay}
 use Rattle.stamp_laws.specs.stamps.Merged.{StampedRow, IsMerge}
-use Rattle.stamp_laws.specs.stamps.Stamps.{Rises}
+use Rattle.stamp_laws.specs.stamps.Stamps.{Carries, Rises, put_in, taken_in}
 use Rattle.stamp_laws.specs.Laws.{HaveMet, IsReplayTo}
 use Rattle.stamp_laws.proofs.MetNodes.{met_written}
 use Rattle.stamp_laws.proofs.Clocks.{met_replay}
@@ -23,11 +23,26 @@ pub record AreStamped {S M E : Type 0} (program : Program S M E) (net : Net) (ou
   pub takens_are : (v i : ℕ) → IsVertex net v → i < degree_of net v
       → wires_of (takens (neighbour_of net v i) (back_port_of net v i)) ≡ (link_in outcome v i).taken
   pub held_are : (v i : ℕ) → IsVertex net v → i < degree_of net v → wires_of (held v i) ≡ (link_in outcome v i).held
+  pub puts_are : (v i : ℕ) → IsVertex net v → i < degree_of net v → puts v i ≡ (link_in outcome v i).stamped.put
 
 module _ {S M E : Type 0} (program : Program S M E) (net : Net) (ok : IsNetwork net) (outcome : Outcome S M) where
   module _ (counters : ℕ → ℕ) (puts takens held : ℕ → ℕ → List (Stamped M)) (are : AreStamped program net outcome counters puts takens held) where
     pub stamps_rise : (v : ℕ) → IsVertex net v → Rises (stamped_in outcome v)
     stamps_rise = (met_written program net ok (node_in program net outcome) counters puts takens held (stamped_in outcome) are.met).1
+
+    -- each wire that was put has the stamp of its put
+    pub puts_have_stamps : (v i : ℕ) → IsVertex net v → i < degree_of net v
+        → put_in (stamped_in outcome v) (neighbour_of net v i) ≡ (link_in outcome v i).stamped.put
+    puts_have_stamps v i vertex lt = (are.met.keeps v vertex).put_are i lt ∙ are.puts_are v i vertex lt
+
+    -- each take is of its put, and later
+    pub takes_are_of_puts : (v i : ℕ) → IsVertex net v → i < degree_of net v
+        → Carries (put_in (stamped_in outcome v) (neighbour_of net v i)) (taken_in (stamped_in outcome (neighbour_of net v i)) v)
+        (link_in outcome v i).held
+    takes_are_of_puts v i vertex lt =
+        subst (λ held. Carries (put_in (stamped_in outcome v) (neighbour_of net v i)) (taken_in (stamped_in outcome (neighbour_of net v i)) v) held)
+        (are.held_are v i vertex lt)
+        ((met_written program net ok (node_in program net outcome) counters puts takens held (stamped_in outcome) are.met).0.carried v i vertex lt)
 
     pub runs_merge : (rows : List (StampedRow M)) → IsMerge (count_of net) (stamped_in outcome) rows
         → (to : IsReplayTo program net rows (node_in program net outcome) (λ v i. link_of (link_in outcome v i))) × IsStampedReplay program net rows to.last

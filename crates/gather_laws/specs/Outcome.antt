@@ -4,22 +4,35 @@ use Rattle.std.specs.Prelude.{List, [], ◌∷◌, ◌++◌, map, length, slice_
 use Rattle.alpha_laws.specs.interference.Net.{Net, IsVertex, count_of, vertices, degree_of, neighbour_of, back_port_of}
 use Rattle.alpha_laws.specs.node_api.Program.{Program, last_pulse_on}
 use Rattle.stamp_laws.specs.alpha_core.Wire.{Wire}
+use Rattle.stamp_laws.specs.alpha_core.Stamped.{Stamped}
+use Rattle.stamp_laws.specs.alpha_core.StampedWires.{wires_of}
 use Rattle.stamp_laws.specs.alpha_core.View.{Alpha, Node, is_drained}
 use Rattle.stamp_laws.specs.alpha_core.Program.{start_node}
 use Rattle.alpha_laws.specs.Simulates.{Simulates}
 use Rattle.stamp_laws.specs.entries.Entry.{Entry}
 use Rattle.stamp_laws.specs.actor.Written.{IsTranscript}
 use Rattle.stamp_laws.specs.stamps.Merged.{StampedRow, IsMerge}
-use Rattle.stamp_laws.specs.stamps.Stamps.{StampedEntry, Rises, bare_of}
+use Rattle.stamp_laws.specs.stamps.Stamps.{Carries, StampedEntry, Rises, bare_of, put_in, taken_in}
 use Rattle.stamp_laws.specs.net_core.State.{Link}
 use Rattle.stamp_laws.specs.replay.Whole.{IsStampedReplay}
 use Rattle.stamp_laws.specs.Laws.{IsReplayTo}
 
--- One direction of a link after the run: all that was put on it, what was taken from it, and what it still holds.
+-- One direction of a link after the run: all that was put on it, what was taken from it, and what it still holds, each
+-- wire with the stamp of its put.
+pub record StampedHistory (M : Type 0) : Type 0 where
+  pub put : List (Stamped M)
+  pub taken : List (Stamped M)
+  pub held : List (Stamped M)
+
+-- the same without stamps, and with them
 pub record History (M : Type 0) : Type 0 where
   pub put : List (Wire M)
   pub taken : List (Wire M)
   pub held : List (Wire M)
+  pub stamped : StampedHistory M
+
+abbrev pub history_of : {M : Type 0} → StampedHistory M → History M
+history_of h = record { put = wires_of h.put; taken = wires_of h.taken; held = wires_of h.held; stamped = h }
 
 -- A node after the run, with its vertex and its entries, without their stamps and with them.
 pub record Gathered (S M : Type 0) : Type 0 where
@@ -34,7 +47,7 @@ pub record Outcome (S M : Type 0) : Type 0 where
   pub links : List (List (History M))
 
 abbrev pub no_history : {M : Type 0} → History M
-no_history = record { put = []; taken = []; held = [] }
+no_history = history_of record { put = []; taken = []; held = [] }
 
 -- a node of the program before its first event
 abbrev pub start_of : {S M E : Type 0} → Program S M E → Net → ℕ → Alpha S M
@@ -105,6 +118,11 @@ pub record IsOutcome {S M E : Type 0} (program : Program S M E) (net : Net) (cap
   pub splits : (v i : ℕ) → IsVertex net v → i < degree_of net v
       → (link_in outcome v i).put ≡ (link_in outcome v i).taken ++ (link_in outcome v i).held
   pub room : (v i : ℕ) → IsVertex net v → i < degree_of net v → length (link_in outcome v i).held ≤ capacity
+  -- Without their stamps the wires are those of the stamped lists, and these split in the same way.
+  pub stamped : (v i : ℕ) → IsVertex net v → i < degree_of net v
+      → link_in outcome v i ≡ history_of (link_in outcome v i).stamped
+  pub stamped_splits : (v i : ℕ) → IsVertex net v → i < degree_of net v
+      → (link_in outcome v i).stamped.put ≡ (link_in outcome v i).stamped.taken ++ (link_in outcome v i).stamped.held
   -- The nodes simulate the synchronous run: each fits its links, what was put standing for what was sent.
   pub simulates : Simulates program net (node_in program net outcome) (λ v i. (link_in outcome v i).put)
       (λ v i. (link_into net outcome v i).taken)
@@ -113,11 +131,17 @@ pub record IsOutcome {S M E : Type 0} (program : Program S M E) (net : Net) (cap
   pub written : (v : ℕ) → IsVertex net v
       → IsTranscript program net v transcript (node_in program net outcome v) (λ i. (link_in outcome v i).put)
       (λ i. (link_into net outcome v i).taken) (entries_in outcome v)
-  -- The stamped entries are the same entries. With a transcript the stamps of each node rise, and the entries of all
-  -- nodes, in the order of their stamps and then of their vertices, are one run of the event machine. It leads to these
-  -- nodes and links, and each entry has the stamp that those before it give it.
+  -- The stamped entries are the same entries. With a transcript the stamps of each node rise, and each wire that was put
+  -- has the stamp of its put; the k-th take from a link is of the k-th wire put on it, and has a greater stamp.
   pub same : (v : ℕ) → IsVertex net v → bare_of (stamped_in outcome v) ≡ entries_in outcome v
   pub rises : IsTrue transcript → (v : ℕ) → IsVertex net v → Rises (stamped_in outcome v)
+  pub put_are : IsTrue transcript → (v i : ℕ) → IsVertex net v → i < degree_of net v
+      → put_in (stamped_in outcome v) (neighbour_of net v i) ≡ (link_in outcome v i).stamped.put
+  pub carries : IsTrue transcript → (v i : ℕ) → IsVertex net v → i < degree_of net v
+      → Carries (put_in (stamped_in outcome v) (neighbour_of net v i))
+      (taken_in (stamped_in outcome (neighbour_of net v i)) v) (link_in outcome v i).held
+  -- With a transcript the entries of all nodes, in the order of their stamps and then of their vertices, are one run of
+  -- the event machine. It leads to these nodes and links, and each entry has the stamp that those before it give it.
   pub merged : IsTrue transcript → (rows : List (StampedRow M)) → IsMerge (count_of net) (stamped_in outcome) rows
       → (to : IsReplayTo program net rows (node_in program net outcome) (λ v i. link_of (link_in outcome v i)))
       × IsStampedReplay program net rows to.last

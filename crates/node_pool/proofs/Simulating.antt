@@ -26,9 +26,22 @@ use Rattle.pool.specs.actor.Written.{IsTranscript}
 use Rattle.pool.specs.entries.Entry.{Entry}
 use Rattle.node_pool.specs.Rows.{AreCrossed, row_at}
 use Rattle.gather_laws.specs.Laws.{EndsHaveMet}
-use Rattle.gather_laws.specs.Outcome.{IsOutcome, Outcome, alpha_in, entries_in, link_in, link_into, no_history, node_in, row_in, stamped_in, start_of}
+use Rattle.gather_laws.specs.Outcome.{
+  IsOutcome,
+  Outcome,
+  alpha_in,
+  entries_in,
+  history_of,
+  link_in,
+  link_into,
+  no_history,
+  node_in,
+  row_in,
+  stamped_in,
+  start_of,
+}
 use Rattle.gather_laws.proofs.Asides.{met_simulate}
-use Rattle.gather_laws.proofs.Merged.{AreStamped, runs_merge, stamps_rise}
+use Rattle.gather_laws.proofs.Merged.{AreStamped, puts_have_stamps, runs_merge, stamps_rise, takes_are_of_puts}
 use Rattle.pool.specs.alpha_core.Stamped.{Stamped}
 use Rattle.pool.specs.stamps.Stamps.{bare_of}
 use Rattle.node_pool.proofs.Rows.{some_there, get_map, row_map, get_field, node_of, as_many}
@@ -210,9 +223,12 @@ module _ {S M E A F : Type 0} (program : Program S M E) (laws : IsProgram progra
       (sym (ap (λ l. get_or l (v - 1) []) are.entries_are ∙ get_map entries nodes (v - 1) n.0 [] n.1)) (are.writes n.0))
 
   pub is_outcome : (capacity : ℕ) → All (λ row. All (λ h. length h.held ≤ capacity) row) outcome.links
+      → ((v i : ℕ) → link_in outcome v i ≡ history_of (link_in outcome v i).stamped)
+      → ((v i : ℕ) → IsVertex net v → i < degree_of net v
+      → (link_in outcome v i).stamped.put ≡ (link_in outcome v i).stamped.taken ++ (link_in outcome v i).stamped.held)
       → ((v : ℕ) → IsVertex net v → bare_of (stamped_in outcome v) ≡ entries_in outcome v) → (counters : ℕ → ℕ) (puts takens held : ℕ → ℕ → List (Stamped M))
       → (IsTrue transcript → AreStamped program net outcome counters puts takens held) → IsOutcome program net capacity transcript outcome
-  is_outcome capacity room same counters puts takens held stamps = record {
+  is_outcome capacity room wires stamped_splits same counters puts takens held stamps = record {
     each_once = are.vertices_are ∙ are.order;
     last = λ v is. ap (λ a. a.last) (alpha_is v is) ∙ are.last (here v is).0;
     rows = many ∙ as_many net vertex nodes are.order ∙ sym (length-range_with_len 1 (count_of net));
@@ -220,9 +236,13 @@ module _ {S M E A F : Type 0} (program : Program S M E) (laws : IsProgram progra
     splits = split_is;
     room = λ v i is lt.
         room (v - 1) [] (omega (arith, is.0, is.1, many, as_many net vertex nodes are.order)) i no_history (omega (arith, lt, row_long v is));
+    stamped = λ v i is lt. wires v i;
+    stamped_splits = stamped_splits;
     simulates = simulates ok (runs program laws net ok) kept;
     written = written;
     same = same;
     rises = λ yes. stamps_rise program net ok outcome counters puts takens held (stamps yes);
+    put_are = λ yes. puts_have_stamps program net ok outcome counters puts takens held (stamps yes);
+    carries = λ yes. takes_are_of_puts program net ok outcome counters puts takens held (stamps yes);
     merged = λ yes. runs_merge program net ok outcome counters puts takens held (stamps yes);
   }

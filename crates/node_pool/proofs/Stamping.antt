@@ -15,24 +15,15 @@ use Rattle.pool.specs.stamps.Stamps.{StampedEntry, bare_of}
 use Rattle.pool.specs.actor.HasStamps.{HasStamps}
 use Rattle.pool.specs.actor.Node.{by_port}
 use Rattle.pool.specs.actor.Written.{IsTranscript, IsWritten}
-use Rattle.gather_laws.specs.Outcome.{History, Outcome, entries_in, link_in, link_into, node_in, stamped_in}
+use Rattle.gather_laws.specs.Outcome.{History, Outcome, StampedHistory, entries_in, history_of, link_in, link_into, node_in, stamped_in}
 use Rattle.gather_laws.proofs.Merged.{AreStamped}
 use Rattle.node_pool.specs.Rows.{AreCrossed}
 use Rattle.node_pool.proofs.Rows.{get_field, get_map, node_of, row_map}
 use Rattle.node_pool.proofs.Linked.{put_is, split_is, taken_is}
 
--- a link after the run, with the stamps of its wires
-pub record StampedHistory (M : Type 0) : Type 0 where
-  pub put : List (Stamped M)
-  pub taken : List (Stamped M)
-  pub held : List (Stamped M)
-
 module _ {M : Type 0} where
   abbrev none_linked : StampedHistory M
   none_linked = record { put = []; taken = []; held = [] }
-
-  abbrev pub bare_history : StampedHistory M → History M
-  bare_history h = record { put = wires_of h.put; taken = wires_of h.taken; held = wires_of h.held }
 
   keeps_as : (net : Net) (v w : ℕ) (c d : ℕ) (xs ys zs us : List (List (Stamped M))) (es fs : List (StampedEntry M)) → v ≡ w → c ≡ d → xs ≡ ys → zs ≡ us
       → es ≡ fs → KeepsStamps net v c (by_port xs) (by_port zs) es → KeepsStamps net w d (by_port ys) (by_port us) fs
@@ -53,7 +44,7 @@ pub record AreStampedNodes {S M A F : Type 0} (net : Net) (nodes : List A) (vert
   pub stamps : (a : A) → HasStamps net (vertex a) transcript (counter a) (by_port (puts a)) (by_port (map taken (takes a))) (entries a) (stamped a)
   pub entries_are : map (λ g. g.entries) outcome.nodes ≡ map entries nodes
   pub stamped_are : map (λ g. g.stamped) outcome.nodes ≡ map stamped nodes
-  pub links_are : outcome.links ≡ map (λ row. map bare_history row) linked
+  pub links_are : outcome.links ≡ map (λ row. map history_of row) linked
   pub puts_are : map (λ row. map (λ h. h.put) row) linked ≡ map puts nodes
   pub takens_are : map (λ row. map (λ h. h.taken) row) linked ≡ map (λ row. map taken row) crossed
   pub splits : All (λ row. All (λ h. h.put ≡ h.taken ++ h.held) row) linked
@@ -80,11 +71,11 @@ module _ {S M E A F : Type 0} (program : Program S M E) (net : Net) (ok : IsNetw
   held_by v i = (link v i).held
 
   -- a link of the outcome, with stamps
-  link_is : (v i : ℕ) → link_in outcome v i ≡ bare_history (link v i)
+  link_is : (v i : ℕ) → link_in outcome v i ≡ history_of (link v i)
   link_is v i =
-      ap (λ rows. get_or (get_or rows (v - 1) []) i (bare_history none_linked)) are.links_are
-      ∙ ap (λ row. get_or row i (bare_history none_linked)) (row_map bare_history linked (v - 1))
-      ∙ sym (get_field bare_history (get_or linked (v - 1) []) i none_linked)
+      ap (λ rows. get_or (get_or rows (v - 1) []) i (history_of none_linked)) are.links_are
+      ∙ ap (λ row. get_or row i (history_of none_linked)) (row_map history_of linked (v - 1))
+      ∙ sym (get_field history_of (get_or linked (v - 1) []) i none_linked)
 
   puts_are : (v i : ℕ) → puts_by v i ≡ (link v i).put
   puts_are v i = put_is net ok nodes vertex are.order puts takes taken crossed are.crosses are.outs linked (λ h. h.put) (λ h. h.taken) (λ h. h.held) none_linked
@@ -97,6 +88,17 @@ module _ {S M E A F : Type 0} (program : Program S M E) (net : Net) (ok : IsNetw
   split : (v i : ℕ) → IsVertex net v → i < degree_of net v → (link v i).put ≡ (link v i).taken ++ (link v i).held
   split v i is lt = split_is net ok nodes vertex are.order puts takes taken crossed are.crosses are.outs linked (λ h. h.put) (λ h. h.taken) (λ h. h.held)
       none_linked refl refl are.puts_are are.takens_are are.splits v i is lt
+
+  -- the stamped lists of a link of the outcome are those, and split
+  stamped_is : (v i : ℕ) → (link_in outcome v i).stamped ≡ link v i
+  stamped_is v i = ap (λ h. h.stamped) (link_is v i)
+
+  pub wires_are : (v i : ℕ) → link_in outcome v i ≡ history_of (link_in outcome v i).stamped
+  wires_are v i = link_is v i ∙ ap (λ h. history_of h) (sym (stamped_is v i))
+
+  pub stamped_split : (v i : ℕ) → IsVertex net v → i < degree_of net v
+      → (link_in outcome v i).stamped.put ≡ (link_in outcome v i).stamped.taken ++ (link_in outcome v i).stamped.held
+  stamped_split v i is lt = subst (λ h. h.put ≡ h.taken ++ h.held) (sym (stamped_is v i)) (split v i is lt)
 
   -- the stamped entries are the entries
   pub same_entries : (v : ℕ) → IsVertex net v → bare_of (stamped_in outcome v) ≡ entries_in outcome v
@@ -134,4 +136,5 @@ module _ {S M E A F : Type 0} (program : Program S M E) (net : Net) (ok : IsNetw
     };
     takens_are = λ v i is lt. ap (λ l. wires_of l) (sym (takens_are v i is lt)) ∙ sym (ap (λ h. h.taken) (link_is v i));
     held_are = λ v i is lt. sym (ap (λ h. h.held) (link_is v i));
+    puts_are = λ v i is lt. puts_are v i ∙ ap (λ h. h.put) (sym (stamped_is v i));
   }

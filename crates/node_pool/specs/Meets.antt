@@ -2,10 +2,9 @@
 use Rattle.std.specs.Prelude.{◌≡◌, ◌-◌, List, ◌++◌, All, map, length, take}
 use Rattle.crossbeam_queue.specs.Passes.{view}
 use Rattle.pool.specs.alpha_core.Stamped.{Stamped}
-use Rattle.pool.specs.alpha_core.StampedWires.{wires_of}
 use Rattle.pool.specs.link_queue.Met.{Met}
-use Rattle.pool.specs.link_queue.Ends.{held_of, held_stamped}
-use Rattle.gather_laws.specs.Outcome.{History}
+use Rattle.pool.specs.link_queue.Ends.{held_stamped}
+use Rattle.gather_laws.specs.Outcome.{History, StampedHistory, history_of}
 
 module _ {T : Type 0} where
   -- all that was put on a link whose ends have met, each wire with its stamp
@@ -16,8 +15,11 @@ module _ {T : Type 0} where
   abbrev pub taken_of : Met T → List (Stamped T)
   taken_of met = take (length (put_of met) - length (held_stamped met)) (put_of met)
 
-  abbrev pub history_of : Met T → History T
-  history_of met = record { put = wires_of (put_of met); taken = wires_of (taken_of met); held = held_of met }
+  abbrev pub stamped_history_of : Met T → StampedHistory T
+  stamped_history_of met = record { put = put_of met; taken = taken_of met; held = held_stamped met }
+
+  abbrev pub history_of_met : Met T → History T
+  history_of_met met = history_of (stamped_history_of met)
 
   -- The links of a row, whose ends put these lists and took those: what was put on each is what was taken from it, and
   -- then what it holds.

@@ -1,7 +1,7 @@
 //! What a run of workers leaves.
 
 ghost use Rattle.std.specs.Prelude.{◌≡◌, ◌≤◌, ◌<◌, ◌-◌, IfSome, length, map, slice_get};
-ghost use Rattle.node_pool.specs.Meets.{history_of};
+ghost use Rattle.node_pool.specs.Meets.{history_of_met};
 ghost use Rattle.gather_laws.specs.Outcome.{all_drained, all_empty, is_whole, link_in, none_held, row_in};
 ghost use Rattle.node_pool.specs.Gathers.{gathered_of};
 
@@ -20,7 +20,7 @@ pub struct Outcome<P: NodeProgram> {
 
 impl<P: NodeProgram> Model for Outcome<P> {
     ghost use Rattle.std.specs.Prelude.{map};
-    ghost use Rattle.node_pool.specs.Meets.{history_of};
+    ghost use Rattle.node_pool.specs.Meets.{history_of_met};
     ghost use Rattle.gather_laws.specs.Outcome.{Outcome};
     ghost use Rattle.node_pool.specs.Gathers.{gathered_of};
 
@@ -28,7 +28,7 @@ impl<P: NodeProgram> Model for Outcome<P> {
 
     ghost view = { λ o. record {
       nodes = map gathered_of o.actors.items;
-      links = map (λ row. map history_of row.items) o.links.items;
+      links = map (λ row. map history_of_met row.items) o.links.items;
     } };
 }
 
@@ -52,7 +52,7 @@ impl<P: NodeProgram> Outcome<P> {
     pub fn link(&self, vertex: u32, port: u32) -> &Met<P::Payload>
         requires vertex { (1 ≤ vertex) × (vertex ≤ length self.now.links) }
         requires port { port < length (row_in self.now vertex) }
-        ensures link { history_of result.now ≡ link_in self.now vertex port }
+        ensures link { history_of_met result.now ≡ link_in self.now vertex port }
     {
         &self.links[(vertex - 1) as usize][port as usize]
     }
@@ -99,7 +99,7 @@ impl<P: NodeProgram> Outcome<P> {
 
 // Whether no link of a row holds a wire.
 fn none_held<T>(row: &[Met<T>]) -> bool
-    ensures empty { result ≡ none_held (map history_of row.now) }
+    ensures empty { result ≡ none_held (map history_of_met row.now) }
 {
     for met in row {
         if !met.held().is_empty() {

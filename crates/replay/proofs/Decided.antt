@@ -1,6 +1,7 @@
--- Entries decide their events (row-event, events-from), and so whether they are a replay (next-is, not-both).
+-- Entries decide their events (row-event, events-from), and so whether they are a replay (next-is, never-both),
+-- and where they stop, and why (stops-once).
 use Rattle.std.proofs.Common.{◌≡◌, ◌+◌, ◌∙◌, ℕ, suc, Bool, true, false, Option, Some, None, List, [], ◌∷◌, ◌++◌, map, slice_get, Result, Ok, Err}
-use Rattle.std.proofs.Common.{ap, refl, sym}
+use Rattle.std.proofs.Common.{◌⊎◌, inl, inr, ap, ap₂, length, refl, subst, sym, ⊎_elim}
 use Rattle.std.specs.Option.{option_map}
 use Rattle.alpha_laws.specs.interference.Net.{IsNetwork, Net, neighbour_of, port_to}
 use Rattle.alpha_laws.proofs.interference.Neighbours.{port_to-is}
@@ -21,7 +22,7 @@ use Rattle.replay.specs.declared.refused.EntryRefused.TheVariants.{Step, WrongWi
 use Rattle.replay.specs.declared.refused.ReplayRefused.{ReplayRefused}
 use Rattle.replay.specs.declared.refused.ReplayRefused.TheVariants as replay
 use Rattle.replay.specs.Laws.{ReplaysAreExact}
-use Rattle.replay.specs.Replays.{WhyNot, at_entry}
+use Rattle.replay.specs.Replays.{IsReplay, Stops, WhyNot, at_entry}
 use Rattle.replay.specs.Rows.{Row, event_of, if_made, row_of, rows_from}
 
 head-is : {A : Type 0} (x y : A) (xs ys : List A) → x ∷ xs ≡ y ∷ ys → x ≡ y
@@ -29,6 +30,18 @@ head-is x y xs ys e = cc
 
 tail-is : {A : Type 0} (x y : A) (xs ys : List A) → x ∷ xs ≡ y ∷ ys → xs ≡ ys
 tail-is x y xs ys e = cc
+
+-- A list that is split at an entry twice: in the same place, or else one of the entries is before the other.
+pub split-twice : {A : Type 0} (xs ys as bs : List A) (x y : A) → xs ++ (x ∷ as) ≡ ys ++ (y ∷ bs)
+    → ((xs ≡ ys) × (x ≡ y)) ⊎ (((m : List A) × (ys ≡ xs ++ (x ∷ m))) ⊎ ((m : List A) × (xs ≡ ys ++ (y ∷ m))))
+split-twice [] [] as bs x y e = inl (refl, head-is x y as bs e)
+split-twice [] (z ∷ ys) as bs x y e = inr (inl (ys, ap (λ h. h ∷ ys) (sym (head-is x z as (ys ++ (y ∷ bs)) e))))
+split-twice (z ∷ xs) [] as bs x y e = inr (inr (xs, ap (λ h. h ∷ xs) (head-is z y (xs ++ (x ∷ as)) bs e)))
+split-twice (z ∷ xs) (w ∷ ys) as bs x y e =
+    let h = head-is z w (xs ++ (x ∷ as)) (ys ++ (y ∷ bs)) e in
+    ⊎_elim (λ same. inl (ap₂ (λ a l. a ∷ l) h same.0, same.1))
+    (λ other. inr (⊎_elim (λ m. inl (m.0, ap₂ (λ a l. a ∷ l) (sym h) m.1)) (λ m. inr (m.0, ap₂ (λ a l. a ∷ l) h m.1)) other))
+    (split-twice xs ys as bs x y (tail-is z w (xs ++ (x ∷ as)) (ys ++ (y ∷ bs)) e))
 
 module _ {S M E : Type 0} (program : Program S M E) (net : Net) (ok : IsNetwork net) where
   abbrev events_of : List (Row M) → List Event
@@ -138,25 +151,71 @@ module _ {S M E : Type 0} (program : Program S M E) (net : Net) (ok : IsNetwork 
       next-is (suc j) (suc k) events others before after row f.next last reached f.is_run f.rows_are
       (ap (λ s. run_from program net (suc j) others s) same ∙ o.is_run) (ap (λ s. rows_from program net s others) same ∙ o.rows_are)
 
-  refused-not : (reached next : State S M) (row : Row M) (reason : EntryRefused) → step program net reached (event_of net row) ≡ Ok next →
+  pub refused-not : (reached next : State S M) (row : Row M) (reason : EntryRefused) → step program net reached (event_of net row) ≡ Ok next →
       row_of program net reached (event_of net row) ≡ Some row → WhyNot program net reached row reason → ⊥
   refused-not reached next row (Step reason) made writes why =
       let wrong : ◌≡◌ {A = Result (State S M) StepRefused} (Ok next) (Err reason) = sym made ∙ why in absurd cc
   refused-not reached next row WrongWire made writes why = why.2 writes
 
+  -- an entry isn't written down in a state for one reason alone
+  reason-is : (state : State S M) (row : Row M) (reason other : EntryRefused) → WhyNot program net state row reason → WhyNot program net state row other
+      → reason ≡ other
+  reason-is state row (Step reason) (Step other) why why' =
+      let same : ◌≡◌ {A = Result (State S M) StepRefused} (Err reason) (Err other) = sym why ∙ why' in cc
+  reason-is state row (Step reason) WrongWire why why' =
+      let wrong : ◌≡◌ {A = Result (State S M) StepRefused} (Err reason) (Ok why'.0) = sym why ∙ why'.1 in absurd cc
+  reason-is state row WrongWire (Step other) why why' =
+      let wrong : ◌≡◌ {A = Result (State S M) StepRefused} (Ok why.0) (Err other) = sym why.1 ∙ why' in absurd cc
+  reason-is state row WrongWire WrongWire why why' = refl
+
+  -- a replay leads to one state alone
+  state-is : (rows : List (Row M)) (last other : State S M) → IsReplay program net rows last → IsReplay program net rows other → last ≡ other
+  state-is rows last other is same =
+      let events = events-from 0 is.events rows (start program net) last is.is_run is.rows_are
+      ∙ sym (events-from 0 same.events rows (start program net) other same.is_run same.rows_are) in
+      let ends = sym is.is_run ∙ ap (λ es. run_from program net 0 es (start program net)) events ∙ same.is_run in
+      cc
+
+  -- entries that stop somewhere aren't a replay
+  never-both : (rows : List (Row M)) (last : State S M) (refused : ReplayRefused) → IsReplay program net rows last → Stops program net rows refused → ⊥
+  never-both rows last refused is stop =
+      let rows_are = is.rows_are ∙ ap (λ l. map (λ r. Some r) l) stop.splits in
+      let next = next-is 0 0 is.events stop.is_replay.events stop.before stop.after stop.row (start program net) last stop.reached is.is_run rows_are
+      stop.is_replay.is_run stop.is_replay.rows_are in
+      refused-not stop.reached next.0 stop.row stop.reason next.1 next.2 stop.why
+
+  -- so the entries up to the second place aren't one that goes over the first
+  never-over : (rows : List (Row M)) (refused : ReplayRefused) (a : Stops program net rows refused) (ys m : List (Row M)) (last : State S M)
+      → IsReplay program net ys last → ys ≡ a.before ++ (a.row ∷ m) → ⊥
+  never-over rows refused a ys m last is over = never-both ys last refused is record {
+    before = a.before;
+    row = a.row;
+    after = m;
+    splits = over;
+    reached = a.reached;
+    is_replay = a.is_replay;
+    reason = a.reason;
+    why = a.why;
+    index = a.index;
+  }
+
+  stops-once : (rows : List (Row M)) (refused other : ReplayRefused) → Stops program net rows refused → Stops program net rows other → refused ≡ other
+  stops-once rows refused other a b = ⊎_elim
+      (λ same.
+          let reached : a.reached ≡ b.reached =
+          state-is b.before a.reached b.reached (subst (λ l. IsReplay program net l a.reached) same.0 a.is_replay) b.is_replay in
+          let why = subst (λ r. WhyNot program net b.reached r a.reason) same.1 (subst (λ s. WhyNot program net s a.row a.reason) reached a.why) in
+          a.index ∙ ap₂ (λ l r. at_entry (length l) r) same.0 (reason-is b.reached b.row a.reason b.reason why b.why) ∙ sym b.index)
+      (λ apart. absurd (⊎_elim (λ m. never-over rows refused a b.before m.0 b.reached b.is_replay m.1)
+      (λ m. never-over rows other b a.before m.0 a.reached a.is_replay m.1) apart))
+      (split-twice a.before b.before a.after b.after a.row b.row (sym a.splits ∙ b.splits))
+
   pub decided : ReplaysAreExact program net
   decided = record {
     events = λ rows last is. events-from 0 is.events rows (start program net) last is.is_run is.rows_are;
-    one_state = λ rows last other is same.
-        let events = events-from 0 is.events rows (start program net) last is.is_run is.rows_are
-        ∙ sym (events-from 0 same.events rows (start program net) other same.is_run same.rows_are) in
-        let ends = sym is.is_run ∙ ap (λ es. run_from program net 0 es (start program net)) events ∙ same.is_run in
-        cc;
-    not_both = λ rows last refused is stop.
-        let rows_are = is.rows_are ∙ ap (λ l. map (λ r. Some r) l) stop.splits in
-        let next = next-is 0 0 is.events stop.is_replay.events stop.before stop.after stop.row (start program net) last stop.reached is.is_run rows_are
-        stop.is_replay.is_run stop.is_replay.rows_are in
-        refused-not stop.reached next.0 stop.row stop.reason next.1 next.2 stop.why;
+    one_state = state-is;
+    not_both = never-both;
+    one_reason = stops-once;
   }
 
 -- the refusal of an entry has the entry's index, unless memory ran out

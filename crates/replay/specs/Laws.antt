@@ -17,3 +17,6 @@ pub record ReplaysAreExact {S M E : Type 0} (program : Program S M E) (net : Net
   -- entries that stop somewhere aren't a replay
   pub not_both : (rows : List (Row M)) (last : State S M) (refused : ReplayRefused)
       → IsReplay program net rows last → Stops program net rows refused → ⊥
+  -- and they stop in one place and for one reason alone
+  pub one_reason : (rows : List (Row M)) (refused other : ReplayRefused)
+      → Stops program net rows refused → Stops program net rows other → refused ≡ other

@@ -88,3 +88,6 @@ pub record WholeReplaysAreExact {S M E : Type 0} (program : Program S M E) (net 
   -- and it is refused nowhere
   pub not_both : (rows : List (StampedRow M)) (last : State S M) (refused : WholeRefused)
       → IsWholeReplay program net rows last → WhyNotWhole program net rows refused → ⊥
+  -- and what is none is so in one place and for one reason alone
+  pub one_reason : (rows : List (StampedRow M)) (refused other : WholeRefused)
+      → WhyNotWhole program net rows refused → WhyNotWhole program net rows other → refused ≡ other

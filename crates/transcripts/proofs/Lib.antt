@@ -1,5 +1,4 @@
 pub mod Digits
-pub mod FieldNumbers
 pub mod Payloads
 pub mod Readings
 pub mod Spaced

@@ -12,12 +12,12 @@ use Rattle.pool.specs.actor.HasStamps.{HasStamps}
 use Rattle.pool.specs.alpha_core.StampedWires.{wires_of}
 use Rattle.pool.specs.link_queue.Ends.{held_stamped, put_list, put_stamped, taken_list, taken_stamped}
 use Rattle.node_pool.proofs.Full.{all_refused}
-use Rattle.node_pool.proofs.Stamping.{AreStampedNodes, StampedHistory, are_stamped, bare_history, counters, held_by, puts_by, same_entries, takens_by}
+use Rattle.node_pool.proofs.Stamping.{AreStampedNodes, are_stamped, counters, held_by, puts_by, same_entries, stamped_split, takens_by, wires_are}
 use Rattle.node_pool.proofs.Sides.{all_by}
 use Rattle.pool.specs.alpha_core.Stamped.{Stamped}
 use Rattle.pool.specs.link_queue.Met.{Met}
-use Rattle.node_pool.specs.Meets.{history_of, put_of, taken_of}
-use Rattle.gather_laws.specs.Outcome.{IsOutcome, Outcome}
+use Rattle.node_pool.specs.Meets.{history_of_met, put_of, stamped_history_of, taken_of}
+use Rattle.gather_laws.specs.Outcome.{IsOutcome, Outcome, StampedHistory, history_of}
 use Rattle.node_pool.specs.Gathers.{gathered_of}
 use Rattle.node_pool.proofs.Rows.{all_rows, map_same, of_fields, of_items, shape_of}
 use Rattle.node_pool.proofs.Places.{links_meet, ends_meet}
@@ -62,10 +62,6 @@ meet_rows-requires-clause-takes g c κs within =
     ∙ sym (of_items (λ row. row.items) c.in_ok-actors.field-0.puts.items (λ e. (e.vertex, e.port)) _ c.in_ok-actors.ensures.puts)
 
 module _ {T : Type 0} where
-  -- a link with the stamps of its wires
-  abbrev linked_of : Met T → StampedHistory T
-  linked_of met = record { put = put_of met; taken = taken_of met; held = held_stamped met }
-
   split_wires : (put taken held : List (Stamped T)) → put ≡ taken ++ held → wires_of put ≡ wires_of taken ++ wires_of held
   split_wires put taken held is = ap (λ l. wires_of l) is ∙ map-append (λ x. x.wire) taken held
 
@@ -88,8 +84,8 @@ returns g c =
     let mets = c.in_ok-links.links.items in
     let actors = c.in_ok-actors.field-0.actors.items in
     let met = c.in_ok-links.ensures.met in
-    let outcome : Outcome _ _ = record { nodes = map gathered_of actors; links = map (λ row. map history_of row.items) mets } in
-    let linked : List (List (StampedHistory g.row.P-Payload.Denot)) = map (λ row. map linked_of row.items) mets in
+    let outcome : Outcome _ _ = record { nodes = map gathered_of actors; links = map (λ row. map history_of_met row.items) mets } in
+    let linked : List (List (StampedHistory g.row.P-Payload.Denot)) = map (λ row. map stamped_history_of row.items) mets in
     let puts_are = met.puts_are
     ∙ of_items (λ row. row.items) c.in_ok-actors.field-0.puts.items (λ e. put_stamped e.end) _ c.in_ok-actors.ensures.puts
     ∙ map-twice (λ row. map (λ e. put_stamped e.end) row) (λ n. n.puts.items) nodes in
@@ -111,12 +107,12 @@ returns g c =
       vertices_are = map-twice (λ g. g.vertex) gathered_of actors ∙ c.in_ok-actors.ensures.vertices;
       alphas_are = map-twice (λ g. g.alpha) gathered_of actors ∙ c.in_ok-actors.ensures.alphas;
       entries_are = map-twice (λ g. g.entries) gathered_of actors ∙ c.in_ok-actors.ensures.entries;
-      puts_are = of_fields (λ row. row.items) mets history_of (λ h. h.put) ∙ bare_rows put_of (map (λ row. row.items) mets)
+      puts_are = of_fields (λ row. row.items) mets history_of_met (λ h. h.put) ∙ bare_rows put_of (map (λ row. row.items) mets)
           ∙ ap (map (λ row. map (λ l. wires_of l) row)) puts_are ∙ map-twice (λ row. map (λ l. wires_of l) row) (λ n. map (λ e. put_stamped e.end) n.puts.items) nodes
           ∙ map_same _ _ (λ n. map-twice (λ l. wires_of l) (λ e. put_stamped e.end) n.puts.items) nodes;
-      takens_are = of_fields (λ row. row.items) mets history_of (λ h. h.taken) ∙ bare_rows taken_of (map (λ row. row.items) mets)
+      takens_are = of_fields (λ row. row.items) mets history_of_met (λ h. h.taken) ∙ bare_rows taken_of (map (λ row. row.items) mets)
           ∙ ap (map (λ row. map (λ l. wires_of l) row)) takens_are ∙ sym (bare_rows (λ e. taken_stamped e.end) crossed);
-      splits = all_rows (λ row. row.items) mets (λ h. h.put ≡ h.taken ++ h.held) history_of
+      splits = all_rows (λ row. row.items) mets (λ h. h.put ≡ h.taken ++ h.held) history_of_met
           (λ k d lt i e lt'. split_wires (put_of (get_or (get_or mets k d).items i e)) (taken_of (get_or (get_or mets k d).items i e))
           (held_stamped (get_or (get_or mets k d).items i e)) (splits k d lt i e lt'));
     } in
@@ -130,10 +126,10 @@ returns g c =
           (by_port (map (λ e. taken_stamped e.end) n.takes.items)) n.entries.items n.entries.stamped) n.recorded n.stamps;
       entries_are = map-twice (λ g. g.entries) gathered_of actors ∙ c.in_ok-actors.ensures.entries;
       stamped_are = map-twice (λ g. g.stamped) gathered_of actors ∙ c.in_ok-actors.ensures.stamped;
-      links_are = sym (of_fields (λ row. row.items) mets linked_of bare_history ∙ map-twice (λ row. map history_of row) (λ row. row.items) mets);
-      puts_are = of_fields (λ row. row.items) mets linked_of (λ h. h.put) ∙ puts_are;
-      takens_are = of_fields (λ row. row.items) mets linked_of (λ h. h.taken) ∙ takens_are;
-      splits = all_rows (λ row. row.items) mets (λ h. h.put ≡ h.taken ++ h.held) linked_of splits;
+      links_are = sym (of_fields (λ row. row.items) mets stamped_history_of history_of ∙ map-twice (λ row. map history_of_met row) (λ row. row.items) mets);
+      puts_are = of_fields (λ row. row.items) mets stamped_history_of (λ h. h.put) ∙ puts_are;
+      takens_are = of_fields (λ row. row.items) mets stamped_history_of (λ h. h.taken) ∙ takens_are;
+      splits = all_rows (λ row. row.items) mets (λ h. h.put ≡ h.taken ++ h.held) stamped_history_of splits;
     } in
     let wrote = written program g.P.NodeProgram.laws net ok nodes (λ n. n.vertex) (λ n. n.alpha) (λ n. n.aside)
     (λ n. map (λ e. put_list e.end) n.puts.items) (λ n. n.takes.items) (λ e. taken_list e.end) crossed g.J.Wiring.transcript (λ n. n.entries.items) outcome
@@ -143,11 +139,15 @@ returns g c =
           subst (λ net. IsOutcome program net capacity g.J.Wiring.transcript outcome) c.requires.network
           (is_outcome program g.P.NodeProgram.laws net ok nodes (λ n. n.vertex) (λ n. n.alpha) (λ n. n.aside) (λ n. map (λ e. put_list e.end) n.puts.items)
           (λ n. n.takes.items) (λ e. taken_list e.end) crossed g.J.Wiring.transcript (λ n. n.entries.items) outcome gathered capacity
-          (all_rows (λ row. row.items) mets (λ h. length h.held ≤ capacity) history_of
+          (all_rows (λ row. row.items) mets (λ h. length h.held ≤ capacity) history_of_met
           (λ k d lt i e lt'.
           let few = c.in_ok-links.ensures.room capacity below k d lt i e lt' in
           let long = length-map (held_stamped (get_or (get_or mets k d).items i e)) (λ x. x.wire) in
           omega (arith, few, long)))
+          (wires_are program net ok nodes (λ n. n.vertex) (λ n. n.counter) (λ n. map (λ e. put_stamped e.end) n.puts.items) (λ n. n.takes.items)
+          (λ e. taken_stamped e.end) crossed g.J.Wiring.transcript (λ n. n.entries.items) (λ n. n.entries.stamped) linked outcome stamping wrote)
+          (stamped_split program net ok nodes (λ n. n.vertex) (λ n. n.counter) (λ n. map (λ e. put_stamped e.end) n.puts.items) (λ n. n.takes.items)
+          (λ e. taken_stamped e.end) crossed g.J.Wiring.transcript (λ n. n.entries.items) (λ n. n.entries.stamped) linked outcome stamping wrote)
           (same_entries program net ok nodes (λ n. n.vertex) (λ n. n.counter) (λ n. map (λ e. put_stamped e.end) n.puts.items) (λ n. n.takes.items)
           (λ e. taken_stamped e.end) crossed g.J.Wiring.transcript (λ n. n.entries.items) (λ n. n.entries.stamped) linked outcome stamping wrote)
           _ _ _ _

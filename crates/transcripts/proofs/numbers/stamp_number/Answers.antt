@@ -1,5 +1,5 @@
 use Rattle.std.proofs.Common.{◌∙◌}
-use Rattle.transcripts.proofs.FieldNumbers.{parsed}
+use Rattle.dimacs_col.proofs.FieldNumbers.{parsed}
 use Rattle.transcripts.proofs.numbers.stamp_number.Goals as goal
 
 pub returns : goal.returns

@@ -1,6 +1,6 @@
 use Rattle.std.proofs.Common.{◌∙◌, length, sym}
 use Rattle.std.proofs.lemmas.Bool.{eqb-true}
-use Rattle.transcripts.proofs.FieldNumbers.{number-empty, number-plus, unsigned-is}
+use Rattle.dimacs_col.proofs.FieldNumbers.{number-empty, number-plus, unsigned-is}
 use Rattle.transcripts.proofs.numbers.unsigned.Goals as goal
 
 pub returns-then-is_empty : goal.returns-then-is_empty

@@ -33,4 +33,5 @@ invariant_of-self-in-Ok g c =
           c.pulse_number-number.ensures.pulse c.keep_room.ensures.same c.write_pulse.ensures.entries old.writes;
       stamps = has_pulsed program net (λ e. put_stamped e.end) (λ e. taken_stamped e.end) _ _ old.network old.is_vertex _ _ _ _ _ _ _ _ _ _ _ _ c.keep_room.ensures.same
           c.keep_room.ensures.stamped c.in_ok-stamp.ensures.stamp c.advance.ensures.value c.write_pulse.ensures.entries c.write_pulse.ensures.stamped old.stamps;
+      full = λ a e. absurd (let none = sym c.requires.going ∙ e in cc);
     }

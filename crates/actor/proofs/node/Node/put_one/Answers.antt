@@ -75,6 +75,7 @@ invariant_of-self-in-Err g c =
           (ap (λ l. wires_of l) at.unchanged) c.keep_room.ensures.same old.writes;
       stamps = has_none_put g.P.NodeProgram.program g.J.Wiring.net (λ e. put_stamped e.end) (λ e. taken_stamped e.end) _ _ _ _ _ _ _ _ _ _ _ _ is at.unchanged
           c.keep_room.ensures.same c.keep_room.ensures.stamped old.stamps;
+      full = λ a e. absurd (let none = sym c.requires.going ∙ e in cc);
     }
 
 pub invariant_of-self-in-Ok : goal.invariant_of-self-in-Ok
@@ -106,6 +107,7 @@ invariant_of-self-in-Ok g c =
       stamps = has_put g.P.NodeProgram.program net (λ e. put_stamped e.end) (λ e. taken_stamped e.end) _ _ old.network old.is_vertex _ _ _ _ _ _ _ _ _
           c.in-Some.wire _ _ _ _ _ _ count lt is (at.stamped) c.keep_room.ensures.same c.keep_room.ensures.stamped (ap (λ (p : ℕ × ℕ). p.0) from)
           c.in_ok-stamp.ensures.stamp c.advance.ensures.value c.write_put.ensures.entries c.write_put.ensures.stamped old.stamps;
+      full = λ a e. absurd (let none = sym c.requires.going ∙ e in cc);
     }
 
 -- the link was full

@@ -45,4 +45,5 @@ invariant_of-result g c =
       stamps = has_at_start g.J.Wiring.net c.args.vertex c.args.transcript c.new-2.result (by_port (map (λ e. put_stamped e.end) c.args.puts.items))
           (by_port (map (λ e. taken_stamped e.end) c.args.takes.items)) c.new.result.items c.new.result.stamped c.new-2.ensures.zero
           (none_stamped_at (λ e. put_stamped e.end) c.args.puts.items c.requires.nothing_put) c.new.ensures.items c.new.ensures.stamped;
+      full = λ a none. absurd cc;
     }

@@ -7,7 +7,7 @@ use Rattle.link_queue.specs.Ends.{put_list, put_stamped, taken_list, taken_stamp
 use Rattle.actor.proofs.Lists.{same_all, as_long, at_place}
 use Rattle.actor.proofs.Kept.{legal_of_name}
 use Rattle.actor.proofs.Writes.{wrote_none_taken, wrote_taken, wrote_refused}
-use Rattle.actor.proofs.HasStamps.{has_aside, has_none_taken, has_taken}
+use Rattle.actor.proofs.HasStamps.{full_aside, has_aside, has_none_taken, has_taken}
 use Rattle.actor.proofs.Steps.{aside_is, took_none, took_one, took_refused, refused_is}
 use Rattle.alpha_laws.specs.interference.Net.{neighbour_of, back_port_of}
 use Rattle.actor.proofs.node.Node.take_one.Goals as goal
@@ -41,6 +41,7 @@ invariant_of-self-in-None g c =
           (ap (λ l. wires_of l) at.unchanged) c.keep_room.ensures.same old.writes;
       stamps = has_none_taken g.P.NodeProgram.program g.J.Wiring.net (λ e. put_stamped e.end) (λ e. taken_stamped e.end) _ _ _ _ _ _ _ _ _ _ _ _ is at.unchanged
           c.keep_room.ensures.same c.keep_room.ensures.stamped old.stamps;
+      full = λ a e. absurd (let none = sym c.requires.going ∙ e in cc);
     }
 
 pub invariant_of-self-in-Ok-on_wire : goal.invariant_of-self-in-Ok-on_wire
@@ -74,6 +75,7 @@ invariant_of-self-in-Ok-on_wire g c =
       stamps = has_taken g.P.NodeProgram.program net (λ e. put_stamped e.end) (λ e. taken_stamped e.end) _ _ old.network old.is_vertex _ _ _ _ _ _ _ _ _ _ _
           c.in-Some.item _ _ _ _ _ _ count lt c.requires.going is at.stamped c.keep_room.ensures.same c.keep_room.ensures.stamped (at.place.0 ∙ ap (λ (p : ℕ × ℕ). p.0) place)
           c.in-Ok.ensures.stamp c.advance.ensures.value c.write_take.ensures.entries c.write_take.ensures.stamped old.writes old.stamps;
+      full = λ a e. absurd (let none = sym c.requires.going ∙ e in cc);
     }
 
 pub invariant_of-self-in-Err : goal.invariant_of-self-in-Err
@@ -105,6 +107,7 @@ invariant_of-self-in-Err g c =
           c.requires.going is at.taken same c.keep_room.ensures.same old.writes;
       stamps = has_aside g.P.NodeProgram.program net (λ e. put_stamped e.end) (λ e. taken_stamped e.end) _ _ old.network old.is_vertex _ _ _ _ _ _ _ _ _ _ _ _ _ count lt
           c.requires.going is at.stamped c.keep_room.ensures.same c.keep_room.ensures.stamped old.writes old.stamps;
+      full = full_aside (λ e. taken_stamped e.end) old.takes.items c.args.port _ _ _ aside within is at.stamped refl (λ s e. absurd cc);
     }
 
 -- the stamp of the take would be too great
@@ -136,6 +139,7 @@ invariant_of-self-in_default g c =
           c.requires.going is at.taken refl c.keep_room.ensures.same old.writes;
       stamps = has_aside g.P.NodeProgram.program net (λ e. put_stamped e.end) (λ e. taken_stamped e.end) _ _ old.network old.is_vertex _ _ _ _ _ _ _ _ _ _ _
           _ _ count lt c.requires.going is at.stamped c.keep_room.ensures.same c.keep_room.ensures.stamped old.writes old.stamps;
+      full = full_aside (λ e. taken_stamped e.end) old.takes.items c.args.port _ _ _ aside within is at.stamped refl (λ s e. cc);
     }
 
 -- the link was empty
