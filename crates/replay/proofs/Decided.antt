@@ -32,16 +32,16 @@ tail-is : {A : Type 0} (x y : A) (xs ys : List A) → x ∷ xs ≡ y ∷ ys → 
 tail-is x y xs ys e = cc
 
 -- A list that is split at an entry twice: in the same place, or else one of the entries is before the other.
-pub split-twice : {A : Type 0} (xs ys as bs : List A) (x y : A) → xs ++ (x ∷ as) ≡ ys ++ (y ∷ bs)
+pub split-twice : {A : Type 0} (xs ys us ws : List A) (x y : A) → xs ++ (x ∷ us) ≡ ys ++ (y ∷ ws)
     → ((xs ≡ ys) × (x ≡ y)) ⊎ (((m : List A) × (ys ≡ xs ++ (x ∷ m))) ⊎ ((m : List A) × (xs ≡ ys ++ (y ∷ m))))
-split-twice [] [] as bs x y e = inl (refl, head-is x y as bs e)
-split-twice [] (z ∷ ys) as bs x y e = inr (inl (ys, ap (λ h. h ∷ ys) (sym (head-is x z as (ys ++ (y ∷ bs)) e))))
-split-twice (z ∷ xs) [] as bs x y e = inr (inr (xs, ap (λ h. h ∷ xs) (head-is z y (xs ++ (x ∷ as)) bs e)))
-split-twice (z ∷ xs) (w ∷ ys) as bs x y e =
-    let h = head-is z w (xs ++ (x ∷ as)) (ys ++ (y ∷ bs)) e in
+split-twice [] [] us ws x y e = inl (refl, head-is x y us ws e)
+split-twice [] (z ∷ ys) us ws x y e = inr (inl (ys, ap (λ h. h ∷ ys) (sym (head-is x z us (ys ++ (y ∷ ws)) e))))
+split-twice (z ∷ xs) [] us ws x y e = inr (inr (xs, ap (λ h. h ∷ xs) (head-is z y (xs ++ (x ∷ us)) ws e)))
+split-twice (z ∷ xs) (w ∷ ys) us ws x y e =
+    let h = head-is z w (xs ++ (x ∷ us)) (ys ++ (y ∷ ws)) e in
     ⊎_elim (λ same. inl (ap₂ (λ a l. a ∷ l) h same.0, same.1))
     (λ other. inr (⊎_elim (λ m. inl (m.0, ap₂ (λ a l. a ∷ l) (sym h) m.1)) (λ m. inr (m.0, ap₂ (λ a l. a ∷ l) h m.1)) other))
-    (split-twice xs ys as bs x y (tail-is z w (xs ++ (x ∷ as)) (ys ++ (y ∷ bs)) e))
+    (split-twice xs ys us ws x y (tail-is z w (xs ++ (x ∷ us)) (ys ++ (y ∷ ws)) e))
 
 module _ {S M E : Type 0} (program : Program S M E) (net : Net) (ok : IsNetwork net) where
   abbrev events_of : List (Row M) → List Event
