@@ -15,7 +15,7 @@ use Rattle.alpha_laws.specs.alpha_core.Program.{start_node}
 use Rattle.alpha_laws.proofs.alpha_core.StampedWires.{last_more}
 use Rattle.stamps.specs.entries.Entry.{Entry}
 use Rattle.stamps.specs.entries.Entry.TheVariants.{Pulse, Put, Take}
-use Rattle.stamps.specs.Keeps.{HasTaken, KeepsStamps, OneMore, TakesAreByPorts}
+use Rattle.stamps.specs.Keeps.{HasTaken, KeepsStamps, TakesAreByPorts}
 use Rattle.stamps.specs.Stamps.{StampedEntry, bare_of, taken_in}
 use Rattle.stamps.proofs.Keeps.{keeps}
 use Rattle.actor.specs.declared.aside.Aside.{Aside}
