@@ -202,10 +202,10 @@ module _ {S M E : Type 0} (program : Program S M E) (net : Net) (ok : IsNetwork 
   stops-once : (rows : List (Row M)) (refused other : ReplayRefused) → Stops program net rows refused → Stops program net rows other → refused ≡ other
   stops-once rows refused other a b = ⊎_elim
       (λ same.
-          let reached : a.reached ≡ b.reached =
-          state-is b.before a.reached b.reached (subst (λ l. IsReplay program net l a.reached) same.0 a.is_replay) b.is_replay in
-          let why = subst (λ r. WhyNot program net b.reached r a.reason) same.1 (subst (λ s. WhyNot program net s a.row a.reason) reached a.why) in
-          a.index ∙ ap₂ (λ l r. at_entry (length l) r) same.0 (reason-is b.reached b.row a.reason b.reason why b.why) ∙ sym b.index)
+      let reached : a.reached ≡ b.reached =
+      state-is b.before a.reached b.reached (subst (λ l. IsReplay program net l a.reached) same.0 a.is_replay) b.is_replay in
+      let why = subst (λ r. WhyNot program net b.reached r a.reason) same.1 (subst (λ s. WhyNot program net s a.row a.reason) reached a.why) in
+      a.index ∙ ap₂ (λ l r. at_entry (length l) r) same.0 (reason-is b.reached b.row a.reason b.reason why b.why) ∙ sym b.index)
       (λ apart. absurd (⊎_elim (λ m. never-over rows refused a b.before m.0 b.reached b.is_replay m.1)
       (λ m. never-over rows other b a.before m.0 a.reached a.is_replay m.1) apart))
       (split-twice a.before b.before a.after b.after a.row b.row (sym a.splits ∙ b.splits))

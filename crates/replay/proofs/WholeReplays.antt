@@ -165,11 +165,11 @@ module _ {S M E : Type 0} (program : Program S M E) (net : Net) where
     not-at-both : (rows : List (StampedRow M)) (refused : ReplayRefused) (i : ℕ) → StopsAtEntry program net rows refused → StopsAtStamp program net rows i → ⊥
     not-at-both rows refused i a b = ⊎_elim
         (λ same.
-            let f : StampedRow M → Row M = λ r. (r.1, r.2) in
-            let reached : a.at.reached ≡ b.at.reached =
-            state-is b.at.before a.at.reached b.at.reached (subst (λ l. IsStampedReplay program net l a.at.reached) same.0 a.at.is_replay) b.at.is_replay in
-            let why = subst (λ r. WhyNot program net b.at.reached (f r) a.reason) same.1 (subst (λ s. WhyNot program net s (f a.at.row) a.reason) reached a.why) in
-            refused-not program net ok b.at.reached b.next (f b.at.row) a.reason b.leads b.writes why)
+        let f : StampedRow M → Row M = λ r. (r.1, r.2) in
+        let reached : a.at.reached ≡ b.at.reached =
+        state-is b.at.before a.at.reached b.at.reached (subst (λ l. IsStampedReplay program net l a.at.reached) same.0 a.at.is_replay) b.at.is_replay in
+        let why = subst (λ r. WhyNot program net b.at.reached (f r) a.reason) same.1 (subst (λ s. WhyNot program net s (f a.at.row) a.reason) reached a.why) in
+        refused-not program net ok b.at.reached b.next (f b.at.row) a.reason b.leads b.writes why)
         (λ apart. ⊎_elim (λ m. entry-not-over rows refused a b.at.before m.0 b.at.reached b.at.is_replay m.1)
         (λ m. stamp-not-over rows i b a.at.before m.0 a.at.reached a.at.is_replay m.1) apart)
         (split-twice a.at.before b.at.before a.at.after b.at.after a.at.row b.at.row (sym a.at.splits ∙ b.at.splits))

@@ -13,8 +13,8 @@ order-requires c =
     let lists = c.in_ok-stamped_lists.field-0.items in
     let same = c.in_ok-stamped_lists.ensures in
     let many : length lists ≡ length c.args.actors.items =
-        as_many (λ list. list.items) stamped_of lists (map gathered_of c.args.actors.items) same
-        ∙ length-map c.args.actors.items gathered_of in
+    as_many (λ list. list.items) stamped_of lists (map gathered_of c.args.actors.items) same
+    ∙ length-map c.args.actors.items gathered_of in
     record {
       few = omega (arith, many, c.requires.count);
       rising = all_unmapped Rises (λ list. list.items) lists (subst (All Rises) (sym same) c.requires.rising);
@@ -27,6 +27,9 @@ returns c =
     let same = c.in_ok-stamped_lists.ensures in
     let rows = c.in_ok-order.field-0.items in
     let nodes = map gathered_of c.args.actors.items in
-    let many : length lists ≡ length nodes = as_many (λ list. list.items) stamped_of lists nodes same in
-    (rows, subst (λ l. IsMerge (length nodes) (list_of l) rows) same
-    (subst (λ n. IsMerge n (list_of (map (λ list. list.items) lists)) rows) many c.in_ok-order.ensures.merge), c.stamped_text.ensures.text)
+    let many : length lists ≡ length nodes = as_many (λ list. list.items) stamped_of lists nodes same in (
+      rows,
+      subst (λ l. IsMerge (length nodes) (list_of l) rows) same
+          (subst (λ n. IsMerge n (list_of (map (λ list. list.items) lists)) rows) many c.in_ok-order.ensures.merge),
+      c.stamped_text.ensures.text,
+    )
