@@ -1,3 +1,5 @@
 mod Working
 mod Recording
-mod Merging
+mod Keys
+mod TopKeys
+mod Merge

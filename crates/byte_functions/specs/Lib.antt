@@ -1,5 +1,6 @@
 pub mod Workers
 pub mod Transcripts
+pub mod Merge
 pub mod Colours
 pub mod answers
 pub mod interference

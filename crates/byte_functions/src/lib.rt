@@ -17,7 +17,9 @@
 #![tactic(auto)]
 
 pub mod laws;
+mod left_entries;
 mod merged;
+mod merging;
 mod plan_text;
 mod transcript;
 mod workers;

@@ -1,45 +1,31 @@
 //! The transcript of a run of worker threads in one order, with stamps.
 
-ghost use Rattle.std.specs.Prelude.{◌≡◌, All, IfOk, length, map};
+ghost use Rattle.std.specs.Prelude.{◌≡◌, ◌++◌, All, IfOk, length, map};
+ghost use Rattle.answers.specs.colour_rules.Words.{number_in, word_in};
+ghost use Rattle.answers.specs.transcripts.TranscriptText.{stamped_row_text};
 ghost use Rattle.node_pool.specs.Gathers.{gathered_of};
 ghost use Rattle.stamps.specs.Stamps.{Rises};
 ghost use Rattle.byte_functions.specs.Transcripts.{IsMergedText, stamped_of};
 
-use answers::{Colouring, Memory, Payload, stamped_text};
+use crate::merging::Merging;
+use answers::{Colouring, Memory, Payload, push_row, stamped_text};
+use itoa::Buffer;
 use node_pool::Actor;
-use stamps::{Entry, order};
+use stamps::Entry;
 use std::alloc::{AllocError, Global};
 
-// The entries of a node with their stamps.
-fn stamped_list(
-    alloc: Global,
-    actor: &Actor<Colouring>,
-) -> Result<Vec<(u64, Entry<Payload>)>, AllocError>
-    ensures { IfOk result (λ list. list.items ≡ stamped_of (gathered_of actor.now)) }
+// Appends the line of an entry, behind its stamp and the vertex of its node.
+fn push_stamped_row(text: &mut Vec<u8>, row: &(u64, u32, Entry<Payload>)) -> Result<(), AllocError>
+    ensures { IfOk result (λ _. text.new.items ≡ text.old.items ++ stamped_row_text word_in number_in row.now) }
 {
-    let mut list = Vec::new(alloc);
-    for entry in actor.entries().stamped() {
-        list.push(entry)?;
-    }
-    Ok(list)
+    let (stamp, vertex, entry) = *row;
+    text.extend_from_slice(Buffer::new().format(stamp).as_bytes())?;
+    text.push(b' ')?;
+    push_row(text, &(vertex, entry))
 }
 
-// Those of each node, which is dropped once its entries are taken.
-fn stamped_lists(
-    alloc: Global,
-    actors: Vec<Actor<Colouring>>,
-) -> Result<Vec<Vec<(u64, Entry<Payload>)>>, AllocError>
-    ensures { IfOk result (λ lists.
-        map (λ list. list.items) lists.items ≡ map stamped_of (map gathered_of actors.items)) }
-{
-    let mut lists = Vec::new(alloc);
-    for actor in actors {
-        lists.push(stamped_list(alloc, &actor)?)?;
-    }
-    Ok(lists)
-}
-
-/// The transcript of nodes with stamps, in the order of the stamps and then of the vertices.
+/// The transcript of nodes with stamps, in the order of the stamps and then of the vertices. Beside the nodes and the
+/// text it takes memory by the number of nodes.
 ///
 /// # Errors
 /// If memory ran out.
@@ -52,9 +38,11 @@ pub fn merged_text(
     requires rising { All Rises (map stamped_of (map gathered_of actors.items)) }
     ensures { IfOk result (λ text. IsMergedText count (map gathered_of actors.items) text.items) }
 {
-    let lists = stamped_lists(alloc, actors)?;
-    let rows = order(alloc, lists.as_slice())?;
-    // The text takes the room of what it doesn't speak of any more.
-    drop(lists);
-    stamped_text(alloc, count, rows.as_slice())
+    // The first line alone.
+    let mut text = stamped_text::<Payload>(alloc, count, &[])?;
+    let mut merging = Merging::new(alloc, actors.as_slice())?;
+    while let Some(row) = merging.take()? {
+        push_stamped_row(&mut text, &row)?;
+    }
+    Ok(text)
 }

@@ -1,35 +1,51 @@
-use Rattle.std.proofs.Common.{◌≡◌, ◌∙◌, All, ap, arith, length, map, subst, sym}
-use Rattle.std.proofs.lemmas.List.{length-map}
+use Rattle.std.proofs.Common.{◌∙◌, ◌++◌, ◌∷◌, [], ap, codes, map, subst, sym}
+use Rattle.std.proofs.lemmas.List.{flat_map_more, length-map}
+use Rattle.answers.specs.colour_rules.Words.{number_in, word_in}
+use Rattle.answers.specs.transcripts.TranscriptText.{first_line_of, stamped_row_text}
 use Rattle.node_pool.specs.Gathers.{gathered_of}
 use Rattle.stamps.specs.Merged.{IsMerge, list_of}
-use Rattle.stamps.specs.Stamps.{Rises}
 use Rattle.byte_functions.specs.Transcripts.{stamped_of}
-use Rattle.byte_functions.proofs.Merging.{all_unmapped, as_many}
+use Rattle.byte_functions.proofs.Merge.{IsMerging, fewer, merging-done, merging-init, merging-step}
 use Rattle.byte_functions.proofs.merged.merged_text.Goals as goal
 
--- there is a list for each node, and the stamps of each rise
-pub order-requires : goal.order-requires
-order-requires c =
-    let lists = c.in_ok-stamped_lists.field-0.items in
-    let same = c.in_ok-stamped_lists.ensures in
-    let many : length lists ≡ length c.args.actors.items =
-    as_many (λ list. list.items) stamped_of lists (map gathered_of c.args.actors.items) same
-    ∙ length-map c.args.actors.items gathered_of in
+-- nothing is taken yet
+pub loop-merging-init : goal.loop-merging-init
+loop-merging-init c =
+    let wrote = map stamped_of (map gathered_of c.args.actors.items) in
+    let lefts = c.in_ok-merging.ensures.lefts ∙ ap (λ actors. map stamped_of (map gathered_of actors)) c.as_slice.ensures.value in
     record {
-      few = omega (arith, many, c.requires.count);
-      rising = all_unmapped Rises (λ list. list.items) lists (subst (All Rises) (sym same) c.requires.rising);
+      keys = c.in_ok-merging.ensures.keys;
+      rows = ([], subst (λ l. IsMerging wrote l []) (sym lefts) (merging-init wrote c.requires.rising), c.in_ok-text.ensures.text);
     }
 
--- the rows are the merge of the lists of all nodes
+-- one entry more is taken, and its line written
+pub loop-merging-preserved : goal.loop-merging-preserved
+loop-merging-preserved c =
+    let wrote = map stamped_of (map gathered_of c.args.actors.items) in
+    let row = c.in-Some.row in
+    let so_far = c.loop-merging.invariant.rows in
+    let rows = so_far.0 in
+    let taken = rw c.in-Some.is at c.in_ok-row.ensures.taken in
+    record {
+      keys = c.in_ok-row.ensures.keys;
+      rows = (
+        rows ++ (row ∷ []),
+        merging-step wrote c.loop-merging.merging.lefts.items c.take.new.self.lefts.items rows row so_far.1 taken,
+        c.in_ok-push_stamped_row.ensures ∙ ap (λ t. t ++ stamped_row_text word_in number_in row) so_far.2
+            ∙ flat_map_more (stamped_row_text word_in number_in) (first_line_of (codes "2") c.args.count) rows row,
+      );
+    }
+
+-- an entry less is left
+pub loop-merging-smaller : goal.loop-merging-smaller
+loop-merging-smaller c = fewer c.loop-merging.merging.lefts.items c.take.new.self.lefts.items c.in-Some.row (rw c.in-Some.is at c.in_ok-row.ensures.taken)
+
+-- nothing is left
 pub returns : goal.returns
 returns c =
-    let lists = c.in_ok-stamped_lists.field-0.items in
-    let same = c.in_ok-stamped_lists.ensures in
-    let rows = c.in_ok-order.field-0.items in
     let nodes = map gathered_of c.args.actors.items in
-    let many : length lists ≡ length nodes = as_many (λ list. list.items) stamped_of lists nodes same in (
-      rows,
-      subst (λ l. IsMerge (length nodes) (list_of l) rows) same
-          (subst (λ n. IsMerge n (list_of (map (λ list. list.items) lists)) rows) many c.in_ok-order.ensures.merge),
-      c.stamped_text.ensures.text,
-    )
+    let wrote = map stamped_of nodes in
+    let all = c.loop-merging.invariant.rows in
+    let none = rw c.in_default.is at c.in_ok-row.ensures.taken in
+    let merge = merging-done wrote c.loop-merging.merging.lefts.items all.0 all.1 none in
+    (all.0, subst (λ n. IsMerge n (list_of wrote) all.0) (length-map nodes stamped_of) merge, all.2)

@@ -1,0 +1,56 @@
+//! The entries that a node has left to write.
+
+ghost use Rattle.std.specs.Prelude.{◌≡◌, ◌∷◌, [], MatchOption, true};
+ghost use Rattle.byte_functions.specs.Merge.{starts_at};
+
+use answers::Payload;
+use stamps::{Entry, StampedIter};
+use std::marker::Model;
+use std::mem;
+
+/// The entries that a node has left, by value, seen as their list. The first of them is read ahead, so that its stamp
+/// is known while it is left.
+#[derive(Drop)]
+pub struct LeftEntries<'a> {
+    first: Option<(u64, Entry<Payload>)>,
+    behind: StampedIter<'a, Payload>,
+}
+
+impl<'a> Model for LeftEntries<'a> {
+    ghost use Rattle.std.specs.Prelude.{List};
+    ghost use Rattle.answers.specs.colour_rules.Payload.{Payload};
+    ghost use Rattle.stamps.specs.Stamps.{StampedEntry};
+
+    ghost Value = { List (StampedEntry Payload) };
+
+    ghost use Rattle.byte_functions.specs.Merge.{list_from};
+
+    ghost view = { λ left. list_from left.first left.behind };
+}
+
+impl<'a> LeftEntries<'a> {
+    /// These entries.
+    pub fn new(mut behind: StampedIter<'a, Payload>) -> LeftEntries<'a>
+        ensures { result ≡ behind.entry }
+    {
+        let first = behind.next();
+        LeftEntries { first, behind }
+    }
+
+    /// The stamp of the first, if there is one.
+    pub fn stamp(&self) -> Option<u64>
+        ensures { MatchOption result (self.now ≡ []) (λ stamp. starts_at self.now stamp ≡ true) }
+    {
+        match &self.first {
+            None => None,
+            Some((stamp, _)) => Some(*stamp),
+        }
+    }
+
+    /// Takes the first, if there is one.
+    pub fn take(&mut self) -> Option<(u64, Entry<Payload>)>
+        ensures { MatchOption result (self.old ≡ []) (λ first. self.old ≡ first ∷ self.new) }
+    {
+        mem::replace(&mut self.first, self.behind.next())
+    }
+}
