@@ -1,6 +1,7 @@
 -- The transcript of a whole run is the answer to an input.
 use Rattle.std.proofs.Common.{◌≡◌, ◌-◌, ◌∙◌, [], ℕ, suc, All, List, ap, arith, length, map, refl, slice_index_or, subst, sym, true}
-use Rattle.std.proofs.lemmas.List.{length-map, length-range_with_len}
+use Rattle.std.proofs.lemmas.List.{length-map}
+use Rattle.std.proofs.lemmas.List.FromFn.{length-range_with_len}
 use Rattle.std.proofs.lemmas.List.Elements.{All-from_get_or}
 use Rattle.answers.specs.interference.Net.{Net, IsNetwork, count_of}
 use Rattle.answers.specs.colour_rules.Payload.{Payload}

@@ -1,5 +1,5 @@
 -- The plan and the faults of a run of workers.
-use Rattle.std.proofs.Common.{◌≡◌, ◌≢◌, Bool, ℕ, suc, ◌-◌, ◌<◌, ◌≤◌, List, map, length, get_or, refl, sym, ap, ◌∙◌, subst, arith, ⊎_elim, inl, inr}
+use Rattle.std.proofs.Common.{◌≡◌, ◌≢◌, Bool, ℕ, suc, ◌-◌, ◌<◌, ◌≤◌, List, map, length, get_or, refl, sym, ap, ◌∙◌, arith, ⊎_elim, inl, inr}
 use Rattle.std.specs.Prelude.{◌⊎◌}
 use Rattle.std.proofs.lemmas.Bool.{cases_lt}
 use Rattle.std.proofs.lemmas.List.{get_or-map, length-map, same_lists}
@@ -11,7 +11,7 @@ use Rattle.node_pool.specs.run_options.Options.{Options}
 use Rattle.node_pool.below.run_options.specs.declared.TheConstants.{MAX_CAPACITY, MAX_WORKERS}
 use Rattle.answers.specs.pool.PoolFault.{PoolFault}
 use Rattle.answers.specs.pool.PoolFault.TheVariants as pool
-use Rattle.node_pool.specs.gather_laws.Outcome.{Gathered, Outcome, node_in, start_of}
+use Rattle.node_pool.specs.gather_laws.Outcome.{Outcome, node_in, start_of}
 use Rattle.answers.specs.alpha_core.View.{Alpha}
 use Rattle.answers.specs.channel_plan.PlanText.{plan_of}
 use Rattle.answers.specs.colour_rules.Payload.{Payload}
@@ -46,6 +46,7 @@ pub pool-fault : (o : Options) (fault : PoolFault) → (fault ≡ pool.BadOption
     → IsFaultOfPool o fault
 pool-fault o pool.Memory only first = in_range o (λ out. let e : pool.Memory ≡ pool.BadOptions = first out in cc)
 pool-fault o pool.Spawn only first = in_range o (λ out. let e : pool.Spawn ≡ pool.BadOptions = first out in cc)
+pool-fault o pool.StampFull only first = in_range o (λ out. let e : pool.StampFull ≡ pool.BadOptions = first out in cc)
 pool-fault o pool.BadOptions only first = only refl
 
 -- whether a run has a transcript is nothing to the ranges

@@ -12,11 +12,12 @@ use Rattle.answers.specs.Answers.{ReadsAs}
 use Rattle.answers.specs.declared.fault.PlanFault.{PlanFault}
 use Rattle.answers.specs.declared.fault.PlanFault.TheVariants as plan
 
--- The fault of a run of workers: if the options are out of range, that they are. When memory or a thread is refused
--- isn't promised.
+-- The fault of a run of workers: if the options are out of range, that they are. When memory or a thread is refused, or
+-- a stamp would be too great, isn't promised.
 abbrev pub IsFaultOfPool : Options → PoolFault → Type 0
 IsFaultOfPool options pool.Memory = AreInRange options
 IsFaultOfPool options pool.Spawn = AreInRange options
+IsFaultOfPool options pool.StampFull = AreInRange options
 IsFaultOfPool options pool.BadOptions = AreInRange options → ⊥
 
 -- The fault of a run in which not every node was done. When a run is stopped isn't promised.

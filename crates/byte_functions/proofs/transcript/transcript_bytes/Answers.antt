@@ -1,4 +1,4 @@
-use Rattle.std.proofs.Common.{◌≡◌, ◌∙◌, All, List, ap, length, map, subst, sym}
+use Rattle.std.proofs.Common.{◌∙◌, All, ap, length, map, subst, sym}
 use Rattle.std.proofs.lemmas.List.{length-map}
 use Rattle.node_pool.specs.Gathers.{gathered_of}
 use Rattle.stamps.specs.Stamps.{Rises}
@@ -28,7 +28,7 @@ returns-clause-ok g c =
     let outcome = c.in_ok-outcome.outcome in
     let text = c.in_ok-text_in.field-0.items in
     let here = c.is_network.ensures in
-    let law : WholeOutcomesReplay colouring net = c.whole_outcomes_replay.ensures colouring net here in
+    let law : WholeOutcomesReplay colouring net = c.whole_outcomes_replay.ensures.law colouring net here in
     answered c.args.edition c.args.input.now text net c.args.options.capacity outcome c.in_ok-network.ensures.ok c.in_ok-outcome.ensures.outcome
     c.in_ok-outcome.ensures.whole here law
     (subst (λ n. IsTextIn c.args.edition n outcome.nodes text) c.nodes-count.ensures.count

@@ -5,7 +5,7 @@ use Rattle.answers.specs.colour_rules.Program.{colouring}
 use Rattle.node_pool.specs.Gathers.{gathered_of}
 use Rattle.answers.proofs.Plain.{is-network}
 use Rattle.byte_functions.specs.Colours.{merged_of}
-use Rattle.byte_functions.proofs.Working.{planned, workers-fault}
+use Rattle.byte_functions.proofs.Working.{planned}
 use Rattle.byte_functions.proofs.workers.plan_bytes.Goals as goal
 
 pub returns-clause-ok : goal.returns-clause-ok
