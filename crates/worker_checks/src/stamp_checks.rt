@@ -82,9 +82,8 @@ fn a_merged_run_is_replayed_or_refused_by_the_first_row_out_of_place(
     ] {
         assert!(rt; refusal::<0>(alloc, &net, &rows) == refused);
     }
-    let rows = whole();
-    assert!(rt; refusal::<0>(alloc, &net, &rows[1..]) == Some(LINK_EMPTY));
-    assert!(rt; refusal::<0>(alloc, &net, &rows[..3]) == Some(WholeRefused::NotWhole));
+    assert!(rt; refusal::<0>(alloc, &net, &[b, c, d]) == Some(LINK_EMPTY));
+    assert!(rt; refusal::<0>(alloc, &net, &[a, b, c]) == Some(WholeRefused::NotWhole));
     assert!(rt; refusal::<0>(alloc, &net, &[]) == Some(WholeRefused::NotWhole));
     Ok(())
 }
