@@ -41,6 +41,10 @@ fn refusal<const D: u32>(alloc: Global, net: &Network, rows: &[Row]) -> Option<W
     }
 }
 
+fn refusal_of_four(alloc: Global, net: &Network, rows: [Row; 4]) -> Option<WholeRefused> {
+    refusal::<0>(alloc, net, &rows)
+}
+
 const NOTHING_TO_PUT: WholeRefused = WholeRefused::Replay(ReplayRefused::Run(
     RunRefused::NothingToPut(1),
 ));
@@ -80,7 +84,7 @@ fn a_merged_run_is_replayed_or_refused_by_the_first_row_out_of_place(
         ([a, a, b, c], Some(NOTHING_TO_PUT)),
         ([a, b, (9, 2, WRONG_PUT), d], Some(WRONG_WIRE)),
     ] {
-        assert!(rt; refusal::<0>(alloc, &net, &rows) == refused);
+        assert!(rt; refusal_of_four(alloc, &net, rows) == refused);
     }
     assert!(rt; refusal::<0>(alloc, &net, &[b, c, d]) == Some(LINK_EMPTY));
     assert!(rt; refusal::<0>(alloc, &net, &[a, b, c]) == Some(WholeRefused::NotWhole));
