@@ -14,11 +14,14 @@ WIRES = ("payload", "ack", "safe", "close")
 
 
 def entries_of(text):
-    """{vertex: fields of each entry in its order}."""
+    """{vertex: fields of each entry in its order}, from the vertex on: in edition 2 a stamp is before it."""
     found = {}
-    for line in text.decode().split("\n")[1:]:
+    first, *lines = text.decode().split("\n")
+    stamps = first.split()[1] == "2"
+    for line in lines:
         if line:
-            found.setdefault(int(line.split()[0]), []).append(line.split())
+            fields = line.split()[stamps:]
+            found.setdefault(int(fields[0]), []).append(fields)
     return found
 
 
