@@ -4,9 +4,9 @@
 -- (`knows`); so 2 sends `Best 2` at each pulse below the last, and 1 sends something (`sent_two`, `sent_one`). Hence the
 -- payloads, safes and close of `echoes` are the stream, and its acknowledgements are all that are due (`echoes_legal`).
 use Rattle.std.proofs.lemmas.Bool.{cases_eq}
-use Rattle.std.proofs.Common.{◌≡◌, ◌≢◌, ℕ, suc, zero, ◌+◌, ◌<◌, ◌≤◌, List, [], ◌∷◌, ◌++◌, Option, Some, None, refl, sym, ap, ◌∙◌, arith, subst, append_assoc}
-use Rattle.std.proofs.Common.{append-nil, lt-ltb, length, take, ⊎_elim}
-use Rattle.std.specs.Prelude.{Result, Ok, Err, IfOk, Contains, max, nat_lt}
+use Rattle.std.proofs.Common.{◌≡◌, ◌≢◌, ℕ, suc, zero, ◌<◌, ◌≤◌, List, [], ◌∷◌, ◌++◌, Option, Some, refl, sym, ap, ◌∙◌, arith, subst, append_assoc}
+use Rattle.std.proofs.Common.{append-nil, lt-ltb, ⊎_elim}
+use Rattle.std.specs.Prelude.{Result, Ok, Err, IfOk, Contains, max}
 use Rattle.std.proofs.lemmas.List.Elements.{Contains-append_cases, Contains-append_left, Contains-push}
 use Rattle.alpha_core.specs.interference.Net.{Net}
 use Rattle.alpha_core.specs.node_api.Boxes.{at_port}
@@ -16,14 +16,14 @@ use Rattle.alpha_core.specs.node_api.Run.{node_at, state_at, outbox_at}
 use Rattle.alpha_core.specs.declared.wire.Wire.{Wire}
 use Rattle.alpha_core.specs.declared.wire.Wire.TheVariants.{Payload, Ack, Safe, Close}
 use Rattle.alpha_core.specs.Wires.{data_of, acks_of}
-use Rattle.alpha_core.specs.Streams.{payload_wire, sent_pulse, rounds, stream, sent_pulses, Begins, Legal}
+use Rattle.alpha_core.specs.Streams.{payload_wire, sent_pulse, rounds, stream, sent_pulses, Legal}
 use Rattle.alpha_core.specs.Program.{sends}
 use Rattle.alpha_core.proofs.Wires.{acks-append, begins_from, data-append, legal-front}
 use Rattle.alpha_laws.proofs.Shown.{rounds_begin}
 use Rattle.link_rule.specs.declared.name.LinkName.{LinkName}
 use Rattle.link_rule.specs.Legal.{IsLegalOn, LegalFor, name_of}
-use Rattle.link_rule.proofs.Orders.{Split, at_end, before_end, split_of, contains_nil, contains_one}
-use Rattle.node_checks.specs.LinkRows.{pair_net, echoes}
+use Rattle.link_rule.proofs.Orders.{Split, at_end, before_end, split_of, contains_nil}
+use Rattle.node_checks.specs.LinkRows.{echoes, lone_net, pair_net}
 use Rattle.sync_rounds.specs.Greatest.{Known}
 use Rattle.sync_rounds.specs.Spread as spreading
 use Rattle.sync_rounds.specs.Spread.{spread}
@@ -32,7 +32,7 @@ use Rattle.colour_program.specs.colour_rules.Program.{colouring}
 use Rattle.colour_program.specs.colour_rules.Payload as colour
 use Rattle.colour_program.specs.colour_rules.Payload.TheVariants.{Hello}
 
--- the network that `Network::new` makes
+-- the networks that `Network::new` makes
 pub pair_made : network_of (1 ∷ 2 ∷ []) ((1, 2) ∷ []) [] ≡ pair_net
 unfolding network_of
 pair_made = refl
@@ -40,6 +40,14 @@ pair_made = refl
 pub pair_is : {E : Type 0} (r : Result Net E) → IfOk r (λ net. net ≡ network_of (1 ∷ 2 ∷ []) ((1, 2) ∷ []) []) → IfOk r (λ net. net ≡ pair_net)
 pair_is (Ok net) e = e ∙ pair_made
 pair_is (Err x) e = e
+
+pub lone_made : network_of (1 ∷ []) [] [] ≡ lone_net
+unfolding network_of
+lone_made = refl
+
+pub lone_is : {E : Type 0} (r : Result Net E) → IfOk r (λ net. net ≡ network_of (1 ∷ []) [] []) → IfOk r (λ net. net ≡ lone_net)
+lone_is (Ok net) e = e ∙ lone_made
+lone_is (Err x) e = e
 
 abbrev at_first : List (Option Best) → Option Best
 at_first slots = at_port slots 0

@@ -1,5 +1,5 @@
-//! The tests of forests and colour steps, of nodes, of the synchronous rounds, of the event machine and of links: what
-//! no contract says. A module tests one crate, and is named after it, as in `checks`. They are a crate of their own so
+//! The tests of forests and colour steps, of nodes, of the synchronous rounds, of the event machine, of links and of a
+//! node without stamps: what no contract says. A module tests one crate, and is named after it, as in `checks`. They are a crate of their own so
 //! that the gate proves them beside those of `checks`.
 #![tactic(auto)]
 
@@ -18,6 +18,8 @@ mod forest_merge_checks;
 #[cfg(test)]
 mod forests_checks;
 #[cfg(test)]
+mod full_counters;
+#[cfg(test)]
 mod link_alone;
 #[cfg(test)]
 mod link_queue_checks;
@@ -27,6 +29,8 @@ mod link_threads;
 mod net_core_checks;
 #[cfg(test)]
 mod node_api_checks;
+#[cfg(test)]
+mod pool_checks;
 #[cfg(test)]
 mod shift_down_checks;
 #[cfg(test)]
