@@ -1,6 +1,6 @@
 //! The tests of forests and colour steps, of nodes, of the synchronous rounds, of the event machine, of links and of a
-//! node without stamps: what no contract says. A module tests one crate, and is named after it, as in `checks`. They are a crate of their own so
-//! that the gate proves them beside those of `checks`.
+//! node without stamps: what no contract says. A module tests one crate, and is named after it, as in `checks`. They
+//! are a crate of their own so that the gate proves them beside those of `checks`.
 #![tactic(auto)]
 
 #[cfg(test)]
