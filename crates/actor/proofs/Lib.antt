@@ -1,4 +1,5 @@
 pub mod Lists
+pub mod Queued
 pub mod Kept
 pub mod Steps
 pub mod Written

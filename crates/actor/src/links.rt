@@ -5,12 +5,13 @@ ghost use Rattle.link_queue.specs.link_rule.Legal.{IsLegalOn, LegalFor};
 ghost use Rattle.alpha_laws.specs.alpha_core.StampedWires.{StampsRise, last_stamp};
 ghost use Rattle.link_queue.specs.Ends.{WasEmpty, put_list, put_name, put_stamped, take_name, taken_list};
 ghost use Rattle.link_queue.specs.Ends.{taken_stamped};
+ghost use Rattle.link_queue.specs.Queued.{stamped_of};
 ghost use Rattle.actor.specs.Tables.{LinkWasFull, table_at, table_of, tables_of};
 
 use crate::wired::{WiredPut, WiredTake};
 use crate::wiring::Wiring;
 use alpha_laws::{NodeProgram, Stamped};
-use link_queue::{Full, Link};
+use link_queue::{Full, Link, Queued};
 use std::marker::PhantomData;
 use std::sync::Wait;
 
@@ -76,15 +77,17 @@ impl<J: Wiring, P: NodeProgram> Links<J, P> {
         self.link(end.vertex, end.port).put(rt, &mut end.end, item)
     }
 
-    /// Takes the oldest wire off the end's link: `link_queue::Link::take`, at the link that the end is of.
+    /// Takes the oldest wire off the end's link: `link_queue::Link::take_queued`, at the link that the end is of.
     pub fn take<R: Wait>(
         &self,
         rt: &R,
         end: &mut WiredTake<J, P::Payload>,
-    ) -> Option<Stamped<P::Payload>>
+    ) -> Option<Queued<P::Payload>>
         ensures place { (end.new.vertex ≡ end.old.vertex) × (end.new.port ≡ end.old.port) }
-        ensures taken { IfSome result (λ item. taken_list end.new.end ≡ taken_list end.old.end ++ item.wire ∷ []) }
-        ensures stamped { IfSome result (λ item. taken_stamped end.new.end ≡ taken_stamped end.old.end ++ item ∷ []) }
+        ensures taken { IfSome result
+            (λ item. taken_list end.new.end ≡ taken_list end.old.end ++ (stamped_of item).wire ∷ []) }
+        ensures stamped { IfSome result
+            (λ item. taken_stamped end.new.end ≡ taken_stamped end.old.end ++ stamped_of item ∷ []) }
         ensures legal { IfSome result
             (λ _. LegalFor (IsLegalOn P.program) (take_name end.old.end) (taken_list end.new.end)) }
         ensures rise { IfSome result (λ _. StampsRise (taken_stamped end.new.end)) }
@@ -92,6 +95,7 @@ impl<J: Wiring, P: NodeProgram> Links<J, P> {
         ensures empty { IfNone result
             (WasEmpty (IsLegalOn P.program) (take_name end.old.end) (taken_list end.old.end)) }
     {
-        self.link(end.vertex, end.port).take(rt, &mut end.end)
+        self.link(end.vertex, end.port)
+            .take_queued(rt, &mut end.end)
     }
 }

@@ -13,7 +13,8 @@ use crate::node::Node;
 use crate::refused::TurnRefused;
 use crate::wiring::Wiring;
 use crate::writing::{keep_room, write_pulse, write_put, write_take};
-use alpha_laws::{NodeProgram, Stamped};
+use alpha_laws::{NodeProgram, Stamped, Wire};
+use link_queue::Queued;
 use std::sync::Wait;
 
 // How many wires a node takes by one port in a turn, at most.
@@ -44,7 +45,13 @@ impl<J: Wiring, P: NodeProgram> Node<J, P> {
         match links.take(rt, end) {
             None => Ok(false),
             Some(item) => {
-                let (stamp, wire) = (item.stamp, item.wire);
+                let stamp = item.stamp();
+                let wire = match item {
+                    Queued::Payload(pulse, _, payload) => Wire::Payload(pulse, payload),
+                    Queued::Ack(pulse, _) => Wire::Ack(pulse),
+                    Queued::Safe(pulse, _) => Wire::Safe(pulse),
+                    Queued::Close(_) => Wire::Close,
+                };
                 let Ok(next) = self.counter.peek_past(stamp) else {
                     let why = WhyAside::StampFull(stamp);
                     self.aside = Some(Aside { port, wire, why });

@@ -131,8 +131,8 @@ pub record IsOutcome {S M E : Type 0} (program : Program S M E) (net : Net) (cap
   pub written : (v : ℕ) → IsVertex net v
       → IsTranscript program net v transcript (node_in program net outcome v) (λ i. (link_in outcome v i).put)
       (λ i. (link_into net outcome v i).taken) (entries_in outcome v)
-  -- The stamped entries are the same entries. With a transcript the stamps of each node rise, and each wire that was put
-  -- has the stamp of its put; the k-th take from a link is of the k-th wire put on it, and has a greater stamp.
+  -- The stamped entries are the same entries. With a transcript the stamps of each node rise, and each wire that was
+  -- put has the stamp of its put; the k-th take from a link is of the k-th wire put on it, and has a greater stamp.
   pub same : (v : ℕ) → IsVertex net v → bare_of (stamped_in outcome v) ≡ entries_in outcome v
   pub rises : IsTrue transcript → (v : ℕ) → IsVertex net v → Rises (stamped_in outcome v)
   pub put_are : IsTrue transcript → (v i : ℕ) → IsVertex net v → i < degree_of net v

@@ -5,7 +5,6 @@ use Rattle.crossbeam_queue.specs.Passes.{view, IsPassOf, ruled_capacity}
 use Rattle.alpha_core.specs.declared.stamped.Stamped.{Stamped}
 use Rattle.alpha_core.specs.declared.wire.Wire.{Wire}
 use Rattle.link_rule.specs.declared.name.LinkName.{LinkName}
-use Rattle.link_rule.specs.Legal.{LegalFor}
 use Rattle.link_queue.specs.declared.ends.PutSide.{PutSide}
 use Rattle.link_queue.specs.declared.ends.TakeSide.{TakeSide}
 use Rattle.link_queue.specs.declared.met.Met.{Met}

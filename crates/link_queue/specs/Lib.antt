@@ -1,3 +1,4 @@
+pub mod Queued
 pub mod Rule
 pub mod Ends
 pub mod link_rule

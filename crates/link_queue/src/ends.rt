@@ -5,8 +5,9 @@ ghost use Rattle.crossbeam_queue.specs.Passes.{view};
 ghost use Rattle.alpha_core.specs.StampedWires.{wires_of};
 ghost use Rattle.link_queue.specs.Rule.{has_close};
 
+use crate::queued::Queued;
 use crate::view::EndView;
-use alpha_core::{NodeProgram, Stamped};
+use alpha_core::NodeProgram;
 use crossbeam_queue::Pass;
 
 /// The end that puts, of a link of the program `P`.
@@ -18,7 +19,7 @@ pub type TakeEnd<P: NodeProgram> = TakeSide<P::Payload>;
 /// The end that puts wires with payload `T`. `PutEnd` names it by the program.
 #[derive(Drop)]
 pub struct PutSide<T> {
-    pub(crate) pass: Pass<Stamped<T>, EndView<T>>,
+    pub(crate) pass: Pass<Queued<T>, EndView<T>>,
     pub(crate) closed: bool,
     // It may put, and knows whether it put a close.
     pub ghost puts: { (pass.me.1 ≡ []) × ((view pass).puts ≡ true) × (closed ≡ has_close (wires_of (view pass).put)) },
@@ -27,7 +28,7 @@ pub struct PutSide<T> {
 /// The end that takes wires with payload `T`. `TakeEnd` names it by the program.
 #[derive(Drop)]
 pub struct TakeSide<T> {
-    pub(crate) pass: Pass<Stamped<T>, EndView<T>>,
+    pub(crate) pass: Pass<Queued<T>, EndView<T>>,
     // It may take.
     pub ghost takes: { (pass.me.1 ≡ []) × ((view pass).takes ≡ true) },
 }

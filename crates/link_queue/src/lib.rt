@@ -18,9 +18,11 @@
 mod ends;
 mod link;
 mod met;
+mod queued;
 mod rule;
 mod view;
 
 pub use ends::{PutEnd, PutSide, TakeEnd, TakeSide};
 pub use link::{Link, MeetRefused};
 pub use met::{Full, Met};
+pub use queued::Queued;

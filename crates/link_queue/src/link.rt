@@ -6,6 +6,7 @@ ghost use Rattle.alpha_core.specs.declared.wire.Wire.{Wire};
 ghost use Rattle.crossbeam_queue.specs.Passes.{view, IsPassOf};
 ghost use Rattle.link_rule.specs.Legal.{name_of, IsLegalOn, LegalFor};
 ghost use Rattle.alpha_core.specs.StampedWires.{StampsRise, last_stamp, wires_of};
+ghost use Rattle.link_queue.specs.Queued.{stamped_of};
 ghost use Rattle.link_queue.specs.Rule.{end_view, has_close};
 ghost use Rattle.link_queue.specs.Ends.{AreAsBefore, HasMet, IsNewPutEnd, IsNewTakeEnd, IsPutEndOf, IsTakeEndOf};
 ghost use Rattle.link_queue.specs.Ends.{StaysPutEnd, StaysTakeEnd, WasEmpty, WasFull, held_stamped};
@@ -14,6 +15,7 @@ ghost use Rattle.link_queue.specs.Ends.{taken_stamped};
 
 use crate::ends::{PutEnd, PutSide, TakeEnd, TakeSide};
 use crate::met::{Full, Met};
+use crate::queued::Queued;
 use crate::rule::{LinkRule, Named, Naming, Puts, Takes, TakesAll, TwoEnds};
 use crate::view::EndView;
 use alpha_core::{Memory, Network, NodeProgram, Stamped, Wire};
@@ -27,7 +29,7 @@ use std::sync::Wait;
 /// It stands outside the scope of the threads that use it.
 #[derive(Drop)]
 pub struct Link<P: NodeProgram> {
-    queue: RuledArrayQueue<Stamped<P::Payload>, EndView<P::Payload>, LinkRule<P>>,
+    queue: RuledArrayQueue<Queued<P::Payload>, EndView<P::Payload>, LinkRule<P>>,
 }
 
 /// Link and ends, as they were, where memory for what is held was refused.
@@ -48,7 +50,7 @@ impl<T> PutSide<T> {
 }
 
 // The end that puts, of a pass that may.
-fn put_end_of<T>(pass: Pass<Stamped<T>, EndView<T>>, closed: bool) -> PutSide<T>
+fn put_end_of<T>(pass: Pass<Queued<T>, EndView<T>>, closed: bool) -> PutSide<T>
     requires puts { (pass.me.1 ≡ []) × ((view pass).puts ≡ true) }
     requires closed { closed ≡ has_close (wires_of (view pass).put) }
     ensures { result.pass ≡ pass }
@@ -57,7 +59,7 @@ fn put_end_of<T>(pass: Pass<Stamped<T>, EndView<T>>, closed: bool) -> PutSide<T>
 }
 
 // The end that takes, of a pass that may.
-fn take_end_of<T>(pass: Pass<Stamped<T>, EndView<T>>) -> TakeSide<T>
+fn take_end_of<T>(pass: Pass<Queued<T>, EndView<T>>) -> TakeSide<T>
     requires { (pass.me.1 ≡ []) × ((view pass).takes ≡ true) }
     ensures { result.pass ≡ pass }
 {
@@ -130,14 +132,21 @@ impl<P: NodeProgram> Link<P> {
         ensures unchanged { IfErr result (λ _. put_stamped end.new ≡ put_stamped end.old) }
         ensures full { IfErr result (λ _. WasFull self.now (put_list end.old)) }
     {
-        match self.queue.push_as::<Puts, R>(rt, &mut end.pass, item) {
+        let stamp = item.stamp;
+        let queued = match item.wire {
+            Wire::Payload(pulse, payload) => Queued::Payload(pulse, stamp, payload),
+            Wire::Ack(pulse) => Queued::Ack(pulse, stamp),
+            Wire::Safe(pulse) => Queued::Safe(pulse, stamp),
+            Wire::Close => Queued::Close(stamp),
+        };
+        match self.queue.push_as::<Puts, R>(rt, &mut end.pass, queued) {
             Ok(()) => {
                 if let Wire::Close = item.wire {
                     end.closed = true;
                 }
                 Ok(())
             }
-            Err(item) => Err(Full(item)),
+            Err(_) => Err(Full(item)),
         }
     }
 
@@ -153,6 +162,25 @@ impl<P: NodeProgram> Link<P> {
         ensures unchanged { IfNone result (taken_stamped end.new ≡ taken_stamped end.old) }
         ensures empty { IfNone result (WasEmpty (IsLegalOn P.program) (take_name end.old) (taken_list end.old)) }
     {
+        match self.take_queued(rt, end) {
+            Some(queued) => Some(queued.stamped()),
+            None => None,
+        }
+    }
+
+    /// `take`, in the form in which the queue holds the wire.
+    pub fn take_queued<R: Wait>(&self, rt: &R, end: &mut TakeEnd<P>) -> Option<Queued<P::Payload>>
+        requires end { IsTakeEndOf self.now end.old }
+        ensures end { StaysTakeEnd self.now end.old end.new }
+        ensures taken { IfSome result
+            (λ item. taken_list end.new ≡ taken_list end.old ++ (stamped_of item).wire ∷ []) }
+        ensures stamped { IfSome result
+            (λ item. taken_stamped end.new ≡ taken_stamped end.old ++ stamped_of item ∷ []) }
+        ensures legal { IfSome result (λ _. LegalFor (IsLegalOn P.program) (take_name end.old) (taken_list end.new)) }
+        ensures rise { IfSome result (λ _. StampsRise (taken_stamped end.new)) }
+        ensures unchanged { IfNone result (taken_stamped end.new ≡ taken_stamped end.old) }
+        ensures empty { IfNone result (WasEmpty (IsLegalOn P.program) (take_name end.old) (taken_list end.old)) }
+    {
         self.queue.pop_as::<Takes<P>, R>(rt, &mut end.pass)
     }
 
@@ -160,11 +188,11 @@ impl<P: NodeProgram> Link<P> {
     fn take_all<R: Wait>(
         &self,
         rt: &R,
-        mut pass: Pass<Stamped<P::Payload>, EndView<P::Payload>>,
+        mut pass: Pass<Queued<P::Payload>, EndView<P::Payload>>,
         mut held: Vec<Stamped<P::Payload>>,
         n: usize,
     ) -> (
-        Pass<Stamped<P::Payload>, EndView<P::Payload>>,
+        Pass<Queued<P::Payload>, EndView<P::Payload>>,
         Vec<Stamped<P::Payload>>,
     )
         requires pass { IsPassOf self.now.queue pass × ((view pass).puts ≡ true) × ((view pass).takes ≡ true) }
@@ -177,7 +205,7 @@ impl<P: NodeProgram> Link<P> {
     {
         for _ in 0..n {
             match self.queue.pop_as::<TakesAll<P>, R>(rt, &mut pass) {
-                Some(item) => held.push_reserved(item),
+                Some(queued) => held.push_reserved(queued.stamped()),
                 None => unreachable!(),
             }
         }

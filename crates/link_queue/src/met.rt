@@ -3,6 +3,7 @@
 ghost use Rattle.std.specs.Prelude.{◌≡◌};
 ghost use Rattle.link_queue.specs.Ends.{held_stamped};
 
+use crate::queued::Queued;
 use crate::view::EndView;
 use alpha_core::Stamped;
 use crossbeam_queue::Pass;
@@ -15,11 +16,11 @@ pub struct Full<W>(pub W);
 #[derive(Drop)]
 pub struct Met<T> {
     held: Vec<Stamped<T>>,
-    pass: Pass<Stamped<T>, EndView<T>>,
+    pass: Pass<Queued<T>, EndView<T>>,
 }
 
 impl<T> Met<T> {
-    pub(crate) fn of(held: Vec<Stamped<T>>, pass: Pass<Stamped<T>, EndView<T>>) -> Met<T>
+    pub(crate) fn of(held: Vec<Stamped<T>>, pass: Pass<Queued<T>, EndView<T>>) -> Met<T>
         ensures held { result.held ≡ held }
         ensures pass { result.pass ≡ pass }
     {

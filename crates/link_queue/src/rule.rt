@@ -3,8 +3,9 @@
 //! Eight kinds of step: put, put refused as full, take, take refused as empty, and, by one caller that has all passes,
 //! the making of the queue, the naming of its view, the splitting into two ends and their joining.
 
+use crate::queued::Queued;
 use crate::view::EndView;
-use alpha_core::{NodeProgram, Stamped};
+use alpha_core::NodeProgram;
 use crossbeam_queue::protocol::{Join, Lesson, Outcome, Protocol, Split};
 use std::marker::{Brand, PhantomData};
 
@@ -13,12 +14,13 @@ pub struct LinkRule<P> {
     program: PhantomData<P>,
 }
 
-impl<P: NodeProgram> Protocol<Stamped<P::Payload>, EndView<P::Payload>> for LinkRule<P> {
+impl<P: NodeProgram> Protocol<Queued<P::Payload>, EndView<P::Payload>> for LinkRule<P> {
     ghost use Rattle.std.specs.Prelude.{None, true, []};
     ghost use Rattle.link_rule.specs.Legal.{IsLegalOn};
+    ghost use Rattle.link_queue.specs.Queued.{all_stamped};
     ghost use Rattle.link_queue.specs.Rule.{end_view, Linked};
 
-    ghost holds = { Linked (IsLegalOn P.program) };
+    ghost holds = { λ items. Linked (IsLegalOn P.program) (all_stamped items) };
 
     ghost first = { end_view None true true [] [] };
 }
@@ -74,18 +76,20 @@ impl<T> Join<EndView<T>> for TwoEnds {
 // A put, and what a refused one says.
 pub struct Puts;
 
-impl<T> Outcome<Stamped<T>, EndView<T>> for Puts {
+impl<T> Outcome<Queued<T>, EndView<T>> for Puts {
     ghost use Rattle.std.specs.Prelude.{◌≡◌, [], ◌∷◌, ◌++◌};
+    ghost use Rattle.link_queue.specs.Queued.{stamped_of};
     ghost use Rattle.link_queue.specs.Rule.{end_view};
 
-    ghost then = { λ v x w. w ≡ end_view v.name v.puts v.takes (v.put ++ x ∷ []) v.taken };
+    ghost then = { λ v x w. w ≡ end_view v.name v.puts v.takes (v.put ++ stamped_of x ∷ []) v.taken };
 }
 
-impl<T> Lesson<Stamped<T>, EndView<T>> for Puts {
+impl<T> Lesson<Queued<T>, EndView<T>> for Puts {
     ghost use Rattle.alpha_core.specs.StampedWires.{wires_of};
+    ghost use Rattle.link_queue.specs.Queued.{all_stamped};
     ghost use Rattle.link_queue.specs.Rule.{AreLastOf};
 
-    ghost fact = { λ v. AreLastOf (wires_of v.put) };
+    ghost fact = { λ v items. AreLastOf (wires_of v.put) (all_stamped items) };
 }
 
 // A take, and what a refused one says.
@@ -93,19 +97,21 @@ pub struct Takes<P> {
     program: PhantomData<P>,
 }
 
-impl<P: NodeProgram> Outcome<Stamped<P::Payload>, EndView<P::Payload>> for Takes<P> {
+impl<P: NodeProgram> Outcome<Queued<P::Payload>, EndView<P::Payload>> for Takes<P> {
     ghost use Rattle.link_rule.specs.Legal.{IsLegalOn};
+    ghost use Rattle.link_queue.specs.Queued.{stamped_of};
     ghost use Rattle.link_queue.specs.Rule.{Taking};
 
-    ghost then = { Taking (IsLegalOn P.program) };
+    ghost then = { λ v x. Taking (IsLegalOn P.program) v (stamped_of x) };
 }
 
-impl<P: NodeProgram> Lesson<Stamped<P::Payload>, EndView<P::Payload>> for Takes<P> {
+impl<P: NodeProgram> Lesson<Queued<P::Payload>, EndView<P::Payload>> for Takes<P> {
     ghost use Rattle.link_rule.specs.Legal.{IsLegalOn};
     ghost use Rattle.alpha_core.specs.StampedWires.{wires_of};
+    ghost use Rattle.link_queue.specs.Queued.{all_stamped};
     ghost use Rattle.link_queue.specs.Rule.{MayFollow};
 
-    ghost fact = { λ v. MayFollow (IsLegalOn P.program) v.name (wires_of v.taken) };
+    ghost fact = { λ v items. MayFollow (IsLegalOn P.program) v.name (wires_of v.taken) (all_stamped items) };
 }
 
 // A take by a view of both ends, which knows all wires on the queue.
@@ -113,16 +119,18 @@ pub struct TakesAll<P> {
     program: PhantomData<P>,
 }
 
-impl<P: NodeProgram> Lesson<Stamped<P::Payload>, EndView<P::Payload>> for TakesAll<P> {
+impl<P: NodeProgram> Lesson<Queued<P::Payload>, EndView<P::Payload>> for TakesAll<P> {
     ghost use Rattle.link_rule.specs.Legal.{IsLegalOn};
+    ghost use Rattle.link_queue.specs.Queued.{all_stamped};
     ghost use Rattle.link_queue.specs.Rule.{IsAllOf};
 
-    ghost fact = { IsAllOf (IsLegalOn P.program) };
+    ghost fact = { λ v items. IsAllOf (IsLegalOn P.program) v (all_stamped items) };
 }
 
-impl<P: NodeProgram> Outcome<Stamped<P::Payload>, EndView<P::Payload>> for TakesAll<P> {
+impl<P: NodeProgram> Outcome<Queued<P::Payload>, EndView<P::Payload>> for TakesAll<P> {
     ghost use Rattle.link_rule.specs.Legal.{IsLegalOn};
+    ghost use Rattle.link_queue.specs.Queued.{stamped_of};
     ghost use Rattle.link_queue.specs.Rule.{Taking};
 
-    ghost then = { Taking (IsLegalOn P.program) };
+    ghost then = { λ v x. Taking (IsLegalOn P.program) v (stamped_of x) };
 }

@@ -1,4 +1,4 @@
-use Rattle.std.proofs.Common.{◌≡◌, sym, subst}
+use Rattle.std.proofs.Common.{sym, subst}
 use Rattle.std.specs.Prelude.{Contains, IsTrue, ◌↔◌}
 use Rattle.crossbeam_queue.specs.Passes.{view}
 use Rattle.alpha_core.specs.declared.wire.Wire.TheVariants.{Close}
