@@ -41,6 +41,6 @@ pub use event_texts::EventFault;
 pub use pool::PoolFault;
 pub use replay::{ReplayRefused, WholeRefused, replay, replay_whole};
 pub use transcripts::{
-    TextFault, Transcript, push_entries, push_first_line, push_row, read_any, read_transcript,
-    stamped_text, transcript_text,
+    TextFault, Transcript, push_entries, push_first_line, push_stamped_row, read_any,
+    read_transcript, stamped_text, transcript_text,
 };

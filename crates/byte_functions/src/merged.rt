@@ -1,28 +1,14 @@
 //! The transcript of a run of worker threads in one order, with stamps.
 
-ghost use Rattle.std.specs.Prelude.{◌≡◌, ◌++◌, All, IfOk, length, map};
-ghost use Rattle.answers.specs.colour_rules.Words.{number_in, word_in};
-ghost use Rattle.answers.specs.transcripts.TranscriptText.{stamped_row_text};
+ghost use Rattle.std.specs.Prelude.{◌≡◌, All, IfOk, length, map};
 ghost use Rattle.node_pool.specs.Gathers.{gathered_of};
 ghost use Rattle.stamps.specs.Stamps.{Rises};
 ghost use Rattle.byte_functions.specs.Transcripts.{IsMergedText, stamped_of};
 
 use crate::merging::Merging;
-use answers::{Colouring, Memory, Payload, push_row, stamped_text};
-use itoa::Buffer;
+use answers::{Colouring, Memory, Payload, push_stamped_row, stamped_text};
 use node_pool::Actor;
-use stamps::Entry;
-use std::alloc::{AllocError, Global};
-
-// Appends the line of an entry, behind its stamp and the vertex of its node.
-fn push_stamped_row(text: &mut Vec<u8>, row: &(u64, u32, Entry<Payload>)) -> Result<(), AllocError>
-    ensures { IfOk result (λ _. text.new.items ≡ text.old.items ++ stamped_row_text word_in number_in row.now) }
-{
-    let (stamp, vertex, entry) = *row;
-    text.extend_from_slice(Buffer::new().format(stamp).as_bytes())?;
-    text.push(b' ')?;
-    push_row(text, &(vertex, entry))
-}
+use std::alloc::Global;
 
 /// The transcript of nodes with stamps, in the order of the stamps and then of the vertices. Beside the nodes and the
 /// text it takes memory by the number of nodes.

@@ -6,7 +6,7 @@
 //! text by `push_first_line`, and by `push_entries` for each node.
 //!
 //! In edition 2 the first line is `transcript 2 NODES`, and each entry has its stamp before the vertex. `stamped_text`
-//! writes it, and `read_any` reads both editions.
+//! writes it, `push_stamped_row` one entry of it, and `read_any` reads both editions.
 //!
 //! ```text
 //! let rows = [(1, Entry::Put(2, Wire::Close)), (2, Entry::Take(1, Wire::Close))];
@@ -27,6 +27,7 @@ mod entry_line;
 mod fault;
 pub mod laws;
 mod line_end;
+mod lines;
 mod node_lines;
 mod numbers;
 mod reading;
@@ -36,6 +37,7 @@ mod writing;
 pub use behind::{entry_lines, network_text, read_behind_network};
 pub use editions::{Transcript, read_any, read_any_behind_network};
 pub use fault::TextFault;
+pub use lines::{push_row, push_stamped_row};
 pub use node_lines::push_entries;
 pub use reading::read_transcript;
-pub use writing::{push_first_line, push_row, stamped_text, transcript_text};
+pub use writing::{push_first_line, stamped_text, transcript_text};

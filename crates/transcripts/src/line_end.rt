@@ -56,6 +56,15 @@ impl LineEnd {
         self.start = write_digits(u64::from(number), &mut self.bytes, self.start);
     }
 
+    /// Puts the digits of a stamp before it.
+    #[inline(always)]
+    pub(crate) fn put_stamp(&mut self, stamp: u64)
+        requires room { 20 + length self.old ≤ ROOM }
+        ensures put { self.new ≡ decimal stamp ++ self.old }
+    {
+        self.start = write_digits(stamp, &mut self.bytes, self.start);
+    }
+
     /// Puts bytes before it.
     #[inline(always)]
     pub(crate) fn put_bytes(&mut self, bytes: &[u8])

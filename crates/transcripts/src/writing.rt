@@ -8,51 +8,11 @@ ghost use Rattle.transcripts.specs.TranscriptText.{row_text, stamped_row_text, s
 ghost use Rattle.transcripts.specs.TranscriptText.{transcript_of};
 ghost use Rattle.wire_texts.specs.WireText.{numbered};
 
+use crate::lines::{push_row, push_stamped_row};
 use alpha_core::{Memory, PayloadText};
 use entries::Entry;
 use std::alloc::{AllocError, Global};
-use wire_texts::{push_numbered, push_wire};
-
-/// Appends the line of an entry, behind the vertex of its node.
-///
-/// # Errors
-///
-/// If a growth is refused; `text` may then end in a beginning of the line.
-pub fn push_row<T: PayloadText>(text: &mut Vec<u8>, row: &(u32, Entry<T>)) -> Result<(), AllocError>
-    ensures text { IfOk result (λ _. text.new.items ≡ text.old.items ++ row_text T.word_of T.number_of row.now) }
-    ensures readable { IfOk result (λ _. IsReadable T.word_of T.number_of T.payload_of row.now) }
-{
-    let (v, entry) = *row;
-    push_numbered(text, b"", u128::from(v))?;
-    match entry {
-        Entry::Pulse(pulse) => push_numbered(text, b" pulse ", u128::from(pulse))?,
-        Entry::Put(w, wire) => {
-            push_numbered(text, b" put ", u128::from(w))?;
-            push_wire(text, wire)?;
-        }
-        Entry::Take(w, wire) => {
-            push_numbered(text, b" take ", u128::from(w))?;
-            push_wire(text, wire)?;
-        }
-    }
-    text.push(b'\n')?;
-    Ok(())
-}
-
-// Appends the line of an entry, behind its stamp and the vertex of its node.
-fn push_stamped_row<T: PayloadText>(
-    text: &mut Vec<u8>,
-    row: &(u64, u32, Entry<T>),
-) -> Result<(), AllocError>
-    ensures text { IfOk result (λ _.
-        text.new.items ≡ text.old.items ++ stamped_row_text T.word_of T.number_of row.now) }
-    ensures readable { IfOk result (λ _. IsReadableStamped T.word_of T.number_of T.payload_of row.now) }
-{
-    let (stamp, v, entry) = *row;
-    push_numbered(text, b"", u128::from(stamp))?;
-    text.push(b' ')?;
-    push_row(text, &(v, entry))
-}
+use wire_texts::push_numbered;
 
 // Appends the lines of entries.
 fn push_rows<T: PayloadText>(text: &mut Vec<u8>, rows: &[(u32, Entry<T>)]) -> Result<(), AllocError>

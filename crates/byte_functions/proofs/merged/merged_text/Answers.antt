@@ -31,7 +31,7 @@ loop-merging-preserved c =
       rows = (
         rows ++ (row ∷ []),
         merging-step wrote c.loop-merging.merging.lefts.items c.take.new.self.lefts.items rows row so_far.1 taken,
-        c.in_ok-push_stamped_row.ensures ∙ ap (λ t. t ++ stamped_row_text word_in number_in row) so_far.2
+        c.in_ok-push_stamped_row.ensures.text ∙ ap (λ t. t ++ stamped_row_text word_in number_in row) so_far.2
             ∙ flat_map_more (stamped_row_text word_in number_in) (first_line_of (codes "2") c.args.count) rows row,
       );
     }
