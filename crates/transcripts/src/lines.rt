@@ -4,6 +4,7 @@ ghost use Rattle.std.specs.Prelude.{◌≡◌, ◌≤◌, ◌+◌, ◌++◌, ◌
 ghost use Rattle.transcripts.specs.TranscriptText.{IsReadable, IsReadableStamped, row_text, stamped_row_text};
 ghost use Rattle.transcripts.specs.declared.line_end.TheConstants.{ROOM};
 ghost use Rattle.wire_texts.specs.WireText.{wire_text};
+ghost use Rattle.wire_texts.specs.WireText;
 
 use crate::line_end::LineEnd;
 use alpha_core::{PayloadText, Wire};
@@ -41,6 +42,7 @@ pub fn push_row<T: PayloadText>(text: &mut Vec<u8>, row: &(u32, Entry<T>)) -> Re
 fn put_wire<T: PayloadText>(line: &mut LineEnd, wire: Wire<T>) -> bool
     requires room { 16 + length line.old ≤ ROOM }
     ensures put { IsTrue result → line.new ≡ wire_text T.word_of T.number_of wire ++ line.old }
+    ensures readable { IsTrue result → WireText.IsReadable T.word_of T.number_of T.payload_of wire }
     ensures length { length line.new ≤ 16 + length line.old }
 {
     match wire {
