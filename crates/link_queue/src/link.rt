@@ -132,13 +132,7 @@ impl<P: NodeProgram> Link<P> {
         ensures unchanged { IfErr result (λ _. put_stamped end.new ≡ put_stamped end.old) }
         ensures full { IfErr result (λ _. WasFull self.now (put_list end.old)) }
     {
-        let stamp = item.stamp;
-        let queued = match item.wire {
-            Wire::Payload(pulse, payload) => Queued::Payload(pulse, stamp, payload),
-            Wire::Ack(pulse) => Queued::Ack(pulse, stamp),
-            Wire::Safe(pulse) => Queued::Safe(pulse, stamp),
-            Wire::Close => Queued::Close(stamp),
-        };
+        let queued = Queued::of(item);
         match self.queue.push_as::<Puts, R>(rt, &mut end.pass, queued) {
             Ok(()) => {
                 if let Wire::Close = item.wire {

@@ -18,6 +18,22 @@ pub enum Queued<T> {
     Close(u64),
 }
 
+impl<T> Queued<T> {
+    /// A wire with its stamp.
+    #[inline(always)]
+    pub fn of(item: Stamped<T>) -> Queued<T>
+        ensures { stamped_of result ≡ item }
+    {
+        let stamp = item.stamp;
+        match item.wire {
+            Wire::Payload(pulse, payload) => Queued::Payload(pulse, stamp, payload),
+            Wire::Ack(pulse) => Queued::Ack(pulse, stamp),
+            Wire::Safe(pulse) => Queued::Safe(pulse, stamp),
+            Wire::Close => Queued::Close(stamp),
+        }
+    }
+}
+
 impl<T: Copy> Queued<T> {
     /// The wire with its stamp, as the struct.
     pub fn stamped(&self) -> Stamped<T>

@@ -122,15 +122,15 @@ pub fn push_stamped_row<T: PayloadText>(
         text.new.items ≡ text.old.items ++ stamped_row_text T.word_of T.number_of row.now) }
     ensures readable { IfOk result (λ _. IsReadableStamped T.word_of T.number_of T.payload_of row.now) }
 {
-    let (stamp, vertex, entry) = *row;
+    let (stamp, v, entry) = *row;
     let mut line = LineEnd::new();
-    if put_row(&mut line, vertex, entry) {
+    if put_row(&mut line, v, entry) {
         line.put_bytes(b" ");
         line.put_stamp(stamp);
         text.extend_from_slice(line.as_slice())
     } else {
         push_numbered(text, b"", u128::from(stamp))?;
         text.push(b' ')?;
-        push_row(text, &(vertex, entry))
+        push_row(text, &(v, entry))
     }
 }
