@@ -9,7 +9,7 @@ use Rattle.std.proofs.lemmas.Bool.{and_from, and_left, and_right, cases_Bool, ca
 use Rattle.std.proofs.lemmas.Bool.{true≢false}
 use Rattle.std.proofs.lemmas.List.{get_or_at, get_or_append_left, length-append}
 use Rattle.std.proofs.Math.ListN.{get_or-eq_default}
-use Rattle.std.proofs.lemmas.List.Sorted.{sum_by_pushed}
+use Rattle.std.proofs.lemmas.List.Sorted.{sum_by-IsPermutation, sum_by_pushed}
 use Rattle.stamps.specs.Stamps.{StampedEntry}
 use Rattle.byte_functions.specs.Merge.{AreKeys, IsKeyAdded, Key, is_key, key_cmp, keys_in, starts_at}
 
@@ -73,8 +73,8 @@ module _ {M : Type 0} where
 
   -- a key more
   pub key_added : (list : List (StampedEntry M)) (stamp index : ℕ) (old new : List Key) → starts_at list stamp ≡ true
-      → IsPermutation (record { 0 = (stamp, index) } ∷ old) new → (IsHeap key_cmp old → IsHeap key_cmp new) → IsKeyAdded list index old new
-  key_added list stamp index old new starts pushed keeps =
+      → IsPermutation (record { 0 = (stamp, index) } ∷ old) new → IsKeyAdded list index old new
+  key_added list stamp index old new starts pushed =
       let x : Key = record { 0 = (stamp, index) } in
       record {
         here = λ s.
@@ -89,13 +89,22 @@ module _ {M : Type 0} where
             let all = sum_by_pushed (λ k. number (is_key s i k)) x old new pushed in
             let none = none_if (is_key s i x) (other_index s i x ne) in
             omega (arith, all, none);
-        heap = keeps;
       }
+
+  -- a list without entries has no key
+  pub none_added : (list : List (StampedEntry M)) (index : ℕ) (old new : List Key) → list ≡ [] → IsPermutation old new → IsKeyAdded list index old new
+  none_added list index old new empty same = record {
+    here = λ s.
+        let all = sum_by-IsPermutation (λ k. number (is_key s index k)) old new same in
+        let none : keys_in list s ≡ 0 = ap (λ l. keys_in l s) empty in
+        omega (arith, all, none);
+    others = λ s i ne. sum_by-IsPermutation (λ k. number (is_key s i k)) old new same;
+  }
 
   -- a list more, with its key
   pub keys_more : (lists : List (List (StampedEntry M))) (list : List (StampedEntry M)) (old new : List Key) → AreKeys lists old
-      → IsKeyAdded list (length lists) old new → AreKeys (lists ++ (list ∷ [])) new
-  keys_more lists list old new are added = record {
+      → IsKeyAdded list (length lists) old new → IsHeap key_cmp new → AreKeys (lists ++ (list ∷ [])) new
+  keys_more lists list old new are added heap = record {
     once = λ s i. ⊎_elim
         (λ e.
         let here = added.here s in
@@ -106,7 +115,7 @@ module _ {M : Type 0} where
         (count ∙ ap (λ l. keys_in l s) (sym (get_or_at lists list [] [] (length lists) refl))))
         (λ ne. added.others s i ne ∙ are.once s i ∙ ap (λ l. keys_in l s) (sym (same i ne)))
         (cases_eq i (length lists));
-    heap = added.heap are.heap;
+    heap = heap;
   }
     where
       same : (i : ℕ) → (i ≡ length lists → ⊥) → get_or (lists ++ (list ∷ [])) i [] ≡ get_or lists i []

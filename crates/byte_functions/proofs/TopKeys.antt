@@ -1,5 +1,5 @@
 -- The key on top of the heap: that of the least first entry, which is taken.
-use Rattle.std.proofs.Common.{◌≡◌, ◌∙◌, ℕ, zero, suc, ◌+◌, ◌<◌, ◌==◌, Bool, true, false, List, [], ◌∷◌, length, get_or, set, refl, sym, ap, subst}
+use Rattle.std.proofs.Common.{◌≡◌, ◌∙◌, ℕ, zero, suc, ◌+◌, ◌<◌, ◌==◌, Bool, true, false, List, [], ◌∷◌, drop, length, get_or, set, refl, sym, ap, subst}
 use Rattle.std.proofs.Common.{arith, ⊎_elim, inl, inr}
 use Rattle.std.specs.Prelude.{count_by}
 use Rattle.std.specs.BinaryHeap.{IsHeap, IsUpperBound, lt_by_cmp}
@@ -7,7 +7,7 @@ use Rattle.std.specs.List.{AllByRecursion}
 use Rattle.std.specs.List.Sorted.{IsPermutation}
 use Rattle.std.proofs.lemmas.Bool.{and_parts, cases_Bool, cases_eq, eqb-true, true≢false}
 use Rattle.std.proofs.lemmas.List.{get_or_default, get_or-set_other, get_or-set_same}
-use Rattle.std.proofs.lemmas.List.Sorted.{sum_by_popped}
+use Rattle.std.proofs.lemmas.List.Sorted.{IsPermutation-refl, sum_by_popped}
 use Rattle.std.proofs.lemmas.List.Sums.{sum_by-cons}
 use Rattle.stamps.specs.entries.Entry.{Entry}
 use Rattle.stamps.specs.Stamps.{StampedEntry}
@@ -24,6 +24,11 @@ counted P p (x ∷ keys) all some = ⊎_elim
     let none = none_if (p x) no in
     counted P p keys all.1 (omega (arith, some, e, none)))
     (cases_Bool (p x))
+
+-- the first of the keys, and those behind it
+pub top_first : (keys : List Key) (x : Key) → 0 < length keys → x ≡ get_or keys 0 x → IsPermutation keys (x ∷ drop 1 keys)
+top_first [] x some is = absurd (omega (arith, some))
+top_first (key ∷ keys) x some is = subst (λ k. IsPermutation (key ∷ keys) (k ∷ keys)) (sym is) (IsPermutation-refl (key ∷ keys))
 
 module _ {M : Type 0} where
   -- the key on top of the heap is that of a list
@@ -69,8 +74,8 @@ module _ {M : Type 0} where
 
   -- the list of that key has lost its first entry, and its new key is added
   pub keys_after : (lists : List (List (StampedEntry M))) (keys rest new : List Key) (x : Key) (more : List (StampedEntry M)) → AreKeys lists keys
-      → IsPermutation keys (x ∷ rest) → IsHeap key_cmp rest → x.0.1 < length lists → IsKeyAdded more x.0.1 rest new → AreKeys (set lists x.0.1 more) new
-  keys_after lists keys rest new x more are popped heap within added = record {
+      → IsPermutation keys (x ∷ rest) → x.0.1 < length lists → IsKeyAdded more x.0.1 rest new → IsHeap key_cmp new → AreKeys (set lists x.0.1 more) new
+  keys_after lists keys rest new x more are popped within added heap = record {
     once = λ s i. ⊎_elim
         (λ e.
         let here = added.here s in
@@ -82,7 +87,7 @@ module _ {M : Type 0} where
         (λ ne. added.others s i ne ∙ kept_at lists keys rest x are popped s i ne
         ∙ ap (λ l. keys_in l s) (sym (get_or-set_other lists x.0.1 i more [] ne)))
         (cases_eq i x.0.1);
-    heap = added.heap heap;
+    heap = heap;
   }
 
   -- no list begins before the key on top
@@ -99,8 +104,8 @@ module _ {M : Type 0} where
       (subst (λ j. NotAfter x.0.0 x.0.1 key.0.0 j) (eqb-true key.0.1 i parts.1) before)
 
   -- with no key, no list has an entry
-  pub none_left : (lists : List (List (StampedEntry M))) (keys : List Key) → AreKeys lists keys → length keys ≡ 0 → NoneLeft lists
-  none_left lists (key ∷ keys) are none = absurd (omega (arith, none))
+  pub none_left : (lists : List (List (StampedEntry M))) (keys : List Key) → AreKeys lists keys → (0 < length keys → ⊥) → NoneLeft lists
+  none_left lists (key ∷ keys) are none = absurd (none (omega arith))
   none_left lists [] are none = λ i. empty (get_or lists i []) (λ s. sym (are.once s i))
     where
       empty : (list : List (StampedEntry M)) → ((s : ℕ) → keys_in list s ≡ 0) → list ≡ []

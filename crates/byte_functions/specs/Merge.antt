@@ -44,7 +44,6 @@ module _ {M : Type 0} where
   pub record IsKeyAdded (list : List (StampedEntry M)) (index : ℕ) (old new : List Key) : Type 0 where
     pub here : (s : ℕ) → count_by (is_key s index) new ≡ keys_in list s + count_by (is_key s index) old
     pub others : (s i : ℕ) → (i ≡ index → ⊥) → count_by (is_key s i) new ≡ count_by (is_key s i) old
-    pub heap : IsHeap key_cmp old → IsHeap key_cmp new
 
   -- The row was the first entry of the list of its vertex, whose index is one less, and may come before all other first
   -- entries.

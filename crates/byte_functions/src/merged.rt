@@ -27,7 +27,7 @@ pub fn merged_text(
     // The first line alone.
     let mut text = stamped_text::<Payload>(alloc, count, &[])?;
     let mut merging = Merging::new(alloc, actors.as_slice())?;
-    while let Some(row) = merging.take()? {
+    while let Some(row) = merging.take() {
         push_stamped_row(&mut text, &row)?;
     }
     Ok(text)

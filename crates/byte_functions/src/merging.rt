@@ -1,9 +1,9 @@
 //! The entries that all nodes have left to write, the least first.
 
-ghost use Rattle.std.specs.Prelude.{◌≡◌, ◌<◌, ◌^◌, IfOk, MatchOption, OnOk, length, map};
-ghost use Rattle.std.specs.BinaryHeap.{heap_items};
+ghost use Rattle.std.specs.Prelude.{◌≡◌, ◌<◌, ◌^◌, IfOk, MatchOption, OnOk, drop, length, map};
+ghost use Rattle.std.specs.BinaryHeap.{KeepsHeap, heap_items, heap_len};
 ghost use Rattle.node_pool.specs.Gathers.{gathered_of};
-ghost use Rattle.byte_functions.specs.Merge.{AreKeys, IsKeyAdded, IsTaken, NoneLeft};
+ghost use Rattle.byte_functions.specs.Merge.{AreKeys, IsKeyAdded, IsTaken, NoneLeft, key_cmp};
 ghost use Rattle.byte_functions.specs.Transcripts.{stamped_of};
 
 use crate::left_entries::LeftEntries;
@@ -13,6 +13,7 @@ use stamps::Entry;
 use std::alloc::{AllocError, Global};
 use std::cmp::Reverse;
 use std::collections::BinaryHeap;
+use std::collections::binary_heap::PeekMut;
 
 // Stamps, each with the index of its node, the least on top.
 type Keys = BinaryHeap<Reverse<(u64, usize)>>;
@@ -29,12 +30,29 @@ pub struct Merging<'a> {
 
 // Adds the key of a node, if it has entries left.
 fn push_key(keys: &mut Keys, left: &LeftEntries<'_>, index: usize) -> Result<(), AllocError>
-    ensures { OnOk result (IsKeyAdded left.now index (heap_items keys.old) (heap_items keys.new)) }
+    ensures added { OnOk result (IsKeyAdded left.now index (heap_items keys.old) (heap_items keys.new)) }
+    ensures heap { OnOk result (KeepsHeap key_cmp (heap_items keys.old) (heap_items keys.new)) }
 {
     if let Some(stamp) = left.stamp() {
         keys.push(Reverse((stamp, index)))?;
     }
     Ok(())
+}
+
+// Puts the key of a node in the place of the one on top, or takes that off if the node has no entry left.
+fn replace_top(keys: &mut Keys, left: &LeftEntries<'_>, index: usize)
+    requires { 0 < heap_len keys.old }
+    ensures replaced { IsKeyAdded left.now index (drop 1 (heap_items keys.old)) (heap_items keys.new) }
+    ensures heap { KeepsHeap key_cmp (heap_items keys.old) (heap_items keys.new) }
+{
+    if let Some(mut top) = keys.peek_mut() {
+        match left.stamp() {
+            Some(stamp) => *top = Reverse((stamp, index)),
+            None => {
+                PeekMut::pop(top);
+            }
+        }
+    }
 }
 
 impl<'a> Merging<'a> {
@@ -57,24 +75,17 @@ impl<'a> Merging<'a> {
     }
 
     /// Takes the least entry, if there is one, behind its stamp and the vertex of its node.
-    ///
-    /// # Errors
-    /// If memory ran out; the entry is then lost.
-    pub fn take(&mut self) -> Result<Option<(u64, u32, Entry<Payload>)>, AllocError>
+    pub fn take(&mut self) -> Option<(u64, u32, Entry<Payload>)>
         requires few { length self.old.lefts.items < 2 ^ 32 }
         requires keys { AreKeys self.old.lefts.items (heap_items self.old.keys) }
-        ensures keys { OnOk result (AreKeys self.new.lefts.items (heap_items self.new.keys)) }
-        ensures taken { IfOk result (λ row.
-            MatchOption row (NoneLeft self.old.lefts.items) (IsTaken self.old.lefts.items self.new.lefts.items)) }
+        ensures keys { AreKeys self.new.lefts.items (heap_items self.new.keys) }
+        ensures taken { MatchOption result (NoneLeft self.old.lefts.items)
+            (IsTaken self.old.lefts.items self.new.lefts.items) }
     {
-        let Some(Reverse((_, index))) = self.keys.pop() else {
-            return Ok(None);
-        };
+        let Reverse((_, index)) = *self.keys.peek()?;
         let left = &mut self.lefts[index];
-        let Some((stamp, entry)) = left.take() else {
-            return Ok(None);
-        };
-        push_key(&mut self.keys, left, index)?;
-        Ok(Some((stamp, (index + 1) as u32, entry)))
+        let (stamp, entry) = left.take()?;
+        replace_top(&mut self.keys, left, index);
+        Some((stamp, (index + 1) as u32, entry))
     }
 }

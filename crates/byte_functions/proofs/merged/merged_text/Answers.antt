@@ -9,8 +9,8 @@ use Rattle.byte_functions.proofs.Merge.{IsMerging, fewer, merging-done, merging-
 use Rattle.byte_functions.proofs.merged.merged_text.Goals as goal
 
 -- nothing is taken yet
-pub loop-merging-init : goal.loop-merging-init
-loop-merging-init c =
+pub loop-row-init : goal.loop-row-init
+loop-row-init c =
     let wrote = map stamped_of (map gathered_of c.args.actors.items) in
     let lefts = c.in_ok-merging.ensures.lefts ∙ ap (λ actors. map stamped_of (map gathered_of actors)) c.as_slice.ensures.value in
     record {
@@ -19,33 +19,33 @@ loop-merging-init c =
     }
 
 -- one entry more is taken, and its line written
-pub loop-merging-preserved : goal.loop-merging-preserved
-loop-merging-preserved c =
+pub loop-row-preserved : goal.loop-row-preserved
+loop-row-preserved c =
     let wrote = map stamped_of (map gathered_of c.args.actors.items) in
     let row = c.in-Some.row in
-    let so_far = c.loop-merging.invariant.rows in
+    let so_far = c.loop-row.invariant.rows in
     let rows = so_far.0 in
-    let taken = rw c.in-Some.is at c.in_ok-row.ensures.taken in
+    let taken = c.in-Some.ensures.taken in
     record {
-      keys = c.in_ok-row.ensures.keys;
+      keys = c.take.ensures.keys;
       rows = (
         rows ++ (row ∷ []),
-        merging-step wrote c.loop-merging.merging.lefts.items c.take.new.self.lefts.items rows row so_far.1 taken,
+        merging-step wrote c.loop-row.merging.lefts.items c.take.new.self.lefts.items rows row so_far.1 taken,
         c.in_ok-push_stamped_row.ensures.text ∙ ap (λ t. t ++ stamped_row_text word_in number_in row) so_far.2
             ∙ flat_map_more (stamped_row_text word_in number_in) (first_line_of (codes "2") c.args.count) rows row,
       );
     }
 
 -- an entry less is left
-pub loop-merging-smaller : goal.loop-merging-smaller
-loop-merging-smaller c = fewer c.loop-merging.merging.lefts.items c.take.new.self.lefts.items c.in-Some.row (rw c.in-Some.is at c.in_ok-row.ensures.taken)
+pub loop-row-smaller : goal.loop-row-smaller
+loop-row-smaller c = fewer c.loop-row.merging.lefts.items c.take.new.self.lefts.items c.in-Some.row c.in-Some.ensures.taken
 
 -- nothing is left
 pub returns : goal.returns
 returns c =
     let nodes = map gathered_of c.args.actors.items in
     let wrote = map stamped_of nodes in
-    let all = c.loop-merging.invariant.rows in
-    let none = rw c.in_default.is at c.in_ok-row.ensures.taken in
-    let merge = merging-done wrote c.loop-merging.merging.lefts.items all.0 all.1 none in
+    let all = c.loop-row.invariant.rows in
+    let none = c.in_default.ensures.taken in
+    let merge = merging-done wrote c.loop-row.merging.lefts.items all.0 all.1 none in
     (all.0, subst (λ n. IsMerge n (list_of wrote) all.0) (length-map nodes stamped_of) merge, all.2)

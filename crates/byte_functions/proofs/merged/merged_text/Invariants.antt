@@ -12,13 +12,13 @@ use Rattle.byte_functions.proofs.Merge.{IsMerging}
 use Rattle.byte_functions.proofs.merged.merged_text.Given as goal
 
 -- the rows so far, which the text has
-abbrev pub invariant-loop-merging : goal.invariant-loop-merging
-invariant-loop-merging l = record {
+abbrev pub invariant-loop-row : goal.invariant-loop-row
+invariant-loop-row l = record {
   keys : AreKeys l.merging.lefts.items (heap_items l.merging.keys);
   rows : (rows : List (StampedRow Payload)) × IsMerging (map stamped_of (map gathered_of l.fn.actors.items)) l.merging.lefts.items rows
       × (l.text.items ≡ stamped_transcript_of word_in number_in l.count rows);
 }
 
 -- how many entries are left
-abbrev pub decreases-loop-merging : goal.decreases-loop-merging
-decreases-loop-merging l = sum_by length l.merging.lefts.items
+abbrev pub decreases-loop-row : goal.decreases-loop-row
+decreases-loop-row l = sum_by length l.merging.lefts.items

@@ -2,8 +2,7 @@ use Rattle.std.specs.BinaryHeap.{heap_items}
 use Rattle.byte_functions.proofs.Keys.{key_added}
 use Rattle.byte_functions.proofs.merging.push_key.Goals as goal
 
-pub returns-in_ok-push : goal.returns-in_ok-push
-returns-in_ok-push c =
-    let pushed = c.in_ok-push.ensures in
-    key_added c.args.left.now c.in-Some.stamp c.args.index (heap_items c.args.keys.now) (heap_items c.push.new.self) c.in-Some.ensures pushed.permutation
-    pushed.heap_order
+pub returns-in_ok-push-clause-added : goal.returns-in_ok-push-clause-added
+returns-in_ok-push-clause-added c =
+    key_added c.args.left.now c.in-Some.stamp c.args.index (heap_items c.args.keys.now) (heap_items c.push.new.self) c.in-Some.ensures
+    c.in_ok-push.ensures.permutation

@@ -17,6 +17,7 @@ loop-index-preserved c =
     let left = c.new-left.result in
     let old = heap_items c.loop-index.keys in
     let new = heap_items c.push_key.new.keys in
+    let pushed = c.in_ok-push_key.ensures in
     let lt = c.loop-index-test.true in
     let so_far = c.loop-index.invariant.lefts in
     let before = map gathered_of (take i actors) in
@@ -29,5 +30,6 @@ loop-index-preserved c =
           ∙ ap (map stamped_of) (sym (map-append gathered_of (take i actors) (actor ∷ []))
           ∙ ap (map gathered_of) (ap (λ a. take i actors ++ (a ∷ [])) c.index-actors-index.is ∙ sym (take_more actors i actor lt)));
       keys = subst (λ l. AreKeys l new) (sym all)
-          (keys_more lefts left old new c.loop-index.invariant.keys (subst (λ n. IsKeyAdded left n old new) (sym many) c.in_ok-push_key.ensures));
+          (keys_more lefts left old new c.loop-index.invariant.keys (subst (λ n. IsKeyAdded left n old new) (sym many) pushed.added)
+          (pushed.heap c.loop-index.invariant.keys.heap));
     }
