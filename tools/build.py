@@ -10,8 +10,8 @@ What has to be built is decided by what the sources say, not by the times of fil
 Libraries are built by the toolchain's own module `rtlib`, since two runs of its command `rt lib` wait for each other if
 they share a crate below; the programs are linked by `rt run`.
 
-Measured on four processors: with 4 jobs, 34 of 38 crates took 40 minutes, while other provers ran beside (load 6 to 18). What
-gives way hardly gets on then: sync_rounds took 18 of them. Nothing was measured without others beside, nor with 1 or 2 jobs.
+Measured on four processors of a shared machine: with 4 jobs, the 40 crates of `forestplan` took 58 minutes and 135 processor
+minutes, the first 43 with nothing beside, the last with other provers. Nothing was measured with 1 or 2 jobs.
 
 The status is 0 if all is built, 1 if a crate isn't proved, 2 if nothing could be tried, and 130 after Ctrl-C.
 """
