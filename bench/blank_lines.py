@@ -18,6 +18,7 @@ space has the line `memory`, and counts as another answer. It needs a C compiler
 import argparse
 import contextlib
 import os
+import re
 import resource
 import subprocess
 import sys
@@ -28,7 +29,7 @@ from by_turns import TOP, build_peak
 
 sys.path.insert(1, os.path.join(TOP, "tests"))
 
-from slow_reader import PROGRAM_OF, answer_to, without_reason
+from slow_reader import PROGRAM_OF, answer_to
 
 MEBIBYTE = 2**20
 LINES = {"blank": b"\n", "return": b"\r\n", "comment": b"c\n", "long": b"c" * (MEBIBYTE - 1) + b" "}
@@ -53,8 +54,7 @@ def wanted(command, place, before, behind, lines):
     """The answer by the slow reader. Lines that say nothing change no answer, but the number of a line behind them."""
     status, output, errors = answer_to(command, before + behind)
     if place == "fault":
-        words, line = errors.rsplit(b" ", 1)
-        errors = b"%s %d\n" % (words, int(line) + lines)
+        errors = re.sub(rb"line (\d+)", lambda found: b"line %d" % (int(found[1]) + lines), errors, count=1)
     return status, output, errors
 
 
@@ -83,7 +83,7 @@ def row(peak, program, command, one, kind, mebibytes, most):
     size = len(before) + mebibytes * MEBIBYTE + (kind == "long") + len(behind)
     lines = 1 if kind == "long" else mebibytes * MEBIBYTE // len(LINES[kind])
     answer, seconds, processor, memory = fed(peak, [program, command], before, behind, kind, mebibytes, most)
-    is_right = without_reason(answer) == wanted(command, place, before, behind, lines)
+    is_right = answer == wanted(command, place, before, behind, lines)
     print(f"{command:8s} {place:8s} {kind:8s} {mebibytes:6d} {seconds:8.2f} {processor:8.2f} {processor / size * 1e9:8.2f}"
           f" {memory / size:7.2f}  {'yes' if is_right else f'NO: {answer!r:.300}'}", flush=True)
     return is_right

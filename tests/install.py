@@ -3,6 +3,7 @@
 
 What is installed has to run from another folder, through symbolic links, and from a copy of the folder; its manual pages have to be
 the help texts, which tests/texts/ has."""
+import argparse
 import os
 import re
 import shutil
@@ -141,6 +142,8 @@ def unbuilt_rows(folder):
 
 
 def main():
+    summary, _, more = __doc__.partition("\n")
+    argparse.ArgumentParser(description=summary, epilog=more, formatter_class=argparse.RawDescriptionHelpFormatter).parse_args()
     with tempfile.TemporaryDirectory() as folder:
         elsewhere, target = os.path.join(folder, "else where"), os.path.join(folder, "my plans")
         os.mkdir(elsewhere)

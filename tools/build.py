@@ -1,17 +1,19 @@
 #!/usr/bin/env python3
-"""Proves and builds crates, each as soon as those below it are done, several side by side.
+"""Proves and builds crates, each as soon as those below it are done, several side by side, and keeps the work for `rt check`.
 
-  build.py [--jobs N] [--name WORD] [CRATE ..]    default: every crate of crates.txt
+  build.py [--jobs N] [CRATE ..]    default: every crate of crates.txt
 
 Those below a crate are built with it. Standard error shows how far the build is; the log of a crate is out/build/CRATE.log.
-What is proved is kept, so a build that was interrupted goes on where it was, and two builds at once wait for each other.
-What has to be built is decided by what the sources say, not by the times of files.
+What is proved is kept in the crates' out/, so a build that was interrupted goes on where it was, and two builds at once wait
+for each other. What has to be built is decided by what the sources say, not by the times of files.
 
 Libraries are built by the toolchain's own module `rtlib`, since two runs of its command `rt lib` wait for each other if
-they share a crate below; the programs are linked by `rt run`.
+they share a crate below; the programs are linked by `rt run`. (prove_program.py proves a program faster, and keeps nothing
+that `rt check` goes on from.)
 
-Measured on four processors of a shared machine: with 4 jobs, the 40 crates of `forestplan` took 58 minutes and 135 processor
-minutes, the first 43 with nothing beside, the last with other provers. Nothing was measured with 1 or 2 jobs.
+Measured on shared machines for the 40 crates of `forestplan`: with 4 jobs on four processors 58 minutes and 135 processor
+minutes, the first 43 with nothing beside, the last with other provers; with 2 jobs on two of four processors, beside provers on
+the other two, 75 minutes and 105 processor minutes. Nothing was measured with 1 job.
 
 The status is 0 if all is built, 1 if a crate isn't proved, 2 if nothing could be tried, and 130 after Ctrl-C.
 """
@@ -270,14 +272,13 @@ def main():
     summary, _, more = __doc__.partition("\n")
     words = argparse.ArgumentParser(description=summary, epilog=more, formatter_class=argparse.RawDescriptionHelpFormatter)
     words.add_argument("-j", "--jobs", type=int, default=jobs_with_room(), help="how many crates are proved side by side")
-    words.add_argument("--name", default="build", help="the name under which it reports")
     words.add_argument("crates", nargs="*", metavar="CRATE")
     asked = words.parse_args()
     if not shutil.which("rt"):
-        print(f"{asked.name}: the toolchain's command rt is not on the PATH", file=sys.stderr)
+        print("build: the toolchain's command rt is not on the PATH", file=sys.stderr)
         return 2
     signal.signal(signal.SIGTERM, signal.default_int_handler)
-    return built(asked.crates, max(1, asked.jobs), asked.name)
+    return built(asked.crates, max(1, asked.jobs), "build")
 
 
 if __name__ == "__main__":

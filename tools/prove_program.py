@@ -12,6 +12,7 @@ Standard error shows how far it is; the whole log is out/build/NAME.log. Two bui
 0 if the program is built, 1 if a crate isn't proved, 2 if nothing could be tried, and 130 after Ctrl-C.
 """
 import argparse
+import contextlib
 import os
 import re
 import shutil
@@ -89,22 +90,25 @@ class Gate:
         return sorted(found - self.done)
 
     def end(self):
-        """Stops the gate; all that it has started ends with it."""
-        self.process.kill()
-        self.process.wait()
+        """Stops the gate, and with it all that it has started."""
+        if self.process.poll() is None:
+            with contextlib.suppress(ProcessLookupError):
+                os.killpg(self.process.pid, signal.SIGKILL)
+            self.process.wait()
 
 
 def run_gate(copy, jobs, log, shown):
     """Runs the gate over the copy, and returns it once it has ended."""
-    gate, told = Gate(copy, jobs, log), None
+    gate, told = Gate(copy, jobs, log), 0
     shown.step(0, ["reading the sources"])
     try:
         while gate.process.poll() is None:
-            now = len(gate.done), gate.running()
-            if now[0] != told and now[1]:
-                told = now[0]
-                shown.step(*now)
-            shown.tick(*now)
+            if len(gate.done) != told:
+                # So that those which begin now are shown, too.
+                time.sleep(1)
+                told = len(gate.done)
+                shown.step(told, gate.running())
+            shown.tick(told, gate.running())
             time.sleep(0.5)
         gate.reader.join()
     finally:
