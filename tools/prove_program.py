@@ -59,10 +59,11 @@ class Gate:
     def __init__(self, copy, jobs, log):
         self.copy, self.log, self.failed = copy, log, None
         self.done, self.waits = set(), set()
-        # With a number of jobs each crate is proved by one process; more of them for one crate take longer.
+        # Without a number of jobs the gate goes by processors and memory, and several processes prove a crate that the rest waits for.
+        environment = {**os.environ, "RT_JOBS": str(jobs)} if jobs else None
         self.process = subprocess.Popen(["rt", "ci"], cwd=copy, stdin=subprocess.DEVNULL, stdout=subprocess.PIPE,
                                         stderr=subprocess.STDOUT, text=True, errors="replace", start_new_session=True,
-                                        env={**os.environ, "RT_JOBS": str(jobs)})
+                                        env=environment)
         self.reader = threading.Thread(target=self.read, daemon=True)
         self.reader.start()
 
@@ -167,7 +168,7 @@ def proved(name, jobs):
 def main():
     summary, _, more = __doc__.partition("\n")
     words = argparse.ArgumentParser(description=summary, epilog=more, formatter_class=argparse.RawDescriptionHelpFormatter)
-    words.add_argument("-j", "--jobs", type=int, default=build.jobs_with_room(), help="how many crates are proved side by side")
+    words.add_argument("-j", "--jobs", type=int, default=0, help="prove so many crates side by side, each by one process")
     words.add_argument("name", metavar="NAME", help="the crate of a program")
     asked = words.parse_args()
     if not shutil.which("rt"):
@@ -175,8 +176,8 @@ def main():
         return 2
     signal.signal(signal.SIGTERM, signal.default_int_handler)
     if not can_keep():
-        return build.built([asked.name], max(1, asked.jobs), asked.name)
-    return proved(asked.name, max(1, asked.jobs))
+        return build.built([asked.name], max(1, asked.jobs or build.jobs_with_room()), asked.name)
+    return proved(asked.name, max(0, asked.jobs))
 
 
 if __name__ == "__main__":
