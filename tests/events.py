@@ -81,6 +81,10 @@ WORKED = [
      "node 1 pulse 1|link 1 2 taken 2 safe 0|link 1 3 taken 2 safe 0 payload 1 label 1|"
      "node 2 pulse 0|link 2 1 taken 3|link 2 3 taken 2 safe 0|"
      "node 3 pulse 0|link 3 1 taken 3|link 3 2 taken 2 safe 0|"),
+    ("the triangle after 45 events", TRIANGLE + 2 * (ALL_PUT + ALL_TAKE) + ALL_PUT + LATER.removesuffix("take 3 1|pulse 3|"),
+     "node 1 pulse 1|link 1 2 taken 4|link 1 3 taken 5|"
+     "node 2 pulse 0|link 2 1 taken 4|link 2 3 taken 2 safe 0|"
+     "node 3 pulse 0|link 3 1 taken 4|link 3 2 taken 2 safe 0|"),
     ("the triangle after 47 events", TRIANGLE + 2 * (ALL_PUT + ALL_TAKE) + ALL_PUT + LATER,
      "node 1 pulse 1|link 1 2 taken 4|link 1 3 taken 5|"
      "node 2 pulse 0|link 2 1 taken 4|link 2 3 taken 3|"

@@ -1,7 +1,7 @@
 #!/usr/bin/env python3
-"""Tests of the first call of a program, which proves and builds it: of the scripts `forestplan` and tools/prove_program.py.
+"""Tests of the first call of a program, which proves and builds it: of the scripts `forestplan` and tools/prove.py.
 
-They run in a tree of three crates, over a command `rt` that proves nothing: it says what the toolchain's gate says, and its
+They run in a tree of three crates, over a command `rt` that proves nothing: it has what the scripts use of the toolchain's, and its
 program prints a line. And each script of tests/, tools/ and bench/ has to say with --help what it does, where nothing is
 built and there is no toolchain. The last line is 'N passed, M failed'."""
 import argparse
@@ -19,21 +19,60 @@ TOP = os.path.dirname(os.path.dirname(os.path.abspath(__file__)))
 LIMIT = 60
 TALLY = {"passed": 0, "failed": 0}
 
-# In place of the toolchain's command. A crate whose source has the word `wrong` isn't proved, and one with `slow` takes a minute.
-RT = """#!/usr/bin/env bash
-[ "$*" = ci ] || exit 2
-[ -z "$(find crates -name must-fail -o -name out)" ] || { echo 'rt: not a fresh copy'; exit 2; }
-for crate in $(cut -d: -f1 crates.txt); do
-  cd "crates/$crate"
-  if grep -q slow src/*.rt; then sleep 61; fi
-  if grep -q wrong src/*.rt; then echo "fn $crate::f: not proved"; echo "rt: $crate NOT PROVED"; echo '0 passed, 1 failed'; exit 1; fi
-  if [ "$crate" = lower ]; then echo "rt: $crate is kept: an earlier run"; else echo "== $crate"; echo "rt: $crate proved"; fi
-  mkdir out
-  printf '#!/bin/sh\\necho "$@"; cat\\n' >out/"$crate"
-  chmod +x out/"$crate"
-  cd ../..
-done
-echo '3 passed, 0 failed'
+# In place of the toolchain's command, and of its module. A crate whose source has the word `wrong` isn't proved, and one with `slow`
+# takes a minute.
+RT = """#!/usr/bin/env python3
+import os
+import time
+import types
+
+
+def handles_of(root):
+    with open(f"{root}/HANDLES") as text:
+        return text.read()
+
+
+class Crate:
+    def __init__(self, folder, root, known, above=()):
+        self.folder, self.name = folder, os.path.basename(folder)
+        self.is_program = self.name == "forestplan"
+        with open(f"{root}/crates.txt") as text:
+            lines = dict(line.split(":") for line in text if ":" in line)
+        self.deps = [Crate(f"{root}/crates/{lower}", root, known) for lower in lines[self.name].split()]
+
+    def below(self):
+        return [it for dep in self.deps for it in [*dep.below(), dep]]
+
+    def words(self, flags, keeps=True):
+        if not all(os.path.isfile(it.rlib) for it in self.below()):
+            raise SystemExit("a crate below isn't there")
+        return flags
+
+    def prove(self, words):
+        with open(f"{self.folder}/src/lib.rt") as text:
+            said = text.read()
+        if "slow" in said:
+            os.chdir(self.folder)
+            time.sleep(61)
+        if "wrong" in said:
+            print(f"fn {self.name}::f: not proved")
+            return 1
+        with open(words[-1], "w") as made:
+            made.write("#!/bin/sh\\necho \\"$@\\"; cat\\n")
+        return 0
+
+    def compile_by(self, by):
+        os.chmod(f"{self.folder}/out/{self.name}", 0o755 if by == "llvm" else 0)
+        return 0
+
+    def ci(self, flags, tests):
+        words = self.words(flags)
+        return self.prove(["-o", f"{self.folder}/out/{self.name}"]) or self.compile_by("llvm") or self.compile_by("rattle")
+
+
+rtlib = types.SimpleNamespace(Crate=Crate, guarded=lambda: [])
+if __name__ == "__main__":
+    raise SystemExit(2)
 """
 CRATES = "# below\nlower:\nmiddle: lower\n\n# not of the program\naside: lower\n\nforestplan: middle\n"
 
@@ -71,7 +110,10 @@ class Tree:
             write(os.path.join(self.top, "crates", crate, "out", "old"), "")
         kit = os.path.join(folder, "kits", "rattle", "bin")
         write(os.path.join(kit, "rt"), RT, 0o755)
-        self.environment = dict(os.environ, PATH=f"{kit}:{os.environ['PATH']}")
+        write(os.path.join(kit, "rattle"), "")
+        write(os.path.join(folder, "kits", "rattle", "KIT-ID"), "a kit\n")
+        self.environment = dict(os.environ, PATH=f"{kit}:{os.environ['PATH']}", XDG_CACHE_HOME=os.path.join(folder, "cache"))
+        self.store = os.path.join(folder, "cache", "forestplan")
 
     def source(self, crate, text):
         write(os.path.join(self.top, "crates", crate, "src", "lib.rt"), f"//! {text}\n")
@@ -90,16 +132,20 @@ class Tree:
         return started.returncode, out, err
 
     def at_work(self):
-        """The processes that are in the tree."""
+        """The provers that are in the store."""
         found = []
         for process in filter(str.isdigit, os.listdir("/proc")):
             try:
                 where = os.readlink(f"/proc/{process}/cwd")
             except OSError:
                 continue
-            if where.startswith(os.path.realpath(self.top)):
+            if where.startswith(os.path.realpath(self.store)):
                 found.append(process)
         return found
+
+    def log(self, crate):
+        with open(os.path.join(self.top, "out", "build", f"{crate}.log"), encoding="utf-8") as text:
+            return text.read()
 
 
 def wait_until(what):
@@ -118,41 +164,57 @@ def run_first(tree):
     status, out, err = tree.call("plain", "x", given="input\n")
     note("what the program prints", (status, out) == (0, "plain x\ninput\n"), (status, out))
     lines = err.splitlines()
-    note("the first line of progress", "forestplan: 0 of 3 crates proved, 0 s: now reading the sources" in lines, err)
+    note("the first line of progress", "forestplan: 0 of 3 crates proved, 0 s: now lower" in lines, err)
     note("the last line", re.fullmatch(r"forestplan: 3 crates proved and built in \d+ s", lines[-1]), err)
-    with open(os.path.join(tree.top, "out", "build", "forestplan.log"), encoding="utf-8") as log:
-        note("the log", "rt: middle proved\n" in log.read())
+    note("the log of a crate", "processor seconds: " in tree.log("middle"), tree.log("middle"))
     got = tree.call("plan", given="again")
     note("a second call builds nothing", got == (0, "plan\nagain", ""), got)
     tree.source("aside", "changed")
+    got = tree.call("plan")
+    note("what the program isn't made from is not proved", got[:2] == (0, "plan\n") and " 3 of 3 crates proved" in got[2], got)
     tree.source("middle", "changed")
     status, out, err = tree.call("plan")
-    note("a changed source is proved", (status, out) == (0, "plan\n") and "3 crates proved" in err, err)
-    note("nothing is left of the copies", sorted(os.listdir(os.path.join(tree.top, "out", "build"))) == ["forestplan.log", "lock"],
-         os.listdir(os.path.join(tree.top, "out", "build")))
+    note("a changed source is proved", (status, out) == (0, "plan\n") and " 1 of 3 crates proved, 0 s: now middle" in err, err)
+    note("and what lies above it", " 2 of 3 crates proved" in err and " 3 of 3 crates proved" in err, err)
+    tree.source("middle", "fine")
+    got = tree.call("plan")
+    note("the state before is still known", got[:2] == (0, "plan\n") and " 3 of 3 crates proved, 0 s: nothing to do" in got[2], got)
+    note("no room is left", sorted(os.listdir(tree.store)) == ["forestplan", "lock", "lower", "middle"], os.listdir(tree.store))
+
+
+def run_elsewhere(tree, folder):
+    """Another checkout of the same user, with the same sources but for one crate."""
+    other = Tree(folder)
+    other.environment, other.store = tree.environment, tree.store
+    got = other.call("plan")
+    note("another checkout takes over what is proved", got[:2] == (0, "plan\n") and " 3 of 3 crates proved, 0 s: nothing to do" in got[2], got)
+    for at in range(5):
+        other.source("middle", f"state {at}")
+        note(f"state {at}", other.call("plan")[:2] == (0, "plan\n"))
+    note("old states are forgotten", len(os.listdir(os.path.join(tree.store, "middle"))) == 3, os.listdir(tree.store))
 
 
 def run_failures(tree):
     tree.source("middle", "wrong")
     status, out, err = tree.call("plan")
     note("a crate that isn't proved", status == 70 and not out and "the crate middle isn't proved" in err, (status, out, err))
-    note("the end of its log", "  fn middle::f: not proved\n  rt: middle NOT PROVED\n" in err and "out/build/forestplan.log" in err, err)
-    note("no more is shown", "0 passed" not in err, err)
+    note("the end of its log", "  fn middle::f: not proved\n" in err and "out/build/middle.log" in err, err)
     tree.source("middle", "fine once more")
     status, out, _ = tree.call("plan")
     note("and mended", (status, out) == (0, "plan\n"), (status, out))
 
 
 def run_stopped(tree):
+    tree.source("lower", "anew")
     tree.source("middle", "slow")
     for at, sent in enumerate((signal.SIGINT, signal.SIGTERM)):
         with tree.begun("plan") as first:
             try:
-                note(f"at work {at}", wait_until(lambda: len(tree.at_work()) >= 2))
+                note(f"at work {at}", wait_until(tree.at_work))
                 if at == 0:
                     with tree.begun("plan") as second:
                         line = second.stderr.readline() + second.stderr.readline()
-                        note("a second call waits", "forestplan: another build is under way here; waiting for its end" in line, line)
+                        note("a second call waits", "forestplan: another call is proving already; waiting for its end" in line, line)
                         os.killpg(second.pid, signal.SIGINT)
                         note("and is stopped", second.wait(LIMIT) == 130, second.returncode)
                 os.killpg(first.pid, sent)
@@ -163,9 +225,16 @@ def run_stopped(tree):
         if sent == signal.SIGINT:
             note("the status of a stopped call", first.returncode == 130, first.returncode)
         note(f"what it says {at}", "what is proved is kept, so the next call goes on from here" in err, err)
+        note(f"how far it was {at}", f" {at} of 3 crates proved, 0 s: now {('lower', 'middle')[at]}" in err, err)
         note(f"nothing goes on {at}", wait_until(lambda: not tree.at_work()), tree.at_work())
+    with tree.begun("plan") as killed:
+        note("at work once more", wait_until(tree.at_work))
+        os.killpg(killed.pid, signal.SIGKILL)
+        killed.wait(LIMIT)
+    note("nothing goes on after a call that was killed", wait_until(lambda: not tree.at_work()), tree.at_work())
     tree.source("middle", "fast")
     note("the next call", tree.call("plan")[:2] == (0, "plan\n"))
+    note("no room is left of those", not [name for name in os.listdir(tree.store) if name.startswith("room-")], os.listdir(tree.store))
 
 
 def run_helps(folder):
@@ -194,6 +263,7 @@ def main():
     with tempfile.TemporaryDirectory(prefix="first-run-") as folder:
         tree = Tree(folder)
         run_first(tree)
+        run_elsewhere(tree, os.path.join(folder, "other"))
         run_failures(tree)
         run_stopped(tree)
         run_helps(folder)

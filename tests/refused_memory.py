@@ -15,8 +15,8 @@ def tests_of(crate):
 
 TESTS = tests_of("node_checks")
 # Tests that try again what memory is refused to once.
-TRIED_AGAIN = ("net_core_checks::refused_growths::a_state_goes_on_after_a_refused_growth",
-               "net_core_checks::refused_growths::a_list_runs_again_after_a_refused_growth",
+TRIED_AGAIN = ("net_core_checks::a_state_goes_on_after_a_refused_growth",
+               "net_core_checks::a_list_runs_again_after_a_refused_growth",
                "link_queue_checks::a_link_meets_again_after_a_refused_growth")
 # Tests whose calls return the same bytes or that memory ran out.
 BYTES_OR_MEMORY = ("memory_checks::each_function_returns_its_bytes_or_runs_out_of_memory",

@@ -14,14 +14,20 @@ TOP = os.path.dirname(os.path.dirname(os.path.abspath(__file__)))
 MOST = 500
 
 
-def listed():
-    """The crates of crates.txt in their order, each with the crates of this repository that its line names."""
+def words_of_lines():
+    """The crates of crates.txt in their order, each with all that its line names."""
     lines = {}
     with open(os.path.join(TOP, "crates.txt"), encoding="utf-8") as text:
         for line in text:
             crate, colon, named = line.partition("#")[0].partition(":")
             if colon:
                 lines[crate.split()[0]] = named.split()
+    return lines
+
+
+def listed():
+    """The same, each with the crates of this repository alone."""
+    lines = words_of_lines()
     return {crate: [name for name in named if name in lines] for crate, named in lines.items()}
 
 

@@ -19,10 +19,7 @@ fn without_commands<'a>(alloc: Global, name: &'a str, help: Help) -> Result<Comm
     ensures shape { IfOk result (λ c. app_of c ≡ without_commands name.entry.now) }
     ensures local { IfOk result (λ c. (out-Command c).has_globals ≡ false) }
 {
-    Command::new(alloc, name)
-        .about(help.about)
-        .long_about(help.long_about)
-        .after_help(help.format)
+    command(alloc, name, help)
         .subcommand_required(true)
         .disable_help_subcommand(true)
         .bin_name(name)

@@ -80,8 +80,8 @@ fn rewritten(alloc: Global, text: &[u8]) -> Result<Vec<u8>, Fail> {
     }
 }
 
-// What a beginning of `SHORT`, `WHOLE` or `MERGED` is read as: it ends in a line, or in the middle of one, which is then
-// wrong.
+// What a beginning of `SHORT`, `WHOLE` or `MERGED` is read as: it ends with a line, or in the middle of one, which is
+// then wrong.
 fn expected(beginning: &[u8], rest: &[u8]) -> Result<usize, TextFault> {
     let lines = beginning.iter().filter(|byte| **byte == b'\n').count();
     if rest.starts_with(b"\n") {

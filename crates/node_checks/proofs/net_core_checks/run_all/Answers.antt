@@ -7,7 +7,7 @@ use Rattle.net_core.specs.declared.event.Event.{Event}
 use Rattle.net_core.specs.declared.refused.RunRefused.{RunRefused}
 use Rattle.net_core.specs.Outcome.{RunMatches}
 use Rattle.net_core.specs.State.{NetView}
-use Rattle.node_checks.proofs.net_core_checks.refused_growths.run_all.Goals as goal
+use Rattle.node_checks.proofs.net_core_checks.run_all.Goals as goal
 
 -- what is run on a network has as many vertices
 counted : {S M E : Type 0} (program : Program S M E) (net : Net) (events : List Event) (n : ℕ) (r : Result (NetView S M) RunRefused)
