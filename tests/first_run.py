@@ -191,7 +191,7 @@ def run_elsewhere(tree, folder):
     for at in range(5):
         other.source("middle", f"state {at}")
         note(f"state {at}", other.call("plan")[:2] == (0, "plan\n"))
-    note("old states are forgotten", len(os.listdir(os.path.join(tree.store, "middle"))) == 3, os.listdir(tree.store))
+    note("old states are forgotten", len(os.listdir(os.path.join(tree.store, "middle"))) == 2, os.listdir(tree.store))
 
 
 def run_failures(tree):

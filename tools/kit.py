@@ -15,7 +15,7 @@ from paths import TOP, listed
 
 PARTS = ("src", "specs", "proofs")
 # So many states of a crate stay in the store.
-STATES = 3
+STATES = 2
 
 
 def store():
