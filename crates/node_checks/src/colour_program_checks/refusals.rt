@@ -24,26 +24,16 @@ static IDS: [u128; 3] = [1, 2, 30];
 
 static EDGES: [(u32, u32); 3] = [(1, 2), (1, 3), (2, 3)];
 
-// What comes to each vertex before, in turn; the last of a row comes again.
-static BEFORE: [[Came; 3]; 3] = [
-    [
-        (1, [Some(Hello(2)), Some(Hello(30))]),
-        (2, [None, None]),
-        (24, [Some(Chosen(0)), Some(Chosen(1))]),
-    ],
-    [(1, [Some(Hello(1)), Some(Hello(30))]); 3],
-    [
-        (1, [Some(Hello(1)), Some(Hello(2))]),
-        (2, [Some(Label(1)), Some(Label(0))]),
-        (2, [Some(Label(1)), Some(Label(0))]),
-    ],
-];
-
-// Nothing comes to a vertex that isn't there.
+// What comes to its vertices before, in turn.
 fn came_before(v: u32, turn: u32) -> Came {
-    let row = BEFORE.as_slice().get(v.wrapping_sub(1) as usize);
-    let came = row.and_then(|turns| turns.as_slice().get(turn.min(2) as usize));
-    came.copied().unwrap_or((0, [None, None]))
+    match (v, turn) {
+        (1, 0) => (1, [Some(Hello(2)), Some(Hello(30))]),
+        (1, 1) => (2, [None, None]),
+        (1, _) => (24, [Some(Chosen(0)), Some(Chosen(1))]),
+        (2, _) => (1, [Some(Hello(1)), Some(Hello(30))]),
+        (_, 0) => (1, [Some(Hello(1)), Some(Hello(2))]),
+        (_, _) => (2, [Some(Label(1)), Some(Label(0))]),
+    }
 }
 
 // A vertex, how many pulses came before, what it refuses then, by which rule and of which port.
