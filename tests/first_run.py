@@ -15,8 +15,8 @@ import tempfile
 import time
 
 TOP = os.path.dirname(os.path.dirname(os.path.abspath(__file__)))
-# Seconds.
-LIMIT = 60
+# Seconds; a busy machine is slow.
+LIMIT = 300
 TALLY = {"passed": 0, "failed": 0}
 
 # In place of the toolchain's command, and of its module. A crate whose source has the word `wrong` isn't proved, and one with `slow`

@@ -32,7 +32,7 @@ TOP = os.path.dirname(os.path.dirname(os.path.abspath(__file__)))
 sys.path.insert(0, os.path.join(TOP, "tools"))
 from paths import MOST, paths
 PAGES = ["README.md"] + sorted(f"docs/{name}" for name in os.listdir(os.path.join(TOP, "docs")) if name.endswith(".md"))
-LIMIT = 60
+LIMIT = 300
 WIDEST, LONGEST_README = 150, 120
 TALLY = {"passed": 0, "failed": 0}
 

@@ -31,6 +31,7 @@ mod gate;
 mod links;
 mod node;
 mod refused;
+mod task;
 mod turn;
 mod wired;
 mod wiring;

@@ -12,7 +12,7 @@ use crate::making::{Made, make_links};
 use crate::outcome::Outcome;
 use crate::starting::start_nodes;
 use alpha_laws::{Network, NodeProgram};
-use pool::{Gate, Links, PoolFault, Wiring, by_vertex, run_nodes};
+use pool::{Gate, Links, PoolFault, Wiring, run_nodes};
 use run_options::{MAX_CAPACITY, MAX_WORKERS, Options};
 use std::alloc::Global;
 use std::marker::Brand;
@@ -60,7 +60,6 @@ fn run_made<J: Wiring + Send + Sync, P: NodeProgram, G: Gate + Sync, R: Threads 
         options.workers,
         options.turns,
     )?;
-    let nodes = by_vertex(alloc, nodes)?;
     gathered(rt, alloc, net, links.into_rows(), nodes)
 }
 

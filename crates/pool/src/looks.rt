@@ -2,15 +2,13 @@
 
 ghost use Rattle.std.specs.Prelude.{◌≡◌, ◌<◌, map, vec_len};
 ghost use Rattle.crossbeam_deque.specs.Handles.{stealer_deque, worker_deque};
-ghost use Rattle.pool.specs.Deques.{deque_of};
+ghost use Rattle.worker_deques.specs.Deques.{deque_of};
 
-use crate::desk::Desk;
-use crate::guest::Thief;
-use crate::ledger::Gives;
 use crate::signals::Signals;
 use actor::{Gate, Links, Node, NodeProgram, TurnRefused, Wiring};
 use std::sync::Wait;
 use std::thread;
+use worker_deques::{Desk, Gives, Thief, Worked};
 
 /// What all workers share besides the deques.
 #[derive(Drop)]
@@ -21,20 +19,16 @@ pub struct Crew<'a, J: Wiring, P: NodeProgram, G: Gate> {
     pub nodes: u64,
 }
 
-/// What a worker hands back: what it has, and whether all its turns came to their end.
-#[derive(Drop)]
-pub struct Worked<J: Wiring, P: NodeProgram> {
-    pub desk: Desk<J, P>,
-    pub written: Result<(), TurnRefused>,
-}
+/// What a worker hands back.
+pub type Done<J: Wiring, P: NodeProgram> = Worked<Node<J, P>, TurnRefused>;
 
 // The node goes to the finished places, if nothing is left for it to do, or else to the worker's own deque. If that
 // refuses it, it stays in hand.
-fn put_back<J: Wiring, P: NodeProgram>(signals: &Signals, desk: &mut Desk<J, P>)
+fn put_back<J: Wiring, P: NodeProgram>(signals: &Signals, desk: &mut Desk<Node<J, P>>)
     ensures own { worker_deque desk.new.own ≡ worker_deque desk.old.own }
     ensures guests { desk.new.guests ≡ desk.old.guests }
 {
-    let Some(node) = desk.node.take() else {
+    let Some(node) = desk.task.take() else {
         return;
     };
     if node.alpha.drained() && desk.finished.len() < desk.finished.capacity() {
@@ -44,7 +38,7 @@ fn put_back<J: Wiring, P: NodeProgram>(signals: &Signals, desk: &mut Desk<J, P>)
     }
     match desk.own.push_as::<Gives>(node) {
         Ok(()) => {}
-        Err(node) => desk.node = Some(node),
+        Err(node) => desk.task = Some(node),
     }
 }
 
@@ -71,12 +65,12 @@ fn turn_in_hand<J: Wiring, P: NodeProgram, R: Wait, G: Gate>(
     rt: &R,
     crew: &Crew<J, P, G>,
     worker: u32,
-    desk: &mut Desk<J, P>,
+    desk: &mut Desk<Node<J, P>>,
 ) -> Result<bool, TurnRefused>
     ensures own { desk.new.own ≡ desk.old.own }
     ensures guests { desk.new.guests ≡ desk.old.guests }
 {
-    match &mut desk.node {
+    match &mut desk.task {
         Some(node) => turn(rt, crew, worker, node),
         None => Ok(false),
     }
@@ -87,9 +81,9 @@ fn turn_in_hand<J: Wiring, P: NodeProgram, R: Wait, G: Gate>(
 fn look<J: Wiring, P: NodeProgram, R: Wait, G: Gate>(
     rt: &R,
     crew: &Crew<J, P, G>,
-    thieves: &Vec<Thief<J, P>>,
+    thieves: &Vec<Thief<Node<J, P>>>,
     worker: u32,
-    desk: &mut Desk<J, P>,
+    desk: &mut Desk<Node<J, P>>,
 ) -> Result<bool, TurnRefused>
     requires worker { worker < vec_len thieves.now }
     requires deques { map (λ g. deque_of g.pass) desk.old.guests.items ≡ map stealer_deque thieves.now.items }
@@ -108,11 +102,11 @@ fn look<J: Wiring, P: NodeProgram, R: Wait, G: Gate>(
 pub fn work<J: Wiring, P: NodeProgram, R: Wait, G: Gate>(
     rt: &R,
     crew: &Crew<J, P, G>,
-    thieves: &Vec<Thief<J, P>>,
+    thieves: &Vec<Thief<Node<J, P>>>,
     worker: u32,
-    mut desk: Desk<J, P>,
+    mut desk: Desk<Node<J, P>>,
     turns: u64,
-) -> Worked<J, P>
+) -> Done<J, P>
     requires worker { worker < vec_len thieves.now }
     requires deques { map (λ g. deque_of g.pass) desk.guests.items ≡ map stealer_deque thieves.now.items }
     ensures own { worker_deque result.desk.own ≡ worker_deque desk.own }

@@ -3,20 +3,13 @@
 ghost use Rattle.std.specs.Prelude.{◌≡◌, ◌≢◌, ◌<◌, ◌≤◌, All, map, reverse, vec_len, IfOk, IfErr};
 ghost use Rattle.actor.specs.interference.Net.{vertices};
 ghost use Rattle.crossbeam_deque.specs.Handles.{stealer_deque, worker_deque};
-ghost use Rattle.pool.specs.Ledgers.{AreSame};
-ghost use Rattle.pool.specs.Deques.{deque_of};
+ghost use Rattle.worker_deques.specs.Deques.{deque_of};
 ghost use Rattle.pool.specs.declared.fault.PoolFault.TheVariants.{BadOptions, Spawn};
 
-use crate::deques::{cut, deal, make_deques};
-use crate::desk::Desk;
-use crate::desks::desks;
 use crate::fault::PoolFault;
-use crate::gathering::gather;
-use crate::guest::Thief;
-use crate::ledger::Dealt;
-use crate::looks::{Crew, Worked, work};
-use crate::promise::SameDeques;
+use crate::looks::{Crew, Done, work};
 use crate::signals::Signals;
+use crate::told::told;
 use actor::{Gate, Links, Node, NodeProgram, Wiring};
 use run_options::MAX_WORKERS;
 use std::alloc::Global;
@@ -24,18 +17,19 @@ use std::snapshot::Snapshot;
 use std::sync::Wait;
 use std::thread;
 use std::thread::{PromisedHandle, Scope, Threads};
+use worker_deques::{Dealt, Desk, SameDeques, Thief, cut, deal, gather, make_deques, make_desks};
 
 // A worker in a thread of its own, which can be joined.
-type Child<J: Wiring, P: NodeProgram> = PromisedHandle<Worked<J, P>, SameDeques<J, P>>;
+type Child<J: Wiring, P: NodeProgram> = PromisedHandle<Done<J, P>, SameDeques<Node<J, P>>>;
 
 // Starts a worker in a thread of the scope.
 fn start<'s, E, J: Wiring + Send + Sync, P: NodeProgram, G: Gate + Sync, R: Threads + Wait + Sync>(
     scope: &Scope<'s, E>,
     rt: &'s R,
     crew: &'s Crew<'s, J, P, G>,
-    thieves: &'s Vec<Thief<J, P>>,
+    thieves: &'s Vec<Thief<Node<J, P>>>,
     worker: u32,
-    desk: Desk<J, P>,
+    desk: Desk<Node<J, P>>,
     turns: u64,
 ) -> Result<Child<J, P>, PoolFault>
     requires worker { worker < vec_len thieves.now }
@@ -46,7 +40,7 @@ fn start<'s, E, J: Wiring + Send + Sync, P: NodeProgram, G: Gate + Sync, R: Thre
 {
     let started = scope.spawn_with(
         SameDeques(Snapshot::of(&desk)),
-        move || -> Worked<J, P>
+        move || -> Done<J, P>
             requires { (worker < vec_len thieves.now)
                 × (map (λ g. deque_of g.pass) desk.guests.items ≡ map stealer_deque thieves.now.items) }
             ensures { (worker_deque result.desk.own ≡ worker_deque desk.own)
@@ -76,8 +70,8 @@ fn start_all<
     rt: &'s R,
     alloc: Global,
     crew: &'s Crew<'s, J, P, G>,
-    thieves: &'s Vec<Thief<J, P>>,
-    desks: Vec<Desk<J, P>>,
+    thieves: &'s Vec<Thief<Node<J, P>>>,
+    desks: Vec<Desk<Node<J, P>>>,
     turns: u64,
 ) -> Result<Vec<Child<J, P>>, PoolFault>
     requires few { vec_len desks ≤ MAX_WORKERS }
@@ -105,7 +99,7 @@ fn join_all<J: Wiring, P: NodeProgram, R: Threads + Wait>(
     rt: &R,
     signals: &Signals,
     children: Vec<Child<J, P>>,
-) -> Result<Vec<Worked<J, P>>, PoolFault>
+) -> Result<Vec<Done<J, P>>, PoolFault>
     ensures owns { IfOk result (λ done. map (λ w. worker_deque w.desk.own) done.items
         ≡ map (λ d. worker_deque d.own) (map (λ h. h.promise.0.value) children.items)) }
     ensures guests { IfOk result (λ done. map (λ w. map (λ g. deque_of g.pass) w.desk.guests.items) done.items
@@ -122,7 +116,7 @@ fn join_all<J: Wiring, P: NodeProgram, R: Threads + Wait>(
 }
 
 /// Runs the nodes, given from the last vertex down, by so many workers, which make at most so many looks each, and
-/// returns each node once, in any order.
+/// returns each node once, ascending.
 ///
 /// # Errors
 ///
@@ -137,17 +131,17 @@ pub fn run_nodes<J: Wiring + Send + Sync, P: NodeProgram, G: Gate + Sync, R: Thr
     nodes: Vec<Box<Node<J, P>>>,
     workers: u32,
     turns: u64,
-) -> Result<Vec<Box<Node<J, P>>>, PoolFault>
+) -> Result<Vec<Node<J, P>>, PoolFault>
     requires nodes { map (λ b. b.value.vertex) nodes.items ≡ reverse (vertices J.net) }
     requires workers { (1 ≤ workers) × (workers ≤ MAX_WORKERS) }
-    ensures once { IfOk result (λ all. AreSame (map (λ b. b.value.vertex) all.items) (vertices J.net)) }
+    ensures order { IfOk result (λ all. map (λ n. n.vertex) all.items ≡ vertices J.net) }
     ensures fault { IfErr result (λ fault. fault ≢ BadOptions) }
 {
     let count = nodes.len();
-    let (owns, thieves) = make_deques::<J, P>(alloc, count, workers)?;
+    let (owns, thieves) = make_deques::<Node<J, P>>(alloc, count, workers)?;
     let owns = deal(owns, nodes);
-    let (owns, dealt) = cut::<J, P, Dealt>(alloc, owns)?;
-    let desks = desks(alloc, count, owns)?;
+    let (owns, dealt) = cut::<Node<J, P>, Dealt>(alloc, owns)?;
+    let desks = make_desks(alloc, count, owns)?;
     let signals = Signals::new();
     let shared = Crew {
         links,
@@ -159,7 +153,7 @@ pub fn run_nodes<J: Wiring + Send + Sync, P: NodeProgram, G: Gate + Sync, R: Thr
     let done = thread::scope(
         thread::scope_env(),
         rt,
-        move |scope| -> Result<Vec<Worked<J, P>>, PoolFault>
+        move |scope| -> Result<Vec<Done<J, P>>, PoolFault>
             requires { (vec_len desks ≤ MAX_WORKERS) × (vec_len desks ≡ vec_len thieves.now)
                 × All (λ d. map (λ g. deque_of g.pass) d.guests.items
                 ≡ map stealer_deque thieves.now.items) desks.items }
@@ -173,5 +167,6 @@ pub fn run_nodes<J: Wiring + Send + Sync, P: NodeProgram, G: Gate + Sync, R: Thr
             join_all(rt, crew.signals, children)
         },
     )?;
-    gather(rt, alloc, dealt, done)
+    told(&done)?;
+    Ok(gather(rt, alloc, count, dealt, done)?)
 }

@@ -1,7 +1,7 @@
-use Rattle.std.proofs.Common.{map}
+use Rattle.std.proofs.Common.{◌-◌, ap, map}
 use Rattle.std.proofs.Common.{◌∷◌}
 use Rattle.crossbeam_deque.specs.Handles.{view, worker_view}
-use Rattle.pool.proofs.Out.{turned}
+use Rattle.worker_deques.proofs.Out.{turned}
 use Rattle.pool.proofs.looks.turn_in_hand.Goals as goal
 
 pub invariant_of-desk : goal.invariant_of-desk
@@ -10,6 +10,6 @@ invariant_of-desk g c =
     record {
       shares = old.shares;
       some = old.some;
-      out = turned (λ b. b.value.vertex) (worker_view old.own ∷ map (λ g'. view g'.pass) old.guests.items) old.node c.in-Some.node c.turn.new.node
-          (map (λ b. b.value.vertex) old.finished.items) c.in-Some.is c.turn.ensures.vertex old.out;
+      out = turned (λ b. b.value.vertex - 1) (worker_view old.own ∷ map (λ g'. view g'.pass) old.guests.items) old.task c.in-Some.node c.turn.new.node
+          (map (λ b. b.value.vertex - 1) old.finished.items) c.in-Some.is (ap (λ v. v - 1) c.turn.ensures.vertex) old.out;
     }

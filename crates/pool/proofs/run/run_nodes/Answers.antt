@@ -1,30 +1,32 @@
 use Rattle.std.proofs.Common.{◌≡◌, ◌-◌, [], map, refl, sym, ap, ◌∙◌, arith, rules}
-use Rattle.actor.specs.interference.Net.{vertices}
+use Rattle.std.specs.List.{range_with_len}
+use Rattle.actor.specs.interference.Net.{count_of}
 use Rattle.crossbeam_deque.specs.Handles.{stealer_deque, view, worker_deque, worker_view}
-use Rattle.pool.specs.Deques.{deque_of}
-use Rattle.pool.specs.Ledgers.{all_shares, ledger, shares_of}
-use Rattle.pool.proofs.Holds.{dealt_on}
-use Rattle.pool.proofs.Rule.{deals}
-use Rattle.pool.proofs.Views.{as_many, carried}
+use Rattle.worker_deques.specs.Deques.{deque_of}
+use Rattle.worker_deques.specs.Ledgers.{all_shares, ledger, shares_of}
+use Rattle.worker_deques.proofs.Holds.{dealt_on}
+use Rattle.worker_deques.proofs.Rule.{deals}
+use Rattle.worker_deques.proofs.Views.{as_many, carried}
+use Rattle.pool.proofs.Numbers.{as_many as many_nodes, from_one, from_the_last}
 use Rattle.pool.proofs.run.run_nodes.Goals as goal
 
 pub deal-owns-requires-clause-room : goal.deal-owns-requires-clause-room
-deal-owns-requires-clause-room g c κ b k d lt =
+deal-owns-requires-clause-room g c k d lt =
     let room = c.in_ok-owns.ensures.room k d lt in
     let count = c.len-count.ensures in
     omega arith
 
 pub cut-requires-clause-rule : goal.cut-requires-clause-rule
-cut-requires-clause-rule g c κ b = record {
+cut-requires-clause-rule g c = record {
   forks = deals;
   one = λ v. refl;
 }
 
 pub cut-requires-clause-shares : goal.cut-requires-clause-shares
-cut-requires-clause-shares g c κ b k d lt = let s = c.deal-owns.ensures.shares k d lt in omega arith
+cut-requires-clause-shares g c k d lt = let s = c.deal-owns.ensures.shares k d lt in omega arith
 
-pub desks-requires-clause-few : goal.desks-requires-clause-few
-desks-requires-clause-few g c =
+pub make_desks-requires-clause-few : goal.make_desks-requires-clause-few
+make_desks-requires-clause-few g c =
     let made = c.in_ok-owns.owns in
     let dealt = as_many worker_deque worker_deque made.items c.deal-owns.result.items c.deal-owns.ensures.deques in
     let left = as_many worker_deque worker_deque c.deal-owns.result.items c.in_ok-owns-2.owns.items c.in_ok-owns-2.ensures.owns in
@@ -32,8 +34,8 @@ desks-requires-clause-few g c =
     let few = c.requires.workers.1 in
     omega (arith, made.ok.0, c.in_ok-owns-2.owns.ok.0)
 
-pub desks-requires-clause-new : goal.desks-requires-clause-new
-desks-requires-clause-new g c κ b =
+pub make_desks-requires-clause-new : goal.make_desks-requires-clause-new
+make_desks-requires-clause-new g c =
     carried (λ o. ledger (shares_of (worker_view o) - 1) [] []) worker_view (λ v. v ≡ ledger (all_shares - 1) [] []) c.deal-owns.result.items _
     c.in_ok-owns-2.ensures.left (λ k d lt. ap (λ n. ledger (n - 1) [] []) (c.deal-owns.ensures.shares k d lt))
 
@@ -59,11 +61,11 @@ scoped-requires g c =
     }
 
 pub gather-requires-clause-deques : goal.gather-requires-clause-deques
-gather-requires-clause-deques g c κ b =
+gather-requires-clause-deques g c =
     c.in_ok-owns-2.ensures.guests ∙ sym c.in_ok-owns-2.ensures.owns ∙ sym c.in_ok-desks.ensures.owns ∙ sym c.in_ok-done.ensures.1.0
 
 pub gather-requires-clause-guests : goal.gather-requires-clause-guests
-gather-requires-clause-guests g c κ b =
+gather-requires-clause-guests g c =
     carried (λ d. map (λ g'. deque_of g'.pass) d.guests.items) (λ w. map (λ g'. deque_of g'.pass) w.desk.guests.items)
     (λ ids. ids ≡ map (λ g'. deque_of g'.pass) c.in_ok-owns-2.dealt.items) c.in_ok-desks.desks.items _ c.in_ok-done.ensures.1.1.0
     (λ k d lt. c.in_ok-desks.ensures.guests k d lt ∙ c.in_ok-owns-2.ensures.owns ∙ sym c.in_ok-owns-2.ensures.guests)
@@ -77,7 +79,22 @@ gather-requires-clause-few g c =
     let few = c.requires.workers.1 in
     omega (arith, made.ok.0, c.in_ok-owns-2.dealt.ok.0)
 
+-- what was dealt are the numbers below the count
 pub gather-requires-clause-dealt : goal.gather-requires-clause-dealt
-gather-requires-clause-dealt g c κ b =
-    dealt_on worker_view (λ g'. view g'.pass) c.deal-owns.result.items c.in_ok-owns-2.dealt.items (map (λ b. b.value.vertex) c.args.nodes.items)
-    (vertices g.J.Wiring.net) c.in_ok-owns-2.ensures.right c.requires.nodes c.deal-owns.ensures.dealt
+gather-requires-clause-dealt g c =
+    let nodes = c.args.nodes in
+    let n = count_of g.J.Wiring.net in
+    let many = many_nodes (λ b. b.value.vertex) nodes.items n c.requires.nodes in
+    let count = c.len-count.ensures in
+    dealt_on worker_view (λ g'. view g'.pass) c.deal-owns.result.items c.in_ok-owns-2.dealt.items (map (λ b. b.value.vertex - 1) nodes.items)
+    (range_with_len 0 c.len-count.result) c.in_ok-owns-2.ensures.right
+    (from_the_last (λ b. b.value.vertex) nodes.items n c.len-count.result (omega (arith, nodes.ok.0)) c.requires.nodes) c.deal-owns.ensures.dealt
+
+-- they come back from the first vertex up
+pub returns-clause-order : goal.returns-clause-order
+returns-clause-order g c =
+    let nodes = c.args.nodes in
+    let n = count_of g.J.Wiring.net in
+    let many = many_nodes (λ b. b.value.vertex) nodes.items n c.requires.nodes in
+    let count = c.len-count.ensures in
+    from_one (λ n. n.vertex) (λ n. n.is_vertex.0) c.in_ok-gather.field-0.items n c.len-count.result (omega (arith, nodes.ok.0)) c.in_ok-gather.ensures.order

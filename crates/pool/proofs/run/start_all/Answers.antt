@@ -3,8 +3,8 @@ use Rattle.std.proofs.lemmas.List.{length_push}
 use Rattle.std.proofs.lemmas.Iterator.Consumers.{YieldsList-end, YieldsList-turn}
 use Rattle.std.proofs.lemmas.Iterator.Adapters.{YieldsList-from_vec}
 use Rattle.crossbeam_deque.specs.Handles.{stealer_deque}
-use Rattle.pool.specs.Deques.{deque_of}
-use Rattle.pool.proofs.Pushed.{image_pushed}
+use Rattle.worker_deques.specs.Deques.{deque_of}
+use Rattle.worker_deques.proofs.Pushed.{image_pushed}
 use Rattle.pool.proofs.run.start_all.Goals as goal
 
 pub start-requires-clause-worker : goal.start-requires-clause-worker

@@ -1,9 +1,9 @@
 use Rattle.std.proofs.Common.{◌≡◌, map, subst, sym, ◌∙◌}
 use Rattle.std.specs.Prelude.{IfOk}
 use Rattle.crossbeam_deque.specs.Handles.{worker_deque}
-use Rattle.pool.specs.Deques.{deque_of}
+use Rattle.worker_deques.specs.Deques.{deque_of}
 use Rattle.pool.specs.declared.fault.PoolFault.TheVariants.{BadOptions, Memory}
-use Rattle.pool.proofs.Each.{err_says}
+use Rattle.worker_deques.proofs.Each.{err_says}
 use Rattle.pool.proofs.run.fn.run_nodes.scope.Goals as goal
 
 memory_is_other : Memory ≡ BadOptions → ⊥

@@ -1,0 +1,9 @@
+pub mod Absorbing
+pub mod Back
+pub mod Each
+pub mod Holds
+pub mod Out
+pub mod Pushed
+pub mod Rule
+pub mod Steps
+pub mod Views

@@ -1,0 +1,12 @@
+use Rattle.std.proofs.Common.{◌≡◌, map}
+use Rattle.crossbeam_deque.specs.Handles.{view, worker_deque, worker_view}
+use Rattle.worker_deques.specs.Deques.{deque_of}
+use Rattle.worker_deques.proofs.deques.cut.Given as goal
+
+abbrev pub invariant-loop-own : goal.invariant-loop-own
+invariant-loop-own g l = record {
+  owns : map worker_deque l.lefts.items ≡ map worker_deque l.yielded;
+  left : map worker_view l.lefts.items ≡ map (λ o. g.M.Split.left (worker_view o)) l.yielded;
+  guests : map (λ g'. deque_of g'.pass) l.guests.items ≡ map worker_deque l.yielded;
+  right : map (λ g'. view g'.pass) l.guests.items ≡ map (λ o. g.M.Split.right (worker_view o)) l.yielded;
+}

@@ -1,0 +1,62 @@
+use Rattle.std.proofs.Common.{◌≡◌, ◌+◌, ◌<◌, ◌≤◌, [], ◌∷◌, length, map, ap, refl, ◌∙◌, arith, vec_len}
+use Rattle.std.proofs.lemmas.List.Elements.{All-set}
+use Rattle.crossbeam_deque.specs.Handles.{worker_capacity, worker_deque, worker_index, worker_view}
+use Rattle.worker_deques.specs.declared.ledger.Ledger.{Ledger}
+use Rattle.worker_deques.specs.Ledgers.{all_shares, shares_of, weigh}
+use Rattle.worker_deques.proofs.Rule.{gives, map_snoc, weigh-append}
+use Rattle.worker_deques.proofs.Views.{map_change, total_change}
+use Rattle.worker_deques.proofs.Holds.{fresh_sums, holds_at}
+use Rattle.worker_deques.proofs.deques.deal.Goals as goal
+
+pub each-init : goal.each-init
+each-init g c = record {
+  some = c.requires.some;
+  deques = refl;
+  shares = λ k d lt. ap (λ (v : Ledger). v.shares) (c.requires.new k d lt);
+  room = c.requires.room;
+  dealt = λ h.
+      let z = fresh_sums worker_view all_shares c.args.owns.items c.requires.new h in
+      let t = z.0 in
+      let p = z.1 in
+      (omega arith, omega arith);
+}
+
+pub push_as-requires-clause-pushes : goal.push_as-requires-clause-pushes
+push_as-requires-clause-pushes g c =
+    let lt : c.dealt_to-at.result < length c.each.owns.items = (let w = c.dealt_to-at.ensures.within in omega (arith, c.each.owns.ok.0)) in
+    let p = holds_at (λ o. shares_of (worker_view o) ≡ all_shares) c.each.owns.items c.dealt_to-at.result _ lt c.index_mut.ensures.value
+    c.each.invariant.shares in
+    gives (λ b. g.T.Task.number_of b.value) _ _ _ (omega arith)
+
+pub each-preserved : goal.each-preserved
+each-preserved g c =
+    let old = c.index_mut.result.now in
+    let new = c.push_as.new.self in
+    let owns = c.each.owns.items in
+    let at = c.dealt_to-at.result in
+    let lt : at < length owns = (let w = c.dealt_to-at.ensures.within in omega (arith, c.each.owns.ok.0)) in
+    let is = c.in-Ok.ensures.rule.0 in
+    let p = holds_at (λ o. shares_of (worker_view o) ≡ all_shares) owns at old lt c.index_mut.ensures.value c.each.invariant.shares in
+    let room = holds_at (λ o. worker_index o + vec_len c.each.tasks ≤ worker_capacity o) owns at old lt c.index_mut.ensures.value c.each.invariant.room in
+    let fewer = c.in-Some.ensures.len in
+    record {
+      some = c.each.invariant.some;
+      deques = map_change worker_deque owns at old new lt c.index_mut.ensures.value c.in-Ok.ensures.same.0 ∙ c.each.invariant.deques;
+      shares = All-set (λ o. shares_of (worker_view o) ≡ all_shares) owns at new (ap (λ (v : Ledger). v.shares) is ∙ p) c.each.invariant.shares;
+      room = All-set (λ o. worker_index o + vec_len c.pop.new.self ≤ worker_capacity o) owns at new
+          (let i = c.in-Ok.ensures.rule.1 in let k = c.in-Ok.ensures.same.3 in omega arith)
+          (λ k d l. let r = c.each.invariant.room k d l in omega arith);
+      dealt = λ h.
+          let t = total_change (λ v. weigh h v.taken) worker_view owns at old new lt c.index_mut.ensures.value in
+          let q = total_change (λ v. weigh h v.pushed) worker_view owns at old new lt c.index_mut.ensures.value in
+          let ta = ap (λ (v : Ledger). weigh h v.taken) is in
+          let pa = ap (λ (v : Ledger). weigh h v.pushed) is in
+          let a = weigh-append h (worker_view old).pushed (g.T.Task.number_of c.in-Some.task.value ∷ []) in
+          let m = ap (λ l. weigh h (map (λ b. g.T.Task.number_of b.value) l)) c.in-Some.ensures.items
+          ∙ ap (weigh h) (map_snoc (λ b. g.T.Task.number_of b.value) c.pop.new.self.items c.in-Some.task)
+          ∙ weigh-append h (map (λ b. g.T.Task.number_of b.value) c.pop.new.self.items) (g.T.Task.number_of c.in-Some.task.value ∷ []) in
+          let i = c.each.invariant.dealt h in
+          let i0 = i.0 in
+          let i1 = i.1 in
+          (omega arith, omega arith);
+    }

@@ -1,0 +1,72 @@
+use Rattle.std.proofs.Common.{◌≡◌, ◌-◌, [], Some, map, refl, sym, ap, subst, ◌∙◌, arith, rules, map-id, vec_len}
+use Rattle.std.proofs.lemmas.List.{length_push}
+use Rattle.std.proofs.lemmas.List.Elements.{All-pop, All-push, All-same}
+use Rattle.std.proofs.lemmas.Iterator.Consumers.{YieldsList-end, YieldsList-turn}
+use Rattle.std.proofs.lemmas.Iterator.Adapters.{YieldsList-from_vec}
+use Rattle.crossbeam_deque.specs.Handles.{view, worker_deque, worker_view}
+use Rattle.worker_deques.specs.Deques.{deque_of}
+use Rattle.worker_deques.specs.Ledgers.{AreOut, all_shares, ledger}
+use Rattle.worker_deques.proofs.Pushed.{both_pushed}
+use Rattle.worker_deques.proofs.Views.{as_many}
+use Rattle.worker_deques.proofs.desks.make_desks.Goals as goal
+
+-- the row that was popped is of all deques
+pub desk-requires-clause-few : goal.desk-requires-clause-few
+desk-requires-clause-few g c =
+    let row = c.in-Some-pop.row in
+    let theirs = All-pop (λ row. map (λ g'. deque_of g'.pass) row.items ≡ map worker_deque c.args.owns.items) _ c.pop.new.self.items (Some row)
+    c.in-Some-pop.ensures.items c.loop-own.invariant.theirs in
+    let many = as_many worker_deque (λ g'. deque_of g'.pass) c.args.owns.items row.items theirs.1 in
+    let f = c.requires.few in
+    omega (arith, row.ok.0, c.args.owns.ok.0)
+
+pub desk-requires-clause-new : goal.desk-requires-clause-new
+desk-requires-clause-new g c =
+    let row = c.in-Some-pop.row in
+    let theirs = All-pop (λ row. map (λ g'. deque_of g'.pass) row.items ≡ map worker_deque c.args.owns.items) _ c.pop.new.self.items (Some row)
+    c.in-Some-pop.ensures.items c.loop-own.invariant.theirs in
+    let many = as_many worker_deque (λ g'. deque_of g'.pass) c.args.owns.items row.items theirs.1 in
+    let turn = YieldsList-turn (YieldsList-from_vec {s = c.into_iter-own-iterator.result} c.in_ok-owns.owns.items (search rules) (search rules))
+    c.loop-own.yielded c.loop-own.own-iterator c.loop-own.yielded_by c.next.result c.next.new.self c.in-Some.own c.in-Some.is c.next.ensures.steps in
+    let new = subst (λ o. worker_view o ≡ ledger (all_shares - 1 - vec_len c.args.owns) [] []) (sym turn.1) (c.in_ok-owns.ensures.left _ _ turn.0) in
+    new ∙ ap (λ k. ledger (all_shares - 1 - k) [] []) (omega (arith, row.ok.0, c.args.owns.ok.0))
+
+pub desk-requires-clause-fresh : goal.desk-requires-clause-fresh
+desk-requires-clause-fresh g c =
+    (All-pop (λ row. AreOut (map (λ g'. view g'.pass) row.items) []) _ c.pop.new.self.items (Some c.in-Some-pop.row) c.in-Some-pop.ensures.items
+    c.loop-own.invariant.fresh).1
+
+pub loop-own-preserved : goal.loop-own-preserved
+loop-own-preserved g c =
+    let inv = c.loop-own.invariant in
+    let row = c.in-Some-pop.row in
+    let said = c.in_ok-desk.ensures in
+    let more = c.in_ok-push.ensures in
+    let theirs = All-pop (λ row. map (λ g'. deque_of g'.pass) row.items ≡ map worker_deque c.args.owns.items) _ c.pop.new.self.items (Some row)
+    c.in-Some-pop.ensures.items inv.theirs in
+    record {
+      owns = both_pushed (λ d. worker_deque d.own) worker_deque c.loop-own.all.items _ c.loop-own.yielded _ _ c.in-Some.own more.items refl
+          (ap worker_deque said.own) inv.owns;
+      guests = All-same (λ d. map (λ g'. deque_of g'.pass) d.guests.items ≡ map worker_deque c.args.owns.items) _ _ more.items
+          (All-push (λ d. map (λ g'. deque_of g'.pass) d.guests.items ≡ map worker_deque c.args.owns.items) c.loop-own.all.items _ inv.guests
+          (ap (λ gs. map (λ g'. deque_of g'.pass) gs.items) said.guests ∙ theirs.1));
+      rows = let l = c.in-Some-pop.ensures.len in let i = inv.rows in omega (arith, length_push c.loop-own.yielded c.in-Some.own);
+      theirs = theirs.0;
+      fresh = (All-pop (λ row. AreOut (map (λ g'. view g'.pass) row.items) []) _ c.pop.new.self.items (Some row) c.in-Some-pop.ensures.items inv.fresh).0;
+    }
+
+pub unreachable-requires : goal.unreachable-requires
+unreachable-requires g c =
+    let turn = YieldsList-turn (YieldsList-from_vec {s = c.into_iter-own-iterator.result} c.in_ok-owns.owns.items (search rules) (search rules))
+    c.loop-own.yielded c.loop-own.own-iterator c.loop-own.yielded_by c.next.result c.next.new.self c.in-Some.own c.in-Some.is c.next.ensures.steps in
+    let many = as_many worker_deque worker_deque c.args.owns.items c.in_ok-owns.owns.items c.in_ok-owns.ensures.owns in
+    let none = c.in_default.ensures.cases.0 in
+    let i = c.loop-own.invariant.rows in
+    omega (arith, turn.0, c.args.owns.ok.0, c.loop-own.rows.ok.0)
+
+-- at the end each deque has a desk
+pub returns-clause-owns : goal.returns-clause-owns
+returns-clause-owns g c =
+    let end = YieldsList-end (YieldsList-from_vec {s = c.into_iter-own-iterator.result} c.in_ok-owns.owns.items (search rules) (search rules))
+    c.loop-own.yielded c.loop-own.own-iterator c.loop-own.yielded_by c.next.result c.next.new.self c.in-None.is c.next.ensures.steps in
+    c.loop-own.invariant.owns ∙ ap (map worker_deque) (sym (map-id c.loop-own.yielded) ∙ end.0) ∙ c.in_ok-owns.ensures.owns

@@ -1,0 +1,15 @@
+use Rattle.std.proofs.Common.{◌≡◌, ◌+◌, ℕ, map}
+use Rattle.crossbeam_deque.specs.Handles.{view, worker_deque, worker_view}
+use Rattle.worker_deques.specs.Ledgers.{in_rows, pushed_by, shares_of, taken_by, weigh}
+use Rattle.worker_deques.specs.Deques.{deque_of}
+use Rattle.worker_deques.proofs.gathering.apart.Given as goal
+
+abbrev pub invariant-loop-worked : goal.invariant-loop-worked
+invariant-loop-worked g l = record {
+  owns : map worker_deque l.owns.items ≡ map (λ w. worker_deque w.desk.own) l.yielded;
+  rows : map (λ row. map (λ g'. deque_of g'.pass) row.items) l.rows.items ≡ map (λ w. map (λ g'. deque_of g'.pass) w.desk.guests.items) l.yielded;
+  shares : map (λ o. shares_of (worker_view o)) l.owns.items ≡ map (λ w. shares_of (worker_view w.desk.own)) l.yielded;
+  out : (h : ℕ → ℕ) → taken_by h (map worker_view l.owns.items) + in_rows (taken_by h) (map (λ row. map (λ g'. view g'.pass) row.items) l.rows.items)
+      ≡ pushed_by h (map worker_view l.owns.items) + in_rows (pushed_by h) (map (λ row. map (λ g'. view g'.pass) row.items) l.rows.items)
+      + weigh h (map (λ b. g.T.Task.number_of b.value) l.tasks.items);
+}

@@ -1,0 +1,101 @@
+//! What a worker has.
+
+ghost use Rattle.std.specs.Prelude.{◌≡◌, ◌≢◌, ◌<◌, ◌≤◌, ◌+◌, ◌⊎◌, ◌++◌, ◌∷◌, [], None, map, vec_len};
+ghost use Rattle.crossbeam_deque.specs.Handles.{stealer_deque, view, worker_deque, worker_view};
+ghost use Rattle.worker_deques.specs.Ledgers.{AreOut, all_shares, in_hand};
+ghost use Rattle.worker_deques.specs.Deques.{deque_of};
+
+use crate::guest::{Guest, Own, Thief};
+use crate::ledger::Gets;
+use crate::task::Task;
+
+/// What a worker has: its deque, its passes at the deques of all workers, the task in hand and its finished places.
+#[derive(Drop)]
+pub struct Desk<T: Task> {
+    pub own: Own<T>,
+    pub guests: Vec<Guest<T>>,
+    /// The task of a look, or one that its deque refused.
+    pub task: Option<Box<T>>,
+    pub finished: Vec<Box<T>>,
+    pub ghost shares: { (worker_view own).shares + vec_len guests + 1 ≡ all_shares },
+    pub ghost some: { 0 < (worker_view own).shares },
+    // What it took and didn't push is in hand or finished.
+    pub ghost out: { AreOut (worker_view own ∷ map (λ g. view g.pass) guests.items)
+        (in_hand (λ b. T.number_of b.value) task ++ map (λ b. T.number_of b.value) finished.items) },
+}
+
+/// What a worker hands back: what it has, and whether all its turns came to their end.
+#[derive(Drop)]
+pub struct Worked<T: Task, E: Drop> {
+    pub desk: Desk<T>,
+    pub written: Result<(), E>,
+}
+
+impl<T: Task, E: Drop> Worked<T, E> {
+    /// What it has.
+    pub fn into_desk(self) -> Desk<T>
+        ensures desk { result ≡ self.desk }
+    {
+        let Worked { desk, written: _ } = self;
+        desk
+    }
+}
+
+// The worker from which an attempt steals: the first attempt from the next worker, and so on, and round.
+fn victim(worker: u32, attempt: usize, workers: usize) -> usize
+    requires worker { worker < workers }
+    requires attempt { (1 ≤ attempt) × (attempt < workers) }
+    ensures within { result < workers }
+    ensures place { (result ≡ worker + attempt) ⊎ (result + workers ≡ worker + attempt) }
+    ensures other { result ≢ worker }
+{
+    let above = workers - worker as usize;
+    if attempt < above {
+        worker as usize + attempt
+    } else {
+        attempt - above
+    }
+}
+
+impl<T: Task> Desk<T> {
+    // The first task of its own deque, if there is one.
+    fn pop(&mut self)
+        requires empty { self.old.task ≡ None }
+        ensures own { worker_deque self.new.own ≡ worker_deque self.old.own }
+        ensures guests { self.new.guests ≡ self.old.guests }
+    {
+        self.task = self.own.pop_as::<Gets>();
+    }
+
+    // One attempt to take the first task of another worker's deque.
+    fn steal(&mut self, thieves: &Vec<Thief<T>>, from: usize)
+        requires empty { self.old.task ≡ None }
+        requires from { from < vec_len thieves.now }
+        requires deques { map (λ g. deque_of g.pass) self.old.guests.items ≡ map stealer_deque thieves.now.items }
+        ensures own { self.new.own ≡ self.old.own }
+        ensures deques { map (λ g. deque_of g.pass) self.new.guests.items
+            ≡ map (λ g. deque_of g.pass) self.old.guests.items }
+    {
+        self.task = self.guests[from].steal(&thieves[from]);
+    }
+
+    /// Takes a task in hand, if none is: the first of its own deque; if there is none, by one attempt at each other
+    /// worker's deque, going up from its own number plus one and round. Returns whether a task is in hand.
+    pub fn find(&mut self, thieves: &Vec<Thief<T>>, worker: u32) -> bool
+        requires worker { worker < vec_len thieves.now }
+        requires deques { map (λ g. deque_of g.pass) self.old.guests.items ≡ map stealer_deque thieves.now.items }
+        ensures own { worker_deque self.new.own ≡ worker_deque self.old.own }
+        ensures deques { map (λ g. deque_of g.pass) self.new.guests.items ≡ map stealer_deque thieves.now.items }
+    {
+        if self.task.is_none() {
+            self.pop();
+        }
+        for attempt in 1..thieves.len() {
+            if self.task.is_some() {
+                break;
+            }
+            self.steal(thieves, victim(worker, attempt, thieves.len()));
+        }
+        self.task.is_some()
+    }
+}

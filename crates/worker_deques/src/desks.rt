@@ -1,0 +1,85 @@
+//! What workers begin with.
+
+ghost use Rattle.std.specs.Prelude.{◌≡◌, ◌<◌, ◌≤◌, ◌+◌, ◌-◌, ◌∷◌, [], All, IfOk, map, vec_len};
+ghost use Rattle.crossbeam_deque.specs.Handles.{view, worker_deque, worker_view};
+ghost use Rattle.run_options.specs.declared.TheConstants.{MAX_WORKERS};
+ghost use Rattle.worker_deques.specs.Ledgers.{AreOut, all_shares, ledger};
+ghost use Rattle.worker_deques.specs.Deques.{deque_of};
+
+use crate::deques::cut;
+use crate::desk::Desk;
+use crate::guest::{Guest, Own};
+use crate::ledger::OneShare;
+use crate::task::Task;
+use std::alloc::{AllocError, Global};
+
+// A pass at each deque for each worker.
+fn hire<T: Task>(
+    alloc: Global,
+    mut owns: Vec<Own<T>>,
+) -> Result<(Vec<Own<T>>, Vec<Vec<Guest<T>>>), AllocError>
+    requires few { vec_len owns ≤ MAX_WORKERS }
+    requires new { All (λ o. worker_view o ≡ ledger (all_shares - 1) [] []) owns.items }
+    ensures owns { IfOk result (λ r. map worker_deque r.0.items ≡ map worker_deque owns.items) }
+    ensures left { IfOk result
+        (λ r. All (λ o. worker_view o ≡ ledger (all_shares - 1 - vec_len owns) [] []) r.0.items) }
+    ensures rows { IfOk result (λ r. vec_len r.1 ≡ vec_len owns) }
+    ensures guests { IfOk result
+        (λ r. All (λ row. map (λ g. deque_of g.pass) row.items ≡ map worker_deque owns.items) r.1.items) }
+    ensures fresh { IfOk result (λ r. All (λ row. AreOut (map (λ g. view g.pass) row.items) []) r.1.items) }
+{
+    let count = owns.len();
+    let mut rows = Vec::new(alloc);
+    for _ in 0..count {
+        let (left, row) = cut::<T, OneShare>(alloc, owns)?;
+        owns = left;
+        rows.push(row)?;
+    }
+    Ok((owns, rows))
+}
+
+// A worker with its finished places.
+fn desk<T: Task>(
+    alloc: Global,
+    tasks: usize,
+    own: Own<T>,
+    guests: Vec<Guest<T>>,
+) -> Result<Desk<T>, AllocError>
+    requires few { vec_len guests ≤ MAX_WORKERS }
+    requires new { worker_view own ≡ ledger (all_shares - 1 - vec_len guests) [] [] }
+    requires fresh { AreOut (map (λ g. view g.pass) guests.items) [] }
+    ensures own { IfOk result (λ d. d.own ≡ own) }
+    ensures guests { IfOk result (λ d. d.guests ≡ guests) }
+{
+    let mut finished = Vec::new(alloc);
+    finished.reserve_exact(tasks)?;
+    Ok(Desk {
+        own,
+        guests,
+        task: None,
+        finished,
+    })
+}
+
+/// What each worker begins with: its deque, a pass at each deque, and a finished place for each task.
+pub fn make_desks<T: Task>(
+    alloc: Global,
+    tasks: usize,
+    owns: Vec<Own<T>>,
+) -> Result<Vec<Desk<T>>, AllocError>
+    requires few { vec_len owns ≤ MAX_WORKERS }
+    requires new { All (λ o. worker_view o ≡ ledger (all_shares - 1) [] []) owns.items }
+    ensures owns { IfOk result (λ ds. map (λ d. worker_deque d.own) ds.items ≡ map worker_deque owns.items) }
+    ensures guests { IfOk result (λ ds. All (λ d. map (λ g. deque_of g.pass) d.guests.items
+        ≡ map worker_deque owns.items) ds.items) }
+{
+    let (owns, mut rows) = hire(alloc, owns)?;
+    let mut all = Vec::new(alloc);
+    for own in owns {
+        let Some(row) = rows.pop() else {
+            unreachable!();
+        };
+        all.push(desk(alloc, tasks, own, row)?)?;
+    }
+    Ok(all)
+}

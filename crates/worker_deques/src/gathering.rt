@@ -1,0 +1,198 @@
+//! What workers hand back becomes all tasks of the run.
+
+ghost use Rattle.std.specs.Prelude.{◌≡◌, ◌<◌, ◌≤◌, ◌+◌, ◌++◌, ℕ, List, All, IfOk, map, vec_len};
+ghost use Rattle.std.specs.List.{range_with_len};
+ghost use Rattle.crossbeam_deque.specs.Handles.{view, worker_deque, worker_view};
+ghost use Rattle.worker_deques.specs.Ledgers.{AreDealt, AreSame, all_shares, in_hand, in_rows, pushed_by, shares_of, taken_by};
+ghost use Rattle.worker_deques.specs.Ledgers.{weigh};
+ghost use Rattle.worker_deques.specs.Deques.{deque_of};
+ghost use Rattle.run_options.specs.declared.TheConstants.{MAX_WORKERS};
+
+use crate::desk::{Desk, Worked};
+use crate::guest::{Guest, Own};
+use crate::ledger::{Gets, OneShare};
+use crate::order::by_number;
+use crate::task::Task;
+use std::alloc::{AllocError, Global};
+use std::sync::Wait;
+
+/// What all workers handed back, with the deques, the passes at them and the tasks apart.
+#[derive(Drop)]
+pub struct Back<T: Task> {
+    pub owns: Vec<Own<T>>,
+    pub rows: Vec<Vec<Guest<T>>>,
+    pub tasks: Vec<Box<T>>,
+}
+
+// All shares of a pass come back to its deque's owner.
+fn absorb_row<T: Task>(owns: &mut Vec<Own<T>>, mut row: Vec<Guest<T>>)
+    requires deques { map (λ g. deque_of g.pass) row.items ≡ map worker_deque owns.old.items }
+    requires some { All (λ o. 0 < shares_of (worker_view o)) owns.old.items }
+    ensures deques { map worker_deque owns.new.items ≡ map worker_deque owns.old.items }
+    ensures some { All (λ o. 0 < shares_of (worker_view o)) owns.new.items }
+    ensures shares { (p : ℕ) → All (λ o. shares_of (worker_view o) ≡ p) owns.old.items
+        → All (λ o. shares_of (worker_view o) ≡ p + 1) owns.new.items }
+    ensures pushed { (h : ℕ → ℕ) → pushed_by h (map worker_view owns.new.items)
+        ≡ pushed_by h (map worker_view owns.old.items) + pushed_by h (map (λ g. view g.pass) row.items) }
+    ensures taken { (h : ℕ → ℕ) → taken_by h (map worker_view owns.new.items)
+        ≡ taken_by h (map worker_view owns.old.items) + taken_by h (map (λ g. view g.pass) row.items) }
+{
+    'each: while let Some(guest) = row.pop() {
+        let at = row.len();
+        owns[at].absorb::<OneShare>(guest.pass);
+    }
+}
+
+// A deque is emptied, once no other pass of it is left.
+fn drain<T: Task, R: Wait>(
+    rt: &R,
+    mut own: Own<T>,
+    mut tasks: Vec<Box<T>>,
+) -> Result<Vec<Box<T>>, AllocError>
+    requires shares { (worker_view own).shares ≡ all_shares }
+    ensures tasks { IfOk result (λ all. (h : ℕ → ℕ) →
+        weigh h (worker_view own).taken + weigh h (map (λ b. T.number_of b.value) all.items)
+        ≡ weigh h (worker_view own).pushed + weigh h (map (λ b. T.number_of b.value) tasks.items)) }
+{
+    for _ in rt.forever() {
+        tasks.reserve(1)?;
+        match own.pop_as::<Gets>() {
+            Some(task) => tasks.push_reserved(task),
+            None => return Ok(tasks),
+        }
+    }
+    unreachable!()
+}
+
+// All deques are emptied.
+fn drain_all<T: Task, R: Wait>(
+    rt: &R,
+    owns: Vec<Own<T>>,
+    tasks: Vec<Box<T>>,
+) -> Result<Vec<Box<T>>, AllocError>
+    requires shares { All (λ o. shares_of (worker_view o) ≡ all_shares) owns.items }
+    ensures tasks { IfOk result (λ all. (h : ℕ → ℕ) →
+        taken_by h (map worker_view owns.items) + weigh h (map (λ b. T.number_of b.value) all.items)
+        ≡ pushed_by h (map worker_view owns.items) + weigh h (map (λ b. T.number_of b.value) tasks.items)) }
+{
+    let mut all = tasks;
+    for own in owns {
+        all = drain(rt, own, all)?;
+    }
+    Ok(all)
+}
+
+// All rows of passes come back to the deques' owners.
+fn absorb_rows<T: Task>(owns: &mut Vec<Own<T>>, rows: Vec<Vec<Guest<T>>>)
+    requires deques { All (λ row. map (λ g. deque_of g.pass) row.items ≡ map worker_deque owns.old.items) rows.items }
+    requires some { All (λ o. 0 < shares_of (worker_view o)) owns.old.items }
+    ensures shares { (p : ℕ) → All (λ o. shares_of (worker_view o) ≡ p) owns.old.items
+        → All (λ o. shares_of (worker_view o) ≡ p + vec_len rows) owns.new.items }
+    ensures pushed { (h : ℕ → ℕ) → pushed_by h (map worker_view owns.new.items)
+        ≡ pushed_by h (map worker_view owns.old.items)
+        + in_rows (pushed_by h) (map (λ row. map (λ g. view g.pass) row.items) rows.items) }
+    ensures taken { (h : ℕ → ℕ) → taken_by h (map worker_view owns.new.items)
+        ≡ taken_by h (map worker_view owns.old.items)
+        + in_rows (taken_by h) (map (λ row. map (λ g. view g.pass) row.items) rows.items) }
+{
+    for row in rows {
+        absorb_row(owns, row);
+    }
+}
+
+// The tasks so far, with those that one worker handed back.
+fn with_those_of<T: Task>(
+    mut tasks: Vec<Box<T>>,
+    task: Option<Box<T>>,
+    mut finished: Vec<Box<T>>,
+) -> Result<Vec<Box<T>>, AllocError>
+    ensures tasks { IfOk result (λ all. (h : ℕ → ℕ) → weigh h (map (λ b. T.number_of b.value) all.items)
+        ≡ weigh h (map (λ b. T.number_of b.value) tasks.items)
+        + weigh h (in_hand (λ b. T.number_of b.value) task ++ map (λ b. T.number_of b.value) finished.items)) }
+{
+    tasks.append(&mut finished)?;
+    let Some(task) = task else {
+        return Ok(tasks);
+    };
+    tasks.push(task)?;
+    Ok(tasks)
+}
+
+// What workers handed back, apart.
+fn apart<T: Task, E: Drop>(alloc: Global, done: Vec<Worked<T, E>>) -> Result<Back<T>, AllocError>
+    ensures owns { IfOk result
+        (λ b. map worker_deque b.owns.items ≡ map (λ w. worker_deque w.desk.own) done.items) }
+    ensures rows { IfOk result (λ b. map (λ row. map (λ g. deque_of g.pass) row.items) b.rows.items
+        ≡ map (λ w. map (λ g. deque_of g.pass) w.desk.guests.items) done.items) }
+    ensures shares { IfOk result (λ b. map (λ o. shares_of (worker_view o)) b.owns.items
+        ≡ map (λ w. shares_of (worker_view w.desk.own)) done.items) }
+    ensures out { IfOk result (λ b. (h : ℕ → ℕ) →
+        taken_by h (map worker_view b.owns.items)
+        + in_rows (taken_by h) (map (λ row. map (λ g. view g.pass) row.items) b.rows.items)
+        ≡ pushed_by h (map worker_view b.owns.items)
+        + in_rows (pushed_by h) (map (λ row. map (λ g. view g.pass) row.items) b.rows.items)
+        + weigh h (map (λ b. T.number_of b.value) b.tasks.items)) }
+{
+    let mut owns = Vec::new(alloc);
+    let mut rows = Vec::new(alloc);
+    let mut tasks = Vec::new(alloc);
+    for worked in done {
+        let Desk {
+            own,
+            guests,
+            task,
+            finished,
+        } = worked.into_desk();
+        tasks = with_those_of(tasks, task, finished)?;
+        owns.push(own)?;
+        rows.push(guests)?;
+    }
+    Ok(Back { owns, rows, tasks })
+}
+
+// Each task once, in any order, of what was dealt and what all workers handed back.
+fn gather_boxes<T: Task, E: Drop, R: Wait>(
+    rt: &R,
+    alloc: Global,
+    dealt: Vec<Guest<T>>,
+    done: Vec<Worked<T, E>>,
+) -> Result<Vec<Box<T>>, AllocError>
+    requires deques { map (λ g. deque_of g.pass) dealt.items ≡ map (λ w. worker_deque w.desk.own) done.items }
+    requires guests { All (λ w. map (λ g. deque_of g.pass) w.desk.guests.items
+        ≡ map (λ g. deque_of g.pass) dealt.items) done.items }
+    requires few { vec_len dealt ≤ MAX_WORKERS }
+    ensures once { (numbers : List ℕ) → AreDealt (map (λ g. view g.pass) dealt.items) numbers
+        → IfOk result (λ all. AreSame (map (λ b. T.number_of b.value) all.items) numbers) }
+{
+    let Back {
+        mut owns,
+        rows,
+        tasks,
+    } = apart(alloc, done)?;
+    absorb_row(&mut owns, dealt);
+    absorb_rows(&mut owns, rows);
+    Ok(drain_all(rt, owns, tasks)?)
+}
+
+/// Each task once, by ascending number, of what was dealt and what all workers handed back.
+///
+/// # Errors
+///
+/// `AllocError` if memory is refused.
+pub fn gather<T: Task, E: Drop, R: Wait>(
+    rt: &R,
+    alloc: Global,
+    count: usize,
+    dealt: Vec<Guest<T>>,
+    done: Vec<Worked<T, E>>,
+) -> Result<Vec<T>, AllocError>
+    requires deques { map (λ g. deque_of g.pass) dealt.items ≡ map (λ w. worker_deque w.desk.own) done.items }
+    requires guests { All (λ w. map (λ g. deque_of g.pass) w.desk.guests.items
+        ≡ map (λ g. deque_of g.pass) dealt.items) done.items }
+    requires few { vec_len dealt ≤ MAX_WORKERS }
+    requires dealt { AreDealt (map (λ g. view g.pass) dealt.items) (range_with_len 0 count) }
+    ensures order { IfOk result (λ all. map T.number_of all.items ≡ range_with_len 0 count) }
+{
+    let tasks = gather_boxes(rt, alloc, dealt, done)?;
+    by_number(alloc, count, tasks)
+}

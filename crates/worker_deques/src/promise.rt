@@ -1,0 +1,19 @@
+//! What a thread promises of what a worker hands back.
+
+use crate::desk::{Desk, Worked};
+use crate::task::Task;
+use std::snapshot::Snapshot;
+use std::thread::Promise;
+
+/// The promise that a worker hands back the deque with which it began, and its passes at the same deques.
+#[derive(Drop)]
+pub struct SameDeques<T: Task>(pub Snapshot<Desk<T>>);
+
+impl<T: Task, E: Drop> Promise<Worked<T, E>> for SameDeques<T> {
+    ghost use Rattle.std.specs.Prelude.{◌≡◌, map};
+    ghost use Rattle.crossbeam_deque.specs.Handles.{worker_deque};
+    ghost use Rattle.worker_deques.specs.Deques.{deque_of};
+
+    ghost kept_by = { λ p r. (worker_deque r.desk.own ≡ worker_deque p.0.value.own)
+        × (map (λ g. deque_of g.pass) r.desk.guests.items ≡ map (λ g. deque_of g.pass) p.0.value.guests.items) };
+}
