@@ -169,6 +169,9 @@ def run_first(tree):
     note("the log of a crate", "processor seconds: " in tree.log("middle"), tree.log("middle"))
     got = tree.call("plan", given="again")
     note("a second call builds nothing", got == (0, "plan\nagain", ""), got)
+    tree.source("some_checks", "tests")
+    got = tree.call("plan")
+    note("a crate of tests is no part of the program", got == (0, "plan\n", ""), got)
     tree.source("aside", "changed")
     got = tree.call("plan")
     note("what the program isn't made from is not proved", got[:2] == (0, "plan\n") and " 3 of 3 crates proved" in got[2], got)
@@ -260,6 +263,8 @@ def run_helps(folder):
 def main():
     summary, _, more = __doc__.partition("\n")
     argparse.ArgumentParser(description=summary, epilog=more, formatter_class=argparse.RawDescriptionHelpFormatter).parse_args()
+    # A shell has what it runs in the background ignore SIGINT, and what is started from there would, too.
+    signal.signal(signal.SIGINT, signal.default_int_handler)
     with tempfile.TemporaryDirectory(prefix="first-run-") as folder:
         tree = Tree(folder)
         run_first(tree)

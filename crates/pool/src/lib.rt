@@ -1,9 +1,9 @@
 //! Workers in threads of their own, which make turns of all nodes of a run.
 //!
-//! Each worker has a deque of nodes, first in, first out (`worker_deques`). In a look it takes the first node of its own
-//! deque, or else steals one of another's, makes one turn of the node and puts it on its own deque, or, if nothing is
-//! left for the node to do, keeps it. Whatever the threads do, `run_nodes` returns each node once. What a turn leaves
-//! is a fact of the node's type (`actor`).
+//! Each worker has a deque of nodes, first in, first out (`worker_deques`). In a look it takes the first node of its
+//! own deque, or else steals one of another's, makes one turn of the node and puts it on its own deque, or, if nothing
+//! is left for the node to do, keeps it. Whatever the threads do, `run_nodes` returns each node once. What a turn
+//! leaves is a fact of the node's type (`actor`).
 //!
 //! In reading order: `looks` is what a worker does, `signals` what workers see of one another, `run` starts and joins
 //! the workers, and `told` says which fault a run has. `node_pool` makes nodes and links, and gathers them.

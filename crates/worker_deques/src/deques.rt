@@ -1,6 +1,6 @@
 //! The deques of a run, before its workers begin.
 
-ghost use Rattle.std.specs.Prelude.{◌≡◌, ◌<◌, ◌≤◌, ◌+◌, ◌-◌, ◌%◌, ℕ, [], All, IfOk, map, vec_len};
+ghost use Rattle.std.specs.Prelude.{◌≡◌, ◌<◌, ◌≤◌, ◌+◌, ◌-◌, ◌%◌, [], All, IfOk, map, vec_len};
 ghost use Rattle.crossbeam_deque.specs.Handles.{stealer_deque, view, worker_capacity, worker_deque, worker_index};
 ghost use Rattle.crossbeam_deque.specs.Handles.{worker_view};
 ghost use Rattle.worker_deques.specs.Ledgers.{AreDealt, CanSplit, all_shares, ledger, shares_of};

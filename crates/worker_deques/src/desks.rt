@@ -1,6 +1,6 @@
 //! What workers begin with.
 
-ghost use Rattle.std.specs.Prelude.{◌≡◌, ◌<◌, ◌≤◌, ◌+◌, ◌-◌, ◌∷◌, [], All, IfOk, map, vec_len};
+ghost use Rattle.std.specs.Prelude.{◌≡◌, ◌<◌, ◌≤◌, ◌-◌, [], All, IfOk, map, vec_len};
 ghost use Rattle.crossbeam_deque.specs.Handles.{view, worker_deque, worker_view};
 ghost use Rattle.run_options.specs.declared.TheConstants.{MAX_WORKERS};
 ghost use Rattle.worker_deques.specs.Ledgers.{AreOut, all_shares, ledger};

@@ -3,8 +3,8 @@
 ghost use Rattle.std.specs.Prelude.{◌≡◌, ◌<◌, ◌≤◌, ◌+◌, ◌++◌, ℕ, List, All, IfOk, map, vec_len};
 ghost use Rattle.std.specs.List.{range_with_len};
 ghost use Rattle.crossbeam_deque.specs.Handles.{view, worker_deque, worker_view};
-ghost use Rattle.worker_deques.specs.Ledgers.{AreDealt, AreSame, all_shares, in_hand, in_rows, pushed_by, shares_of, taken_by};
-ghost use Rattle.worker_deques.specs.Ledgers.{weigh};
+ghost use Rattle.worker_deques.specs.Ledgers.{AreDealt, AreSame, all_shares, in_hand, in_rows};
+ghost use Rattle.worker_deques.specs.Ledgers.{pushed_by, shares_of, taken_by, weigh};
 ghost use Rattle.worker_deques.specs.Deques.{deque_of};
 ghost use Rattle.run_options.specs.declared.TheConstants.{MAX_WORKERS};
 

@@ -5,14 +5,15 @@
 //! pushed to a deque is what was taken from it and what it holds (`specs/Ledgers.antt`), the sum over all deques has
 //! each task once, and `gather` returns each task once. Facts of the tasks' type stay with them.
 //!
-//! In reading order: `task` is what lies in the deques, `ledger` the rule of a deque, `guest` a pass at one, `desk` what
-//! a worker has. `deques` makes and fills the deques, `desks` the desks, `gathering` empties what is handed back, and
-//! `order` and `place` put the tasks in order. `promise` is for threads that hand desks back. `pool` starts the workers; its tasks are the nodes of `actor`.
+//! In reading order: `task` is what lies in the deques, `ledger` the rule of a deque, `guest` a pass at one, `desk`
+//! what a worker has. `deques` makes and fills the deques, `desks` the desks; `gathering` empties what is handed back,
+//! and `order` and `place` put the tasks in order. `promise` is for threads that hand desks back. `pool` starts the
+//! workers; its tasks are the nodes of `actor`.
 //!
 //! ```text
-//! let (owns, thieves) = make_deques::<T>(alloc, tasks.len(), workers)?;
+//! let (owns, thieves) = make_deques::<T>(alloc, count, workers)?;
 //! let (owns, dealt) = cut::<T, Dealt>(alloc, deal(owns, tasks))?;
-//! let desks = make_desks(alloc, count, owns)?;             // one for each worker, which takes and puts
+//! let desks = make_desks(alloc, count, owns)?;           // one for each worker, which takes and puts
 //! let tasks = gather(&rt, alloc, count, dealt, done)?;   // each task once, ascending
 //! ```
 //!

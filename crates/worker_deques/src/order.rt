@@ -1,6 +1,6 @@
 //! The tasks of a run in the order of their numbers.
 
-ghost use Rattle.std.specs.Prelude.{◌≡◌, IfOk, map, vec_len};
+ghost use Rattle.std.specs.Prelude.{◌≡◌, IfOk, map};
 ghost use Rattle.std.specs.List.{range_with_len};
 ghost use Rattle.worker_deques.specs.Ledgers.{AreSame};
 

@@ -1,4 +1,4 @@
-use Rattle.std.proofs.Common.{◌≡◌, ◌∙◌, false, map, sym}
+use Rattle.std.proofs.Common.{◌∙◌, false, map, sym}
 use Rattle.pool.proofs.Ends.{memory_told, no_memory, none_ended, same_fault}
 use Rattle.pool.proofs.told.told.Goals as goal
 

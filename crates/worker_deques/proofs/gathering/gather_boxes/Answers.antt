@@ -1,4 +1,4 @@
-use Rattle.std.proofs.Common.{◌≡◌, false, ◌+◌, ◌-◌, ◌<◌, ◌∙◌, length, map, get_or, sym, arith}
+use Rattle.std.proofs.Common.{◌≡◌, ◌+◌, ◌-◌, ◌<◌, ◌∙◌, length, map, get_or, sym, arith}
 use Rattle.crossbeam_deque.specs.Handles.{worker_deque, worker_view}
 use Rattle.worker_deques.specs.Deques.{deque_of}
 use Rattle.worker_deques.specs.Ledgers.{all_shares, shares_of}
