@@ -11,13 +11,26 @@ use crate::looks::{Crew, Done, work};
 use crate::signals::Signals;
 use crate::told::told;
 use actor::{Gate, Links, Node, NodeProgram, Wiring};
+use crossbeam_deque::protocol::Split;
 use run_options::MAX_WORKERS;
 use std::alloc::Global;
 use std::snapshot::Snapshot;
 use std::sync::Wait;
 use std::thread;
 use std::thread::{PromisedHandle, Scope, Threads};
-use worker_deques::{Dealt, Desk, SameDeques, Thief, cut, deal, gather, make_deques, make_desks};
+use worker_deques::{Desk, Ledger, SameDeques, Thief, cut, deal, gather, make_deques, make_desks};
+
+// A share is cut off with all that was pushed and taken so far.
+pub struct Dealt;
+
+impl Split<Ledger> for Dealt {
+    ghost use Rattle.std.specs.Prelude.{[], ◌-◌};
+    ghost use Rattle.worker_deques.specs.Ledgers.{ledger};
+
+    ghost left = { λ v. ledger (v.shares - 1) [] [] };
+
+    ghost right = { λ v. ledger 1 v.pushed v.taken };
+}
 
 // A worker in a thread of its own, which can be joined.
 type Child<J: Wiring, P: NodeProgram> = PromisedHandle<Done<J, P>, SameDeques<Node<J, P>>>;

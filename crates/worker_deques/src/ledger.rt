@@ -51,18 +51,6 @@ impl Join<Ledger> for OneShare {
     ghost spent = { ledger 0 [] [] };
 }
 
-// A share is cut off with all that was pushed and taken so far.
-pub struct Dealt;
-
-impl Split<Ledger> for Dealt {
-    ghost use Rattle.std.specs.Prelude.{[], ◌-◌};
-    ghost use Rattle.worker_deques.specs.Ledgers.{ledger};
-
-    ghost left = { λ v. ledger (v.shares - 1) [] [] };
-
-    ghost right = { λ v. ledger 1 v.pushed v.taken };
-}
-
 // A task goes to the deque.
 pub struct Gives;
 

@@ -36,6 +36,6 @@ pub use desk::{Desk, Worked};
 pub use desks::make_desks;
 pub use gathering::gather;
 pub use guest::{Guest, Own, Thief};
-pub use ledger::{Dealt, Gives, Ledger};
+pub use ledger::{Gives, Ledger};
 pub use promise::SameDeques;
 pub use task::Task;
