@@ -12,7 +12,7 @@
 //!
 //! ```text
 //! let (owns, thieves) = make_deques::<T>(alloc, count, workers)?;
-//! let (owns, dealt) = cut::<T, Dealt>(alloc, deal(owns, tasks))?;
+//! let (owns, dealt) = cut::<T, Dealt>(alloc, deal(owns, tasks))?;   // `Dealt` is of `pool`
 //! let desks = make_desks(alloc, count, owns)?;           // one for each worker, which takes and puts
 //! let tasks = gather(&rt, alloc, count, dealt, done)?;   // each task once, ascending
 //! ```
