@@ -43,7 +43,7 @@ module _ {A : Type 0} (done : A) where
       of_map (w ∷ ws) all = All-cons (λ w. IfErr (end_of w) (λ _. ⊥)) w ws (all 0 (end_of w) (omega arith))
           (of_map ws (λ k d lt. all (suc k) d (omega (arith, lt))))
 
-  ok_and_memory : (r : Result A PoolFault) (x : A) → r ≡ Ok x → r ≡ Err fault.Memory → ⊥
+  pub ok_and_memory : (r : Result A PoolFault) (x : A) → r ≡ Ok x → r ≡ Err fault.Memory → ⊥
   ok_and_memory r x a b = let e = sym a ∙ b in absurd cc
 
   -- no worker was refused memory if nothing is told

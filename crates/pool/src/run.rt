@@ -9,7 +9,7 @@ ghost use Rattle.pool.specs.declared.fault.PoolFault.TheVariants.{BadOptions, Sp
 use crate::fault::PoolFault;
 use crate::looks::{Crew, Done, work};
 use crate::signals::Signals;
-use crate::told::told;
+use crate::told::gather_told;
 use actor::{Gate, Links, Node, NodeProgram, Wiring};
 use crossbeam_deque::protocol::Split;
 use run_options::MAX_WORKERS;
@@ -18,7 +18,7 @@ use std::snapshot::Snapshot;
 use std::sync::Wait;
 use std::thread;
 use std::thread::{PromisedHandle, Scope, Threads};
-use worker_deques::{Desk, Ledger, SameDeques, Thief, cut, deal, gather, make_deques, make_desks};
+use worker_deques::{Desk, Ledger, SameDeques, Thief, cut, deal, make_deques, make_desks};
 
 // A share is cut off with all that was pushed and taken so far.
 pub struct Dealt;
@@ -180,6 +180,5 @@ pub fn run_nodes<J: Wiring + Send + Sync, P: NodeProgram, G: Gate + Sync, R: Thr
             join_all(rt, crew.signals, children)
         },
     )?;
-    told(&done)?;
-    Ok(gather(rt, alloc, count, dealt, done)?)
+    gather_told(rt, alloc, count, dealt, done)
 }

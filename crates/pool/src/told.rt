@@ -1,13 +1,21 @@
 //! Which fault a run has if turns of its workers ended early.
 
-ghost use Rattle.std.specs.Prelude.{◌≡◌, ◌≢◌, All, Contains, Err, IfErr, IfOk, false, map};
+ghost use Rattle.std.specs.Prelude.{◌≡◌, ◌≢◌, ◌≤◌, ◌-◌, All, Contains, Err, IfErr, IfOk, false, map, vec_len};
+ghost use Rattle.std.specs.List.{range_with_len};
+ghost use Rattle.crossbeam_deque.specs.Handles.{view, worker_deque};
+ghost use Rattle.run_options.specs.declared.TheConstants.{MAX_WORKERS};
+ghost use Rattle.worker_deques.specs.Deques.{deque_of};
+ghost use Rattle.worker_deques.specs.Ledgers.{AreDealt};
 ghost use Rattle.actor.specs.declared.refused.TurnRefused.TheVariants as turn;
 ghost use Rattle.pool.specs.Ends.{told_after};
 ghost use Rattle.pool.specs.declared.fault.PoolFault.TheVariants.{BadOptions, Memory};
 
 use crate::fault::PoolFault;
 use crate::looks::Done;
-use actor::{NodeProgram, TurnRefused, Wiring};
+use actor::{Node, NodeProgram, TurnRefused, Wiring};
+use std::alloc::Global;
+use std::sync::Wait;
+use worker_deques::{Guest, gather};
 
 // What is told of a run: memory first.
 fn told_of<J: Wiring, P: NodeProgram>(done: &Vec<Done<J, P>>) -> Result<(), PoolFault>
@@ -28,8 +36,8 @@ fn told_of<J: Wiring, P: NodeProgram>(done: &Vec<Done<J, P>>) -> Result<(), Pool
     Ok(())
 }
 
-/// The fault of a run in which a turn of a worker ended early, if there is such a turn. Memory is told first.
-pub fn told<J: Wiring, P: NodeProgram>(done: &Vec<Done<J, P>>) -> Result<(), PoolFault>
+// The fault of a run in which a turn of a worker ended early, if there is such a turn. Memory is told first.
+fn told<J: Wiring, P: NodeProgram>(done: &Vec<Done<J, P>>) -> Result<(), PoolFault>
     ensures ended { IfOk result (λ _. All (λ w. IfErr w.written (λ _. ⊥)) done.now.items) }
     ensures memory_first { Contains (map (λ w. w.written) done.now.items) (Err turn.Memory) → result ≡ Err Memory }
     ensures fault { IfErr result (λ fault. fault ≢ BadOptions) }
@@ -38,4 +46,35 @@ pub fn told<J: Wiring, P: NodeProgram>(done: &Vec<Done<J, P>>) -> Result<(), Poo
         Ok(()) => Ok(()),
         Err(fault) => Err(fault),
     }
+}
+
+/// Each node once, ascending, of what was dealt and what all workers handed back; or the fault of a turn that ended
+/// early, memory first.
+///
+/// # Errors
+///
+/// `Memory` if memory is refused, or was refused to a worker. `StampFull` if no worker was refused memory, and a stamp
+/// of one would pass 18446744073709551615.
+pub fn gather_told<J: Wiring, P: NodeProgram, R: Wait>(
+    rt: &R,
+    alloc: Global,
+    count: usize,
+    dealt: Vec<Guest<Node<J, P>>>,
+    done: Vec<Done<J, P>>,
+) -> Result<Vec<Node<J, P>>, PoolFault>
+    requires deques { map (λ g. deque_of g.pass) dealt.items ≡ map (λ w. worker_deque w.desk.own) done.items }
+    requires guests { All (λ w. map (λ g. deque_of g.pass) w.desk.guests.items
+        ≡ map (λ g. deque_of g.pass) dealt.items) done.items }
+    requires few { vec_len dealt ≤ MAX_WORKERS }
+    requires dealt { AreDealt (map (λ g. view g.pass) dealt.items) (range_with_len 0 count) }
+    ensures order { IfOk result (λ all. map (λ n. n.vertex - 1) all.items ≡ range_with_len 0 count) }
+    ensures ended { IfOk result (λ _. All (λ w. IfErr w.written (λ _. ⊥)) done.items) }
+    ensures memory_first { Contains (map (λ w. w.written) done.items) (Err turn.Memory) → result ≡ Err Memory }
+    ensures fault { IfErr result (λ fault. fault ≢ BadOptions) }
+{
+    match told(&done) {
+        Ok(()) => {}
+        Err(fault) => return Err(fault),
+    }
+    Ok(gather(rt, alloc, count, dealt, done)?)
 }

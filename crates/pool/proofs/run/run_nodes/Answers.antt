@@ -4,6 +4,7 @@ use Rattle.actor.specs.interference.Net.{count_of}
 use Rattle.crossbeam_deque.specs.Handles.{stealer_deque, view, worker_deque, worker_view}
 use Rattle.worker_deques.specs.Deques.{deque_of}
 use Rattle.worker_deques.specs.Ledgers.{all_shares, ledger, shares_of}
+use Rattle.worker_deques.proofs.Each.{ok_says}
 use Rattle.worker_deques.proofs.Holds.{dealt_on}
 use Rattle.worker_deques.proofs.Rule.{deals}
 use Rattle.worker_deques.proofs.Views.{as_many, carried}
@@ -60,18 +61,18 @@ scoped-requires g c =
       );
     }
 
-pub gather-requires-clause-deques : goal.gather-requires-clause-deques
-gather-requires-clause-deques g c =
+pub gather_told-requires-clause-deques : goal.gather_told-requires-clause-deques
+gather_told-requires-clause-deques g c κ b =
     c.in_ok-owns-2.ensures.guests ∙ sym c.in_ok-owns-2.ensures.owns ∙ sym c.in_ok-desks.ensures.owns ∙ sym c.in_ok-done.ensures.1.0
 
-pub gather-requires-clause-guests : goal.gather-requires-clause-guests
-gather-requires-clause-guests g c =
+pub gather_told-requires-clause-guests : goal.gather_told-requires-clause-guests
+gather_told-requires-clause-guests g c κ b =
     carried (λ d. map (λ g'. deque_of g'.pass) d.guests.items) (λ w. map (λ g'. deque_of g'.pass) w.desk.guests.items)
     (λ ids. ids ≡ map (λ g'. deque_of g'.pass) c.in_ok-owns-2.dealt.items) c.in_ok-desks.desks.items _ c.in_ok-done.ensures.1.1.0
     (λ k d lt. c.in_ok-desks.ensures.guests k d lt ∙ c.in_ok-owns-2.ensures.owns ∙ sym c.in_ok-owns-2.ensures.guests)
 
-pub gather-requires-clause-few : goal.gather-requires-clause-few
-gather-requires-clause-few g c =
+pub gather_told-requires-clause-few : goal.gather_told-requires-clause-few
+gather_told-requires-clause-few g c =
     let made = c.in_ok-owns.owns in
     let dealt = as_many worker_deque worker_deque made.items c.deal-owns.result.items c.deal-owns.ensures.deques in
     let cut = as_many worker_deque (λ g'. deque_of g'.pass) c.deal-owns.result.items c.in_ok-owns-2.dealt.items c.in_ok-owns-2.ensures.guests in
@@ -80,8 +81,8 @@ gather-requires-clause-few g c =
     omega (arith, made.ok.0, c.in_ok-owns-2.dealt.ok.0)
 
 -- what was dealt are the numbers below the count
-pub gather-requires-clause-dealt : goal.gather-requires-clause-dealt
-gather-requires-clause-dealt g c =
+pub gather_told-requires-clause-dealt : goal.gather_told-requires-clause-dealt
+gather_told-requires-clause-dealt g c κ b =
     let nodes = c.args.nodes in
     let n = count_of g.J.Wiring.net in
     let many = many_nodes (λ b. b.value.vertex) nodes.items n c.requires.nodes in
@@ -97,4 +98,5 @@ returns-clause-order g c =
     let n = count_of g.J.Wiring.net in
     let many = many_nodes (λ b. b.value.vertex) nodes.items n c.requires.nodes in
     let count = c.len-count.ensures in
-    from_one (λ n. n.vertex) (λ n. n.is_vertex.0) c.in_ok-gather.field-0.items n c.len-count.result (omega (arith, nodes.ok.0)) c.in_ok-gather.ensures.order
+    ok_says c.gather_told.result
+    (λ all order. from_one (λ n. n.vertex) (λ n. n.is_vertex.0) all.items n c.len-count.result (omega (arith, nodes.ok.0)) order) c.gather_told.ensures.order
