@@ -72,6 +72,11 @@ def seconds_of(crate, listed_words):
     return 12 + (0.3 if "crossbeam_deque" in listed_words else 0.15) * lines[".rt"] + 0.002 * lines[".antt"]
 
 
+def processes_for(seconds):
+    """How many processes prove a crate: each one loads what lies below anew, in about 12 seconds (`number_rows`: 29 by one, 49 by four)."""
+    return min(processors(), 1 if seconds < 40 else 2 if seconds < 80 else 4)
+
+
 class Shown:
     """The progress on standard error: on a terminal one line that is rewritten, else a line a crate."""
 
@@ -110,13 +115,15 @@ class Proving:
     def __init__(self, crates, below, jobs, shown, words):
         self.below, self.jobs, self.shown, self.words = below, jobs, shown, words
         self.left, self.done, self.running = list(crates), set(), {}
+        lines = words_of_lines()
+        self.seconds = {crate: seconds_of(crate, lines[crate]) for crate in crates}
         self.behind = self.seconds_behind(crates)
 
     def seconds_behind(self, crates):
         """For each crate the longest chain that waits for it: the longest is begun first."""
-        behind, words = dict.fromkeys(crates, 0), words_of_lines()
+        behind = dict.fromkeys(crates, 0)
         for crate in reversed(crates):
-            behind[crate] += seconds_of(crate, words[crate])
+            behind[crate] += self.seconds[crate]
             for lower in self.below[crate]:
                 behind[lower] = max(behind[lower], behind[crate])
         return behind
@@ -133,11 +140,11 @@ class Proving:
             self.begin(crate)
 
     def begin(self, crate):
-        """Each crate gets a process for every processor, since the crates at the end come one after another; but all give way to the one
-        that the most waits for."""
+        """A crate gets up to four processes, by its size, since the crates at the end come one after another; but all give way to the one that
+        the most waits for."""
         is_first = self.behind[crate] >= max(self.behind[other] for other in [*self.left, *self.running])
         way = [] if is_first else ["nice", "-n", str(WAY)]
-        words = [sys.executable, os.path.join(TOP, "tools", "prove_crate.py"), *self.words(crate, min(4, processors()))]
+        words = [sys.executable, os.path.join(TOP, "tools", "prove_crate.py"), *self.words(crate, processes_for(self.seconds[crate]))]
         with open(os.path.join(LOGS, f"{crate}.log"), "w", encoding="utf-8") as log:
             # In a group of its own Ctrl-C doesn't reach it; in a session of its own its priority would count for nothing.
             self.running[crate] = subprocess.Popen([*way, *words], stdin=subprocess.PIPE, stdout=log, stderr=subprocess.STDOUT,
