@@ -32,7 +32,7 @@ def allocation_rows(program):
                 row("plan with one worker allocates as often in 102 rounds as in 30", plans),
                 capacity_row(program, front, folder)]
         if not os.path.isfile(TESTS):
-            return rows + [("the tests of crates/node_checks are built", False, f"no file {TESTS}")]
+            return rows + [("the tests of crates/checks are built", False, f"no file {TESTS}")]
         links = [f"sync_rounds_checks::greatest_within_{links}" for links in ("1_link", "50_links")]
         pulses = [f"alpha_core_checks::runs::a_node_of_{pulses}" for pulses in ("1_pulse", "50_pulses")]
         return rows + [

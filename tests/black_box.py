@@ -76,6 +76,11 @@ def forests_rows():
         ("a triangle with a bar", TRIANGLE + "b 3 1|", TRIANGLE_FORESTS),
         ("tabs and leading blanks", " \tp\tcol 2\t1|\t e 1  2|", "forests 2 1|0 1 2|"),
         ("comment of bytes that are no text", "c\xff|p edge 1 0|", "forests 1 0|"),
+        ("lines that say nothing, and the greatest vertex", "cp x|d|v 1|x 1 2|p edge 20000 0|e 20000 1", "forests 20000 1|0 1 20000|"),
+        ("edges in any order", "p edge 4 4|e 4 1|e 3 4|e 1 2|e 3 2|", "forests 4 2|0 1 2|0 2 3|0 3 4|1 1 4|"),
+        ("the greatest identifier, and one with zeros before it", f"p edge 3 2|e 1 2|e 1 3|i 3 {2**128 - 1} x\r|\ti 01  0007|",
+         "forests 3 1|0 1 3|0 2 1|"),
+        ("identifiers about 2^64", f"p edge 2 1|e 1 2|i 2 {2**64 - 1}|i 1 {'0' * 40}{2**64}", "forests 2 1|0 2 1|"),
         ("the greatest star", "p edge 1024 1023|" + "".join(f"e {v} 1024|" for v in range(1, 1024)),
          "forests 1024 1|" + "".join(f"0 {v} 1024|" for v in range(1, 1024))),
     ]
@@ -180,6 +185,12 @@ def fault_rows():
         (edge + "e 340282366920938463463374607431768211457 1|", "F5 line 2"),
         (edge + "e 4294967297 4294967297|", "F5 line 2"),
         (edge + "|c|e 1 1|e 0 0|", "F6 line 4"),
+        ("e x|p edge 2 1|", "F3 line 1"), ("b1 2|", "F8 line 1"), ("p edge 20001 x|", "F4 line 1"), (edge + "e 1 1|q|", "F6 line 2"),
+        (edge + "id 1 5|", "F8 line 2"), (edge + "I 1 5|", "F8 line 2"), (edge + "\xff 1|", "F8 line 2"), (edge + "bar 1 1|", "F8 line 2"),
+        (edge + "i|", "F4 line 2"), (edge + "i x 1|", "F4 line 2"), (edge + "i 1 +1|", "F4 line 2"),
+        (edge + "i 340282366920938463463374607431768211457 1|", "F5 line 2"), (edge + "i 2 5|i 1 5|e 1 2|i 2 6|", "F12 line 5"),
+        (edge + "b 2 1|b 2 4294967297|", "F13 line 3"), (edge + bars_of(1, 1, 1024) + "b 3 1|", "F5 line 1026"),
+        (edge + bars_of(2, 1025, 2048) + bars_of(1, 1, 1024) + bars_of(2, 2000, 2048) + "b 2 1024|", "F14 line 2099"),
         ("i 1 5|p edge 2 1|", "F10 line 1"), ("i x|p edge 2 1|", "F10 line 1"), (edge + "i 1|", "F4 line 2"), (edge + "i 3 x|", "F4 line 2"),
         (edge + "i 3 5|", "F5 line 2"), (edge + "i 0 340282366920938463463374607431768211456|", "F5 line 2"),
         (edge + "i 1 340282366920938463463374607431768211456|", "F11 line 2"), (edge + "i 1 5|i 1 5|", "F12 line 3"),
@@ -312,6 +323,8 @@ def refused_value_rows():
     for option in ("workers", "capacity", "turns"):
         expect_refused(["plan", f"--{option}=-1"], f"invalid value '-1' for '--{option} <N>': {no_digit}")
         expect_refused(["plan", f"--{option}"], f"a value is required for '--{option} <N>' but none was supplied")
+    for value, why in [("0", "0 is not in 1..=2"), ("3", "3 is not in 1..=2"), ("two", no_digit), ("", empty)]:
+        expect_refused(["transcript", "--edition", value], f"invalid value '{value}' for '--edition <N>': {why}")
     expect_refused(["plan", "--workers", "65", "--turns", "x"], "invalid value '65' for '--workers <N>': 65 is not in 1..=64")
 
 

@@ -43,8 +43,9 @@ SMALL = {
 }
 # Texts of which each beginning is a text besides.
 WHOLE = {
-    "check": TRIANGLE + "plan|1 2|2 3|3 1|",
-    "replay": EDGE + "transcript 1 2|1 put 2 close|2 put 1 close|1 take 2 close|2 take 1 close|",
+    "check": [TRIANGLE + "plan|1 2|2 3|3 1|"],
+    "replay": [EDGE + "transcript 1 2|1 put 2 close|2 put 1 close|1 take 2 close|2 take 1 close|",
+               EDGE + "transcript 2 2|1 1 put 2 close|2 2 take 1 close|3 2 put 1 close|4 1 take 2 close|"],
 }
 # Commands that read a text of their own; the others read a network as `forests` does.
 READERS = ("forests", "check", "events", "replay")
@@ -171,7 +172,7 @@ def all_rows(programs, only):
     for command in only:
         small = SMALL[command]
         data = text(small)
-        programs.row("each beginning", command, beginnings(text(WHOLE.get(command, small))))
+        programs.row("each beginning", command, chain.from_iterable(beginnings(text(whole)) for whole in WHOLE.get(command, [small])))
         programs.row("each mark at each place", command, each_mark(data))
         numbers = each_number(data)
         programs.row("numbers around powers of two", command,

@@ -138,6 +138,10 @@ def turn_rows(program):
             got = [answer_with(program, data, capacity, turns) for turns in (needed - 1, needed)]
             yield (f"{needed} turns for {data[:12]!r} with capacity {capacity}, and no less",
                    got == [(3, b"", STOPPED), (0, plan_text(data), b"")], got)
+    needed = Run(network_of(TRIANGLE), 2).looks
+    words = ["plan", "--capacity=0002", "--workers=+1"]
+    got = [answer_of(program, [*words, f"--turns=+0{turns}"], TRIANGLE) for turns in (needed - 1, needed)]
+    yield "numbers of options with a sign or zeros before them", got == [(3, b"", STOPPED), (0, TRIANGLE_PLAN, b"")], got
     for capacity in (1, 4):
         whole = Run(network_of(TRIANGLE), capacity)
         for command, answer in (("plan", TRIANGLE_PLAN), ("transcript", whole.text())):

@@ -8,19 +8,12 @@ from plain_definition import plan_text
 HERE = os.path.dirname(os.path.abspath(__file__))
 
 
-def tests_of(crate):
-    """The tests of a crate, built by `rt ci`, or by `rt test` in that crate."""
-    return os.path.join(os.path.dirname(HERE), "crates", crate, "out", crate + "_tests")
-
-
-TESTS = tests_of("node_checks")
+# The tests of `checks`, built by `rt ci`, or by `rt test` in that crate.
+TESTS = os.path.join(os.path.dirname(HERE), "crates", "checks", "out", "checks_tests")
 # Tests that try again what memory is refused to once.
 TRIED_AGAIN = ("net_core_checks::a_state_goes_on_after_a_refused_growth",
                "net_core_checks::a_list_runs_again_after_a_refused_growth",
                "link_queue_checks::a_link_meets_again_after_a_refused_growth")
-# Tests whose calls return the same bytes or that memory ran out.
-BYTES_OR_MEMORY = ("memory_checks::each_function_returns_its_bytes_or_runs_out_of_memory",
-                   "memory_checks::a_transcript_is_whole_or_runs_out_of_memory")
 MOST = 5000
 
 
@@ -48,25 +41,14 @@ def refused_memory_rows(program, network, answer):
         rows.append(sweep(program, front, ["forests"], b"q\n", (1, b"", b"forestplan: F8 line 1\n")))
         rows.append(sweep(program, front, ["nothing"], b"", None))
         rows.append(sweep(program, front, ["--help"], b"", None))
-        for crate in ("node_checks", "worker_checks"):
-            if not os.path.isfile(tests_of(crate)):
-                return rows + [(f"the tests of crates/{crate} are built", False, f"no file {tests_of(crate)}")]
-        rows += [bytes_or_memory(front, folder, tests_of("worker_checks"), name) for name in BYTES_OR_MEMORY]
+        if not os.path.isfile(TESTS):
+            return rows + [("the tests of crates/checks are built", False, f"no file {TESTS}")]
         return rows + [tried_again(front, folder, name) for name in TRIED_AGAIN]
 
 
 def barred_networks(network):
     """With identifiers and bars; and with so many bars that the nodes' sets of colours have boxes of their own."""
     return [network + b"i 1 9\nb 3 1\nb 3 7\nb 1 2\ni 2 0\n", network + b"".join(b"b 1 %d\n" % channel for channel in range(1, 131))]
-
-
-def bytes_or_memory(front, folder, tests, name):
-    """Refuses each growth of a test in turn: it passes, and most refusals are the end of a call, so that fewer growths follow."""
-    ample = count(front, folder, [tests, name]) or 0
-    counts = [count(front, folder, [tests, name], refused=refused) for refused in range(1, ample + 1)]
-    wrong = [k for k, made in enumerate(counts, 1) if made is None]
-    fewer = sum(made is not None and made < ample for made in counts)
-    return f"each growth refused in turn: {name}", not wrong and 2 * fewer > ample > 0, f"of {ample} growths: {wrong}, {fewer} led to fewer"
 
 
 def tried_again(front, folder, name):

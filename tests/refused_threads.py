@@ -6,6 +6,7 @@ import tempfile
 import time
 
 from check_transcript import Wrong, whole_run
+from one_worker import Run
 from plain_definition import network_of, plan_text
 from refused_memory import build_front, sweep
 
@@ -25,6 +26,7 @@ def refused_thread_rows(program, queens):
             return [("the libraries that refuse growths and threads build", False, failure or thread_failure)]
         counted = Counted(program, [growths, threads], folder)
         return [each_thread(counted, "triangle", TRIANGLE, range(1, MOST_WORKERS + 1)), each_thread(counted, "queen5_5", queens, (4,)),
+                signed_number(counted),
                 *growths_of_one_worker(program, growths), growths_of_workers(counted, "plan"), growths_of_workers(counted, "transcript"),
                 refused_pushes(program, folder)]
 
@@ -70,13 +72,17 @@ def each_thread(counted, title, data, numbers):
     return f"each of 1 to {max(numbers)} threads refused in turn: plan of {title}, {refused} refusals", not wrong, wrong[:3]
 
 
+def signed_number(counted):
+    got = [counted.run(["plan", word], TRIANGLE)[2:] for word in ("--workers=+7", "--workers=007")]
+    return "a number of workers with a sign or zeros before it", got == [(7, 7, 7)] * 2, got
+
+
 def growths_of_one_worker(program, growths):
-    """With one worker a run is the same each time; that its transcript is right is for transcripts.py. To start a thread takes
-    memory of the system's own; if that is refused, the thread is."""
-    words = ["transcript", "--workers", "1"]
-    done = subprocess.run([program, *words], input=TRIANGLE, capture_output=True, timeout=LIMIT)
-    for one, wanted in [(["plan", "--workers", "1"], (0, plan_text(TRIANGLE), b"")), (words, (done.returncode, done.stdout, done.stderr))]:
-        yield sweep(program, growths, one, TRIANGLE, wanted, or_else=THREADS)
+    """With one worker a run is the same each time, by the definition of looks and turns. To start a thread takes memory of the system's
+    own; if that is refused, the thread is."""
+    run = Run(network_of(TRIANGLE), 4)
+    for words, wanted in [(["plan"], plan_text(TRIANGLE)), (["transcript"], run.merged()), (["transcript", "--edition", "1"], run.text())]:
+        yield sweep(program, growths, [*words, "--workers", "1"], TRIANGLE, (0, wanted, b""), or_else=THREADS)
 
 
 def growths_of_workers(counted, command):

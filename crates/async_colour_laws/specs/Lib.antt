@@ -1,2 +1,3 @@
 pub mod Coloured
 pub mod Small
+pub mod net_core

@@ -33,9 +33,9 @@ pub use workers::plan_bytes;
 
 // What crates above name of lower ones.
 pub use answers::{
-    ColFault, Colouring, EventFault, Network, Payload, PoolFault, ReplayRefused, TextFault,
-    Transcript, WholeRefused, Wire, read_any, read_transcript, replay, replay_whole, stamped_text,
-    transcript_text,
+    Colouring, Network, Payload, PoolFault, ReplayRefused, WholeRefused, Wire, read_transcript,
+    replay, replay_whole, stamped_text,
 };
 pub use node_pool::{Gate, OpenGate, Options, Outcome, run_workers};
 pub use run_options::Edition;
+pub use stamps::{Counter, Entries, Entry, StampFull, Stamped, order, rising};

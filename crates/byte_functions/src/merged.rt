@@ -1,7 +1,7 @@
 //! The transcript of a run of worker threads in one order, with stamps.
 
 ghost use Rattle.std.specs.Prelude.{◌≡◌, All, IfOk, length, map};
-ghost use Rattle.node_pool.specs.Gathers.{gathered_of};
+ghost use Rattle.node_pool.specs.outcomes.Gathers.{gathered_of};
 ghost use Rattle.stamps.specs.Stamps.{Rises};
 ghost use Rattle.byte_functions.specs.Transcripts.{IsMergedText, stamped_of};
 

@@ -2,7 +2,7 @@
 
 ghost use Rattle.std.specs.Prelude.{◌≡◌, ◌<◌, ◌^◌, IfOk, MatchOption, OnOk, drop, length, map};
 ghost use Rattle.std.specs.BinaryHeap.{KeepsHeap, heap_items, heap_len};
-ghost use Rattle.node_pool.specs.Gathers.{gathered_of};
+ghost use Rattle.node_pool.specs.outcomes.Gathers.{gathered_of};
 ghost use Rattle.byte_functions.specs.Merge.{AreKeys, IsKeyAdded, IsTaken, NoneLeft, key_cmp};
 ghost use Rattle.byte_functions.specs.Transcripts.{stamped_of};
 

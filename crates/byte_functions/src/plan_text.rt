@@ -2,7 +2,7 @@
 
 ghost use Rattle.std.specs.Prelude.{◌≡◌, IfOk, map};
 ghost use Rattle.answers.specs.channel_plan.PlanText.{plan_of};
-ghost use Rattle.node_pool.specs.Gathers.{gathered_of};
+ghost use Rattle.node_pool.specs.outcomes.Gathers.{gathered_of};
 ghost use Rattle.byte_functions.specs.Colours.{merged_of};
 
 use answers::{Colouring, Memory, plan_text};

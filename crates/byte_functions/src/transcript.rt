@@ -2,7 +2,7 @@
 
 ghost use Rattle.std.specs.Prelude.{◌≡◌, All, IfOk, IfErr, length, map};
 ghost use Rattle.node_pool.specs.run_options.Ranges.{AreInRange};
-ghost use Rattle.node_pool.specs.Gathers.{gathered_of};
+ghost use Rattle.node_pool.specs.outcomes.Gathers.{gathered_of};
 ghost use Rattle.stamps.specs.Stamps.{Rises};
 ghost use Rattle.byte_functions.specs.Transcripts.{IsTextIn, IsTranscriptAnswer, entries_text, stamped_of};
 ghost use Rattle.byte_functions.specs.Workers.{IsFaultOfWorkers};

@@ -1,23 +1,42 @@
-//! The tests of the crates below but for those of colour steps, nodes, rounds and links (`node_checks`) and of worker
-//! threads (`worker_checks`): what no contract says. A module tests one crate, and is named after it; its name ends in
-//! `_checks`, since a module may not have the name of a library.
+//! The tests of the crates below `node_pool`: what no contract says and the built programs can't show (`tests/` has what
+//! they can). A module tests one crate, and is named after it; its name ends in `_checks`, since a module may not have
+//! the name of a library. They are in one crate, since each crate of tests takes a minute of the gate before its first
+//! function; `worker_checks` is apart, since it waits for `byte_functions`.
 #![tactic(auto)]
 
 #[cfg(test)]
-mod byte_functions_checks;
+mod alpha_core_checks;
 #[cfg(test)]
-mod channel_plan_checks;
+mod cole_vishkin_checks;
 #[cfg(test)]
-mod command_line_checks;
+mod colour_program_checks;
+#[cfg(test)]
+mod colour_rules_checks;
+#[cfg(test)]
+mod counted;
 #[cfg(test)]
 mod dimacs_col_checks;
 #[cfg(test)]
-mod fake_streams;
+mod forest_merge_checks;
 #[cfg(test)]
-mod interference_checks;
+mod forests_checks;
 #[cfg(test)]
-mod number_rows_checks;
+mod full_counters;
 #[cfg(test)]
-mod serving_checks;
+mod link_alone;
+#[cfg(test)]
+mod link_queue_checks;
+#[cfg(test)]
+mod link_threads;
+#[cfg(test)]
+mod net_core_checks;
+#[cfg(test)]
+mod node_api_checks;
+#[cfg(test)]
+mod pool_checks;
+#[cfg(test)]
+mod shift_down_checks;
+#[cfg(test)]
+mod sync_rounds_checks;
 #[cfg(test)]
 mod whole_streams_checks;

@@ -7,19 +7,19 @@ use Rattle.std.proofs.lemmas.List.{append-nil, get_or-set_same, get_or-set_other
 use Rattle.alpha_laws.specs.interference.Net.{Net, IsNetwork, IsVertex, degree_of, neighbour_of, back_port_of}
 use Rattle.alpha_laws.specs.node_api.Program.{Program, last_pulse_on}
 use Rattle.alpha_laws.specs.node_api.Laws.{IsProgram}
-use Rattle.stamp_laws.specs.alpha_core.Wire.{Wire}
-use Rattle.stamp_laws.specs.alpha_core.AlphaRefused.{AlphaRefused}
-use Rattle.stamp_laws.specs.alpha_core.View.{View, Node, port_at}
-use Rattle.stamp_laws.specs.alpha_core.Table.{is_due, refusal_of}
-use Rattle.stamp_laws.specs.alpha_core.Alpha.{reaction, reacts, unless_refused}
-use Rattle.stamp_laws.proofs.alpha_core.Cells.{taken-due}
+use Rattle.actor.specs.alpha_core.Wire.{Wire}
+use Rattle.actor.specs.alpha_core.AlphaRefused.{AlphaRefused}
+use Rattle.actor.specs.alpha_core.View.{View, Node, port_at}
+use Rattle.actor.specs.alpha_core.Table.{is_due, refusal_of}
+use Rattle.actor.specs.alpha_core.Alpha.{reaction, reacts, unless_refused}
+use Rattle.actor.proofs.alpha_core.Cells.{taken-due}
 use Rattle.alpha_laws.specs.Kept.{NodeKept, AllKept}
 use Rattle.alpha_laws.specs.Simulates.{Simulates, taken_over}
 use Rattle.alpha_laws.proofs.Across.{over}
 use Rattle.alpha_laws.proofs.Runs.{runs}
 use Rattle.alpha_laws.proofs.Claims.{simulates}
-use Rattle.stamp_laws.specs.actor.Aside.{Aside}
-use Rattle.stamp_laws.specs.actor.Node.{by_port, reacted_to, all_but_last}
+use Rattle.actor.specs.declared.aside.Aside.{Aside}
+use Rattle.actor.specs.Node.{by_port, reacted_to, all_but_last}
 use Rattle.gather_laws.specs.Laws.{EndsHaveMet}
 
 drop_rest : {A : Type 0} (xs ys zs : List A) → xs ++ ys ≡ zs → xs ++ drop (length xs) zs ≡ zs

@@ -6,7 +6,7 @@ use Rattle.std.proofs.lemmas.List.FromFn.{length-range_with_len}
 use Rattle.alpha_laws.specs.interference.Net.{Net, IsNetwork, count_of}
 use Rattle.alpha_laws.specs.interference.Counts.{sum_over_ports}
 use Rattle.alpha_laws.specs.node_api.Program.{Program}
-use Rattle.stamp_laws.specs.alpha_core.Wires.{payloads_of}
+use Rattle.actor.specs.alpha_core.Wires.{payloads_of}
 use Rattle.alpha_laws.proofs.Counts.{lists_counted}
 use Rattle.alpha_laws.proofs.Sums.{by_ports}
 use Rattle.gather_laws.specs.Outcome.{History, Outcome, IsOutcome, is_whole, link_in, no_history}

@@ -1,3 +1,7 @@
+pub mod MetNodes
+pub mod Steps
+pub mod Runs
+pub mod Clocks
 pub mod Asides
 pub mod Whole
 pub mod Counts

@@ -3,16 +3,16 @@ use Rattle.std.proofs.Common.{◌≡◌, ℕ, ◌<◌, true, List, refl, sym, ap
 use Rattle.std.specs.Prelude.{IsTrue}
 use Rattle.alpha_laws.specs.interference.Net.{Net, IsNetwork, IsVertex, count_of, degree_of, neighbour_of, back_port_of}
 use Rattle.alpha_laws.specs.node_api.Program.{Program, last_pulse_on}
-use Rattle.stamp_laws.specs.alpha_core.Stamped.{Stamped}
-use Rattle.stamp_laws.specs.alpha_core.StampedWires.{wires_of}
-use Rattle.stamp_laws.specs.alpha_core.View.{is_drained}
-use Rattle.stamp_laws.specs.net_core.State.{State, node_of}
-use Rattle.stamp_laws.specs.replay.Whole.{IsStampedReplay, IsWholeReplay}
-use Rattle.stamp_laws.specs.stamps.Merged.{StampedRow, IsMerge}
-use Rattle.stamp_laws.specs.stamps.Stamps.{Carries, Rises, put_in, taken_in}
-use Rattle.stamp_laws.specs.Laws.{HaveMet, IsReplayTo}
-use Rattle.stamp_laws.proofs.MetNodes.{met_written}
-use Rattle.stamp_laws.proofs.Clocks.{met_replay}
+use Rattle.actor.specs.alpha_core.Stamped.{Stamped}
+use Rattle.actor.specs.alpha_core.StampedWires.{wires_of}
+use Rattle.actor.specs.alpha_core.View.{is_drained}
+use Rattle.replay.specs.net_core.State.{State, node_of}
+use Rattle.replay.specs.Whole.{IsStampedReplay, IsWholeReplay}
+use Rattle.actor.specs.stamps.Merged.{StampedRow, IsMerge}
+use Rattle.actor.specs.stamps.Stamps.{Carries, Rises, put_in, taken_in}
+use Rattle.gather_laws.specs.MergedRuns.{HaveMet, IsReplayTo}
+use Rattle.gather_laws.proofs.MetNodes.{met_written}
+use Rattle.gather_laws.proofs.Clocks.{met_replay}
 use Rattle.gather_laws.specs.Outcome.{Outcome, IsOutcome, is_whole, link_in, link_of, node_in, stamped_in}
 use Rattle.gather_laws.proofs.Whole.{drained, empty}
 

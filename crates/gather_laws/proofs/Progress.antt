@@ -7,7 +7,7 @@ use Rattle.std.proofs.lemmas.List.{get_or_default, length-map}
 use Rattle.std.proofs.lemmas.List.FromFn.{length-range_with_len}
 use Rattle.alpha_laws.specs.interference.Net.{Net, IsNetwork, IsVertex, count_of}
 use Rattle.alpha_laws.specs.node_api.Program.{Program}
-use Rattle.stamp_laws.specs.alpha_core.View.{Alpha, is_drained}
+use Rattle.actor.specs.alpha_core.View.{Alpha, is_drained}
 use Rattle.alpha_laws.specs.Progress.{CanMove, IsWhole}
 use Rattle.alpha_laws.proofs.Moves.{moves}
 use Rattle.gather_laws.specs.Outcome.{

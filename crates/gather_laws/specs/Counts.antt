@@ -3,7 +3,7 @@ use Rattle.std.specs.Prelude.{◌≡◌, ℕ, ◌+◌, ◌*◌, Bool, true, leng
 use Rattle.alpha_laws.specs.interference.Net.{Net}
 use Rattle.alpha_laws.specs.interference.Counts.{edge_count_of}
 use Rattle.alpha_laws.specs.node_api.Program.{Program, last_pulse_on}
-use Rattle.stamp_laws.specs.alpha_core.Wires.{payloads_of}
+use Rattle.actor.specs.alpha_core.Wires.{payloads_of}
 use Rattle.alpha_laws.specs.Counts.{payloads_sent}
 use Rattle.gather_laws.specs.Outcome.{Outcome, IsOutcome, is_whole}
 

@@ -2,13 +2,13 @@
 use Rattle.std.specs.Prelude.{◌≡◌, ℕ, ◌<◌, List, ◌++◌, length, Option, Some, None}
 use Rattle.alpha_laws.specs.interference.Net.{Net, IsVertex, degree_of}
 use Rattle.alpha_laws.specs.node_api.Program.{Program, last_pulse_on}
-use Rattle.stamp_laws.specs.alpha_core.Wire.{Wire}
-use Rattle.stamp_laws.specs.alpha_core.View.{Node}
+use Rattle.actor.specs.alpha_core.Wire.{Wire}
+use Rattle.actor.specs.alpha_core.View.{Node}
 use Rattle.alpha_laws.specs.Kept.{NodeKept}
 use Rattle.alpha_laws.specs.Simulates.{Simulates, taken_over}
-use Rattle.stamp_laws.specs.actor.Aside.{Aside}
-use Rattle.stamp_laws.specs.actor.WhyAside.TheVariants.{Refused}
-use Rattle.stamp_laws.specs.actor.Node.{by_port, reacted_to, IsAside}
+use Rattle.actor.specs.declared.aside.Aside.{Aside}
+use Rattle.actor.specs.declared.aside.WhyAside.TheVariants.{Refused}
+use Rattle.actor.specs.Node.{by_port, reacted_to, IsAside}
 
 -- Each node keeps its links with the lists that its ends put and took, but for a wire that it refused and set aside, if
 -- it did; and what was put on each link is what was taken from it, followed by what it holds.

@@ -1,3 +1,4 @@
+pub mod MergedRuns
 pub mod Outcome
 pub mod Laws
 pub mod Whole

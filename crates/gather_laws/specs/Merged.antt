@@ -2,9 +2,9 @@
 use Rattle.std.specs.Prelude.{◌≡◌, ℕ, true, List}
 use Rattle.alpha_laws.specs.interference.Net.{Net, IsVertex, count_of}
 use Rattle.alpha_laws.specs.node_api.Program.{Program}
-use Rattle.stamp_laws.specs.net_core.State.{State, node_of}
-use Rattle.stamp_laws.specs.replay.Whole.{IsWholeReplay}
-use Rattle.stamp_laws.specs.stamps.Merged.{StampedRow, IsMerge}
+use Rattle.replay.specs.net_core.State.{State, node_of}
+use Rattle.replay.specs.Whole.{IsWholeReplay}
+use Rattle.actor.specs.stamps.Merged.{StampedRow, IsMerge}
 use Rattle.gather_laws.specs.Outcome.{Outcome, IsOutcome, is_whole, node_in, stamped_in}
 
 -- With a transcript, the entries of all nodes, in the order of their stamps and then of their vertices, are a whole

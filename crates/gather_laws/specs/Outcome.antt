@@ -3,19 +3,19 @@ use Rattle.std.specs.Prelude.{◌≡◌, ℕ, ◌-◌, ◌<◌, ◌≤◌, Bool,
 use Rattle.std.specs.Prelude.{List, [], ◌∷◌, ◌++◌, map, length, slice_index_or}
 use Rattle.alpha_laws.specs.interference.Net.{Net, IsVertex, count_of, vertices, degree_of, neighbour_of, back_port_of}
 use Rattle.alpha_laws.specs.node_api.Program.{Program, last_pulse_on}
-use Rattle.stamp_laws.specs.alpha_core.Wire.{Wire}
-use Rattle.stamp_laws.specs.alpha_core.Stamped.{Stamped}
-use Rattle.stamp_laws.specs.alpha_core.StampedWires.{wires_of}
-use Rattle.stamp_laws.specs.alpha_core.View.{Alpha, Node, is_drained}
-use Rattle.stamp_laws.specs.alpha_core.Program.{start_node}
+use Rattle.actor.specs.alpha_core.Wire.{Wire}
+use Rattle.actor.specs.alpha_core.Stamped.{Stamped}
+use Rattle.actor.specs.alpha_core.StampedWires.{wires_of}
+use Rattle.actor.specs.alpha_core.View.{Alpha, Node, is_drained}
+use Rattle.actor.specs.alpha_core.Program.{start_node}
 use Rattle.alpha_laws.specs.Simulates.{Simulates}
-use Rattle.stamp_laws.specs.entries.Entry.{Entry}
-use Rattle.stamp_laws.specs.actor.Written.{IsTranscript}
-use Rattle.stamp_laws.specs.stamps.Merged.{StampedRow, IsMerge}
-use Rattle.stamp_laws.specs.stamps.Stamps.{Carries, StampedEntry, Rises, bare_of, put_in, taken_in}
-use Rattle.stamp_laws.specs.net_core.State.{Link}
-use Rattle.stamp_laws.specs.replay.Whole.{IsStampedReplay}
-use Rattle.stamp_laws.specs.Laws.{IsReplayTo}
+use Rattle.actor.specs.entries.Entry.{Entry}
+use Rattle.actor.specs.Written.{IsTranscript}
+use Rattle.actor.specs.stamps.Merged.{StampedRow, IsMerge}
+use Rattle.actor.specs.stamps.Stamps.{Carries, StampedEntry, Rises, bare_of, put_in, taken_in}
+use Rattle.replay.specs.net_core.State.{Link}
+use Rattle.replay.specs.Whole.{IsStampedReplay}
+use Rattle.gather_laws.specs.MergedRuns.{IsReplayTo}
 
 -- One direction of a link after the run: all that was put on it, what was taken from it, and what it still holds, each
 -- wire with the stamp of its put.

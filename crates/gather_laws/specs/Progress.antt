@@ -2,7 +2,7 @@
 use Rattle.std.specs.Prelude.{◌≡◌, ◌⊎◌, ◌↔◌, ℕ, ◌<◌, ◌≤◌, Bool, true, List}
 use Rattle.alpha_laws.specs.interference.Net.{Net, IsVertex}
 use Rattle.alpha_laws.specs.node_api.Program.{Program}
-use Rattle.stamp_laws.specs.alpha_core.Wire.{Wire}
+use Rattle.actor.specs.alpha_core.Wire.{Wire}
 use Rattle.alpha_laws.specs.Counts.{events_made, events_of_run}
 use Rattle.alpha_laws.specs.Progress.{CanMove, HasEnded}
 use Rattle.gather_laws.specs.Outcome.{Outcome, IsOutcome, is_whole, link_in, link_into, node_in}

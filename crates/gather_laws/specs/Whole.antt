@@ -2,7 +2,7 @@
 use Rattle.std.specs.Prelude.{◌≡◌, ℕ, ◌<◌, Bool, true, IsTrue, []}
 use Rattle.alpha_laws.specs.interference.Net.{Net, IsVertex, degree_of, neighbour_of}
 use Rattle.alpha_laws.specs.node_api.Program.{Program, last_pulse_on}
-use Rattle.stamp_laws.specs.alpha_core.View.{is_halted}
+use Rattle.actor.specs.alpha_core.View.{is_halted}
 use Rattle.alpha_laws.specs.Simulates.{IsCompleteOn}
 use Rattle.gather_laws.specs.Outcome.{Outcome, IsOutcome, is_whole, link_in, node_in}
 

@@ -8,6 +8,13 @@
 //! (`specs/Counts.antt`). If it isn't, one of its nodes can go on (`specs/Progress.antt`). With a transcript the
 //! entries of all nodes, in the order of their stamps, are one run (`merged` of `IsOutcome`, `specs/Merged.antt`).
 //!
+//! That is the theorem of the one merged run. A node keeps its stamps by each event (`events_keep_stamps` of `stamps`).
+//! Once all ends have met, each take of a link has a greater stamp than its put (`met_nodes_are_written`), so the
+//! entries in the order of their stamps are a replay that leads to the nodes and links of the run
+//! (`merged_runs_replay`), and each has the stamp that the rows before it give it (`met_runs_replay`). If the run is
+//! whole, `replay_whole` accepts them (`whole_runs_replay`, with `whole_replays_are_exact` of `replay`).
+//! `specs/MergedRuns.antt` has what these laws say.
+//!
 //! ```text
 //! gather_laws::laws::met_nodes_simulate::<S, M, E>(); // brings the law into a proof
 //! gather_laws::laws::whole_outcomes_are_complete::<S, M, E>();

@@ -7,8 +7,8 @@ use Rattle.std.proofs.lemmas.Bool.{cases_eq}
 use Rattle.std.proofs.lemmas.List.{length-map, length_push, map-append}
 use Rattle.std.proofs.lemmas.List.Elements.{All-nil, All-push}
 use Rattle.std.proofs.lemmas.Option.{slice_get-get_or}
-use Rattle.node_pool.specs.Rows.{row_at}
-use Rattle.node_pool.proofs.ReadLists.{at_old, at_new, range_next}
+use Rattle.outcomes.specs.Rows.{row_at}
+use Rattle.outcomes.proofs.ReadLists.{at_old, at_new, range_next}
 
 module _ {A : Type 0} (P : A → Type 0) where
   pub all_none : (new : List A) → new ≡ [] → All P new

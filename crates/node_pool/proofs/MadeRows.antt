@@ -4,14 +4,14 @@ use Rattle.std.proofs.Common.{◌≡◌, ℕ, zero, suc, ◌+◌, ◌-◌, ◌<�
 use Rattle.std.proofs.lemmas.List.{get_or-map, length-map}
 use Rattle.std.proofs.lemmas.Option.{slice_get-get_or}
 use Rattle.atomic_table.specs.Seated.{TableId}
-use Rattle.alpha_laws.specs.interference.Net.{Net, IsNetwork, IsVertex, count_of, degree_of, neighbour_of, back_port_of}
+use Rattle.outcomes.specs.interference.Net.{Net, IsNetwork, IsVertex, count_of, degree_of, neighbour_of, back_port_of}
 use Rattle.pool.specs.link_queue.PutSide.{PutSide}
 use Rattle.pool.specs.link_queue.TakeSide.{TakeSide}
 use Rattle.pool.specs.link_queue.Link.{Link}
 use Rattle.pool.specs.link_queue.Ends.{link_capacity}
 use Rattle.pool.specs.link_rule.LinkName.{LinkName}
 use Rattle.pool.specs.actor.Tables.{IsEndAt, table_of, tables_of, table_at}
-use Rattle.node_pool.specs.Rows.{AreCrossed, row_at, thing_at}
+use Rattle.outcomes.specs.Rows.{AreCrossed, row_at, thing_at}
 use Rattle.node_pool.specs.Makes.{AreLinksOf, AreMade}
 use Rattle.node_pool.specs.News.{AreNewEnds, AreNewPutsFrom, AreNewTakesTo}
 use Rattle.node_pool.proofs.Growth.{below, there}

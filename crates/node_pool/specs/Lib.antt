@@ -1,9 +1,6 @@
-pub mod Gathers
-pub mod Rows
 pub mod Makes
 pub mod News
-pub mod Meets
-pub mod Full
 pub mod run_options
 pub mod pool
 pub mod gather_laws
+pub mod outcomes

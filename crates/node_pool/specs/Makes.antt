@@ -1,12 +1,12 @@
 -- The links that are made, with their ends.
 use Rattle.std.specs.Prelude.{◌≡◌, ℕ, List, length, Some, slice_get}
-use Rattle.alpha_laws.specs.interference.Net.{Net, IsVertex}
+use Rattle.outcomes.specs.interference.Net.{Net, IsVertex}
 use Rattle.pool.specs.link_rule.Legal.{name_of}
 use Rattle.pool.specs.link_queue.PutSide.{PutSide}
 use Rattle.pool.specs.link_queue.TakeSide.{TakeSide}
 use Rattle.pool.specs.link_queue.Link.{Link}
 use Rattle.pool.specs.link_queue.Ends.{IsNewPutEnd, IsNewTakeEnd, link_capacity}
-use Rattle.node_pool.specs.Rows.{HasShape, thing_at}
+use Rattle.outcomes.specs.Rows.{HasShape, thing_at}
 
 module _ {P T : Type 0} (net : Net) (capacity : ℕ) where
   -- links of this capacity, out of v by its first n ports, with their new ends

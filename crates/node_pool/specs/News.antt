@@ -1,12 +1,12 @@
 -- Ends of a run at which nothing was put or taken.
 use Rattle.std.specs.Prelude.{◌≡◌, ℕ, List, [], length, Some, slice_get}
 use Rattle.atomic_table.specs.Seated.{TableId}
-use Rattle.alpha_laws.specs.interference.Net.{Net, IsVertex, back_port_of, degree_of, neighbour_of}
+use Rattle.outcomes.specs.interference.Net.{Net, IsVertex, back_port_of, degree_of, neighbour_of}
 use Rattle.pool.specs.link_queue.PutSide.{PutSide}
 use Rattle.pool.specs.link_queue.TakeSide.{TakeSide}
 use Rattle.pool.specs.link_queue.Ends.{put_list, put_name, take_name, taken_list}
 use Rattle.pool.specs.actor.Tables.{IsEndAt}
-use Rattle.node_pool.specs.Rows.{HasShape, thing_at}
+use Rattle.outcomes.specs.Rows.{HasShape, thing_at}
 
 module _ {T : Type 0} (net : Net) (tables : List (List TableId)) where
   -- the end that puts, of the link out of v by port i, before the first put

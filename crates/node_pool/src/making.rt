@@ -1,10 +1,10 @@
 //! The links of a network.
 
 ghost use Rattle.std.specs.Prelude.{◌≡◌, ◌<◌, ◌≤◌, IfOk, map};
-ghost use Rattle.alpha_laws.specs.interference.Net.{IsVertex, degree_of};
+ghost use Rattle.outcomes.specs.interference.Net.{IsVertex, degree_of};
 ghost use Rattle.node_pool.specs.Makes.{AreLinksOf, AreMade};
 
-use alpha_laws::{Memory, Network, NodeProgram};
+use outcomes::{Memory, Network, NodeProgram};
 use pool::{Link, PutEnd, TakeEnd};
 use run_options::MAX_CAPACITY;
 use std::alloc::Global;

@@ -2,16 +2,14 @@
 
 ghost use Rattle.std.specs.Prelude.{◌≡◌, ◌≢◌, ◌↔◌, IfErr, IfOk, IsTrue, Result, Err, map};
 ghost use Rattle.pool.specs.actor.Tables.{tables_of};
-ghost use Rattle.gather_laws.specs.Outcome.{IsOutcome};
+ghost use Rattle.outcomes.specs.gather_laws.Outcome.{IsOutcome};
 ghost use Rattle.pool.specs.declared.fault.PoolFault.TheVariants.{BadOptions};
 ghost use Rattle.run_options.specs.Ranges.{AreInRange};
 ghost use Rattle.node_pool.specs.Makes.{AreMade};
 
-use crate::gathering::gathered;
 use crate::making::{Made, make_links};
-use crate::outcome::Outcome;
 use crate::starting::start_nodes;
-use alpha_laws::{Network, NodeProgram};
+use outcomes::{Network, NodeProgram, Outcome, gathered, some_full};
 use pool::{Gate, Links, PoolFault, Wiring, run_nodes};
 use run_options::{MAX_CAPACITY, MAX_WORKERS, Options};
 use std::alloc::Global;
@@ -60,7 +58,10 @@ fn run_made<J: Wiring + Send + Sync, P: NodeProgram, G: Gate + Sync, R: Threads 
         options.workers,
         options.turns,
     )?;
-    gathered(rt, alloc, net, links.into_rows(), nodes)
+    if some_full(&nodes) {
+        return Err(PoolFault::StampFull);
+    }
+    Ok(gathered(rt, alloc, net, links.into_rows(), nodes)?)
 }
 
 /// Runs all nodes of a network asynchronously, on worker threads with links between the nodes.

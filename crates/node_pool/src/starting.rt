@@ -1,13 +1,12 @@
 //! The nodes of a network, each with the ends of its links.
 
 ghost use Rattle.std.specs.Prelude.{◌≡◌, ◌∷◌, ◌++◌, ◌<◌, [], All, IfOk, map, reverse, vec_len};
-ghost use Rattle.alpha_laws.specs.interference.Net.{IsVertex, vertices};
+ghost use Rattle.outcomes.specs.interference.Net.{IsVertex, vertices};
 ghost use Rattle.pool.specs.alpha_core.Program.{start_node};
 ghost use Rattle.node_pool.specs.News.{AreNewEnds, AreNewPutsFrom, AreNewTakesTo};
 
-use crate::cross::crossed;
 use crate::wires::{wired_puts, wired_takes};
-use alpha_laws::{Memory, Network, NodeProgram};
+use outcomes::{Memory, Network, NodeProgram, crossed};
 use pool::{Node, PutEnd, TakeEnd, Wiring};
 use std::alloc::Global;
 

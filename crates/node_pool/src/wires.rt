@@ -1,13 +1,13 @@
 //! Ends that know the place of their link.
 
 ghost use Rattle.std.specs.Prelude.{◌≡◌, ◌≤◌, [], All, IfOk, map};
-ghost use Rattle.alpha_laws.specs.interference.Net.{IsVertex, degree_of};
-ghost use Rattle.alpha_laws.below.interference.specs.declared.limits.TheConstants.{MAX_DEGREE};
+ghost use Rattle.outcomes.specs.interference.Net.{IsVertex, degree_of};
+ghost use Rattle.outcomes.below.interference.specs.declared.limits.TheConstants.{MAX_DEGREE};
 ghost use Rattle.pool.specs.link_queue.Ends.{put_list, taken_list};
 ghost use Rattle.pool.specs.actor.Node.{links_in, links_out};
 ghost use Rattle.node_pool.specs.News.{AreNewPutsFrom, AreNewTakesTo};
 
-use alpha_laws::{Network, NodeProgram};
+use outcomes::{Network, NodeProgram};
 use pool::{PutEnd, TakeEnd, WiredPut, WiredTake, Wiring};
 use std::alloc::{AllocError, Global};
 

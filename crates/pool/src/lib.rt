@@ -6,7 +6,7 @@
 //! leaves is a fact of the node's type (`actor`).
 //!
 //! In reading order: `looks` is what a worker does, `signals` what workers see of one another, `run` starts and joins
-//! the workers, and `told` says which fault a run has. `node_pool` makes nodes and links, and gathers them.
+//! the workers, and `told` says which fault a run has. `node_pool` makes nodes and links, `outcomes` gathers them.
 //!
 //! ```text
 //! let nodes = run_nodes(&rt, alloc, &links, &OpenGate, nodes, workers, turns)?;   // ascending

@@ -26,9 +26,3 @@ pub use command_line::Program;
 pub use process::serve_process;
 pub use serving::serve;
 pub use words::serve_all;
-
-// What crates above name of lower ones.
-pub use byte_functions::{
-    EventFault, PlanFault, PoolFault, check_bytes, events_bytes, fault_report, forest_bytes,
-    plain_bytes,
-};

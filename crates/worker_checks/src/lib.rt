@@ -1,13 +1,9 @@
-//! The tests of nodes on worker threads, of the plan and the transcript that they make, and of entries, their texts and
+//! The tests of nodes on worker threads, of the plan and the transcript that they make, and of stamped entries and
 //! their replay: what no contract says. Each run of workers ends by a count of looks, on every schedule.
 #![tactic(auto)]
 
 #[cfg(test)]
-mod entries_checks;
-#[cfg(test)]
 mod meeting;
-#[cfg(test)]
-mod memory_checks;
 #[cfg(test)]
 mod node_pool_checks;
 #[cfg(test)]
@@ -22,5 +18,3 @@ mod stamp_checks;
 mod stealing;
 #[cfg(test)]
 mod stopped_checks;
-#[cfg(test)]
-mod transcript_checks;

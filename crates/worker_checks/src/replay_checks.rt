@@ -4,9 +4,8 @@
 ghost use Rattle.std.specs.Prelude.{◌≡◌};
 ghost use Rattle.byte_functions.specs.interference.Net.{count_of};
 
-use byte_functions::{Network, ReplayRefused, Wire, read_transcript, replay};
+use byte_functions::{Entry, Network, ReplayRefused, Wire, read_transcript, replay};
 use net_core::{NetState, RunRefused};
-use stamps::Entry;
 use std::alloc::Global;
 use std::test::Fail;
 use sync_rounds::{Best, Greatest};

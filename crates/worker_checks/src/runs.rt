@@ -4,8 +4,9 @@ ghost use Rattle.std.specs.Prelude.{◌≡◌, length};
 ghost use Rattle.byte_functions.specs.interference.Net.{IsVertex, degree_of, vertices};
 ghost use Rattle.byte_functions.specs.gather_laws.Outcome.{row_in};
 
-use byte_functions::{Colouring, Network, OpenGate, Options, Outcome, Payload, run_workers};
-use stamps::Stamped;
+use byte_functions::{
+    Colouring, Network, OpenGate, Options, Outcome, Payload, Stamped, run_workers,
+};
 use std::alloc::Global;
 use std::sync::Wait;
 use std::test::Fail;

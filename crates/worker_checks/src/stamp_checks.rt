@@ -1,15 +1,14 @@
-//! The one merged run of two nodes that only close their links, lists of stamped entries that are none, and the merged
-//! runs of workers on small networks.
+//! The one merged run of two nodes that only close their links, lists of stamped entries that are none, the merged runs
+//! of workers on small networks, and a counter at its end.
 
 use crate::replay_checks::MERGED;
 use crate::runs::small;
 use byte_functions::{
-    Network, OpenGate, Options, ReplayRefused, WholeRefused, Wire, replay_whole, run_workers,
-    stamped_text,
+    Counter, Entry, Network, OpenGate, Options, ReplayRefused, StampFull, WholeRefused, Wire,
+    order, replay_whole, rising, run_workers, stamped_text,
 };
 use net_core::RunRefused;
-use stamps::{Counter, Entry, StampFull, StampTable, order, rising};
-use std::alloc::{AllocError, Global};
+use std::alloc::Global;
 use std::sync::Wait;
 use std::test::Fail;
 use std::thread::Threads;
@@ -138,46 +137,6 @@ fn merged_runs_of_workers_are_replayed_whole(rt: HostRuntime) -> Result<(), Fail
             );
         }
     }
-    Ok(())
-}
-
-fn table_of(alloc: Global, rows: &[Row]) -> Result<StampTable, AllocError> {
-    let mut table = StampTable::new(alloc);
-    for row in rows {
-        if table.add(alloc, row).is_err() {
-            return Err(AllocError);
-        }
-    }
-    Ok(table)
-}
-
-#[test]
-fn entries_of_all_nodes_are_put_in_order(rt: HostRuntime) -> Result<(), Fail> {
-    let alloc = rt.alloc();
-    let rows = whole();
-    let first = vec![in alloc; (1, rows[0].2), (4, rows[3].2)]?;
-    let second = vec![in alloc; (2, rows[1].2), (3, rows[2].2)]?;
-    let none: Vec<(u64, Entry<Best>)> = Vec::new(alloc);
-    let lists = vec![in alloc; first, second, none]?;
-    assert!(rt; rising(&lists));
-    let ordered = order(alloc, &lists)?;
-    assert!(rt; ordered.as_slice() == rows.as_slice());
-    // Equal stamps of two nodes come by vertex, and those of one node don't rise.
-    let late = vec![in alloc; (u64::MAX, rows[0].2)]?;
-    let early = vec![in alloc; (1, rows[1].2), (u64::MAX, rows[2].2)]?;
-    let lists = vec![in alloc; late, early]?;
-    assert!(rt; rising(&lists));
-    let ordered = order(alloc, &lists)?;
-    let by_vertex = [take(1, 2, 1), put(u64::MAX, 1, 2), put(u64::MAX, 2, 1)];
-    assert!(rt; ordered.as_slice() == by_vertex.as_slice());
-    let fallen = vec![in alloc; vec![in alloc; (2, rows[0].2), (2, rows[3].2)]?]?;
-    assert!(rt; !rising(&fallen));
-    let table = table_of(alloc, &rows[..3])?;
-    assert!(rt; table.stamp_of(1) == 1 && table.stamp_of(2) == 3 && table.stamp_of(3) == 0);
-    assert!(rt; table.is_in_place(&rows[3]) && !table.is_in_place(&take(5, 1, 2)));
-    // No row of a vertex follows the greatest stamp.
-    let table = table_of(alloc, &[put(u64::MAX, 1, 2)])?;
-    assert!(rt; !table.is_in_place(&take(0, 1, 2)) && !table.is_in_place(&take(u64::MAX, 1, 2)));
     Ok(())
 }
 

@@ -2,8 +2,9 @@
 //! did.
 
 use crate::runs::{holds, run_of_one, triangle};
-use byte_functions::{Colouring, Network, OpenGate, Options, Payload, Wire, run_workers};
-use stamps::{Entries, Entry, Stamped};
+use byte_functions::{
+    Colouring, Entries, Entry, Network, OpenGate, Options, Payload, Stamped, Wire, run_workers,
+};
 use std::alloc::Global;
 use std::sync::Wait;
 use std::test::Fail;

@@ -2,7 +2,7 @@ use Rattle.std.proofs.Common.{◌∙◌, ◌++◌, ◌∷◌, [], ap, codes, map
 use Rattle.std.proofs.lemmas.List.{flat_map_more, length-map}
 use Rattle.answers.specs.colour_rules.Words.{number_in, word_in}
 use Rattle.answers.specs.transcripts.TranscriptText.{first_line_of, stamped_row_text}
-use Rattle.node_pool.specs.Gathers.{gathered_of}
+use Rattle.node_pool.specs.outcomes.Gathers.{gathered_of}
 use Rattle.stamps.specs.Merged.{IsMerge, list_of}
 use Rattle.byte_functions.specs.Transcripts.{stamped_of}
 use Rattle.byte_functions.proofs.Merge.{IsMerging, fewer, merging-done, merging-init, merging-step}

@@ -4,7 +4,7 @@ use Rattle.std.specs.List.{sum_by}
 use Rattle.answers.specs.colour_rules.Payload.{Payload}
 use Rattle.answers.specs.colour_rules.Words.{number_in, word_in}
 use Rattle.answers.specs.transcripts.TranscriptText.{stamped_transcript_of}
-use Rattle.node_pool.specs.Gathers.{gathered_of}
+use Rattle.node_pool.specs.outcomes.Gathers.{gathered_of}
 use Rattle.stamps.specs.Merged.{StampedRow}
 use Rattle.byte_functions.specs.Merge.{AreKeys}
 use Rattle.byte_functions.specs.Transcripts.{stamped_of}

@@ -5,7 +5,7 @@ use Rattle.std.proofs.lemmas.Iterator.Consumers.{YieldsList-end}
 use Rattle.std.proofs.lemmas.List.{flat_map_more}
 use Rattle.std.proofs.lemmas.List.Folds.{flat_map-map}
 use Rattle.answers.specs.colour_rules.Words.{number_in, word_in}
-use Rattle.node_pool.specs.Gathers.{gathered_of}
+use Rattle.node_pool.specs.outcomes.Gathers.{gathered_of}
 use Rattle.answers.specs.transcripts.TranscriptText.{first_line, row_text}
 use Rattle.byte_functions.specs.Transcripts.{rows_in}
 use Rattle.byte_functions.proofs.transcript.text_of_actors.Goals as goal

@@ -1,6 +1,6 @@
 use Rattle.std.proofs.Common.{◌∙◌, All, ap, length, map, subst, sym}
 use Rattle.std.proofs.lemmas.List.{length-map}
-use Rattle.node_pool.specs.Gathers.{gathered_of}
+use Rattle.node_pool.specs.outcomes.Gathers.{gathered_of}
 use Rattle.stamps.specs.Stamps.{Rises}
 use Rattle.answers.specs.colour_rules.Program.{colouring}
 use Rattle.node_pool.specs.gather_laws.Merged.{WholeOutcomesReplay}

@@ -1,6 +1,6 @@
 use Rattle.std.proofs.Common.{◌≡◌, length, map, arith}
 use Rattle.std.proofs.lemmas.List.{length-map}
-use Rattle.alpha_laws.specs.interference.Net.{count_of, degree_of}
+use Rattle.outcomes.specs.interference.Net.{count_of, degree_of}
 use Rattle.node_pool.specs.Makes.{AreLinksOf}
 use Rattle.node_pool.proofs.Growth.{read_more, rows_more}
 use Rattle.node_pool.proofs.MadeRows.{all_made}

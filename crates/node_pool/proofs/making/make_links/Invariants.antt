@@ -1,6 +1,6 @@
 use Rattle.std.proofs.Common.{◌≡◌, ◌≤◌, ℕ, map, vec_len}
-use Rattle.alpha_laws.specs.interference.Net.{degree_of}
-use Rattle.node_pool.specs.Rows.{row_at}
+use Rattle.outcomes.specs.interference.Net.{degree_of}
+use Rattle.outcomes.specs.Rows.{row_at}
 use Rattle.node_pool.specs.Makes.{AreLinksOf}
 use Rattle.node_pool.proofs.making.make_links.Given as goal
 

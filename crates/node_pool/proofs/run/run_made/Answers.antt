@@ -1,10 +1,9 @@
 use Rattle.std.proofs.Common.{◌≤◌, map, sym, ◌∙◌, subst}
 use Rattle.std.specs.Prelude.{All}
 use Rattle.pool.specs.link_queue.Ends.{link_capacity}
-use Rattle.gather_laws.specs.Outcome.{IsOutcome}
+use Rattle.outcomes.specs.gather_laws.Outcome.{IsOutcome}
 use Rattle.node_pool.specs.Makes.{AreMade}
 use Rattle.node_pool.proofs.MadeRows.{made_are_new, made_within}
-use Rattle.node_pool.proofs.Sides.{ok_says}
 use Rattle.node_pool.proofs.run.run_made.Goals as goal
 
 -- the ends of the links that were made are those of the run
@@ -24,9 +23,7 @@ gathered-requires-clause-tables g c κs within = c.into_rows.ensures.picked
 pub returns-clause-outcome : goal.returns-clause-outcome
 returns-clause-outcome g c =
     let capacity = c.args.options.capacity in
-    ok_says c.gathered.result
-    (λ outcome are. subst (λ t. IsOutcome g.P.NodeProgram.program c.args.net.now capacity t outcome) c.requires.transcript
-    (are capacity (subst (λ rows. All (λ row. All (λ link. link_capacity link ≤ capacity) row.items) rows.items)
+    subst (λ t. IsOutcome g.P.NodeProgram.program c.args.net.now capacity t c.in_ok-gathered.field-0) c.requires.transcript
+    (c.in_ok-gathered.ensures.outcome capacity (subst (λ rows. All (λ row. All (λ link. link_capacity link ≤ capacity) row.items) rows.items)
     (sym (c.into_rows.ensures.rows ∙ c.new-links.ensures.rows))
-    (made_within c.args.net.now capacity (λ row. row.items) c.args.made.links.items _ _ c.requires.made))))
-    c.gathered.ensures.outcome
+    (made_within c.args.net.now capacity (λ row. row.items) c.args.made.links.items _ _ c.requires.made)))

@@ -2,9 +2,9 @@ use Rattle.std.proofs.Common.{◌≡◌, ◌-◌, ◌+◌, ◌++◌, length, map
 use Rattle.std.specs.Prelude.{reverse}
 use Rattle.std.specs.List.{range_with_len}
 use Rattle.std.proofs.lemmas.List.{length-map, length_push}
-use Rattle.alpha_laws.specs.interference.Net.{IsNetwork, count_of, vertices}
+use Rattle.outcomes.specs.interference.Net.{IsNetwork, count_of, vertices}
 use Rattle.pool.specs.alpha_core.Program.{start_node}
-use Rattle.node_pool.specs.Rows.{AreCrossed}
+use Rattle.outcomes.specs.Rows.{AreCrossed}
 use Rattle.node_pool.specs.News.{AreNewPutsFrom, AreNewTakesTo}
 use Rattle.node_pool.proofs.Growth.{all_more, all_none, last_says, rows_less}
 use Rattle.node_pool.proofs.MadeRows.{puts_from, takes_to}

@@ -1,9 +1,9 @@
 use Rattle.std.proofs.Common.{◌≡◌, ◌-◌, ◌≤◌, ◌++◌, ℕ, map, vec_len}
 use Rattle.std.specs.Prelude.{All, reverse}
 use Rattle.std.specs.List.{range_with_len}
-use Rattle.alpha_laws.specs.interference.Net.{vertices}
+use Rattle.outcomes.specs.interference.Net.{vertices}
 use Rattle.pool.specs.alpha_core.Program.{start_node}
-use Rattle.node_pool.specs.Rows.{row_at}
+use Rattle.outcomes.specs.Rows.{row_at}
 use Rattle.node_pool.specs.News.{AreNewPutsFrom, AreNewTakesTo}
 use Rattle.node_pool.proofs.starting.start_nodes.Given as goal
 

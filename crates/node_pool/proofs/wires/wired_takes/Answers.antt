@@ -3,7 +3,7 @@ use Rattle.std.proofs.lemmas.List.{length_push}
 use Rattle.std.proofs.lemmas.List.Elements.{All-push, All-same}
 use Rattle.std.proofs.lemmas.Iterator.Consumers.{YieldsList-turn}
 use Rattle.std.proofs.lemmas.Iterator.Adapters.{YieldsList-from_vec}
-use Rattle.alpha_laws.specs.interference.Net.{back_port_of, neighbour_of}
+use Rattle.outcomes.specs.interference.Net.{back_port_of, neighbour_of}
 use Rattle.pool.specs.link_queue.Ends.{taken_list}
 use Rattle.node_pool.proofs.Growth.{both, handed, place_more}
 use Rattle.node_pool.proofs.MadeRows.{same_place}

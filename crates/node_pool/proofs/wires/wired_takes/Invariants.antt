@@ -1,7 +1,7 @@
 use Rattle.std.proofs.Common.{◌≡◌, ℕ, [], length, map}
 use Rattle.std.specs.Prelude.{All}
 use Rattle.std.specs.List.{range_with_len}
-use Rattle.alpha_laws.specs.interference.Net.{back_port_of, neighbour_of}
+use Rattle.outcomes.specs.interference.Net.{back_port_of, neighbour_of}
 use Rattle.pool.specs.link_queue.Ends.{taken_list}
 use Rattle.node_pool.proofs.wires.wired_takes.Given as goal
 

@@ -1,0 +1,6 @@
+use Rattle.std.proofs.Common.{◌≡◌}
+use Rattle.colour_program.specs.colour_rules.Node.{ports}
+use Rattle.checks.proofs.colour_program_checks.twins.go_on_alike.Given as goal
+
+abbrev pub invariant-loop-pulse : goal.invariant-loop-pulse
+invariant-loop-pulse l = (ports l.one ≡ 1) × (ports l.other ≡ 1)

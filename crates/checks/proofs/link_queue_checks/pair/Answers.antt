@@ -1,0 +1,5 @@
+use Rattle.checks.proofs.LinkRows.{pair_is}
+use Rattle.checks.proofs.link_queue_checks.pair.Goals as goal
+
+pub returns : goal.returns
+returns g c = pair_is c.new.result c.new.ensures.made

@@ -1,0 +1,277 @@
+//! Refusals by value, by what is missing and by the node itself, and that they leave the node as it was.
+
+ghost use Rattle.std.specs.Prelude.{◌≡◌, IfOk};
+ghost use Rattle.alpha_core.specs.interference.Net.{IsVertex};
+ghost use Rattle.colour_program.specs.colour_rules.Node.{ports};
+
+use crate::colour_program_checks::fed::{feed, made};
+use alpha_core::{Memory, Network, Outbox, Refused};
+use colour_program::Payload::{Chosen, Colour, Hello, Label};
+use colour_program::rules::{
+    AFTER_HALT, COLOUR_RANGE, FOREST_RANGE, MISSING, WRONG_KIND, WRONG_ROLE,
+};
+use colour_program::{Colouring, Payload};
+use std::alloc::Global;
+use std::process::Abort;
+use std::test::Fail;
+
+// A pulse, and what comes to the two ports of a node at it.
+type Came = (u32, [Option<Payload>; 2]);
+
+// A triangle with identifiers 1, 2 and 30: two forests, degree 2, last pulse 30. Vertex 1 has two
+// parents, vertex 2 a child and a parent, vertex 3 two children.
+static IDS: [u128; 3] = [1, 2, 30];
+
+static EDGES: [(u32, u32); 3] = [(1, 2), (1, 3), (2, 3)];
+
+// What comes to its vertices before: to vertex 1 in three turns, to vertex 2 in one, to vertex 3 in two.
+static PULSES: [u32; 6] = [1, 2, 24, 1, 1, 2];
+
+static PAYLOADS: [[Option<Payload>; 2]; 6] = [
+    [Some(Hello(2)), Some(Hello(30))],
+    [None, None],
+    [Some(Chosen(0)), Some(Chosen(1))],
+    [Some(Hello(1)), Some(Hello(30))],
+    [Some(Hello(1)), Some(Hello(2))],
+    [Some(Label(1)), Some(Label(0))],
+];
+
+// What comes to a vertex in a turn, and what came in its last one behind that.
+fn came_before(v: u32, turn: u32) -> Came {
+    let (first, last) = match v {
+        1 => (0, 2),
+        2 => (3, 3),
+        _ => (4, 5),
+    };
+    let place = (first + turn as usize).min(last);
+    match (PULSES.as_slice().get(place), PAYLOADS.as_slice().get(place)) {
+        (Some(pulse), Some(payloads)) => (*pulse, *payloads),
+        _ => (0, [None, None]),
+    }
+}
+
+// A vertex, how many pulses came before, what it refuses then, by which rule and of which port.
+type Row = (u32, u32, Came, u16, Option<u32>);
+
+static REFUSALS: [Row; 20] = [
+    // A wrong kind, and a wrong role.
+    (
+        1,
+        0,
+        (1, [Some(Hello(2)), Some(Label(0))]),
+        WRONG_KIND,
+        Some(1),
+    ),
+    (
+        2,
+        1,
+        (1, [Some(Hello(1)), Some(Hello(30))]),
+        WRONG_ROLE,
+        Some(1),
+    ),
+    // No such forest; a choice at the first step of a forest; one from a later forest.
+    (2, 1, (2, [Some(Label(2)), None]), FOREST_RANGE, Some(0)),
+    (1, 1, (13, [Some(Chosen(0)), None]), FOREST_RANGE, Some(0)),
+    (1, 1, (14, [None, Some(Chosen(0))]), FOREST_RANGE, Some(1)),
+    // The node's own identifier; one that came before.
+    (
+        1,
+        0,
+        (1, [Some(Hello(2)), Some(Hello(1))]),
+        COLOUR_RANGE,
+        Some(1),
+    ),
+    (
+        1,
+        0,
+        (1, [Some(Hello(2)), Some(Hello(2))]),
+        COLOUR_RANGE,
+        Some(1),
+    ),
+    // The node's own colour, which is 0 until it is seeded with the identifier.
+    (
+        1,
+        1,
+        (3, [Some(Colour(2)), Some(Colour(0))]),
+        COLOUR_RANGE,
+        Some(1),
+    ),
+    (
+        1,
+        2,
+        (3, [Some(Colour(2)), Some(Colour(1))]),
+        COLOUR_RANGE,
+        Some(1),
+    ),
+    // A chosen colour above the greatest degree.
+    (1, 1, (14, [Some(Chosen(3)), None]), COLOUR_RANGE, Some(0)),
+    // The node's own colour is 30 at a shift and at a drop, where the steps are left out.
+    (3, 2, (7, [None, None]), COLOUR_RANGE, None),
+    (3, 2, (8, [None, None]), COLOUR_RANGE, None),
+    // No colour is free at the step of the pair of colours 1 and 0 in forest 1.
+    (1, 3, (25, [Some(Chosen(2)), None]), COLOUR_RANGE, None),
+    // Nothing where something is due.
+    (1, 0, (1, [Some(Hello(2)), None]), MISSING, Some(1)),
+    (2, 1, (2, [None, None]), MISSING, Some(0)),
+    (1, 1, (3, [Some(Colour(2)), None]), MISSING, Some(1)),
+    // After the last pulse.
+    (1, 1, (31, [None, Some(Chosen(0))]), AFTER_HALT, Some(1)),
+    // The first of two broken ports, and a port before the node itself.
+    (
+        1,
+        0,
+        (1, [Some(Hello(1)), Some(Label(0))]),
+        COLOUR_RANGE,
+        Some(0),
+    ),
+    (1, 0, (1, [None, Some(Label(0))]), MISSING, Some(0)),
+    (3, 2, (7, [None, Some(Colour(6))]), WRONG_ROLE, Some(1)),
+];
+
+// What the node returns and sends at a pulse.
+fn deliver(
+    alloc: Global,
+    node: &mut Colouring,
+    came: Came,
+) -> Result<(Result<(), Refused>, Outbox<Payload>), Memory>
+    requires ports { ports node.old ≡ 2 }
+    ensures ports { ports node.new ≡ 2 }
+{
+    let (pulse, payloads) = came;
+    feed(alloc, node, pulse, payloads.as_slice())
+}
+
+// The node of a vertex with two neighbours, after so many pulses.
+fn node_after(
+    rt: &impl Abort,
+    alloc: Global,
+    net: &Network,
+    v: u32,
+    turns: u32,
+) -> Result<Colouring, Fail>
+    requires vertex { IsVertex net.now v }
+    ensures ports { IfOk result (λ node. ports node ≡ 2) }
+{
+    assert!(rt; net.degree(v) == 2);
+    let mut node = made(alloc, net, v)?;
+    for turn in 0..turns {
+        let (answer, _) = deliver(alloc, &mut node, came_before(v, turn))?;
+        assert_eq!(rt; answer, Ok(()), "vertex {v}, turn {turn}");
+    }
+    Ok(node)
+}
+
+// What a node shows of a pulse.
+#[derive(Clone, Copy, Debug, PartialEq, Eq)]
+struct Shown {
+    answer: Result<(), Refused>,
+    is_quiet: bool,
+    colour: u16,
+    first_colour: Option<u128>,
+    second_colour: Option<u128>,
+}
+
+fn show(alloc: Global, node: &mut Colouring, came: Came) -> Result<Shown, Memory>
+    requires ports { ports node.old ≡ 2 }
+    ensures ports { ports node.new ≡ 2 }
+{
+    let (answer, out) = deliver(alloc, node, came)?;
+    let shown = node.node();
+    let forests = shown.forests();
+    Ok(Shown {
+        answer,
+        is_quiet: out.is_quiet(),
+        colour: node.colour(),
+        first_colour: (forests > 0).then(|| shown.forest_colour(0)),
+        second_colour: (forests > 1).then(|| shown.forest_colour(1)),
+    })
+}
+
+// Whether two nodes show the same of all that comes to their vertex, from the first pulse on.
+fn show_the_same(
+    alloc: Global,
+    one: &mut Colouring,
+    other: &mut Colouring,
+    v: u32,
+) -> Result<bool, Memory>
+    requires ports { (ports one.old ≡ 2) × (ports other.old ≡ 2) }
+{
+    for turn in 0..3 {
+        let came = came_before(v, turn);
+        if show(alloc, one, came)? != show(alloc, other, came)? {
+            return Ok(false);
+        }
+    }
+    Ok(true)
+}
+
+// Refused, and then the node goes on as its twin that wasn't fed what it refused.
+fn is_refused(rt: &impl Abort, alloc: Global, net: &Network, row: &Row) -> Result<(), Fail> {
+    let (v, turns, came, rule, port) = *row;
+    assert!(rt; 1 <= v && v <= net.nodes());
+    let mut node = node_after(rt, alloc, net, v, turns)?;
+    let mut twin = node_after(rt, alloc, net, v, turns)?;
+    let colour = node.colour();
+    let shown = show(alloc, &mut node, came)?;
+    assert!(rt; shown.answer == Err(Refused { rule, port }), "{row:?}");
+    assert!(rt; shown.is_quiet && shown.colour == colour, "{row:?}");
+    assert!(rt; show_the_same(alloc, &mut node, &mut twin, v)?, "{row:?}");
+    Ok(())
+}
+
+fn are_refused(rt: &impl Abort, alloc: Global, net: &Network, rows: &[Row]) -> Result<(), Fail> {
+    for row in rows {
+        is_refused(rt, alloc, net, row)?;
+    }
+    Ok(())
+}
+
+// The greatest colour that may come from a parent at each pulse from 4 on.
+static BOUNDS: [(u32, u128); 9] = [
+    (4, 255),
+    (5, 15),
+    (6, 7),
+    (7, 5),
+    (8, 5),
+    (9, 4),
+    (10, 4),
+    (11, 3),
+    (12, 3),
+];
+
+// One more is refused, and then the bound is taken.
+fn are_bounds(
+    rt: &impl Abort,
+    alloc: Global,
+    net: &Network,
+    rows: &[(u32, u128)],
+) -> Result<(), Fail> {
+    for (pulse, bound) in rows {
+        assert!(rt; net.nodes() == 3 && *bound < 1000);
+        let above = [Some(Colour(1)), Some(Colour(*bound + 1))];
+        is_refused(
+            rt,
+            alloc,
+            net,
+            &(1, 1, (*pulse, above), COLOUR_RANGE, Some(1)),
+        )?;
+        let mut node = node_after(rt, alloc, net, 1, 1)?;
+        let within = [Some(Colour(1)), Some(Colour(*bound))];
+        let (answer, _) = deliver(alloc, &mut node, (*pulse, within))?;
+        assert!(rt; answer == Ok(()), "at {pulse}");
+    }
+    Ok(())
+}
+
+#[test]
+fn a_refusal_has_its_rule_and_its_port(rt: HostRuntime) -> Result<(), Fail> {
+    let alloc = rt.alloc();
+    let net = Network::try_new(alloc, &IDS, &EDGES, &[])?;
+    let refusals = REFUSALS;
+    are_refused(&rt, alloc, &net, &refusals)?;
+    are_bounds(&rt, alloc, &net, &BOUNDS)?;
+    // On a path a node has one parent at most, and here both neighbours say that they are higher.
+    let path = Network::try_new(alloc, &[1, 2, 3], &[(1, 2), (2, 3)], &[])?;
+    let higher = (1, [Some(Hello(5)), Some(Hello(6))]);
+    is_refused(&rt, alloc, &path, &(2, 0, higher, FOREST_RANGE, None))
+}

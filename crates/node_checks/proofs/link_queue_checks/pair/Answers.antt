@@ -1,5 +1,0 @@
-use Rattle.node_checks.proofs.LinkRows.{pair_is}
-use Rattle.node_checks.proofs.link_queue_checks.pair.Goals as goal
-
-pub returns : goal.returns
-returns g c = pair_is c.new.result c.new.ensures.made

@@ -1,8 +1,0 @@
-use Rattle.std.proofs.Common.{◌≡◌, drop, map}
-use Rattle.node_pool.specs.Meets.{history_of_met}
-use Rattle.gather_laws.specs.Outcome.{all_empty}
-use Rattle.node_pool.proofs.outcome.Outcome.all_empty.Given as goal
-
-abbrev pub invariant-loop-row : goal.invariant-loop-row
-invariant-loop-row g l = all_empty (map (λ row. map history_of_met row.items) l.row-items)
-    ≡ all_empty (map (λ row. map history_of_met row.items) (drop l.row-index l.row-items))

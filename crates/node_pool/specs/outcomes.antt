@@ -1,0 +1,2 @@
+-- What crates above name of `outcomes`.
+pub use Rattle.outcomes.specs.Gathers

@@ -1,0 +1,11 @@
+pub mod Rows
+mod Places
+mod Simulating
+mod Slots
+pub mod ReadLists
+mod Crosses
+pub mod Sides
+mod MetRows
+mod Linked
+mod Stamping
+mod Full

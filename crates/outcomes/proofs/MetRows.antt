@@ -1,0 +1,65 @@
+-- A row of links whose ends have met, and one more.
+use Rattle.std.proofs.Common.{◌≡◌, ◌-◌, List, [], ◌∷◌, ◌++◌, length, map, take, refl, sym, ap, ◌∙◌, arith}
+use Rattle.std.specs.Prelude.{All, Option}
+use Rattle.std.proofs.lemmas.List.{length-append, map-append}
+use Rattle.std.proofs.lemmas.List.Elements.{All-nil, All-push, All-same}
+use Rattle.actor.specs.alpha_core.Stamped.{Stamped}
+use Rattle.actor.specs.link_rule.LinkName.{LinkName}
+use Rattle.actor.specs.link_queue.Met.{Met}
+use Rattle.actor.specs.link_queue.Ends.{HasMet, held_stamped}
+use Rattle.outcomes.specs.Meets.{AreMet, RowsAreMet, put_of, taken_of}
+
+take_front : {A : Type 0} (xs ys : List A) → take (length xs) (xs ++ ys) ≡ xs
+take_front [] ys = refl
+take_front (x ∷ xs) ys = ap (λ l. x ∷ l) (take_front xs ys)
+
+module _ {T : Type 0} where
+  -- what was taken is what the end that takes says
+  taken_is : (met : Met T) (name : Option LinkName) (put taken : List (Stamped T)) → HasMet met name put taken → taken_of met ≡ taken
+  taken_is met name put taken has =
+      let all : put_of met ≡ taken ++ held_stamped met = has.all_put ∙ has.in_order in
+      let long : length (put_of met) - length (held_stamped met) ≡ length taken =
+      omega (arith, ap (λ l. length l) all, length-append taken (held_stamped met)) in
+      ap (λ n. take n (put_of met)) long ∙ ap (λ l. take (length taken) l) all ∙ take_front taken (held_stamped met)
+
+  pub none_met : (mets : List (Met T)) → mets ≡ [] → AreMet mets [] []
+  none_met mets none = record {
+    puts_are = ap (map put_of) none;
+    takens_are = ap (map taken_of) none;
+    splits = All-same (λ met. put_of met ≡ taken_of met ++ held_stamped met) mets [] none (All-nil (λ met. put_of met ≡ taken_of met ++ held_stamped met));
+  }
+
+  pub one_met : (mets new : List (Met T)) (puts takens puts' takens' : List (List (Stamped T))) (met : Met T) (name : Option LinkName)
+      (put taken : List (Stamped T)) → new ≡ mets ++ met ∷ [] → puts' ≡ puts ++ put ∷ [] → takens' ≡ takens ++ taken ∷ []
+      → HasMet met name put taken → AreMet mets puts takens → AreMet new puts' takens'
+  one_met mets new puts takens puts' takens' met name put taken pushed more_puts more_takens has are =
+      let mine = taken_is met name put taken has in
+      let split : put_of met ≡ taken_of met ++ held_stamped met = has.all_put ∙ has.in_order ∙ ap (λ l. l ++ held_stamped met) (sym mine) in
+      record {
+        puts_are = ap (map put_of) pushed ∙ map-append put_of mets (met ∷ []) ∙ ap (λ l. l ++ put_of met ∷ []) are.puts_are
+            ∙ ap (λ p. puts ++ p ∷ []) has.all_put ∙ sym more_puts;
+        takens_are = ap (map taken_of) pushed ∙ map-append taken_of mets (met ∷ []) ∙ ap (λ l. l ++ taken_of met ∷ []) are.takens_are
+            ∙ ap (λ p. takens ++ p ∷ []) mine ∙ sym more_takens;
+        splits = All-same (λ m. put_of m ≡ taken_of m ++ held_stamped m) new (mets ++ met ∷ []) pushed
+            (All-push (λ m. put_of m ≡ taken_of m ++ held_stamped m) mets met are.splits split);
+      }
+
+  pub no_rows_met : (rows : List (List (Met T))) → rows ≡ [] → RowsAreMet rows [] []
+  no_rows_met rows none = record {
+    puts_are = ap (map (λ mets. map put_of mets)) none;
+    takens_are = ap (map (λ mets. map taken_of mets)) none;
+    splits = All-same (λ mets. All (λ met. put_of met ≡ taken_of met ++ held_stamped met) mets) rows [] none
+        (All-nil (λ mets. All (λ met. put_of met ≡ taken_of met ++ held_stamped met) mets));
+  }
+
+  pub one_row_met : (rows new : List (List (Met T))) (puts takens puts' takens' : List (List (List (Stamped T)))) (mets : List (Met T))
+      (put taken : List (List (Stamped T))) → new ≡ rows ++ mets ∷ [] → puts' ≡ puts ++ put ∷ [] → takens' ≡ takens ++ taken ∷ []
+      → AreMet mets put taken → RowsAreMet rows puts takens → RowsAreMet new puts' takens'
+  one_row_met rows new puts takens puts' takens' mets put taken pushed more_puts more_takens met are = record {
+    puts_are = ap (map (λ mets. map put_of mets)) pushed ∙ map-append (λ mets. map put_of mets) rows (mets ∷ [])
+        ∙ ap (λ l. l ++ map put_of mets ∷ []) are.puts_are ∙ ap (λ p. puts ++ p ∷ []) met.puts_are ∙ sym more_puts;
+    takens_are = ap (map (λ mets. map taken_of mets)) pushed ∙ map-append (λ mets. map taken_of mets) rows (mets ∷ [])
+        ∙ ap (λ l. l ++ map taken_of mets ∷ []) are.takens_are ∙ ap (λ p. takens ++ p ∷ []) met.takens_are ∙ sym more_takens;
+    splits = All-same (λ mets. All (λ m. put_of m ≡ taken_of m ++ held_stamped m) mets) new (rows ++ mets ∷ []) pushed
+        (All-push (λ mets. All (λ m. put_of m ≡ taken_of m ++ held_stamped m) mets) rows mets are.splits met.splits);
+  }

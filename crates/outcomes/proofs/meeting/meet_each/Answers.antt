@@ -1,0 +1,55 @@
+use Rattle.std.proofs.Common.{◌≡◌, ◌≤◌, ℕ, Some, length, map, refl, sym, ap, subst, ◌∙◌, rules, map-id}
+use Rattle.std.specs.Prelude.{All}
+use Rattle.std.proofs.lemmas.List.{map-append}
+use Rattle.std.proofs.lemmas.List.Elements.{All-pop, All-push, All-same}
+use Rattle.std.proofs.lemmas.Iterator.Consumers.{YieldsList-end, YieldsList-turn}
+use Rattle.std.proofs.lemmas.Iterator.Adapters.{YieldsList-from_vec}
+use Rattle.actor.specs.link_queue.Ends.{held_stamped, link_capacity, put_stamped, taken_stamped}
+use Rattle.actor.specs.Tables.{table_at, table_of}
+use Rattle.outcomes.specs.Meets.{RowsAreMet}
+use Rattle.outcomes.proofs.MetRows.{one_row_met}
+use Rattle.outcomes.proofs.meeting.meet_each.Goals as goal
+
+pub meet_ends-requires-clause-links : goal.meet_ends-requires-clause-links
+meet_ends-requires-clause-links g c κs within =
+    let turn = YieldsList-turn (YieldsList-from_vec {s = c.into_iter-links-iterator.result} c.args.rows.items (search rules) (search rules))
+    c.loop-links.yielded c.loop-links.links-iterator c.loop-links.yielded_by c.next.result c.next.new.self _ c.in-Some.is c.next.ensures.steps in
+    subst (λ x. map (λ e. table_at g.J.Wiring.tables e.vertex e.port) x.1.0.items ≡ map (λ link. Some (table_of link)) x.0.items) (sym turn.1)
+    (c.requires.links _ _ turn.0)
+
+pub meet_ends-requires-clause-takes : goal.meet_ends-requires-clause-takes
+meet_ends-requires-clause-takes g c κs within =
+    let turn = YieldsList-turn (YieldsList-from_vec {s = c.into_iter-links-iterator.result} c.args.rows.items (search rules) (search rules))
+    c.loop-links.yielded c.loop-links.links-iterator c.loop-links.yielded_by c.next.result c.next.new.self _ c.in-Some.is c.next.ensures.steps in
+    subst (λ x. map {B = ℕ × ℕ} (λ e. (e.vertex, e.port)) x.1.1.items ≡ map {B = ℕ × ℕ} (λ e. (e.vertex, e.port)) x.1.0.items) (sym turn.1)
+    (c.requires.takes _ _ turn.0)
+
+pub loop-links-preserved : goal.loop-links-preserved
+loop-links-preserved g c = record {
+  met = one_row_met (map (λ mets. mets.items) c.loop-links.all.items) _ _ _ _ _ _ _ _
+      (ap (map (λ mets. mets.items)) c.in_ok-push.ensures.items ∙ map-append (λ mets. mets.items) c.loop-links.all.items _)
+      (map-append (λ x. map (λ e. put_stamped e.end) x.1.0.items) c.loop-links.yielded _)
+      (map-append (λ x. map (λ e. taken_stamped e.end) x.1.1.items) c.loop-links.yielded _)
+      c.in_ok-meet_ends.ensures.met c.loop-links.invariant.met;
+  room = λ capacity below.
+      let parts = All-pop (λ x. All (λ link. link_capacity link ≤ capacity) x.0.items) _ c.loop-links.yielded (Some _) refl below in
+      All-same (λ mets. All (λ met. length (held_stamped met) ≤ capacity) mets.items) _ _ c.in_ok-push.ensures.items
+      (All-push (λ mets. All (λ met. length (held_stamped met) ≤ capacity) mets.items) c.loop-links.all.items _
+      (c.loop-links.invariant.room capacity parts.0) (c.in_ok-meet_ends.ensures.room capacity parts.1));
+}
+
+pub returns-clause-met : goal.returns-clause-met
+returns-clause-met g c =
+    let end = YieldsList-end (YieldsList-from_vec {s = c.into_iter-links-iterator.result} c.args.rows.items (search rules) (search rules))
+    c.loop-links.yielded c.loop-links.links-iterator c.loop-links.yielded_by c.next.result c.next.new.self c.in-None.is c.next.ensures.steps in
+    let all = sym (map-id c.loop-links.yielded) ∙ end.0 in
+    subst (λ rows. RowsAreMet (map (λ mets. mets.items) c.loop-links.all.items) (map (λ x. map (λ e. put_stamped e.end) x.1.0.items) rows)
+    (map (λ x. map (λ e. taken_stamped e.end) x.1.1.items) rows)) all c.loop-links.invariant.met
+
+pub returns-clause-room : goal.returns-clause-room
+returns-clause-room g c =
+    let end = YieldsList-end (YieldsList-from_vec {s = c.into_iter-links-iterator.result} c.args.rows.items (search rules) (search rules))
+    c.loop-links.yielded c.loop-links.links-iterator c.loop-links.yielded_by c.next.result c.next.new.self c.in-None.is c.next.ensures.steps in
+    let all = sym (map-id c.loop-links.yielded) ∙ end.0 in
+    λ capacity below. c.loop-links.invariant.room capacity
+    (subst (All (λ x. All (λ link. link_capacity link ≤ capacity) x.0.items)) (sym all) below)

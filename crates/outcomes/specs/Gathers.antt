@@ -1,0 +1,12 @@
+-- The value of what a run leaves.
+use Rattle.outcomes.specs.declared.taking_apart.Actor.{Actor}
+use Rattle.gather_laws.specs.Outcome.{Gathered}
+
+-- a node after the run
+abbrev pub gathered_of : {P T : Type 0} → Actor P T → Gathered P T
+gathered_of actor = record {
+  vertex = actor.vertex;
+  alpha = actor.alpha;
+  entries = actor.entries.items;
+  stamped = actor.entries.stamped;
+}

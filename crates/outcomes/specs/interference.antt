@@ -1,0 +1,2 @@
+-- What crates above name of `interference`.
+pub use Rattle.alpha_laws.specs.interference.Net

@@ -1,0 +1,106 @@
+//! Things that change places with those at the other ends of the links.
+
+ghost use Rattle.std.specs.Prelude.{◌≡◌, ◌≢◌, ◌<◌, ℕ, IfOk, OnOk, None, Some, map};
+ghost use Rattle.std.specs.List.{range_with_len};
+ghost use Rattle.alpha_laws.specs.interference.Net.{IsNetwork, IsVertex, back_port_of, degree_of, neighbour_of};
+ghost use Rattle.outcomes.specs.Rows.{AreCrossed, HasShape, set_slot, slot_at};
+
+use alpha_laws::Network;
+use std::alloc::{AllocError, Global};
+
+/// The things of a row, each in a slot.
+///
+/// # Errors
+///
+/// `AllocError` if memory is refused.
+pub fn slots_of<T: Drop>(alloc: Global, row: Vec<T>) -> Result<Vec<Option<T>>, AllocError>
+    ensures slots { IfOk result (λ slots. slots.items ≡ map Some row.items) }
+{
+    let mut slots = Vec::new(alloc);
+    for item in row {
+        slots.push(Some(item))?;
+    }
+    Ok(slots)
+}
+
+// All things, each in a slot.
+fn all_slots<T: Drop>(alloc: Global, rows: Vec<Vec<T>>) -> Result<Vec<Vec<Option<T>>>, AllocError>
+    ensures slots { IfOk result (λ all. map (λ row. row.items) all.items
+        ≡ map (λ row. map Some row.items) rows.items) }
+{
+    let mut all = Vec::new(alloc);
+    for row in rows {
+        all.push(slots_of(alloc, row)?)?;
+    }
+    Ok(all)
+}
+
+// Takes a thing out of its slot.
+fn take_out<T: Drop>(net: &Network, slots: &mut Vec<Vec<Option<T>>>, v: u32, i: u32) -> Option<T>
+    requires shape { HasShape net.now (map (λ row. row.items) slots.old.items) }
+    requires vertex { IsVertex net.now v }
+    requires port { i < degree_of net.now v }
+    ensures thing { result ≡ slot_at (map (λ row. row.items) slots.old.items) v i }
+    ensures slots { map (λ row. row.items) slots.new.items
+        ≡ set_slot (map (λ row. row.items) slots.old.items) v i None }
+{
+    let _ = net;
+    slots[(v - 1) as usize][i as usize].take()
+}
+
+// The things at the other ends of the links out of a vertex, by port.
+fn crossed_row<T: Drop>(
+    alloc: Global,
+    net: &Network,
+    slots: &mut Vec<Vec<Option<T>>>,
+    v: u32,
+) -> Result<Vec<T>, AllocError>
+    requires vertex { IsVertex net.now v }
+    requires shape { HasShape net.now (map (λ row. row.items) slots.old.items) }
+    requires full { (i : ℕ) → i < degree_of net.now v → slot_at (map (λ row. row.items) slots.old.items)
+        (neighbour_of net.now v i) (back_port_of net.now v i) ≢ None }
+    ensures shape { HasShape net.now (map (λ row. row.items) slots.new.items) }
+    ensures row { IfOk result (λ row. map Some row.items
+        ≡ map (λ i. slot_at (map (λ row. row.items) slots.old.items)
+        (neighbour_of net.now v i) (back_port_of net.now v i)) (range_with_len 0 (degree_of net.now v))) }
+    ensures others { (w j : ℕ) → IsVertex net.now w → j < degree_of net.now w → neighbour_of net.now w j ≢ v
+        → slot_at (map (λ row. row.items) slots.new.items) w j
+        ≡ slot_at (map (λ row. row.items) slots.old.items) w j }
+{
+    net.is_network();
+    let degree = net.degree(v);
+    let mut row = Vec::new(alloc);
+    row.reserve_exact(degree as usize)?;
+    for i in 0..degree {
+        match take_out(net, slots, net.neighbour(v, i), net.back_port(v, i)) {
+            Some(thing) => row.push_reserved(thing),
+            None => unreachable!(),
+        }
+    }
+    Ok(row)
+}
+
+/// Each thing of these rows, which have one for each vertex and port, at the vertex and port of the other end of its
+/// link.
+///
+/// # Errors
+///
+/// `AllocError` if memory is refused.
+pub fn crossed<T: Drop>(
+    alloc: Global,
+    net: &Network,
+    rows: Vec<Vec<T>>,
+) -> Result<Vec<Vec<T>>, AllocError>
+    requires shape { HasShape net.now (map (λ row. row.items) rows.items) }
+    ensures crossed { IfOk result (λ all. AreCrossed net.now (map (λ row. row.items) rows.items)
+        (map (λ row. row.items) all.items)) }
+{
+    net.is_network();
+    let mut slots = all_slots(alloc, rows)?;
+    let mut all = Vec::new(alloc);
+    for v in 0..net.nodes() {
+        let row = crossed_row(alloc, net, &mut slots, v + 1)?;
+        all.push(row)?;
+    }
+    Ok(all)
+}

@@ -1,0 +1,52 @@
+//! The nodes and links of a run become its outcome.
+
+ghost use Rattle.std.specs.Prelude.{◌≡◌, ◌≤◌, ℕ, All, IfOk, false, map};
+ghost use Rattle.alpha_laws.specs.interference.Net.{vertices};
+ghost use Rattle.outcomes.specs.Rows.{HasShape};
+ghost use Rattle.actor.specs.link_queue.Ends.{link_capacity};
+ghost use Rattle.actor.specs.Tables.{tables_of};
+ghost use Rattle.gather_laws.specs.Outcome.{IsOutcome};
+ghost use Rattle.outcomes.specs.Full.{some_full};
+
+use crate::cross::crossed;
+use crate::meeting::meet_rows;
+use crate::outcome::Outcome;
+use crate::taking_apart::{NodesAndEnds, apart};
+use actor::{Link, Node, Wiring};
+use alpha_laws::{Memory, Network, NodeProgram};
+use std::alloc::Global;
+use std::sync::Wait;
+
+/// What the nodes of a run, ascending, and its links leave, once all threads are joined. The outcome holds for every
+/// capacity that no link's own capacity exceeds. No node may have set a wire aside since the stamp of its take would be
+/// too great: `some_full` says whether one has.
+///
+/// # Errors
+///
+/// `Memory` if memory is refused.
+pub fn gathered<J: Wiring, P: NodeProgram, R: Wait>(
+    rt: &R,
+    alloc: Global,
+    net: &Network,
+    links: Vec<Vec<Link<P>>>,
+    nodes: Vec<Node<J, P>>,
+) -> Result<Outcome<P>, Memory>
+    requires network { J.net ≡ net.now }
+    requires tables { tables_of (map (λ row. row.items) links.items) ≡ J.tables }
+    requires shape { HasShape net.now (map (λ row. row.items) links.items) }
+    requires nodes { map (λ n. n.vertex) nodes.items ≡ vertices J.net }
+    requires stamps { some_full (map (λ n. n.aside) nodes.items) ≡ false }
+    ensures outcome { IfOk result (λ outcome. (capacity : ℕ)
+        → All (λ row. All (λ link. link_capacity link ≤ capacity) row.items) links.items
+        → IsOutcome P.program net.now capacity J.transcript outcome) }
+{
+    net.is_network();
+    let NodesAndEnds {
+        actors,
+        puts,
+        takes,
+    } = apart(alloc, nodes)?;
+    let takes = crossed(alloc, net, takes)?;
+    let links = meet_rows(rt, alloc, links, puts, takes)?;
+    Ok(Outcome { actors, links })
+}

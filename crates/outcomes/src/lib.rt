@@ -1,0 +1,33 @@
+//! What a run of worker threads leaves: its nodes and links, taken apart and gathered as an outcome.
+//!
+//! Once all threads are joined, a run has its nodes back, each with the ends of its links. `taking_apart` takes the
+//! nodes apart, `cross` brings the ends that take back to where their links leave, and `meeting` lets each link meet
+//! both its ends; `gathering` makes the outcome of it, which is `IsOutcome` of `gather_laws`. Nothing here starts or
+//! needs a thread: `node_pool` runs the nodes.
+//!
+//! ```text
+//! if some_full(&nodes) { return Err(PoolFault::StampFull); }
+//! let outcome = gathered(&rt, alloc, &network, links, nodes)?;
+//! if outcome.is_whole() { .. outcome.actors() .. }
+//! ```
+//!
+//! `crossed` also serves the start of a run, where the ends that take go the other way.
+//!
+//! Limits: those of `interference`.
+#![tactic(auto)]
+
+mod cross;
+mod gathering;
+mod meeting;
+mod outcome;
+mod pairs;
+mod taking_apart;
+
+pub use cross::crossed;
+pub use gathering::gathered;
+pub use outcome::Outcome;
+pub use taking_apart::{Actor, some_full};
+
+// What crates above name of lower ones.
+pub use alpha_laws::{MAX_DEGREE, Memory, Network, NodeProgram};
+pub use gather_laws::laws::{whole_outcomes_are_complete, whole_outcomes_replay};

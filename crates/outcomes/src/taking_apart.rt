@@ -1,0 +1,124 @@
+//! A node after the run, and the nodes taken apart.
+
+ghost use Rattle.std.specs.Prelude.{◌≡◌, IfOk, map};
+ghost use Rattle.outcomes.specs.Full.{is_full, some_full};
+
+use actor::{AlphaNode, Entries, Node, WhyAside, WiredPut, WiredTake, Wiring};
+use alpha_laws::NodeProgram;
+use std::alloc::{AllocError, Global};
+
+/// A node after the run, with its vertex and its entries.
+#[derive(Drop)]
+pub struct Actor<P: NodeProgram> {
+    vertex: u32,
+    alpha: AlphaNode<P>,
+    entries: Entries<P::Payload>,
+}
+
+impl<P: NodeProgram> Actor<P> {
+    /// Its vertex, from 1.
+    pub fn node(&self) -> u32
+        ensures vertex { result ≡ self.now.vertex }
+    {
+        self.vertex
+    }
+
+    /// Its node under the synchroniser.
+    pub fn alpha(&self) -> &AlphaNode<P>
+        ensures alpha { result.now ≡ self.now.alpha }
+    {
+        &self.alpha
+    }
+
+    /// What it did, in order, each entry with its stamp; empty without a transcript.
+    pub fn entries(&self) -> &Entries<P::Payload>
+        ensures entries { result.now ≡ self.now.entries }
+    {
+        &self.entries
+    }
+}
+
+/// The nodes of a run, and the ends that they had, each by vertex and port.
+#[derive(Drop)]
+pub struct NodesAndEnds<J: Wiring, P: NodeProgram> {
+    pub actors: Vec<Actor<P>>,
+    pub puts: Vec<Vec<WiredPut<J, P::Payload>>>,
+    pub takes: Vec<Vec<WiredTake<J, P::Payload>>>,
+}
+
+// Whether a node has set a wire aside since the stamp of its take would be too great.
+fn is_full<J: Wiring, P: NodeProgram>(node: &Node<J, P>) -> bool
+    ensures { result ≡ is_full node.now.aside }
+{
+    match &node.aside {
+        None => false,
+        Some(aside) => match aside.why {
+            WhyAside::Refused => false,
+            WhyAside::StampFull(_) => true,
+        },
+    }
+}
+
+/// Whether one of the nodes has set a wire aside since the stamp of its take would be too great.
+pub fn some_full<J: Wiring, P: NodeProgram>(nodes: &Vec<Node<J, P>>) -> bool
+    ensures { result ≡ some_full (map (λ n. n.aside) nodes.now.items) }
+{
+    for node in nodes.as_slice() {
+        if is_full(node) {
+            return true;
+        }
+    }
+    false
+}
+
+/// The nodes without their ends, and the ends, in the order of the nodes.
+///
+/// # Errors
+///
+/// `AllocError` if memory is refused.
+pub fn apart<J: Wiring, P: NodeProgram>(
+    alloc: Global,
+    nodes: Vec<Node<J, P>>,
+) -> Result<NodesAndEnds<J, P>, AllocError>
+    ensures vertices { IfOk result
+        (λ both. map (λ a. a.vertex) both.actors.items ≡ map (λ n. n.vertex) nodes.items) }
+    ensures alphas { IfOk result
+        (λ both. map (λ a. a.alpha) both.actors.items ≡ map (λ n. n.alpha) nodes.items) }
+    ensures entries { IfOk result
+        (λ both. map (λ a. a.entries.items) both.actors.items ≡ map (λ n. n.entries.items) nodes.items) }
+    ensures stamped { IfOk result
+        (λ both. map (λ a. a.entries.stamped) both.actors.items ≡ map (λ n. n.entries.stamped) nodes.items) }
+    ensures puts { IfOk result
+        (λ both. map (λ row. row.items) both.puts.items ≡ map (λ n. n.puts.items) nodes.items) }
+    ensures takes { IfOk result
+        (λ both. map (λ row. row.items) both.takes.items ≡ map (λ n. n.takes.items) nodes.items) }
+{
+    let mut actors = Vec::new(alloc);
+    let mut puts = Vec::new(alloc);
+    let mut takes = Vec::new(alloc);
+    for node in nodes {
+        let Node {
+            vertex,
+            degree: _,
+            alpha,
+            puts: put_row,
+            takes: take_row,
+            aside: _,
+            transcript: _,
+            entries,
+            counter: _,
+        } = node;
+        actors.push(Actor {
+            vertex,
+            alpha,
+            entries,
+        })?;
+        puts.push(put_row)?;
+        takes.push(take_row)?;
+    }
+    Ok(NodesAndEnds {
+        actors,
+        puts,
+        takes,
+    })
+}
