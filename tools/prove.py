@@ -13,8 +13,8 @@ Standard error shows how far it is; the log of a crate is out/build/CRATE.log. T
 proved is decided by what the sources say, not by the times of files. The status is 0 if all is proved, 1 if a crate isn't, 2 if
 nothing could be tried, and 130 after Ctrl-C.
 
-From nothing to the program `forestplan` it took 20 min 32 s on four processors with nothing beside, and 51 min 28 s on two of four while the others
-were busy; with one it wasn't measured (docs/DECISIONS.md, 93).
+From nothing to the program `forestplan` it took 20 min 32 s and 28 min 47 s on four processors with nothing beside, on two days, and 51 min 28 s on
+two of four while the others were busy; with one it wasn't measured (docs/DECISIONS.md, 93 and 98).
 """
 import argparse
 import contextlib
