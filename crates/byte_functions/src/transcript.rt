@@ -29,7 +29,9 @@ fn text_of_actors(
     let mut text = Vec::new(alloc);
     push_first_line(&mut text, count)?;
     for actor in actors {
-        push_entries(&mut text, actor.node(), actor.entries())?;
+        let pushed = push_entries(&mut text, actor.node(), actor.entries());
+        drop(actor);
+        pushed?;
     }
     Ok(text)
 }

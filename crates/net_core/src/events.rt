@@ -10,7 +10,19 @@ ghost use Rattle.net_core.specs.Step.{StepMatches, has_port, is_vertex};
 use crate::event::Event;
 use crate::refused::StepRefused;
 use crate::state::NetState;
-use alpha_laws::NodeProgram;
+use alpha_laws::{Network, NodeProgram};
+
+fn is_vertex(net: &Network, v: u32) -> bool
+    ensures vertex { result ≡ is_vertex net.now v }
+{
+    1 <= v && v <= net.nodes()
+}
+
+fn has_port(net: &Network, v: u32, port: u32) -> bool
+    ensures port { result ≡ has_port net.now v port }
+{
+    is_vertex(net, v) && port < net.degree(v)
+}
 
 impl<P: NodeProgram> NetState<P> {
     /// Makes an event, in time that grows with the degree of its vertex alone, but when a link's list is moved as it
@@ -38,18 +50,6 @@ impl<P: NodeProgram> NetState<P> {
         result
     }
 
-    fn is_vertex(&self, v: u32) -> bool
-        ensures vertex { result ≡ is_vertex self.now.net v }
-    {
-        1 <= v && v <= self.net.nodes()
-    }
-
-    fn has_port(&self, v: u32, port: u32) -> bool
-        ensures port { result ≡ has_port self.now.net v port }
-    {
-        self.is_vertex(v) && port < self.net.degree(v)
-    }
-
     /// The vertex makes its next pulse.
     fn pulse(&mut self, v: u32) -> Result<(), StepRefused>
         ensures step { StepMatches P.program self.old (Event.Pulse v) result self.new }
@@ -58,7 +58,7 @@ impl<P: NodeProgram> NetState<P> {
         ensures refused { OnErr result (self.new ≡ self.old) }
     {
         self.net.is_network();
-        if !self.is_vertex(v) {
+        if !is_vertex(&self.net, v) {
             return Err(StepRefused::NoSuch);
         }
         let node = &mut self.nodes[(v - 1) as usize];
@@ -81,7 +81,7 @@ impl<P: NodeProgram> NetState<P> {
         ensures refused { OnErr result (self.new ≡ self.old) }
     {
         self.net.is_network();
-        if !self.has_port(v, port) {
+        if !has_port(&self.net, v, port) {
             return Err(StepRefused::NoSuch);
         }
         let node = &mut self.nodes[(v - 1) as usize];
@@ -102,7 +102,7 @@ impl<P: NodeProgram> NetState<P> {
         ensures refused { OnErr result (self.new ≡ self.old) }
     {
         self.net.is_network();
-        if !self.has_port(v, port) {
+        if !has_port(&self.net, v, port) {
             return Err(StepRefused::NoSuch);
         }
         let from = self.net.neighbour(v, port);

@@ -1,7 +1,8 @@
 //! Each link's ends meet.
 
 ghost use Rattle.std.specs.Prelude.{◌≡◌, ◌≤◌, ℕ, All, IfOk, Some, length, map};
-ghost use Rattle.actor.specs.link_queue.Ends.{HasMet, held_stamped, link_capacity, put_stamped, put_name, taken_stamped};
+ghost use Rattle.actor.specs.link_queue.Ends.{HasMet, held_stamped, link_capacity, put_name, put_stamped};
+ghost use Rattle.actor.specs.link_queue.Ends.{taken_stamped};
 ghost use Rattle.actor.specs.Tables.{table_at, table_of};
 ghost use Rattle.outcomes.specs.Meets.{AreMet, RowsAreMet};
 

@@ -17,7 +17,7 @@ loop-actor-preserved c =
     let first = first_line c.args.count in
     let lines = flat_map (row_text word_in number_in) in
     let before = flat_map (λ a. rows_in (gathered_of a)) c.loop-actor.yielded in
-    c.in_ok-push_entries.ensures.text
+    c.in_ok-pushed.ensures.text
     ∙ ap₂ (λ v entries. c.loop-actor.text.items ++ lines (map (λ entry. (v, entry)) entries.items)) c.node.ensures.vertex c.entries.ensures.entries
     ∙ ap (λ l. l ++ lines (rows_in (gathered_of actor))) c.loop-actor.invariant
     ∙ append_assoc first (lines before) (lines (rows_in (gathered_of actor)))

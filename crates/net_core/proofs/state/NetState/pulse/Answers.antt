@@ -4,7 +4,7 @@ use Rattle.std.proofs.Common.{◌≡◌, ◌-◌, Ok, set, refl, sym, ap, ◌∙
 use Rattle.alpha_laws.specs.interference.Net.{IsVertex}
 use Rattle.net_core.specs.declared.event.Event.TheVariants.{Pulse}
 use Rattle.net_core.specs.State.{state_in}
-use Rattle.net_core.specs.Step.{is_vertex, step}
+use Rattle.net_core.specs.Step.{step}
 use Rattle.net_core.specs.Simulation.{IsNetState}
 use Rattle.net_core.proofs.NetKept.{vertex_from}
 use Rattle.net_core.proofs.Held.{in_nodes, kept_same, pulse_not_ready, pulse_made, pulse_refused}
@@ -14,7 +14,7 @@ use Rattle.net_core.proofs.state.NetState.pulse.Goals.{Else-not-is_vertex, In-Ok
 -- the vertex is one of the network's
 vertex-is : (g : _) (c : Else-not-is_vertex g) → IsVertex c.self.inside.net c.args.v
 vertex-is g c =
-    vertex_from c.self.inside.net c.args.v (ap (λ s. is_vertex s.net c.args.v) c.self.view_is ∙ sym c.is_vertex.ensures.vertex ∙ c.if-not-is_vertex.false)
+    vertex_from c.self.inside.net c.args.v (sym c.is_vertex.ensures.vertex ∙ c.if-not-is_vertex.false)
 
 -- the step of the definition is made, and what it leaves is a state of the network
 pulsed : (g : _) (c : In-Ok g) → IsVertex c.self.inside.net c.args.v →

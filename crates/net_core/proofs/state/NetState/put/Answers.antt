@@ -8,7 +8,7 @@ use Rattle.std.proofs.lemmas.Result.{err_from_is_err_and}
 use Rattle.net_core.specs.State.{state_in}
 use Rattle.net_core.specs.declared.refused.StepRefused.TheVariants.{Memory}
 use Rattle.net_core.specs.Events.{Possible}
-use Rattle.net_core.specs.Step.{has_port, step}
+use Rattle.net_core.specs.Step.{step}
 use Rattle.net_core.specs.Simulation.{IsNetState}
 use Rattle.net_core.proofs.Parts.{first-some, first-none, if_err, on_err}
 use Rattle.net_core.proofs.NetKept.{port_from}
@@ -20,7 +20,7 @@ use Rattle.net_core.proofs.state.NetState.put.Goals.{After-put_done, Else-not-ha
 there-is : (g : _) (c : Else-not-has_port g) → IsVertex c.self.inside.net c.args.v × (c.args.port < degree_of c.self.inside.net c.args.v)
 there-is g c =
     port_from c.self.inside.net c.args.v c.args.port
-    (ap (λ s. has_port s.net c.args.v c.args.port) c.self.view_is ∙ sym c.has_port.ensures.port ∙ c.if-not-has_port.false)
+    (sym c.has_port.ensures.port ∙ c.if-not-has_port.false)
 
 -- the step of the definition is made, and what it leaves is a state of the network
 put-in : (g : _) (c : After-put_done g) → IsVertex c.self.inside.net c.args.v × (c.args.port < degree_of c.self.inside.net c.args.v) →

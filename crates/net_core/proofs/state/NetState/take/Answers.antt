@@ -6,7 +6,7 @@ use Rattle.std.specs.Prelude.{slice_get}
 use Rattle.alpha_laws.specs.interference.Net.{IsVertex, degree_of, neighbour_of}
 use Rattle.net_core.specs.declared.event.Event.TheVariants.{Take}
 use Rattle.net_core.specs.State.{HasLink, link_at, link_to, set_link, state_in, take_one}
-use Rattle.net_core.specs.Step.{has_port, step}
+use Rattle.net_core.specs.Step.{step}
 use Rattle.net_core.specs.Simulation.{IsNetState}
 use Rattle.net_core.proofs.Parts.{first-some, first-none}
 use Rattle.net_core.proofs.NetKept.{port_from}
@@ -18,7 +18,7 @@ use Rattle.net_core.proofs.state.NetState.take.Goals.{After-back_port-back, Afte
 there-is : (g : _) (c : Else-not-has_port g) → IsVertex c.self.inside.net c.args.v × (c.args.port < degree_of c.self.inside.net c.args.v)
 there-is g c =
     port_from c.self.inside.net c.args.v c.args.port
-    (ap (λ s. has_port s.net c.args.v c.args.port) c.self.view_is ∙ sym c.has_port.ensures.port ∙ c.if-not-has_port.false)
+    (sym c.has_port.ensures.port ∙ c.if-not-has_port.false)
 
 link-there : (g : _) (c : After-back_port-back g) → IsVertex c.self.inside.net c.args.v × (c.args.port < degree_of c.self.inside.net c.args.v) →
     HasLink c.self.inside.links c.neighbour-from.result c.back_port-back.result
@@ -67,7 +67,7 @@ taken-in g c there first =
 pub neighbour-from-requires-clause-port : goal.neighbour-from-requires-clause-port
 neighbour-from-requires-clause-port g c =
     (port_from c.self.inside.net c.args.v c.args.port
-    (ap (λ s. has_port s.net c.args.v c.args.port) c.self.view_is ∙ sym c.has_port.ensures.port ∙ c.if-not-has_port.false)).1
+    (sym c.has_port.ensures.port ∙ c.if-not-has_port.false)).1
 
 pub next-requires : goal.next-requires
 next-requires g c =
