@@ -32,6 +32,9 @@ def handles_of(root):
         return text.read()
 
 
+KIT = "kit"
+
+
 class Crate:
     def __init__(self, folder, root, known, above=()):
         self.folder, self.name = folder, os.path.basename(folder)
@@ -54,23 +57,21 @@ class Crate:
         if "slow" in said:
             os.chdir(self.folder)
             time.sleep(61)
+        print(f"asks besides: {rtlib.help_of('check')}.")
         if "wrong" in said:
             print(f"fn {self.name}::f: not proved")
             return 1
-        with open(words[-1], "w") as made:
+        with open(os.path.join(self.folder, words[-1]), "w") as made:
             made.write("#!/bin/sh\\necho \\"$@\\"; cat\\n")
         return 0
 
-    def compile_by(self, by):
-        os.chmod(f"{self.folder}/out/{self.name}", 0o755 if by == "llvm" else 0)
+    def link(self, made, program):
+        os.rename(f"{self.folder}/{made}", f"{self.folder}/{program}")
+        os.chmod(f"{self.folder}/{program}", 0o755)
         return 0
 
-    def ci(self, flags, tests):
-        words = self.words(flags)
-        return self.prove(["-o", f"{self.folder}/out/{self.name}"]) or self.compile_by("llvm") or self.compile_by("rattle")
 
-
-rtlib = types.SimpleNamespace(Crate=Crate, guarded=lambda: [])
+rtlib = types.SimpleNamespace(Crate=Crate, guarded=lambda: [], help_of=lambda command: "--empty-contracts")
 if __name__ == "__main__":
     raise SystemExit(2)
 """
@@ -167,6 +168,7 @@ def run_first(tree):
     note("the first line of progress", "forestplan: 0 of 3 crates proved, 0 s: now lower" in lines, err)
     note("the last line", re.fullmatch(r"forestplan: 3 crates proved and built in \d+ s", lines[-1]), err)
     note("the log of a crate", "processor seconds: " in tree.log("middle"), tree.log("middle"))
+    note("what is left to the gate", "asks besides: .\n" in tree.log("middle"), tree.log("middle"))
     got = tree.call("plan", given="again")
     note("a second call builds nothing", got == (0, "plan\nagain", ""), got)
     tree.source("some_checks", "tests")

@@ -3,9 +3,9 @@
 
   paths.py
 
-The toolchain reads a crate's files once for every path that leads to it, each time that a crate above is checked. So a
-crate lists only crates that its own files name, and what many of them name is passed on by one (docs/LAYERS.md). The last
-line is the sum over all crates. tests/pages.py refuses more than MOST for any crate.
+Before `rattle-kit-13f` the toolchain read a crate's files once for every path that leads to it, each time that a crate above
+was checked. So a crate lists only crates that its own files name, and what many of them name is passed on by one
+(docs/LAYERS.md). The last line is the sum over all crates. tests/pages.py refuses more than MOST for any crate.
 """
 import argparse
 import os

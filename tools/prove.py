@@ -13,8 +13,8 @@ Standard error shows how far it is; the log of a crate is out/build/CRATE.log. T
 proved is decided by what the sources say, not by the times of files. The status is 0 if all is proved, 1 if a crate isn't, 2 if
 nothing could be tried, and 130 after Ctrl-C.
 
-From nothing to the program `forestplan` it took 20 min 32 s and 28 min 47 s on four processors with nothing beside, on two days, and 51 min 28 s on
-two of four while the others were busy; with one it wasn't measured (docs/DECISIONS.md, 93 and 98).
+From nothing to the program `forestplan` it took 17 min 50 s and 59 processor minutes on four processors with nothing beside; with two and
+with one it wasn't measured (docs/DECISIONS.md, 99).
 """
 import argparse
 import contextlib
@@ -27,13 +27,15 @@ import sys
 import time
 
 import kit
-from paths import TOP, listed, words_of_lines
+from paths import TOP, listed
 
 LOGS = os.path.join(TOP, "out", "build")
 # Memory that a crate takes at most, in the mean.
 ROOM = 4 << 30
-# How many steps of the system's priority a crate gives way that isn't the first of the longest chain.
-WAY = 19
+# How many steps of the system's priority a crate gives way for which less waits than this share of the most that waits for one.
+WAY, NEAR = 19, 0.8
+# Of these most of the time goes into reading what lies below, and compiling, which one process does.
+PROGRAMS = ("forestplan", "forestplay")
 
 
 def with_below(crates, below):
@@ -61,20 +63,19 @@ def jobs_with_room():
     return max(1, min(processors(), free // ROOM))
 
 
-def seconds_of(crate, listed_words):
-    """About how long a crate takes one processor: a start, and then by its lines of code, which take twice as long if it lists the
-    toolchain's deques (measured: 0.11 to 0.25 seconds a line, 0.3 in `pool` and `node_pool`; a line of laws hardly counts)."""
-    lines = {".rt": 0, ".antt": 0}
-    for path, text in kit.files_of(os.path.join(TOP, "crates", crate)):
-        ending = os.path.splitext(path)[1]
-        if ending in lines:
-            lines[ending] += text.count(b"\n")
-    return 12 + (0.3 if "crossbeam_deque" in listed_words else 0.15) * lines[".rt"] + 0.002 * lines[".antt"]
+def measured_seconds():
+    """What proof_seconds.txt says of each crate."""
+    with open(os.path.join(TOP, "tools", "proof_seconds.txt"), encoding="utf-8") as text:
+        rows = [line.split() for line in text if not line.startswith("#")]
+    return {crate: int(seconds) for crate, seconds in rows}
 
 
-def processes_for(seconds):
-    """How many processes prove a crate: each one loads what lies below anew, in about 12 seconds (`number_rows`: 29 by one, 49 by four)."""
-    return min(processors(), 1 if seconds < 40 else 2 if seconds < 80 else 4)
+def seconds_of(crate, measured):
+    """About how many seconds one processor takes for a crate: as measured, or else a start and its lines of code."""
+    if crate in measured:
+        return measured[crate]
+    files = kit.files_of(os.path.join(TOP, "crates", crate))
+    return 15 + 0.2 * sum(text.count(b"\n") for path, text in files if path.endswith(".rt"))
 
 
 class Shown:
@@ -115,8 +116,8 @@ class Proving:
     def __init__(self, crates, below, jobs, shown, words):
         self.below, self.jobs, self.shown, self.words = below, jobs, shown, words
         self.left, self.done, self.running = list(crates), set(), {}
-        lines = words_of_lines()
-        self.seconds = {crate: seconds_of(crate, lines[crate]) for crate in crates}
+        measured = measured_seconds()
+        self.seconds = {crate: seconds_of(crate, measured) for crate in crates}
         self.behind = self.seconds_behind(crates)
 
     def seconds_behind(self, crates):
@@ -139,12 +140,22 @@ class Proving:
         for crate in ready[: self.jobs - len(self.running)]:
             self.begin(crate)
 
+    def share_behind(self, crate):
+        """What waits for a crate, as a share of the most that waits for one."""
+        return self.behind[crate] / max(self.behind[other] for other in [*self.left, *self.running])
+
+    def processes_for(self, crate):
+        """How many processes prove a crate. Each one loads what lies below anew, which takes 12 to 40 seconds, so four cost half as much again
+        as one. A crate gets three if the most waits for it, or two if hardly anything else runs."""
+        if self.seconds[crate] < 40 or crate in PROGRAMS:
+            return 1
+        most = 3 if self.share_behind(crate) == 1 else 2 if len(self.running) < 2 else 1
+        return min(processors(), most)
+
     def begin(self, crate):
-        """A crate gets up to four processes, by its size, since the crates at the end come one after another; but all give way to the one that
-        the most waits for."""
-        is_first = self.behind[crate] >= max(self.behind[other] for other in [*self.left, *self.running])
-        way = [] if is_first else ["nice", "-n", str(WAY)]
-        words = [sys.executable, os.path.join(TOP, "tools", "prove_crate.py"), *self.words(crate, processes_for(self.seconds[crate]))]
+        """Begins a crate. Those for which little waits give way to the others."""
+        way = [] if self.share_behind(crate) >= NEAR else ["nice", "-n", str(WAY)]
+        words = [sys.executable, os.path.join(TOP, "tools", "prove_crate.py"), *self.words(crate, self.processes_for(crate))]
         with open(os.path.join(LOGS, f"{crate}.log"), "w", encoding="utf-8") as log:
             # In a group of its own Ctrl-C doesn't reach it; in a session of its own its priority would count for nothing.
             self.running[crate] = subprocess.Popen([*way, *words], stdin=subprocess.PIPE, stdout=log, stderr=subprocess.STDOUT,
