@@ -207,6 +207,13 @@ def run_failures(tree):
     tree.source("middle", "fine once more")
     status, out, _ = tree.call("plan")
     note("and mended", (status, out) == (0, "plan\n"), (status, out))
+    tree.source("forestplan", "wrong")
+    status, out, err = tree.call("plan")
+    note("a program that isn't proved", status == 70 and not out and "the crate forestplan isn't proved" in err, (status, out, err))
+    note("what is left to the gate of it", "asks besides: .\n" in tree.log("forestplan"), tree.log("forestplan"))
+    tree.source("forestplan", "fine")
+    status, out, _ = tree.call("plan")
+    note("and is mended", (status, out) == (0, "plan\n"), (status, out))
 
 
 def run_stopped(tree):

@@ -289,7 +289,7 @@ def check_lengths():
 
 
 def check_paths():
-    """No crate is reached along so many paths through crates.txt that each check of it is slow."""
+    """No crate has more paths through crates.txt than tools/paths.py allows."""
     found = paths()
     note("paths in crates.txt", max(found.values()) <= MOST, max(found, key=found.get))
 

@@ -3,8 +3,8 @@
 
   paths.py
 
-Before `rattle-kit-13f` the toolchain read a crate's files once for every path that leads to it, each time that a crate above
-was checked. So a crate lists only crates that its own files name, and what many of them name is passed on by one
+Some kits of the toolchain (not `rattle-kit-13f`) read a crate's files once for every path that leads to it, each time that a
+crate above is checked. So a crate lists only crates that its own files name, and what many of them name is passed on by one
 (docs/LAYERS.md). The last line is the sum over all crates. tests/pages.py refuses more than MOST for any crate.
 """
 import argparse

@@ -3,8 +3,8 @@
 
   prove.py [--kept] [--jobs N] [CRATE ..]      default: every crate of crates.txt
 
-Those below a crate are proved with it, each from nothing, as the gate does it. What is proved is kept for all checkouts of this
-user (in ~/.cache/forestplan), so a call that was interrupted goes on where it was, and nothing is proved twice. A program goes into
+Those below a crate are proved with it, each from nothing, as the gate does it (what is left to the gate: docs/DECISIONS.md, 93 and
+99). What is proved is kept for all checkouts of this user (in ~/.cache/forestplan), so a call that was interrupted goes on where it was, and nothing is proved twice. A program goes into
 its crate's out/.
 
 With --kept the crates are built in their out/ instead, over what earlier checks kept there, and keep their work for `rt check`.
@@ -32,10 +32,12 @@ from paths import TOP, listed
 LOGS = os.path.join(TOP, "out", "build")
 # Memory that a crate takes at most, in the mean.
 ROOM = 4 << 30
-# How many steps of the system's priority a crate gives way for which less waits than this share of the most that waits for one.
+# A crate lowers its priority by WAY steps if the chain behind it is shorter than NEAR of the longest.
 WAY, NEAR = 19, 0.8
-# Of these most of the time goes into reading what lies below, and compiling, which one process does.
+# To prove these is mostly to read the crates below, and to compile, which more processes don't shorten.
 PROGRAMS = ("forestplan", "forestplay")
+# A crate of fewer seconds isn't worth a second process.
+SMALL = 40
 
 
 def with_below(crates, below):
@@ -66,7 +68,7 @@ def jobs_with_room():
 def measured_seconds():
     """What proof_seconds.txt says of each crate."""
     with open(os.path.join(TOP, "tools", "proof_seconds.txt"), encoding="utf-8") as text:
-        rows = [line.split() for line in text if not line.startswith("#")]
+        rows = [line.split() for line in text if line.strip() and not line.startswith("#")]
     return {crate: int(seconds) for crate, seconds in rows}
 
 
@@ -141,19 +143,19 @@ class Proving:
             self.begin(crate)
 
     def share_behind(self, crate):
-        """What waits for a crate, as a share of the most that waits for one."""
+        """The length of the chain behind a crate, as a share of the longest."""
         return self.behind[crate] / max(self.behind[other] for other in [*self.left, *self.running])
 
     def processes_for(self, crate):
-        """How many processes prove a crate. Each one loads what lies below anew, which takes 12 to 40 seconds, so four cost half as much again
-        as one. A crate gets three if the most waits for it, or two if hardly anything else runs."""
-        if self.seconds[crate] < 40 or crate in PROGRAMS:
+        """How many processes prove a crate. Each one loads what lies below anew, so one more costs 12 to 40 seconds. The crate with the longest
+        chain behind it gets three, and one that begins while at most one other runs two. Small crates and programs get one."""
+        if self.seconds[crate] < SMALL or crate in PROGRAMS:
             return 1
         most = 3 if self.share_behind(crate) == 1 else 2 if len(self.running) < 2 else 1
         return min(processors(), most)
 
     def begin(self, crate):
-        """Begins a crate. Those for which little waits give way to the others."""
+        """Begins a crate, which gives way to others if the chain behind it is much shorter than the longest."""
         way = [] if self.share_behind(crate) >= NEAR else ["nice", "-n", str(WAY)]
         words = [sys.executable, os.path.join(TOP, "tools", "prove_crate.py"), *self.words(crate, self.processes_for(crate))]
         with open(os.path.join(LOGS, f"{crate}.log"), "w", encoding="utf-8") as log:
