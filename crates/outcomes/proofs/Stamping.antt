@@ -4,7 +4,7 @@
 -- 3. So the stamps rise, and the entries of all nodes in order are one run (`gather_laws`).
 use Rattle.std.proofs.Common.{◌≡◌, ℕ, ◌-◌, ◌<◌, List, [], ◌++◌, length, map, get_or, refl, sym, ap, ◌∙◌, subst}
 use Rattle.std.specs.Prelude.{All, Bool, IsTrue}
-use Rattle.alpha_laws.specs.interference.Net.{Net, IsNetwork, IsVertex, count_of, degree_of, neighbour_of, back_port_of, vertices}
+use Rattle.alpha_laws.specs.interference.Net.{Net, IsNetwork, IsVertex, degree_of, neighbour_of, back_port_of, vertices}
 use Rattle.alpha_laws.specs.node_api.Program.{Program}
 use Rattle.alpha_laws.proofs.Across.{over}
 use Rattle.actor.specs.alpha_core.Stamped.{Stamped}
@@ -15,7 +15,7 @@ use Rattle.actor.specs.stamps.Stamps.{StampedEntry, bare_of}
 use Rattle.actor.specs.HasStamps.{HasStamps}
 use Rattle.actor.specs.Node.{by_port}
 use Rattle.actor.specs.Written.{IsTranscript, IsWritten}
-use Rattle.gather_laws.specs.Outcome.{History, Outcome, StampedHistory, entries_in, history_of, link_in, link_into, node_in, stamped_in}
+use Rattle.gather_laws.specs.Outcome.{Outcome, StampedHistory, entries_in, history_of, link_in, link_into, node_in, stamped_in}
 use Rattle.gather_laws.proofs.Merged.{AreStamped}
 use Rattle.outcomes.specs.Rows.{AreCrossed}
 use Rattle.outcomes.proofs.Rows.{get_field, get_map, node_of, row_map}

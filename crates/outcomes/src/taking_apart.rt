@@ -1,6 +1,6 @@
 //! A node after the run, and the nodes taken apart.
 
-ghost use Rattle.std.specs.Prelude.{◌≡◌, IfOk, map};
+ghost use Rattle.std.specs.Prelude.{◌≡◌, ◌≤◌, [], IfOk, map, vec_capacity};
 ghost use Rattle.outcomes.specs.Full.{is_full, some_full};
 
 use actor::{AlphaNode, Entries, Node, WhyAside, WiredPut, WiredTake, Wiring};
@@ -71,6 +71,25 @@ pub fn some_full<J: Wiring, P: NodeProgram>(nodes: &Vec<Node<J, P>>) -> bool
     false
 }
 
+// No nodes and ends, with room for those of so many nodes.
+fn none_yet<J: Wiring, P: NodeProgram>(
+    alloc: Global,
+    count: usize,
+) -> Result<NodesAndEnds<J, P>, AllocError>
+    ensures actors { IfOk result (λ all. (all.actors.items ≡ []) × (count ≤ vec_capacity all.actors)) }
+    ensures puts { IfOk result (λ all. (all.puts.items ≡ []) × (count ≤ vec_capacity all.puts)) }
+    ensures takes { IfOk result (λ all. (all.takes.items ≡ []) × (count ≤ vec_capacity all.takes)) }
+{
+    let actors = Vec::with_capacity(alloc, count)?;
+    let puts = Vec::with_capacity(alloc, count)?;
+    let takes = Vec::with_capacity(alloc, count)?;
+    Ok(NodesAndEnds {
+        actors,
+        puts,
+        takes,
+    })
+}
+
 /// The nodes without their ends, and the ends, in the order of the nodes.
 ///
 /// # Errors
@@ -93,32 +112,26 @@ pub fn apart<J: Wiring, P: NodeProgram>(
     ensures takes { IfOk result
         (λ both. map (λ row. row.items) both.takes.items ≡ map (λ n. n.takes.items) nodes.items) }
 {
-    let mut actors = Vec::new(alloc);
-    let mut puts = Vec::new(alloc);
-    let mut takes = Vec::new(alloc);
+    let mut all = none_yet(alloc, nodes.len())?;
     for node in nodes {
         let Node {
             vertex,
             degree: _,
             alpha,
-            puts: put_row,
-            takes: take_row,
+            puts,
+            takes,
             aside: _,
             transcript: _,
             entries,
             counter: _,
         } = node;
-        actors.push(Actor {
+        all.actors.push_reserved(Actor {
             vertex,
             alpha,
             entries,
-        })?;
-        puts.push(put_row)?;
-        takes.push(take_row)?;
+        });
+        all.puts.push_reserved(puts);
+        all.takes.push_reserved(takes);
     }
-    Ok(NodesAndEnds {
-        actors,
-        puts,
-        takes,
-    })
+    Ok(all)
 }

@@ -94,13 +94,9 @@ fn start_all<
     ensures desks { IfOk result (λ hs. map (λ h. h.promise.0.value) hs.items ≡ desks.items) }
     ensures fault { IfErr result (λ fault. fault ≢ BadOptions) }
 {
-    let mut children = Vec::new(alloc);
+    let mut children = Vec::with_capacity(alloc, desks.len())?;
     let mut worker = 0;
     for desk in desks {
-        if children.reserve(1).is_err() {
-            crew.signals.fail();
-            return Err(PoolFault::Memory);
-        }
         children.push_reserved(start(scope, rt, crew, thieves, worker, desk, turns)?);
         worker += 1;
     }

@@ -1,4 +1,4 @@
-use Rattle.std.proofs.Common.{◌≡◌, ◌≤◌, ◌++◌, List, Some, arith, ap, get_or, length, map, refl, rules, sym, ◌∙◌, subst}
+use Rattle.std.proofs.Common.{◌≡◌, ◌≤◌, ◌++◌, List, Some, arith, ap, get_or, length, map, refl, sym, ◌∙◌, subst}
 use Rattle.std.specs.Prelude.{All}
 use Rattle.std.proofs.lemmas.List.{length-map, map-append}
 use Rattle.alpha_laws.specs.interference.Net.{IsNetwork}
@@ -12,10 +12,9 @@ use Rattle.actor.specs.HasStamps.{HasStamps}
 use Rattle.actor.specs.alpha_core.StampedWires.{wires_of}
 use Rattle.actor.specs.link_queue.Ends.{held_stamped, put_list, put_stamped, taken_list, taken_stamped}
 use Rattle.outcomes.proofs.Full.{all_refused}
-use Rattle.outcomes.proofs.Stamping.{AreStampedNodes, are_stamped, counters, held_by, puts_by, same_entries, stamped_split, takens_by, wires_are}
+use Rattle.outcomes.proofs.Stamping.{AreStampedNodes, are_stamped, same_entries, stamped_split, wires_are}
 use Rattle.outcomes.proofs.Sides.{all_by}
 use Rattle.actor.specs.alpha_core.Stamped.{Stamped}
-use Rattle.actor.specs.link_queue.Met.{Met}
 use Rattle.outcomes.specs.Meets.{history_of_met, put_of, stamped_history_of, taken_of}
 use Rattle.gather_laws.specs.Outcome.{IsOutcome, Outcome, StampedHistory, history_of}
 use Rattle.outcomes.specs.Gathers.{gathered_of}

@@ -1,9 +1,11 @@
-use Rattle.std.proofs.Common.{◌≡◌, ◌<◌, ◌++◌, ◌∷◌, [], None, Some, length, map, get_or, sym, ap, ◌∙◌, arith, rules}
+use Rattle.std.proofs.Common.{◌≡◌, ◌<◌, ◌++◌, ◌∷◌, [], None, Some, length, map, get_or, slice_get, sym, ap, ◌∙◌, arith, rules}
 use Rattle.std.proofs.lemmas.List.{length-map, length_push, map-append}
 use Rattle.std.proofs.lemmas.Iterator.Consumers.{YieldsList-turn}
 use Rattle.std.proofs.lemmas.Iterator.Adapters.{YieldsList-from_vec}
 use Rattle.outcomes.proofs.ReadLists.{some_at}
 use Rattle.outcomes.proofs.Sides.{is_there, found_at, still_waiting, longer}
+use Rattle.outcomes.proofs.pairs.pairs.Given.{Over}
+use Rattle.outcomes.proofs.pairs.pairs.Goals.{After-index_mut}
 use Rattle.outcomes.proofs.pairs.pairs.Goals as goal
 
 pub loop-left-init : goal.loop-left-init
@@ -14,36 +16,39 @@ loop-left-init g c = record {
   rights = ap (map (λ p. p.1)) c.new-all.ensures.items;
 }
 
+-- a turn: how many were made so far, that a left is left, and what the slot of its right holds
+module _ (g : Over) (c : After-index_mut g) where
+  count : c.len.result ≡ length c.loop-left.yielded
+  count = omega (arith, c.len.ensures, c.loop-left.all.ok.0, length-map c.loop-left.all.items (λ p. p.0), ap length c.loop-left.invariant.lefts)
+
+  left : length c.loop-left.yielded < length c.args.lefts.items
+  left = (YieldsList-turn (YieldsList-from_vec {s = c.into_iter-left-iterator.result} c.args.lefts.items (search rules) (search rules))
+      c.loop-left.yielded c.loop-left.left-iterator c.loop-left.yielded_by c.next.result c.next.new.self c.in-Some.left c.in-Some.is
+      c.next.ensures.steps).0
+
+  slot : c.index_mut.result.now ≡ slice_get c.args.rights.items (length c.loop-left.yielded)
+  slot =
+      let inv = c.loop-left.invariant in
+      let lt : c.len.result < length c.loop-left.slots.items =
+      omega (arith, left, count, inv.slots, c.requires.long, c.loop-left.slots.ok.0, c.args.lefts.ok.0) in
+      found_at c.args.rights.items c.loop-left.slots.items _ c.len.result count inv.waiting c.index_mut.result.now lt c.index_mut.ensures.value
+
 pub loop-left-preserved : goal.loop-left-preserved
 loop-left-preserved g c =
+    let at = (goal.at.loop-left-preserved g c).After-index_mut in
     let inv = c.loop-left.invariant in
-    let k = length c.loop-left.yielded in
-    let turn = YieldsList-turn (YieldsList-from_vec {s = c.into_iter-left-iterator.result} c.args.lefts.items (search rules) (search rules))
-    c.loop-left.yielded c.loop-left.left-iterator c.loop-left.yielded_by c.next.result c.next.new.self c.in-Some.left c.in-Some.is c.next.ensures.steps in
-    let is : c.len.result ≡ k =
-    omega (arith, c.len.ensures, c.loop-left.all.ok.0, length-map c.loop-left.all.items (λ p. p.0), ap length inv.lefts) in
-    let lt : c.len.result < length c.loop-left.slots.items =
-    omega (arith, turn.0, is, inv.slots, c.requires.long, c.loop-left.slots.ok.0, c.args.lefts.ok.0) in
-    let slot = found_at c.args.rights.items c.loop-left.slots.items k c.len.result is inv.waiting c.index_mut.result.now lt c.index_mut.ensures.value in
     let more = length_push c.loop-left.yielded c.in-Some.left in
     record {
       slots = inv.slots;
-      waiting = still_waiting c.args.rights.items c.loop-left.slots.items k c.len.result is inv.waiting _ _ more;
+      waiting = still_waiting c.args.rights.items c.loop-left.slots.items _ c.len.result (count g at) inv.waiting _ _ more;
       lefts = ap (map (λ p. p.0)) c.in_ok-push-in-Some-take.ensures.items ∙ map-append (λ p. p.0) c.loop-left.all.items _
           ∙ ap (λ l. l ++ c.in-Some.left ∷ []) inv.lefts;
-      rights = longer (λ p. p.1) c.args.rights.items c.loop-left.all.items _ _ k _ c.in_ok-push-in-Some-take.ensures.items more
-          (sym slot ∙ sym c.in-Some-take.ensures.value) inv.rights;
+      rights = longer (λ p. p.1) c.args.rights.items c.loop-left.all.items _ _ _ _ c.in_ok-push-in-Some-take.ensures.items more
+          (sym (slot g at) ∙ sym c.in-Some-take.ensures.value) inv.rights;
     }
 
 pub unreachable-requires : goal.unreachable-requires
 unreachable-requires g c =
-    let inv = c.loop-left.invariant in
-    let k = length c.loop-left.yielded in
-    let turn = YieldsList-turn (YieldsList-from_vec {s = c.into_iter-left-iterator.result} c.args.lefts.items (search rules) (search rules))
-    c.loop-left.yielded c.loop-left.left-iterator c.loop-left.yielded_by c.next.result c.next.new.self c.in-Some.left c.in-Some.is c.next.ensures.steps in
-    let is : c.len.result ≡ k =
-    omega (arith, c.len.ensures, c.loop-left.all.ok.0, length-map c.loop-left.all.items (λ p. p.0), ap length inv.lefts) in
-    let lt : c.len.result < length c.loop-left.slots.items =
-    omega (arith, turn.0, is, inv.slots, c.requires.long, c.loop-left.slots.ok.0, c.args.lefts.ok.0) in
-    let slot = found_at c.args.rights.items c.loop-left.slots.items k c.len.result is inv.waiting c.index_mut.result.now lt c.index_mut.ensures.value in
-    is_there c.args.rights.items k (omega (arith, turn.0, c.requires.long, c.args.lefts.ok.0, c.args.rights.ok.0)) (c.in-None-take.ensures.value ∙ slot)
+    let at = (goal.at.unreachable-requires g c).After-index_mut in
+    is_there c.args.rights.items _ (omega (arith, left g at, c.requires.long, c.args.lefts.ok.0, c.args.rights.ok.0))
+    (c.in-None-take.ensures.value ∙ slot g at)

@@ -1,4 +1,4 @@
-use Rattle.std.proofs.Common.{◌≡◌, ◌∙◌, map, sym}
+use Rattle.std.proofs.Common.{◌∙◌, sym}
 use Rattle.pool.proofs.Ends.{ok_and_memory, same_fault}
 use Rattle.pool.proofs.told.gather_told.Goals as goal
 
