@@ -3,9 +3,9 @@
 
   prove.py [--kept] [--jobs N] [CRATE ..]      default: every crate of crates.txt
 
-Those below a crate are proved with it, each from nothing, as the gate does it (what is left to the gate: docs/DECISIONS.md, 93 and
-99). What is proved is kept for all checkouts of this user (in ~/.cache/forestplan), so a call that was interrupted goes on where it was, and nothing is proved twice. A program goes into
-its crate's out/.
+Those below a crate are proved with it, each from nothing, as the gate does it (what is left to the gate: docs/DECISIONS.md,
+93 and 99). What is proved is kept for all checkouts of this user (in ~/.cache/forestplan), so a call that was interrupted goes
+on where it was, and nothing is proved twice. A program goes into its crate's out/.
 
 With --kept the crates are built in their out/ instead, over what earlier checks kept there, and keep their work for `rt check`.
 
@@ -13,8 +13,8 @@ Standard error shows how far it is; the log of a crate is out/build/CRATE.log. T
 proved is decided by what the sources say, not by the times of files. The status is 0 if all is proved, 1 if a crate isn't, 2 if
 nothing could be tried, and 130 after Ctrl-C.
 
-From nothing to the program `forestplan` it took 17 min 50 s and 59 processor minutes on four processors with nothing beside; with two and
-with one it wasn't measured (docs/DECISIONS.md, 99).
+From nothing to the program `forestplan` it took 17 min 50 s and 59 processor minutes on four processors with nothing beside, and
+35 min 25 s and 69 processor minutes on two of four; with one it wasn't measured (docs/DECISIONS.md, 99 and 100).
 """
 import argparse
 import contextlib
