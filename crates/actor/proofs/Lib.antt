@@ -9,3 +9,4 @@ pub mod alpha_core
 pub mod StampedEntries
 pub mod HasStamps
 pub mod stamps
+pub mod worker_deques

@@ -39,10 +39,10 @@ impl<P: NodeProgram> Model for NetState<P> {
 fn started_nodes<P: NodeProgram>(alloc: Global, net: &Network) -> Result<Vec<AlphaNode<P>>, Memory>
     ensures nodes { IfOk result (λ nodes. nodes.items ≡ started_nodes P.program net.now (vertices net.now)) }
 {
-    let mut nodes = Vec::new(alloc);
+    let mut nodes = Vec::with_capacity(alloc, net.nodes() as usize)?;
     for i in 0..net.nodes() {
         let node = AlphaNode::start(alloc, net, i + 1)?;
-        nodes.push(node)?;
+        nodes.push_reserved(node);
     }
     Ok(nodes)
 }

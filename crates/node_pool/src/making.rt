@@ -37,14 +37,15 @@ fn make_row<P: NodeProgram>(
     ensures made { IfOk result (λ row. AreLinksOf net.now capacity v (degree_of net.now v)
         row.links.items row.puts.items row.takes.items) }
 {
-    let mut links = Vec::new(alloc);
-    let mut puts = Vec::new(alloc);
-    let mut takes = Vec::new(alloc);
+    let degree = net.degree(v) as usize;
+    let mut links = Vec::with_capacity(alloc, degree)?;
+    let mut puts = Vec::with_capacity(alloc, degree)?;
+    let mut takes = Vec::with_capacity(alloc, degree)?;
     for i in 0..net.degree(v) {
         let (link, put, take) = Link::<P>::new(alloc, net, v, i, capacity)?;
-        links.push(link)?;
-        puts.push(put)?;
-        takes.push(take)?;
+        links.push_reserved(link);
+        puts.push_reserved(put);
+        takes.push_reserved(take);
     }
     Ok(MadeRow { links, puts, takes })
 }
@@ -63,14 +64,15 @@ pub fn make_links<P: NodeProgram>(
     ensures made { IfOk result (λ made. AreMade net.now capacity (map (λ row. row.items) made.links.items)
         (map (λ row. row.items) made.puts.items) (map (λ row. row.items) made.takes.items)) }
 {
-    let mut links = Vec::new(alloc);
-    let mut puts = Vec::new(alloc);
-    let mut takes = Vec::new(alloc);
+    let count = net.nodes() as usize;
+    let mut links = Vec::with_capacity(alloc, count)?;
+    let mut puts = Vec::with_capacity(alloc, count)?;
+    let mut takes = Vec::with_capacity(alloc, count)?;
     for v in 0..net.nodes() {
         let row = make_row::<P>(alloc, net, v + 1, capacity)?;
-        links.push(row.links)?;
-        puts.push(row.puts)?;
-        takes.push(row.takes)?;
+        links.push_reserved(row.links);
+        puts.push_reserved(row.puts);
+        takes.push_reserved(row.takes);
     }
     Ok(Made { links, puts, takes })
 }

@@ -4,9 +4,10 @@ use Rattle.std.proofs.Common.{Some, slice_get}
 use Rattle.std.specs.Prelude.{All}
 use Rattle.std.proofs.lemmas.List.{length-map}
 use Rattle.alpha_laws.specs.interference.Net.{Net, IsNetwork, IsVertex, degree_of, neighbour_of, back_port_of, vertices}
+use Rattle.actor.proofs.worker_deques.Views.{as_many}
 use Rattle.actor.specs.Node.{by_port}
 use Rattle.outcomes.specs.Rows.{AreCrossed, row_at}
-use Rattle.outcomes.proofs.Rows.{some_there, get_map, row_map, get_field, node_of, as_many}
+use Rattle.outcomes.proofs.Rows.{some_there, get_map, row_map, get_field, node_of, length-nodes}
 
 module _ {A F H W : Type 0} (net : Net) (ok : IsNetwork net) (nodes : List A) (vertex : A → ℕ) (order : map vertex nodes ≡ vertices net)
     (puts : A → List (List W)) (takes : A → List F) (taken : F → List W) (crossed : List (List F)) (crosses : AreCrossed net (map takes nodes) crossed)
@@ -39,7 +40,7 @@ module _ {A F H W : Type 0} (net : Net) (ok : IsNetwork net) (nodes : List A) (v
       ∙ outs n.0 ∙ ap (λ u. degree_of net u) n.2
 
   many : length links ≡ length nodes
-  many = sym (length-map links (λ row. map put_by row)) ∙ ap (λ l. length l) puts_are ∙ length-map nodes puts
+  many = as_many puts (λ row. map put_by row) nodes links puts_are
 
   -- what the end took that was made with the link
   pub taken_is : (v i : ℕ) → IsVertex net v → i < degree_of net v → taken_by (link_at v i) ≡ by_port (takens_at (neighbour_of net v i)) (back_port_of net v i)
@@ -60,4 +61,4 @@ module _ {A F H W : Type 0} (net : Net) (ok : IsNetwork net) (nodes : List A) (v
 
   pub split_is : (v i : ℕ) → IsVertex net v → i < degree_of net v → put_by (link_at v i) ≡ taken_by (link_at v i) ++ held_by (link_at v i)
   split_is v i is lt =
-      splits (v - 1) [] (omega (arith, is.0, is.1, many, as_many net vertex nodes order)) i none (omega (arith, lt, row_long v is))
+      splits (v - 1) [] (omega (arith, is.0, is.1, many, length-nodes net vertex nodes order)) i none (omega (arith, lt, row_long v is))

@@ -86,14 +86,14 @@ module _ (net : Net) where
         ∙ sym (by_range (row_by g) 1 (count_of net) k (omega (arith, within, shape.count))))
 
   module _ {A : Type 0} (vertex_of : A → ℕ) (nodes : List A) (order : map vertex_of nodes ≡ vertices net) where
-    pub as_many : length nodes ≡ count_of net
-    as_many = sym (length-map nodes vertex_of) ∙ ap (λ l. length l) order ∙ length-range_with_len 1 (count_of net)
+    pub length-nodes : length nodes ≡ count_of net
+    length-nodes = sym (length-map nodes vertex_of) ∙ ap (λ l. length l) order ∙ length-range_with_len 1 (count_of net)
 
     -- the node of a vertex
     pub node_of : (v : ℕ) → IsVertex net v → (a : A) × (slice_get nodes (v - 1) ≡ Some a) × (vertex_of a ≡ v)
     node_of v vertex =
         let within : v - 1 < count_of net = omega (arith, vertex.0, vertex.1) in
-        let there = some_there nodes (v - 1) (omega (arith, within, as_many)) in
+        let there = some_there nodes (v - 1) (omega (arith, within, length-nodes)) in
         let same : Some (vertex_of there.0) ≡ Some (1 + (v - 1)) = sym (slice_get-map vertex_of nodes (v - 1) ∙ ap (option_map vertex_of) there.1)
         ∙ ap (λ l. slice_get l (v - 1)) order ∙ range_at 1 (count_of net) (v - 1) within in
         let is : vertex_of there.0 ≡ 1 + (v - 1) = cc in
@@ -103,7 +103,7 @@ module _ (net : Net) where
     module _ {E : Type 0} (ends : A → List E) (long : (a : A) → length (ends a) ≡ degree_of net (vertex_of a)) where
       pub shape_of : HasShape net (map ends nodes)
       shape_of = record {
-        count = length-map nodes ends ∙ as_many;
+        count = length-map nodes ends ∙ length-nodes;
         row = λ v vertex.
             let n = node_of v vertex in
             ap (λ l. length l) (get_map ends nodes (v - 1) n.0 [] n.1) ∙ long n.0 ∙ ap (λ u. degree_of net u) n.2;

@@ -44,7 +44,7 @@ use Rattle.gather_laws.proofs.Asides.{met_simulate}
 use Rattle.gather_laws.proofs.Merged.{AreStamped, puts_have_stamps, runs_merge, stamps_rise, takes_are_of_puts}
 use Rattle.actor.specs.alpha_core.Stamped.{Stamped}
 use Rattle.actor.specs.stamps.Stamps.{bare_of}
-use Rattle.outcomes.proofs.Rows.{some_there, get_map, row_map, get_field, node_of, as_many}
+use Rattle.outcomes.proofs.Rows.{some_there, get_map, row_map, get_field, node_of, length-nodes}
 
 module _ {S M E : Type 0} (program : Program S M E) (net : Net) where
   -- a node and its lists, given in another way
@@ -161,7 +161,7 @@ module _ {S M E A F : Type 0} (program : Program S M E) (laws : IsProgram progra
 
   split_is : (v i : ℕ) → IsVertex net v → i < degree_of net v → (link_in outcome v i).put ≡ (link_in outcome v i).taken ++ (link_in outcome v i).held
   split_is v i is lt =
-      are.splits (v - 1) [] (omega (arith, is.0, is.1, many, as_many net vertex nodes are.order)) i no_history (omega (arith, lt, row_long v is))
+      are.splits (v - 1) [] (omega (arith, is.0, is.1, many, length-nodes net vertex nodes are.order)) i no_history (omega (arith, lt, row_long v is))
 
   met : EndsHaveMet program net (node_in program net outcome) asides_at puts_at takens_at (λ v i. (link_in outcome v i).held)
   met = record {
@@ -178,7 +178,7 @@ module _ {S M E A F : Type 0} (program : Program S M E) (laws : IsProgram progra
         (are.set_aside n.0 x (sym (get_map aside nodes (v - 1) n.0 None n.1) ∙ e)));
     by_refusal = λ v is x e.
         let n = here v is in
-        are.by_refusal (v - 1) n.0 (omega (arith, is.0, is.1, as_many net vertex nodes are.order)) x
+        are.by_refusal (v - 1) n.0 (omega (arith, is.0, is.1, length-nodes net vertex nodes are.order)) x
         (ap aside (get_or_from_slice_get nodes (v - 1) n.0 n.0 n.1) ∙ sym (get_map aside nodes (v - 1) n.0 None n.1) ∙ e);
     ports = λ v is.
         let n = here v is in
@@ -231,11 +231,11 @@ module _ {S M E A F : Type 0} (program : Program S M E) (laws : IsProgram progra
   is_outcome capacity room wires stamped_splits same counters puts takens held stamps = record {
     each_once = are.vertices_are ∙ are.order;
     last = λ v is. ap (λ a. a.last) (alpha_is v is) ∙ are.last (here v is).0;
-    rows = many ∙ as_many net vertex nodes are.order ∙ sym (length-range_with_len 1 (count_of net));
+    rows = many ∙ length-nodes net vertex nodes are.order ∙ sym (length-range_with_len 1 (count_of net));
     row = row_long;
     splits = split_is;
     room = λ v i is lt.
-        room (v - 1) [] (omega (arith, is.0, is.1, many, as_many net vertex nodes are.order)) i no_history (omega (arith, lt, row_long v is));
+        room (v - 1) [] (omega (arith, is.0, is.1, many, length-nodes net vertex nodes are.order)) i no_history (omega (arith, lt, row_long v is));
     stamped = λ v i is lt. wires v i;
     stamped_splits = stamped_splits;
     simulates = simulates ok (runs program laws net ok) kept;

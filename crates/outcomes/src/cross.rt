@@ -97,10 +97,10 @@ pub fn crossed<T: Drop>(
 {
     net.is_network();
     let mut slots = all_slots(alloc, rows)?;
-    let mut all = Vec::new(alloc);
+    let mut all = Vec::with_capacity(alloc, net.nodes() as usize)?;
     for v in 0..net.nodes() {
         let row = crossed_row(alloc, net, &mut slots, v + 1)?;
-        all.push(row)?;
+        all.push_reserved(row);
     }
     Ok(all)
 }

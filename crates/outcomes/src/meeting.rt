@@ -50,9 +50,9 @@ fn meet_row<J: Wiring, P: NodeProgram, R: Wait>(
     ensures room { IfOk result (λ mets. (capacity : ℕ) → All (λ x. link_capacity x.0 ≤ capacity) row.items
         → All (λ met. length (held_stamped met) ≤ capacity) mets.items) }
 {
-    let mut mets = Vec::new(alloc);
+    let mut mets = Vec::with_capacity(alloc, row.len())?;
     for (link, (put, take)) in row {
-        mets.push(meet_one(rt, alloc, link, put, take)?)?;
+        mets.push_reserved(meet_one(rt, alloc, link, put, take)?);
     }
     Ok(mets)
 }
@@ -100,9 +100,9 @@ fn meet_each<J: Wiring, P: NodeProgram, R: Wait>(
         → All (λ x. All (λ link. link_capacity link ≤ capacity) x.0.items) rows.items
         → All (λ mets. All (λ met. length (held_stamped met) ≤ capacity) mets.items) all.items) }
 {
-    let mut all = Vec::new(alloc);
+    let mut all = Vec::with_capacity(alloc, rows.len())?;
     for (links, (puts, takes)) in rows {
-        all.push(meet_ends(rt, alloc, links, puts, takes)?)?;
+        all.push_reserved(meet_ends(rt, alloc, links, puts, takes)?);
     }
     Ok(all)
 }

@@ -16,10 +16,11 @@ pub(crate) fn pairs<A: Drop, B: Drop>(
     ensures right { IfOk result (λ all. map (λ p. p.1) all.items ≡ rights.items) }
 {
     let mut slots = slots_of(alloc, rights)?;
-    let mut all = Vec::new(alloc);
+    let count = lefts.len();
+    let mut all = Vec::with_capacity(alloc, count)?;
     for left in lefts {
         match slots[all.len()].take() {
-            Some(right) => all.push((left, right))?,
+            Some(right) => all.push_reserved((left, right)),
             None => unreachable!(),
         }
     }

@@ -70,7 +70,7 @@ fn start<P: NodeProgram>(
     for i in 0..net.nodes() {
         let mut node = P::make(alloc, net, i + 1)?;
         greet(net, i + 1, &mut node, &mut outs, &mut now);
-        nodes.push(node)?;
+        nodes.push_reserved(node);
     }
     Ok((nodes, outs, now))
 }

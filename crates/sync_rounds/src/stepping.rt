@@ -21,18 +21,19 @@ pub(crate) fn start<P: NodeProgram>(
     ensures inboxes { IfOk result (λ all. Lists (count_of net.now) (empty_inbox net.now) all.1.items) }
     ensures outs { IfOk result (λ all. Lists (count_of net.now) (outbox_at P.program net.now 0) all.2.items) }
 {
-    let mut nodes = Vec::new(alloc);
-    let mut inboxes = Vec::new(alloc);
-    let mut outs = Vec::new(alloc);
+    let count = net.nodes() as usize;
+    let mut nodes = Vec::with_capacity(alloc, count)?;
+    let mut inboxes = Vec::with_capacity(alloc, count)?;
+    let mut outs = Vec::with_capacity(alloc, count)?;
     for i in 0..net.nodes() {
         let degree = net.degree(i + 1);
         let inbox = Inbox::new(alloc, degree)?;
         let mut out = Outbox::new(alloc, degree)?;
         let mut node = P::make(alloc, net, i + 1)?;
         node.init(&mut out);
-        nodes.push(node)?;
-        inboxes.push(inbox)?;
-        outs.push(out)?;
+        nodes.push_reserved(node);
+        inboxes.push_reserved(inbox);
+        outs.push_reserved(out);
     }
     Ok((nodes, inboxes, outs))
 }

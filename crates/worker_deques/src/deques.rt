@@ -74,11 +74,11 @@ pub fn cut<T: Task, M: Split<Ledger>>(
     ensures right { IfOk result
         (λ r. map (λ g. view g.pass) r.1.items ≡ map (λ o. M.right (worker_view o)) owns.items) }
 {
-    let mut lefts = Vec::new(alloc);
-    let mut guests = Vec::new(alloc);
+    let mut lefts = Vec::with_capacity(alloc, owns.len())?;
+    let mut guests = Vec::with_capacity(alloc, owns.len())?;
     for mut own in owns {
-        guests.push(Guest::new(own.another::<M>()))?;
-        lefts.push(own)?;
+        guests.push_reserved(Guest::new(own.another::<M>()));
+        lefts.push_reserved(own);
     }
     Ok((lefts, guests))
 }

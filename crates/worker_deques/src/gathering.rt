@@ -133,8 +133,8 @@ fn apart<T: Task, E: Drop>(alloc: Global, done: Vec<Worked<T, E>>) -> Result<Bac
         + in_rows (pushed_by h) (map (λ row. map (λ g. view g.pass) row.items) b.rows.items)
         + weigh h (map (λ b. T.number_of b.value) b.tasks.items)) }
 {
-    let mut owns = Vec::new(alloc);
-    let mut rows = Vec::new(alloc);
+    let mut owns = Vec::with_capacity(alloc, done.len())?;
+    let mut rows = Vec::with_capacity(alloc, done.len())?;
     let mut tasks = Vec::new(alloc);
     for worked in done {
         let Desk {
@@ -143,9 +143,9 @@ fn apart<T: Task, E: Drop>(alloc: Global, done: Vec<Worked<T, E>>) -> Result<Bac
             task,
             finished,
         } = worked.into_desk();
+        owns.push_reserved(own);
+        rows.push_reserved(guests);
         tasks = with_those_of(tasks, task, finished)?;
-        owns.push(own)?;
-        rows.push(guests)?;
     }
     Ok(Back { owns, rows, tasks })
 }

@@ -18,15 +18,20 @@ loop-v-preserved g c =
     let puts_long : length puts ≡ v = omega (arith, length-map c.loop-v.puts.items (λ row. row.items), c.loop-v.puts.ok.0, inv.puts) in
     let takes_long : length takes ≡ v = omega (arith, length-map c.loop-v.takes.items (λ row. row.items), c.loop-v.takes.ok.0, inv.takes) in
     record {
-      links = omega (arith, c.in_ok-push.ensures.len, inv.links);
-      puts = omega (arith, c.in_ok-push-2.ensures.len, inv.puts);
-      takes = omega (arith, c.in_ok-push-3.ensures.len, inv.takes);
-      made = rows_more (λ u ls ps ts. AreLinksOf net c.args.capacity u (degree_of net u) ls ps ts) links (map (λ row. row.items) c.push.new.self.items)
-          puts (map (λ row. row.items) c.push-in-loop-v.new.self.items) takes (map (λ row. row.items) c.push-in-loop-v-2.new.self.items)
+      room = (
+        omega (arith, c.push_reserved.ensures.capacity, inv.room.0),
+        omega (arith, c.push_reserved-in-loop-v.ensures.capacity, inv.room.1),
+        omega (arith, c.push_reserved-in-loop-v-2.ensures.capacity, inv.room.2),
+      );
+      links = omega (arith, c.push_reserved.ensures.len, inv.links);
+      puts = omega (arith, c.push_reserved-in-loop-v.ensures.len, inv.puts);
+      takes = omega (arith, c.push_reserved-in-loop-v-2.ensures.len, inv.takes);
+      made = rows_more (λ u ls ps ts. AreLinksOf net c.args.capacity u (degree_of net u) ls ps ts) links (map (λ row. row.items) c.push_reserved.new.self.items)
+          puts (map (λ row. row.items) c.push_reserved-in-loop-v.new.self.items) takes (map (λ row. row.items) c.push_reserved-in-loop-v-2.new.self.items)
           c.in_ok-row.row.links.items c.in_ok-row.row.puts.items c.in_ok-row.row.takes.items v links_long puts_long takes_long
-          (read_more (λ row. row.items) c.loop-v.links.items c.push.new.self.items c.in_ok-row.row.links c.in_ok-push.ensures.items)
-          (read_more (λ row. row.items) c.loop-v.puts.items c.push-in-loop-v.new.self.items c.in_ok-row.row.puts c.in_ok-push-2.ensures.items)
-          (read_more (λ row. row.items) c.loop-v.takes.items c.push-in-loop-v-2.new.self.items c.in_ok-row.row.takes c.in_ok-push-3.ensures.items)
+          (read_more (λ row. row.items) c.loop-v.links.items c.push_reserved.new.self.items c.in_ok-row.row.links c.push_reserved.ensures.items)
+          (read_more (λ row. row.items) c.loop-v.puts.items c.push_reserved-in-loop-v.new.self.items c.in_ok-row.row.puts c.push_reserved-in-loop-v.ensures.items)
+          (read_more (λ row. row.items) c.loop-v.takes.items c.push_reserved-in-loop-v-2.new.self.items c.in_ok-row.row.takes c.push_reserved-in-loop-v-2.ensures.items)
           c.in_ok-row.ensures.made inv.made;
     }
 

@@ -14,7 +14,8 @@ loop-v-init g c =
     record {
       shape = starts_shape net ok rows _ is c.requires.shape;
       left = λ w j vertex lt after. starts_at net ok rows _ is w j;
-      count = omega (arith, c.new-all.ensures.len);
+      count = omega (arith, ap length c.in_ok-all.ensures.items, c.in_ok-all.all.ok.0);
+      room = omega (arith, c.in_ok-all.ensures.capacity, c.nodes.ensures.count);
       rows = λ u vertex le. absurd (omega (arith, vertex.0));
       at = λ u i vertex le lt. absurd (omega (arith, vertex.0));
     }
@@ -25,6 +26,9 @@ crossed_row-requires-clause-full g c =
     let vertex : IsVertex net (c.loop-v.v + 1) = (omega arith, omega (arith, c.nodes-v-end.ensures.count)) in
     full net c.is_network.ensures c.loop-v.v (map (λ row. row.items) c.args.rows.items) (map (λ row. row.items) c.loop-v.slots.items) vertex
     c.requires.shape c.loop-v.invariant.left
+
+pub push_reserved-requires : goal.push_reserved-requires
+push_reserved-requires g c = omega (arith, c.loop-v.invariant.count, c.loop-v.invariant.room, c.loop-v-test.true, c.nodes-v-end.ensures.count)
 
 pub loop-v-preserved : goal.loop-v-preserved
 loop-v-preserved g c =
@@ -37,11 +41,12 @@ loop-v-preserved g c =
     let all = map (λ row. row.items) c.loop-v.all.items in
     let slots = map (λ row. row.items) c.loop-v.slots.items in
     let long : length all ≡ v = omega (arith, length-map c.loop-v.all.items (λ row. row.items), c.loop-v.all.ok.0, inv.count) in
-    let pushed = ap (map (λ row. row.items)) c.in_ok-push.ensures.items ∙ map-append (λ row. row.items) c.loop-v.all.items _ in
+    let pushed = ap (map (λ row. row.items)) c.push_reserved.ensures.items ∙ map-append (λ row. row.items) c.loop-v.all.items _ in
     record {
       shape = c.crossed_row.ensures.shape;
       left = less_left net ok v vertex rows all _ _ slots _ long pushed c.in_ok-row.ensures.row inv.left c.crossed_row.ensures.others;
-      count = omega (arith, c.in_ok-push.ensures.len, inv.count);
+      count = omega (arith, c.push_reserved.ensures.len, inv.count);
+      room = omega (arith, c.push_reserved.ensures.capacity, inv.room);
       rows = more_rows net ok v vertex rows all _ _ slots slots long pushed c.in_ok-row.ensures.row inv.rows;
       at = more_at net ok v vertex rows all _ _ slots slots long pushed c.in_ok-row.ensures.row inv.left inv.at;
     }

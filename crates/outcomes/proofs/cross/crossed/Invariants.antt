@@ -1,5 +1,5 @@
-use Rattle.std.proofs.Common.{◌≡◌, ◌<◌, ◌≤◌, ℕ, map, vec_len, length}
-use Rattle.alpha_laws.specs.interference.Net.{IsVertex, back_port_of, degree_of, neighbour_of}
+use Rattle.std.proofs.Common.{◌≡◌, ◌<◌, ◌≤◌, ℕ, map, vec_len, vec_capacity, length}
+use Rattle.alpha_laws.specs.interference.Net.{IsVertex, back_port_of, count_of, degree_of, neighbour_of}
 use Rattle.outcomes.specs.Rows.{HasShape, row_at, slot_at, thing_at}
 use Rattle.outcomes.proofs.cross.crossed.Given as goal
 
@@ -9,6 +9,7 @@ invariant-loop-v g l = record {
   left : (w j : ℕ) → IsVertex l.net w → j < degree_of l.net w → l.v < neighbour_of l.net w j
       → slot_at (map (λ row. row.items) l.slots.items) w j ≡ thing_at (map (λ row. row.items) l.fn.rows.items) w j;
   count : vec_len l.all ≡ l.v;
+  room : count_of l.net ≤ vec_capacity l.all;
   rows : (u : ℕ) → IsVertex l.net u → u ≤ l.v → length (row_at (map (λ row. row.items) l.all.items) u) ≡ degree_of l.net u;
   at : (u i : ℕ) → IsVertex l.net u → u ≤ l.v → i < degree_of l.net u
       → thing_at (map (λ row. row.items) l.all.items) u i

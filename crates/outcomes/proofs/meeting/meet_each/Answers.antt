@@ -1,12 +1,13 @@
-use Rattle.std.proofs.Common.{◌≡◌, ◌≤◌, ℕ, Some, length, map, refl, sym, ap, subst, ◌∙◌, rules, map-id}
+use Rattle.std.proofs.Common.{◌≡◌, ◌≤◌, ℕ, Some, length, map, refl, sym, ap, subst, ◌∙◌, arith, rules, map-id}
 use Rattle.std.specs.Prelude.{All}
-use Rattle.std.proofs.lemmas.List.{map-append}
+use Rattle.std.proofs.lemmas.List.{length-map, map-append}
 use Rattle.std.proofs.lemmas.List.Elements.{All-pop, All-push, All-same}
 use Rattle.std.proofs.lemmas.Iterator.Consumers.{YieldsList-end, YieldsList-turn}
 use Rattle.std.proofs.lemmas.Iterator.Adapters.{YieldsList-from_vec}
 use Rattle.actor.specs.link_queue.Ends.{held_stamped, link_capacity, put_stamped, taken_stamped}
 use Rattle.actor.specs.Tables.{table_at, table_of}
-use Rattle.outcomes.specs.Meets.{RowsAreMet}
+use Rattle.outcomes.specs.Meets.{RowsAreMet, put_of}
+use Rattle.actor.proofs.worker_deques.Views.{as_many}
 use Rattle.outcomes.proofs.MetRows.{one_row_met}
 use Rattle.outcomes.proofs.meeting.meet_each.Goals as goal
 
@@ -24,16 +25,25 @@ meet_ends-requires-clause-takes g c κs within =
     subst (λ x. map {B = ℕ × ℕ} (λ e. (e.vertex, e.port)) x.1.1.items ≡ map {B = ℕ × ℕ} (λ e. (e.vertex, e.port)) x.1.0.items) (sym turn.1)
     (c.requires.takes _ _ turn.0)
 
+pub push_reserved-requires : goal.push_reserved-requires
+push_reserved-requires g c =
+    let turn = YieldsList-turn (YieldsList-from_vec {s = c.into_iter-links-iterator.result} c.args.rows.items (search rules) (search rules))
+    c.loop-links.yielded c.loop-links.links-iterator c.loop-links.yielded_by c.next.result c.next.new.self _ c.in-Some.is c.next.ensures.steps in
+    let inv = c.loop-links.invariant in
+    let many = as_many (λ x. map (λ e. put_stamped e.end) x.1.0.items) (map put_of) c.loop-links.yielded (map (λ mets. mets.items) c.loop-links.all.items) inv.met.puts_are in
+    omega (arith, turn.0, many, length-map c.loop-links.all.items (λ mets. mets.items), inv.places, c.args.rows.ok.0, c.loop-links.all.ok.0)
+
 pub loop-links-preserved : goal.loop-links-preserved
 loop-links-preserved g c = record {
+  places = omega (arith, c.push_reserved.ensures.capacity, c.loop-links.invariant.places);
   met = one_row_met (map (λ mets. mets.items) c.loop-links.all.items) _ _ _ _ _ _ _ _
-      (ap (map (λ mets. mets.items)) c.in_ok-push.ensures.items ∙ map-append (λ mets. mets.items) c.loop-links.all.items _)
+      (ap (map (λ mets. mets.items)) c.push_reserved.ensures.items ∙ map-append (λ mets. mets.items) c.loop-links.all.items _)
       (map-append (λ x. map (λ e. put_stamped e.end) x.1.0.items) c.loop-links.yielded _)
       (map-append (λ x. map (λ e. taken_stamped e.end) x.1.1.items) c.loop-links.yielded _)
       c.in_ok-meet_ends.ensures.met c.loop-links.invariant.met;
   room = λ capacity below.
       let parts = All-pop (λ x. All (λ link. link_capacity link ≤ capacity) x.0.items) _ c.loop-links.yielded (Some _) refl below in
-      All-same (λ mets. All (λ met. length (held_stamped met) ≤ capacity) mets.items) _ _ c.in_ok-push.ensures.items
+      All-same (λ mets. All (λ met. length (held_stamped met) ≤ capacity) mets.items) _ _ c.push_reserved.ensures.items
       (All-push (λ mets. All (λ met. length (held_stamped met) ≤ capacity) mets.items) c.loop-links.all.items _
       (c.loop-links.invariant.room capacity parts.0) (c.in_ok-meet_ends.ensures.room capacity parts.1));
 }

@@ -1,4 +1,4 @@
-use Rattle.std.proofs.Common.{◌≤◌, ℕ, length, map}
+use Rattle.std.proofs.Common.{◌≤◌, ℕ, length, map, vec_len, vec_capacity}
 use Rattle.std.specs.Prelude.{All}
 use Rattle.actor.specs.link_queue.Ends.{held_stamped, link_capacity, put_stamped, taken_stamped}
 use Rattle.outcomes.specs.Meets.{RowsAreMet}
@@ -6,6 +6,7 @@ use Rattle.outcomes.proofs.meeting.meet_each.Given as goal
 
 abbrev pub invariant-loop-links : goal.invariant-loop-links
 invariant-loop-links g l = record {
+  places : vec_len l.fn.rows ≤ vec_capacity l.all;
   met : RowsAreMet (map (λ mets. mets.items) l.all.items) (map (λ x. map (λ e. put_stamped e.end) x.1.0.items) l.yielded)
       (map (λ x. map (λ e. taken_stamped e.end) x.1.1.items) l.yielded);
   room : (capacity : ℕ) → All (λ x. All (λ link. link_capacity link ≤ capacity) x.0.items) l.yielded

@@ -1,4 +1,4 @@
-use Rattle.std.proofs.Common.{◌≤◌, ℕ, length, map}
+use Rattle.std.proofs.Common.{◌≤◌, ℕ, length, map, vec_len, vec_capacity}
 use Rattle.std.specs.Prelude.{All}
 use Rattle.actor.specs.link_queue.Ends.{held_stamped, link_capacity, put_stamped, taken_stamped}
 use Rattle.outcomes.specs.Meets.{AreMet}
@@ -6,6 +6,7 @@ use Rattle.outcomes.proofs.meeting.meet_row.Given as goal
 
 abbrev pub invariant-loop-link : goal.invariant-loop-link
 invariant-loop-link g l = record {
+  places : vec_len l.fn.row ≤ vec_capacity l.mets;
   met : AreMet l.mets.items (map (λ x. put_stamped x.1.0.end) l.yielded) (map (λ x. taken_stamped x.1.1.end) l.yielded);
   room : (capacity : ℕ) → All (λ x. link_capacity x.0 ≤ capacity) l.yielded → All (λ met. length (held_stamped met) ≤ capacity) l.mets.items;
 }

@@ -10,10 +10,11 @@ use Rattle.outcomes.proofs.pairs.pairs.Goals as goal
 
 pub loop-left-init : goal.loop-left-init
 loop-left-init g c = record {
+  room = omega (arith, c.in_ok-all.ensures.capacity, c.len-count.ensures);
   slots = omega (arith, c.in_ok-slots.slots.ok.0, c.args.rights.ok.0, ap length c.in_ok-slots.ensures.slots, length-map c.args.rights.items Some);
   waiting = λ j le. ap (λ s. get_or s j None) c.in_ok-slots.ensures.slots ∙ some_at c.args.rights.items j;
-  lefts = ap (map (λ p. p.0)) c.new-all.ensures.items;
-  rights = ap (map (λ p. p.1)) c.new-all.ensures.items;
+  lefts = ap (map (λ p. p.0)) c.in_ok-all.ensures.items;
+  rights = ap (map (λ p. p.1)) c.in_ok-all.ensures.items;
 }
 
 -- a turn: how many were made so far, that a left is left, and what the slot of its right holds
@@ -33,17 +34,23 @@ module _ (g : Over) (c : After-index_mut g) where
       omega (arith, left, count, inv.slots, c.requires.long, c.loop-left.slots.ok.0, c.args.lefts.ok.0) in
       found_at c.args.rights.items c.loop-left.slots.items _ c.len.result count inv.waiting c.index_mut.result.now lt c.index_mut.ensures.value
 
+pub push_reserved-requires : goal.push_reserved-requires
+push_reserved-requires g c =
+    let at = (goal.at.push_reserved-requires g c).After-index_mut in
+    omega (arith, left g at, count g at, c.len.ensures, c.loop-left.invariant.room, c.args.lefts.ok.0)
+
 pub loop-left-preserved : goal.loop-left-preserved
 loop-left-preserved g c =
     let at = (goal.at.loop-left-preserved g c).After-index_mut in
     let inv = c.loop-left.invariant in
     let more = length_push c.loop-left.yielded c.in-Some.left in
     record {
+      room = omega (arith, c.push_reserved.ensures.capacity, inv.room);
       slots = inv.slots;
       waiting = still_waiting c.args.rights.items c.loop-left.slots.items _ c.len.result (count g at) inv.waiting _ _ more;
-      lefts = ap (map (λ p. p.0)) c.in_ok-push-in-Some-take.ensures.items ∙ map-append (λ p. p.0) c.loop-left.all.items _
+      lefts = ap (map (λ p. p.0)) c.push_reserved.ensures.items ∙ map-append (λ p. p.0) c.loop-left.all.items _
           ∙ ap (λ l. l ++ c.in-Some.left ∷ []) inv.lefts;
-      rights = longer (λ p. p.1) c.args.rights.items c.loop-left.all.items _ _ _ _ c.in_ok-push-in-Some-take.ensures.items more
+      rights = longer (λ p. p.1) c.args.rights.items c.loop-left.all.items _ _ _ _ c.push_reserved.ensures.items more
           (sym (slot g at) ∙ sym c.in-Some-take.ensures.value) inv.rights;
     }
 

@@ -1,8 +1,8 @@
 -- There is room for what is taken off each node; at the end all nodes were taken apart.
 use Rattle.std.proofs.Common.{◌≡◌, ◌<◌, List, length, map, sym, ap, ◌∙◌, arith, rules, map-id}
-use Rattle.std.proofs.lemmas.List.{length-map}
 use Rattle.std.proofs.lemmas.Iterator.Consumers.{YieldsList-end, YieldsList-turn}
 use Rattle.std.proofs.lemmas.Iterator.Adapters.{YieldsList-from_vec}
+use Rattle.actor.proofs.worker_deques.Views.{as_many}
 use Rattle.outcomes.proofs.taking_apart.apart.Given.{Over}
 use Rattle.outcomes.proofs.taking_apart.apart.Goals.{In-Some}
 use Rattle.outcomes.proofs.taking_apart.apart.Goals as goal
@@ -13,9 +13,6 @@ left g c =
     c.loop-node.yielded c.loop-node.node-iterator c.loop-node.yielded_by c.next.result c.next.new.self c.in-Some.node c.in-Some.is
     c.next.ensures.steps).0
 
-as_many : {A B C : Type 0} (f : A → B) (g : C → B) (xs : List A) (ys : List C) → map f xs ≡ map g ys → length xs ≡ length ys
-as_many f g xs ys same = sym (length-map xs f) ∙ ap (λ l. length l) same ∙ length-map ys g
-
 pub push_reserved-requires : goal.push_reserved-requires
 push_reserved-requires g c =
     let inv = c.loop-node.invariant in
@@ -25,7 +22,7 @@ push_reserved-requires g c =
       inv.room.0,
       c.args.nodes.ok.0,
       c.loop-node.all.actors.ok.0,
-      as_many (λ a. a.vertex) (λ n. n.vertex) c.loop-node.all.actors.items c.loop-node.yielded inv.vertices,
+      as_many (λ n. n.vertex) (λ a. a.vertex) c.loop-node.yielded c.loop-node.all.actors.items inv.vertices,
     )
 
 pub push_reserved-requires-in-loop-node : goal.push_reserved-requires-in-loop-node
@@ -37,7 +34,7 @@ push_reserved-requires-in-loop-node g c =
       inv.room.1,
       c.args.nodes.ok.0,
       c.loop-node.all.puts.ok.0,
-      as_many (λ row. row.items) (λ n. n.puts.items) c.loop-node.all.puts.items c.loop-node.yielded inv.puts,
+      as_many (λ n. n.puts.items) (λ row. row.items) c.loop-node.yielded c.loop-node.all.puts.items inv.puts,
     )
 
 pub push_reserved-requires-in-loop-node-2 : goal.push_reserved-requires-in-loop-node-2
@@ -49,7 +46,7 @@ push_reserved-requires-in-loop-node-2 g c =
       inv.room.2,
       c.args.nodes.ok.0,
       c.loop-node.all.takes.ok.0,
-      as_many (λ row. row.items) (λ n. n.takes.items) c.loop-node.all.takes.items c.loop-node.yielded inv.takes,
+      as_many (λ n. n.takes.items) (λ row. row.items) c.loop-node.yielded c.loop-node.all.takes.items inv.takes,
     )
 
 pub returns : goal.returns

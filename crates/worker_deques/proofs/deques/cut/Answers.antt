@@ -1,16 +1,39 @@
-use Rattle.std.proofs.Common.{◌<◌, map, ap, sym, ◌∙◌, subst, rules, map-id}
+use Rattle.std.proofs.Common.{◌≡◌, ◌<◌, length, map, ap, sym, ◌∙◌, subst, arith, rules, map-id}
+use Rattle.std.specs.Prelude.{get_or}
 use Rattle.std.proofs.lemmas.Iterator.Consumers.{YieldsList-end, YieldsList-turn}
 use Rattle.std.proofs.lemmas.Iterator.Adapters.{YieldsList-from_vec}
-use Rattle.crossbeam_deque.specs.Handles.{worker_view}
+use Rattle.crossbeam_deque.specs.Handles.{worker_deque, worker_view}
+use Rattle.worker_deques.specs.Deques.{deque_of}
 use Rattle.worker_deques.specs.Ledgers.{shares_of}
+use Rattle.worker_deques.proofs.Views.{as_many}
+use Rattle.worker_deques.proofs.deques.cut.Given.{Over}
+use Rattle.worker_deques.proofs.deques.cut.Goals.{In-Some}
 use Rattle.worker_deques.proofs.deques.cut.Goals as goal
+
+-- the deque of a turn
+turn : (g : Over) (c : In-Some g)
+    → (length c.loop-own.yielded < length c.args.owns.items) × (c.in-Some.own ≡ get_or c.args.owns.items (length c.loop-own.yielded) c.in-Some.own)
+turn g c =
+    YieldsList-turn (YieldsList-from_vec {s = c.into_iter-own-iterator.result} c.args.owns.items (search rules) (search rules))
+    c.loop-own.yielded c.loop-own.own-iterator c.loop-own.yielded_by c.next.result c.next.new.self _ c.in-Some.is c.next.ensures.steps
 
 pub another-requires : goal.another-requires
 another-requires g c =
-    let turn = YieldsList-turn (YieldsList-from_vec {s = c.into_iter-own-iterator.result} c.args.owns.items (search rules) (search rules))
-    c.loop-own.yielded c.loop-own.own-iterator c.loop-own.yielded_by c.next.result c.next.new.self _ c.in-Some.is c.next.ensures.steps in
-    λ items views. c.requires.rule.forks _ _ (subst (λ o. 1 < shares_of (worker_view o)) (sym turn.1) (c.requires.shares _ _ turn.0))
+    let at = turn g (goal.at.another-requires g c).In-Some in
+    λ items views. c.requires.rule.forks _ _ (subst (λ o. 1 < shares_of (worker_view o)) (sym at.1) (c.requires.shares _ _ at.0))
     (map (λ b. g.T.Task.number_of b.value) items) views
+
+pub push_reserved-requires : goal.push_reserved-requires
+push_reserved-requires g c =
+    let inv = c.loop-own.invariant in
+    let many = as_many worker_deque (λ g'. deque_of g'.pass) c.loop-own.yielded c.loop-own.guests.items inv.guests in
+    omega (arith, (turn g (goal.at.push_reserved-requires g c).In-Some).0, inv.room.1, many, c.args.owns.ok.0, c.loop-own.guests.ok.0)
+
+pub push_reserved-requires-in-loop-own : goal.push_reserved-requires-in-loop-own
+push_reserved-requires-in-loop-own g c =
+    let inv = c.loop-own.invariant in
+    let many = as_many worker_deque worker_deque c.loop-own.yielded c.loop-own.lefts.items inv.owns in
+    omega (arith, (turn g (goal.at.push_reserved-requires-in-loop-own g c).In-Some).0, inv.room.0, many, c.args.owns.ok.0, c.loop-own.lefts.ok.0)
 
 pub returns-clause-right : goal.returns-clause-right
 returns-clause-right g c =

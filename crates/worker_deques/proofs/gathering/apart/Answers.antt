@@ -1,11 +1,34 @@
-use Rattle.std.proofs.Common.{◌≡◌, map, map-id, refl, sym, ap, ◌∙◌, arith, rules}
+-- There is room for what each worker handed back; at the end every worker's deque is there.
+use Rattle.std.proofs.Common.{◌≡◌, ◌<◌, length, map, map-id, refl, sym, ap, ◌∙◌, arith, rules}
 use Rattle.std.proofs.lemmas.Iterator.Adapters.{YieldsList-from_vec}
-use Rattle.std.proofs.lemmas.Iterator.Consumers.{YieldsList-end}
+use Rattle.std.proofs.lemmas.Iterator.Consumers.{YieldsList-end, YieldsList-turn}
 use Rattle.crossbeam_deque.specs.Handles.{view, worker_deque, worker_view}
 use Rattle.worker_deques.specs.Deques.{deque_of}
 use Rattle.worker_deques.specs.Ledgers.{in_rows, pushed_by, shares_of, taken_by, weigh}
 use Rattle.worker_deques.proofs.Pushed.{both_pushed, in_rows_more, total_more}
+use Rattle.worker_deques.proofs.Views.{as_many}
+use Rattle.worker_deques.proofs.gathering.apart.Given.{Over}
+use Rattle.worker_deques.proofs.gathering.apart.Goals.{In-Some}
 use Rattle.worker_deques.proofs.gathering.apart.Goals as goal
+
+left : (g : Over) (c : In-Some g) → length c.loop-worked.yielded < length c.args.done.items
+left g c =
+    (YieldsList-turn (YieldsList-from_vec {s = c.into_iter-worked-iterator.result} c.args.done.items (search rules) (search rules))
+    c.loop-worked.yielded c.loop-worked.worked-iterator c.loop-worked.yielded_by c.next.result c.next.new.self c.in-Some.worked c.in-Some.is
+    c.next.ensures.steps).0
+
+pub push_reserved-requires : goal.push_reserved-requires
+push_reserved-requires g c =
+    let inv = c.loop-worked.invariant in
+    let many = as_many (λ w. worker_deque w.desk.own) worker_deque c.loop-worked.yielded c.loop-worked.owns.items inv.owns in
+    omega (arith, left g (goal.at.push_reserved-requires g c).In-Some, inv.room.0, many, c.args.done.ok.0, c.loop-worked.owns.ok.0)
+
+pub push_reserved-requires-in-loop-worked : goal.push_reserved-requires-in-loop-worked
+push_reserved-requires-in-loop-worked g c =
+    let inv = c.loop-worked.invariant in
+    let many = as_many (λ w. map (λ g'. deque_of g'.pass) w.desk.guests.items) (λ row. map (λ g'. deque_of g'.pass) row.items)
+    c.loop-worked.yielded c.loop-worked.rows.items inv.rows in
+    omega (arith, left g (goal.at.push_reserved-requires-in-loop-worked g c).In-Some, inv.room.1, many, c.args.done.ok.0, c.loop-worked.rows.ok.0)
 
 pub loop-worked-preserved : goal.loop-worked-preserved
 loop-worked-preserved g c =
@@ -13,9 +36,10 @@ loop-worked-preserved g c =
     let worked = c.in-Some.worked in
     let desk = c.into_desk-own.result in
     let is : desk ≡ worked.desk = c.into_desk-own.ensures.desk in
-    let owns = c.in_ok-push.ensures.items in
-    let rows = c.in_ok-push-2.ensures.items in
+    let owns = c.push_reserved.ensures.items in
+    let rows = c.push_reserved-in-loop-worked.ensures.items in
     record {
+      room = (omega (arith, c.push_reserved.ensures.capacity, inv.room.0), omega (arith, c.push_reserved-in-loop-worked.ensures.capacity, inv.room.1));
       owns = both_pushed worker_deque (λ w. worker_deque w.desk.own) _ _ c.loop-worked.yielded _ _ worked owns refl
           (ap (λ d. worker_deque d.own) is) inv.owns;
       rows = both_pushed (λ row. map (λ g'. deque_of g'.pass) row.items) (λ w. map (λ g'. deque_of g'.pass) w.desk.guests.items) _ _
@@ -35,7 +59,6 @@ loop-worked-preserved g c =
           omega arith;
     }
 
--- at the end every worker's deque is there
 pub returns-clause-shares : goal.returns-clause-shares
 returns-clause-shares g c =
     let end = YieldsList-end (YieldsList-from_vec {s = c.into_iter-worked-iterator.result} c.args.done.items (search rules) (search rules))

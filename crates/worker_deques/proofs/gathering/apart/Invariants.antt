@@ -1,4 +1,4 @@
-use Rattle.std.proofs.Common.{◌≡◌, ◌+◌, ℕ, map}
+use Rattle.std.proofs.Common.{◌≡◌, ◌≤◌, ◌+◌, ℕ, map, vec_len, vec_capacity}
 use Rattle.crossbeam_deque.specs.Handles.{view, worker_deque, worker_view}
 use Rattle.worker_deques.specs.Ledgers.{in_rows, pushed_by, shares_of, taken_by, weigh}
 use Rattle.worker_deques.specs.Deques.{deque_of}
@@ -6,6 +6,7 @@ use Rattle.worker_deques.proofs.gathering.apart.Given as goal
 
 abbrev pub invariant-loop-worked : goal.invariant-loop-worked
 invariant-loop-worked g l = record {
+  room : (vec_len l.fn.done ≤ vec_capacity l.owns) × (vec_len l.fn.done ≤ vec_capacity l.rows);
   owns : map worker_deque l.owns.items ≡ map (λ w. worker_deque w.desk.own) l.yielded;
   rows : map (λ row. map (λ g'. deque_of g'.pass) row.items) l.rows.items ≡ map (λ w. map (λ g'. deque_of g'.pass) w.desk.guests.items) l.yielded;
   shares : map (λ o. shares_of (worker_view o)) l.owns.items ≡ map (λ w. shares_of (worker_view w.desk.own)) l.yielded;
