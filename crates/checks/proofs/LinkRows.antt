@@ -28,9 +28,6 @@ use Rattle.sync_rounds.specs.Greatest.{Known}
 use Rattle.sync_rounds.specs.Spread as spreading
 use Rattle.sync_rounds.specs.Spread.{spread}
 use Rattle.sync_rounds.specs.declared.greatest.Best.{Best}
-use Rattle.colour_program.specs.colour_rules.Program.{colouring}
-use Rattle.colour_program.specs.colour_rules.Payload as colour
-use Rattle.colour_program.specs.colour_rules.Payload.TheVariants.{Hello}
 
 -- the networks that `Network::new` makes
 pub pair_made : network_of (1 ∷ 2 ∷ []) ((1, 2) ∷ []) [] ≡ pair_net
@@ -236,13 +233,9 @@ pub may_close : (top best pulse : ℕ) (name now : Option LinkName) (put : List 
 may_close top best pulse name now put last' whole is e =
     same_legal top name now (echoes best top ++ Close ∷ []) (put ++ Close ∷ []) (ap (λ l. l ++ Close ∷ []) (e ∙ ap (echoes best) last')) is whole
 
--- The colouring: vertex 1 greets vertex 2, and says that it is safe.
-abbrev colour_wires : List (Wire colour.Payload)
-colour_wires = Payload 0 (Hello 1) ∷ Safe 0 ∷ []
-
-hello_sent : sends colouring pair_net 1 2 0 ≡ Some (Hello 1)
-unfolding node_at
-hello_sent = refl
+-- For the last pulse 1 vertex 1 sends its identifier to vertex 2, and says that it is safe.
+abbrev first_wires : List (Wire Best)
+first_wires = Payload 0 (record { 0 = 1 }) ∷ Safe 0 ∷ []
 
 -- a payload of pulse 0 and its safe begin every stream that has one
 first_round : {M : Type 0} (top : ℕ) (sent other : ℕ → Option M) (x : M) → 1 ≤ top → sent 0 ≡ Some x → Legal top sent other (Payload 0 x ∷ Safe 0 ∷ [])
@@ -262,15 +255,15 @@ first_round {M} top sent other x le is = record {
     none (a ∷ b ∷ []) ys e = cc
     none (a ∷ b ∷ c ∷ xs) ys e = cc
 
-colour_legal : IsLegalOn colouring (name_of pair_net 1 0) colour_wires
-colour_legal = first_round (last_pulse_on colouring pair_net) (sends colouring pair_net 1 2) (sends colouring pair_net 2 1) (Hello 1) (omega arith) hello_sent
+first_legal : IsLegalOn (spread 1) (name_of pair_net 1 0) first_wires
+first_legal = first_round 1 (sends (spread 1) pair_net 1 2) (sends (spread 1) pair_net 2 1) (record { 0 = 1 }) (omega arith) (first_sent 0 (omega arith))
 
 -- a beginning of them, under the link's name
-pub colour_front : (front rest put : List (Wire colour.Payload)) (name : Option LinkName) → front ++ rest ≡ colour_wires → put ≡ front →
+pub first_front : (front rest put : List (Wire Best)) (name : Option LinkName) → front ++ rest ≡ first_wires → put ≡ front →
     name ≡ Some (name_of pair_net 1 0)
-    → LegalFor (IsLegalOn colouring) name put
-colour_front front rest put name e is named n at =
+    → LegalFor (IsLegalOn (spread 1)) name put
+first_front front rest put name e is named n at =
     let same : name_of pair_net 1 0 ≡ n = cc in
-    let here : IsLegalOn colouring (name_of pair_net 1 0) front =
-    legal-front _ _ _ front rest (subst (λ l. IsLegalOn colouring (name_of pair_net 1 0) l) (sym e) colour_legal) in
-    subst (λ m. IsLegalOn colouring m put) same (subst (λ l. IsLegalOn colouring (name_of pair_net 1 0) l) (sym is) here)
+    let here : IsLegalOn (spread 1) (name_of pair_net 1 0) front =
+    legal-front _ _ _ front rest (subst (λ l. IsLegalOn (spread 1) (name_of pair_net 1 0) l) (sym e) first_legal) in
+    subst (λ m. IsLegalOn (spread 1) m put) same (subst (λ l. IsLegalOn (spread 1) (name_of pair_net 1 0) l) (sym is) here)

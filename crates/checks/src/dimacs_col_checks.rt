@@ -1,10 +1,11 @@
 //! The text of each fault, which no program prints.
 
 use dimacs_col::ColFault;
+use std::alloc::Global;
 use std::fmt::Write;
 use std::test::Fail;
 
-const FAULT_TEXTS: [(ColFault, &str); 14] = [
+static FAULT_TEXTS: [(ColFault, &str); 14] = [
     (ColFault::NoProblem, "F1: no problem line"),
     (
         ColFault::SecondProblem(2),
@@ -57,12 +58,16 @@ const FAULT_TEXTS: [(ColFault, &str); 14] = [
     (ColFault::Memory, "F9: out of memory"),
 ];
 
+fn text_of(alloc: Global, fault: ColFault) -> Result<String, Fail> {
+    let mut written = String::new(alloc);
+    write!(written, "{fault}")?;
+    Ok(written)
+}
+
 #[test]
 fn each_fault_has_its_text(rt: HostRuntime) -> Result<(), Fail> {
-    for (fault, text) in FAULT_TEXTS {
-        let mut written = String::new(rt.alloc());
-        write!(written, "{fault}")?;
-        assert_eq!(rt; written.as_str(), text);
+    for (fault, text) in &FAULT_TEXTS {
+        assert!(rt; text_of(rt.alloc(), *fault)?.as_str() == *text, "{text}");
     }
     Ok(())
 }

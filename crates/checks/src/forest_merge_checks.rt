@@ -24,55 +24,71 @@ fn a_set_has_what_was_added(rt: HostRuntime) {
 }
 
 // The colours below `end` are chosen, those from `first` and below `last` barred; the least free colour of 0 to `span`.
+static LEAST: [(u16, u16, u16, u16, Option<u16>); 21] = [
+    (0, 0, 0, 0, Some(0)),
+    (2, 0, 0, 1, None),
+    (2, 0, 0, 2, Some(2)),
+    (63, 0, 0, 100, Some(63)),
+    (64, 0, 0, 100, Some(64)),
+    (64, 0, 0, 63, None),
+    (127, 0, 0, 127, Some(127)),
+    (128, 0, 0, 127, None),
+    (1023, 0, 0, 1023, Some(1023)),
+    (GREATEST, 0, 0, GREATEST, Some(GREATEST)),
+    (COLOURS, 0, 0, GREATEST, None),
+    (0, 0, 1, 0, None),
+    (0, 0, 1, 1, Some(1)),
+    (0, 1, 2, 1, Some(0)),
+    (2, 1, 3, 3, Some(3)),
+    (63, 63, 65, 100, Some(65)),
+    (64, 64, 128, 127, None),
+    (64, 64, 128, 128, Some(128)),
+    (0, 0, 1024, 1024, Some(1024)),
+    (1023, 1023, GREATEST, GREATEST, Some(GREATEST)),
+    (1024, 1024, COLOURS, GREATEST, None),
+];
+
+fn least_of(end: u16, first: u16, last: u16, span: u16) -> Option<u16> {
+    if end > COLOURS || last > COLOURS {
+        return None;
+    }
+    let mut chosen = ChosenSet::new();
+    for colour in 0..end {
+        chosen.add(colour);
+    }
+    let mut barred = ChosenSet::new();
+    for colour in first..last {
+        barred.add(colour);
+    }
+    if has_free(&chosen, &barred, span) {
+        Some(least_free(&chosen, &barred, span))
+    } else {
+        None
+    }
+}
+
 #[test]
 fn the_least_free_colour_is_chosen(rt: HostRuntime) {
-    for (end, first, last, span, least) in [
-        (0, 0, 0, 0, Some(0)),
-        (2, 0, 0, 1, None),
-        (2, 0, 0, 2, Some(2)),
-        (63, 0, 0, 100, Some(63)),
-        (64, 0, 0, 100, Some(64)),
-        (64, 0, 0, 63, None),
-        (127, 0, 0, 127, Some(127)),
-        (128, 0, 0, 127, None),
-        (1023, 0, 0, 1023, Some(1023)),
-        (GREATEST, 0, 0, GREATEST, Some(GREATEST)),
-        (COLOURS, 0, 0, GREATEST, None),
-        (0, 0, 1, 0, None),
-        (0, 0, 1, 1, Some(1)),
-        (0, 1, 2, 1, Some(0)),
-        (2, 1, 3, 3, Some(3)),
-        (63, 63, 65, 100, Some(65)),
-        (64, 64, 128, 127, None),
-        (64, 64, 128, 128, Some(128)),
-        (0, 0, 1024, 1024, Some(1024)),
-        (1023, 1023, GREATEST, GREATEST, Some(GREATEST)),
-        (1024, 1024, COLOURS, GREATEST, None),
-    ] {
-        assert!(rt; end <= COLOURS);
-        assert!(rt; last <= COLOURS);
-        let mut chosen = ChosenSet::new();
-        for colour in 0..end {
-            chosen.add(colour);
-        }
-        let mut barred = ChosenSet::new();
-        for colour in first..last {
-            barred.add(colour);
-        }
-        let found = if has_free(&chosen, &barred, span) {
-            Some(least_free(&chosen, &barred, span))
-        } else {
-            None
-        };
-        assert_eq!(rt;
-            found,
-            least,
+    for (end, first, last, span, least) in &LEAST {
+        assert!(rt;
+            least_of(*end, *first, *last, *span) == *least,
             "{end} chosen, {first} to {last} barred, span {span}"
         );
     }
 }
 
-// A gap comes before what is free at the end; if it is barred it is none.
+// Whether a gap at 130 comes before what is free at the end, and is none once it is barred.
+fn gap_is_chosen(chosen: &ChosenSet, barred: &mut ChosenSet) -> bool {
+    let before = !has_free(chosen, barred, 129)
+        && has_free(chosen, barred, 130)
+        && least_free(chosen, barred, 130) == 130;
+    barred.add(130);
+    before
+        && !has_free(chosen, barred, 299)
+        && has_free(chosen, barred, 300)
+        && least_free(chosen, barred, 300) == 300
+}
+
 #[test]
 fn a_gap_that_is_not_barred_is_chosen(rt: HostRuntime) {
     let mut chosen = ChosenSet::new();
@@ -82,13 +98,7 @@ fn a_gap_that_is_not_barred_is_chosen(rt: HostRuntime) {
         }
     }
     let mut barred = ChosenSet::new();
-    assert!(rt; !has_free(&chosen, &barred, 129));
-    assert!(rt; has_free(&chosen, &barred, 130));
-    assert_eq!(rt; least_free(&chosen, &barred, 130), 130);
-    barred.add(130);
-    assert!(rt; !has_free(&chosen, &barred, 299));
-    assert!(rt; has_free(&chosen, &barred, 300));
-    assert_eq!(rt; least_free(&chosen, &barred, 300), 300);
+    assert!(rt; gap_is_chosen(&chosen, &mut barred));
 }
 
 #[test]

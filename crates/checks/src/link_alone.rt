@@ -1,23 +1,23 @@
-//! Links of capacity 1 in one thread, at the colouring.
+//! Links of capacity 1 in one thread, at `Greatest`.
 
 ghost use Rattle.std.specs.Prelude.{◌≡◌};
 ghost use Rattle.checks.specs.LinkRows.{pair_net};
 
 use alpha_core::{Memory, Network, Stamped, Wire};
-use colour_program::{Colouring, Payload};
 use link_queue::{Full, Link, MeetRefused};
 use std::alloc::Global;
 use std::sync::Wait;
+use sync_rounds::{Best, Greatest};
 
 /// What each step returned.
 #[derive(Drop)]
 pub struct Steps {
     pub put: bool,
-    pub full: Option<Stamped<Payload>>,
-    pub taken: Option<Stamped<Payload>>,
-    pub none: Option<Stamped<Payload>>,
+    pub full: Option<Stamped<Best>>,
+    pub taken: Option<Stamped<Best>>,
+    pub none: Option<Stamped<Best>>,
     pub put_again: bool,
-    pub taken_again: Option<Stamped<Payload>>,
+    pub taken_again: Option<Stamped<Best>>,
     pub held: usize,
 }
 
@@ -25,12 +25,12 @@ pub struct Steps {
 pub fn one_after_another<R: Wait>(rt: &R, alloc: Global, network: &Network) -> Result<Steps, Memory>
     requires network { network.now ≡ pair_net }
 {
-    let (link, mut put_end, mut take_end) = Link::<Colouring>::new(alloc, network, 1, 0, 1)?;
-    let hello = Stamped {
+    let (link, mut put_end, mut take_end) = Link::<Greatest<1>>::new(alloc, network, 1, 0, 1)?;
+    let payload = Stamped {
         stamp: 1,
-        wire: Wire::Payload(0, Payload::Hello(1)),
+        wire: Wire::Payload(0, Best(1)),
     };
-    let put = match link.put(rt, &mut put_end, hello) {
+    let put = match link.put(rt, &mut put_end, payload) {
         Ok(()) => true,
         Err(_) => return Err(Memory),
     };
@@ -67,11 +67,11 @@ pub fn met_again<R: Wait>(
     rt: &R,
     alloc: Global,
     network: &Network,
-) -> Result<Option<Stamped<Payload>>, Memory>
+) -> Result<Option<Stamped<Best>>, Memory>
     requires network { network.now ≡ pair_net }
 {
-    let (link, mut put_end, mut take_end) = Link::<Colouring>::new(alloc, network, 1, 0, 1)?;
-    let (stamp, wire) = (2, Wire::Payload(0, Payload::Hello(1)));
+    let (link, mut put_end, mut take_end) = Link::<Greatest<1>>::new(alloc, network, 1, 0, 1)?;
+    let (stamp, wire) = (2, Wire::Payload(0, Best(1)));
     match link.put(rt, &mut put_end, Stamped { stamp, wire }) {
         Ok(()) => (),
         Err(_) => return Ok(None),

@@ -6,7 +6,6 @@ ghost use Rattle.checks.specs.LinkRows.{pair_net};
 use crate::link_alone::{met_again, one_after_another};
 use crate::link_threads::hand_over;
 use alpha_core::{NetFault, Network, Stamped, Wire, bars_fit, edges_fit};
-use colour_program::Payload;
 use link_rule::StreamCheck;
 use run_options::MAX_CAPACITY;
 use std::alloc::Global;
@@ -36,11 +35,11 @@ fn one_thread_puts_and_takes(rt: HostRuntime) -> Result<(), Fail> {
     let alloc: Global = rt.alloc();
     let network = pair(&rt, alloc)?;
     let steps = one_after_another(&rt, alloc, &network)?;
-    let hello = item(1, Wire::Payload(0, Payload::Hello(1)));
+    let payload = item(1, Wire::Payload(0, Best(1)));
     let safe = item(u64::MAX, Wire::Safe(0));
     assert!(rt; steps.put);
     assert!(rt; steps.full == Some(safe));
-    assert!(rt; steps.taken == Some(hello));
+    assert!(rt; steps.taken == Some(payload));
     assert!(rt; steps.none == None);
     assert!(rt; steps.put_again);
     assert!(rt; steps.taken_again == Some(safe));
@@ -48,9 +47,9 @@ fn one_thread_puts_and_takes(rt: HostRuntime) -> Result<(), Fail> {
     // A check refuses a wire out of order or a stamp that doesn't rise, and then goes on as if it hadn't come.
     let mut check = StreamCheck::new(1);
     for (stamp, wire, passes) in [
-        (0, Wire::Payload(0, Payload::Hello(1)), false),
+        (0, Wire::Payload(0, Best(1)), false),
         (7, Wire::Safe(1), false),
-        (5, Wire::Payload(0, Payload::Hello(1)), true),
+        (5, Wire::Payload(0, Best(1)), true),
         (5, Wire::Safe(0), false),
         (4, Wire::Safe(0), false),
         (6, Wire::Safe(0), true),

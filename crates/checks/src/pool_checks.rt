@@ -3,10 +3,9 @@
 ghost use Rattle.std.specs.Prelude.{◌≡◌, IfOk};
 ghost use Rattle.checks.specs.LinkRows.{lone_net};
 
-use crate::full_counters::{no_links, node_past, run_from};
-use actor::TurnRefused;
+use crate::full_counters::{run_from, stays_as_it_was};
 use alpha_core::{NetFault, Network, bars_fit, edges_fit};
-use pool::{OpenGate, PoolFault};
+use pool::PoolFault;
 use std::alloc::Global;
 use std::process::Abort;
 use std::test::*;
@@ -24,20 +23,10 @@ fn alone(rt: &impl Abort, alloc: Global) -> Result<Network, NetFault>
 fn a_worker_stops_at_the_greatest_stamp(rt: HostRuntime) -> Result<(), Fail> {
     let alloc: Global = rt.alloc();
     let network = alone(&rt, alloc)?;
-    for (stamp, end) in [
-        (0, Ok((2, 3))),
-        (u64::MAX - 3, Ok((2, u64::MAX))),
-        (u64::MAX - 2, Err(PoolFault::StampFull)),
-        (u64::MAX - 1, Err(PoolFault::StampFull)),
-    ] {
-        assert!(rt; run_from(&rt, alloc, &network, stamp) == end, "{stamp}");
-    }
-    // By the turn that it refuses the node stays as it was.
-    let links = no_links(alloc)?;
-    let mut node = node_past(alloc, &network, u64::MAX - 2)?;
-    assert!(rt; node.turn(&rt, &links, &OpenGate, 0) == Ok(true));
-    assert!(rt; node.turn(&rt, &links, &OpenGate, 0) == Err(TurnRefused::StampFull));
-    assert!(rt; node.alpha.pulse_number() == 1 && node.counter.value() == u64::MAX);
-    assert!(rt; node.aside.is_none());
+    assert!(rt; run_from(&rt, alloc, &network, 0) == Ok((2, 3)));
+    assert!(rt; run_from(&rt, alloc, &network, u64::MAX - 3) == Ok((2, u64::MAX)));
+    assert!(rt; run_from(&rt, alloc, &network, u64::MAX - 2) == Err(PoolFault::StampFull));
+    assert!(rt; run_from(&rt, alloc, &network, u64::MAX - 1) == Err(PoolFault::StampFull));
+    assert!(rt; stays_as_it_was(&rt, alloc, &network)?);
     Ok(())
 }

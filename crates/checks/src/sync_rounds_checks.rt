@@ -6,12 +6,13 @@ use std::alloc::Global;
 use std::test::Fail;
 use sync_rounds::{Best, Greatest, run_rounds};
 
-fn bests<const D: u32>(alloc: Global, net: &Network) -> Result<Vec<u128>, Fail> {
+// Whether the nodes end with these greatest identifiers.
+fn end_with<const D: u32>(alloc: Global, net: &Network, wanted: &[u128]) -> Result<bool, Fail> {
     let mut bests = Vec::new(alloc);
     for node in &run_rounds::<Greatest<D>>(alloc, net)? {
         bests.push(node.best())?;
     }
-    Ok(bests)
+    Ok(bests.as_slice() == wanted)
 }
 
 fn path(alloc: Global) -> Result<Network, Fail> {
@@ -23,20 +24,14 @@ fn path(alloc: Global) -> Result<Network, Fail> {
 #[test]
 fn greatest_within_1_link(rt: HostRuntime) -> Result<(), Fail> {
     let net = path(rt.alloc())?;
-    assert_eq!(rt;
-        bests::<1>(rt.alloc(), &net)?.as_slice(),
-        [2, 3, 3].as_slice()
-    );
+    assert!(rt; end_with::<1>(rt.alloc(), &net, &[2, 3, 3])?);
     Ok(())
 }
 
 #[test]
 fn greatest_within_50_links(rt: HostRuntime) -> Result<(), Fail> {
     let net = path(rt.alloc())?;
-    assert_eq!(rt;
-        bests::<50>(rt.alloc(), &net)?.as_slice(),
-        [3, 3, 3].as_slice()
-    );
+    assert!(rt; end_with::<50>(rt.alloc(), &net, &[3, 3, 3])?);
     Ok(())
 }
 
@@ -44,53 +39,39 @@ fn greatest_within_50_links(rt: HostRuntime) -> Result<(), Fail> {
 #[test]
 fn greatest_stays_in_its_part_of_the_network(rt: HostRuntime) -> Result<(), Fail> {
     let alloc = rt.alloc();
-    let net = Network::try_new(
-        alloc,
-        &[9, 4, 20, 5, 8, 6, 7],
-        &[(1, 2), (4, 5), (4, 6), (4, 7)],
-        &[],
-    )?;
-    assert_eq!(rt;
-        bests::<0>(alloc, &net)?.as_slice(),
-        [9, 4, 20, 5, 8, 6, 7].as_slice()
-    );
-    assert_eq!(rt;
-        bests::<1>(alloc, &net)?.as_slice(),
-        [9, 9, 20, 8, 8, 6, 7].as_slice()
-    );
-    assert_eq!(rt;
-        bests::<3>(alloc, &net)?.as_slice(),
-        [9, 9, 20, 8, 8, 8, 8].as_slice()
-    );
-    let none = Network::try_new(alloc, &[], &[], &[])?;
-    assert_eq!(rt; bests::<1>(alloc, &none)?.len(), 0);
+    let ids = [9, 4, 20, 5, 8, 6, 7];
+    let net = Network::try_new(alloc, &ids, &[(1, 2), (4, 5), (4, 6), (4, 7)], &[])?;
+    assert!(rt; end_with::<0>(alloc, &net, &ids)?);
+    assert!(rt; end_with::<1>(alloc, &net, &[9, 9, 20, 8, 8, 6, 7])?);
+    assert!(rt; end_with::<3>(alloc, &net, &[9, 9, 20, 8, 8, 8, 8])?);
+    Ok(())
+}
+
+#[test]
+fn the_word_of_greatest_is_best(rt: HostRuntime) -> Result<(), Fail> {
+    let none = Network::try_new(rt.alloc(), &[], &[], &[])?;
+    assert!(rt; end_with::<1>(rt.alloc(), &none, &[])?);
     let (word, number) = Best(7).words();
     assert!(rt; word == "best" && number == 7 && Best::from_words(word, number) == Some(Best(7)));
     Ok(())
 }
 
-fn calls<const D: u32>(alloc: Global, net: &Network) -> Result<Vec<Option<u32>>, Fail> {
-    let mut calls = Vec::new(alloc);
-    for node in &run_rounds::<Counted<D>>(alloc, net)? {
-        calls.push(node.calls())?;
+// Whether each node of the path of three made so many calls, in order.
+fn make_calls<const D: u32>(alloc: Global, calls: u32) -> Result<bool, Fail> {
+    let net = path(alloc)?;
+    let nodes = run_rounds::<Counted<D>>(alloc, &net)?;
+    for node in &nodes {
+        if node.calls() != Some(calls) {
+            return Ok(false);
+        }
     }
-    Ok(calls)
+    Ok(nodes.len() == 3)
 }
 
 #[test]
 fn every_pulse_makes_its_three_calls_in_order(rt: HostRuntime) -> Result<(), Fail> {
-    let net = path(rt.alloc())?;
-    assert_eq!(rt;
-        calls::<0>(rt.alloc(), &net)?.as_slice(),
-        [Some(0); 3].as_slice()
-    );
-    assert_eq!(rt;
-        calls::<1>(rt.alloc(), &net)?.as_slice(),
-        [Some(3); 3].as_slice()
-    );
-    assert_eq!(rt;
-        calls::<7>(rt.alloc(), &net)?.as_slice(),
-        [Some(21); 3].as_slice()
-    );
+    assert!(rt; make_calls::<0>(rt.alloc(), 0)?);
+    assert!(rt; make_calls::<1>(rt.alloc(), 3)?);
+    assert!(rt; make_calls::<7>(rt.alloc(), 21)?);
     Ok(())
 }

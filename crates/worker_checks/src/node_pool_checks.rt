@@ -67,21 +67,73 @@ fn are_those_of_the_rounds<R: Threads + Wait + Sync>(
     }
 }
 
+fn are_alike_on_a_small_one<R: Threads + Wait + Sync>(
+    rt: &R,
+    alloc: Global,
+    number: u32,
+    workers: u32,
+) -> Result<bool, Fail> {
+    let net = small(alloc, number)?;
+    are_those_of_the_rounds(rt, alloc, &net, workers, number % 4 + 1)
+}
+
+// Whether within two links all nodes of the path of three know the greatest.
+fn are_3_on_the_path<R: Threads + Wait + Sync>(
+    rt: &R,
+    alloc: Global,
+    workers: u32,
+) -> Result<bool, Fail> {
+    let net = path(alloc)?;
+    let bests = greatest::<2, R>(rt, alloc, &net, workers, 4)?;
+    Ok(bests.is_some_and(|bests| bests.as_slice() == [3, 3, 3].as_slice()))
+}
+
 #[test]
 fn workers_end_as_the_rounds_do(rt: HostRuntime) -> Result<(), Fail> {
     let alloc: Global = rt.alloc();
-    let net = path(alloc)?;
     for workers in [1, 2, 4] {
-        let bests = greatest::<2, _>(&rt, alloc, &net, workers, 4)?;
-        assert!(rt; bests.is_some_and(|bests| bests.as_slice() == [3, 3, 3].as_slice()));
-    }
-    for number in 0..100 {
-        let net = small(alloc, number)?;
-        for workers in [1, 2, 4] {
-            assert!(rt; are_those_of_the_rounds(&rt, alloc, &net, workers, number % 4 + 1)?);
+        assert!(rt; are_3_on_the_path(&rt, alloc, workers)?);
+        for number in 0..100 {
+            assert!(rt; are_alike_on_a_small_one(&rt, alloc, number, workers)?);
         }
     }
     Ok(())
+}
+
+// What a run with this many workers over links of this capacity returns, if it isn't an outcome.
+fn refusal<R: Threads + Wait + Sync>(
+    rt: &R,
+    alloc: Global,
+    net: &Network,
+    workers: u32,
+    capacity: u32,
+) -> Option<PoolFault> {
+    let options = Options {
+        workers,
+        capacity,
+        turns: 1,
+        transcript: false,
+    };
+    match run_workers::<Greatest<1>, OpenGate, R>(rt, alloc, net, options, &OpenGate) {
+        Ok(_) => None,
+        Err(fault) => Some(fault),
+    }
+}
+
+// Whether a run with the greatest options and no look is whole.
+fn is_whole_without_a_look<R: Threads + Wait + Sync>(
+    rt: &R,
+    alloc: Global,
+    net: &Network,
+) -> Result<bool, Fail> {
+    let options = Options {
+        workers: 64,
+        capacity: 64,
+        turns: 0,
+        transcript: false,
+    };
+    let outcome = run_workers::<Greatest<1>, OpenGate, R>(rt, alloc, net, options, &OpenGate)?;
+    Ok(outcome.is_whole())
 }
 
 #[test]
@@ -96,25 +148,10 @@ fn options_out_of_range_are_refused_first(rt: HostRuntime) -> Result<(), Fail> {
         (0, 0),
         (u32::MAX, u32::MAX),
     ] {
-        let options = Options {
-            workers,
-            capacity,
-            turns: 1,
-            transcript: false,
-        };
-        let run = run_workers::<Greatest<1>, OpenGate, _>(&rt, alloc, &net, options, &OpenGate);
-        assert!(rt; run.err() == Some(PoolFault::BadOptions));
+        assert!(rt; refusal(&rt, alloc, &net, workers, capacity) == Some(PoolFault::BadOptions));
     }
-    let options = Options {
-        workers: 64,
-        capacity: 64,
-        turns: 0,
-        transcript: false,
-    };
-    let outcome = run_workers::<Greatest<1>, OpenGate, _>(&rt, alloc, &net, options, &OpenGate)?;
-    assert!(rt; !outcome.is_whole());
+    assert!(rt; !is_whole_without_a_look(&rt, alloc, &net)?);
     let none = Network::try_new(alloc, &[], &[], &[])?;
-    let outcome = run_workers::<Greatest<1>, OpenGate, _>(&rt, alloc, &none, options, &OpenGate)?;
-    assert!(rt; outcome.is_whole());
+    assert!(rt; is_whole_without_a_look(&rt, alloc, &none)?);
     Ok(())
 }

@@ -3,6 +3,7 @@
 use crate::meeting::Meeting;
 use crate::node_pool_checks::PULSES;
 use byte_functions::{Edition, Options, plan_bytes, replay_bytes, transcript_bytes};
+use std::alloc::Global;
 use std::test::Fail;
 
 const TRIANGLE: &[u8] = b"p edge 3 3\ne 1 2\ne 1 3\ne 2 3\n";
@@ -26,17 +27,20 @@ fn two_workers_make_a_plan_at_once(rt: HostRuntime) -> Result<(), Fail> {
     Ok(())
 }
 
+// Whether a transcript of edition 2 is replayed behind its network.
+fn is_replayed(alloc: Global, transcript: &[u8]) -> Result<bool, Fail> {
+    let mut text = Vec::new(alloc);
+    text.extend_from_slice(TRIANGLE)?;
+    text.extend_from_slice(transcript)?;
+    Ok(transcript.starts_with(b"transcript 2 3\n") && replay_bytes(alloc, &text).is_ok())
+}
+
 #[test]
 fn two_workers_make_a_transcript_at_once(rt: HostRuntime) -> Result<(), Fail> {
     let (alloc, edition) = (rt.alloc(), Edition::Two);
     let gate = Meeting::new();
     let transcript = transcript_bytes(&rt, alloc, TRIANGLE, BY_TWO, edition, &gate)?;
     assert!(rt; gate.saw_two_at_once(PULSES));
-    assert!(rt; transcript.as_slice().starts_with(b"transcript 2 3\n"));
-    // Behind its network it is replayed.
-    let mut text = Vec::new(alloc);
-    text.extend_from_slice(TRIANGLE)?;
-    text.extend_from_slice(&transcript)?;
-    assert!(rt; replay_bytes(alloc, &text).is_ok());
+    assert!(rt; is_replayed(alloc, transcript.as_slice())?);
     Ok(())
 }

@@ -7,6 +7,7 @@ ghost use Rattle.byte_functions.specs.interference.Net.{count_of};
 use byte_functions::{Entry, Network, ReplayRefused, Wire, read_transcript, replay};
 use net_core::{NetState, RunRefused};
 use std::alloc::Global;
+use std::process::Abort;
 use std::test::Fail;
 use sync_rounds::{Best, Greatest};
 
@@ -30,32 +31,59 @@ fn refusal(alloc: Global, net: &Network, row: (u32, Entry<Best>)) -> Option<Repl
     }
 }
 
+// Rows that neither node can do at the start, and why.
+static REFUSALS: [((u32, Entry<Best>), ReplayRefused); 7] = [
+    (
+        (1, Entry::Take(2, Wire::Close)),
+        ReplayRefused::Run(RunRefused::LinkEmpty(0)),
+    ),
+    (
+        (1, Entry::Put(2, Wire::Safe(0))),
+        ReplayRefused::WrongWire(0),
+    ),
+    (
+        (1, Entry::Put(3, Wire::Close)),
+        ReplayRefused::Run(RunRefused::NoSuch(0)),
+    ),
+    (
+        (1, Entry::Pulse(1)),
+        ReplayRefused::Run(RunRefused::NotReady(0)),
+    ),
+    (
+        (1, Entry::Put(1, Wire::Close)),
+        ReplayRefused::Run(RunRefused::NoSuch(0)),
+    ),
+    (
+        (3, Entry::Pulse(1)),
+        ReplayRefused::Run(RunRefused::NoSuch(0)),
+    ),
+    (
+        (0, Entry::Put(2, Wire::Close)),
+        ReplayRefused::Run(RunRefused::NoSuch(0)),
+    ),
+];
+
+// Whether the rows of a transcript are replayed to the end.
+fn ends(alloc: Global, net: &Network, rows: &[(u32, Entry<Best>)]) -> Result<bool, Fail> {
+    if net.nodes() != 2 {
+        return Ok(false);
+    }
+    let state = replay::<Greatest<0>>(alloc, net, rows)?;
+    Ok(drained(&state) == (true, true))
+}
+
+fn are_refused(rt: &impl Abort, alloc: Global, net: &Network) {
+    for (row, refused) in &REFUSALS {
+        assert!(rt; refusal(alloc, net, *row) == Some(*refused));
+    }
+}
+
 #[test]
 fn entries_are_replayed_or_refused_by_the_first_that_fails(rt: HostRuntime) -> Result<(), Fail> {
     let alloc = rt.alloc();
     let net = Network::try_new(alloc, &[1, 2], &[(1, 2)], &[])?;
-    assert!(rt; net.nodes() == 2);
     let (nodes, rows) = read_transcript::<Best>(alloc, WHOLE)?;
-    assert!(rt; nodes == 2);
-    let state = replay::<Greatest<0>>(alloc, &net, &rows)?;
-    assert!(rt; drained(&state) == (true, true));
-    let not_ready = ReplayRefused::Run(RunRefused::NotReady(0));
-    let link_empty = ReplayRefused::Run(RunRefused::LinkEmpty(0));
-    let no_such = ReplayRefused::Run(RunRefused::NoSuch(0));
-    let refusals = [
-        ((1, Entry::Take(2, Wire::Close)), link_empty),
-        (
-            (1, Entry::Put(2, Wire::Safe(0))),
-            ReplayRefused::WrongWire(0),
-        ),
-        ((1, Entry::Put(3, Wire::Close)), no_such),
-        ((1, Entry::Pulse(1)), not_ready),
-        ((1, Entry::Put(1, Wire::Close)), no_such),
-        ((3, Entry::Pulse(1)), no_such),
-        ((0, Entry::Put(2, Wire::Close)), no_such),
-    ];
-    for (row, refused) in &refusals {
-        assert!(rt; refusal(alloc, &net, *row) == Some(*refused));
-    }
+    assert!(rt; nodes == 2 && ends(alloc, &net, &rows)?);
+    are_refused(&rt, alloc, &net);
     Ok(())
 }

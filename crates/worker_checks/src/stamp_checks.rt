@@ -4,8 +4,8 @@
 use crate::replay_checks::MERGED;
 use crate::runs::small;
 use byte_functions::{
-    Counter, Entry, Network, OpenGate, Options, ReplayRefused, StampFull, WholeRefused, Wire,
-    order, replay_whole, rising, run_workers, stamped_text,
+    Counter, Entry, Network, OpenGate, Options, Outcome, ReplayRefused, StampFull, WholeRefused,
+    Wire, order, replay_whole, rising, run_workers, stamped_text,
 };
 use net_core::RunRefused;
 use std::alloc::Global;
@@ -91,6 +91,22 @@ fn a_merged_run_is_replayed_or_refused_by_the_first_row_out_of_place(
     Ok(())
 }
 
+// The entries of each node with their stamps.
+fn lists_of<const D: u32>(
+    alloc: Global,
+    outcome: &Outcome<Greatest<D>>,
+) -> Result<Vec<Vec<(u64, Entry<Best>)>>, Fail> {
+    let mut lists = Vec::new(alloc);
+    for actor in outcome.actors() {
+        let mut list = Vec::new(alloc);
+        for item in actor.entries().stamped() {
+            list.push(item)?;
+        }
+        lists.push(list)?;
+    }
+    Ok(lists)
+}
+
 // The merged entries of a run by so many workers; none if the stamps of a node don't rise.
 fn merged<const D: u32, R: Threads + Wait + Sync>(
     rt: &R,
@@ -105,14 +121,7 @@ fn merged<const D: u32, R: Threads + Wait + Sync>(
         transcript: true,
     };
     let outcome = run_workers::<Greatest<D>, OpenGate, R>(rt, alloc, net, options, &OpenGate)?;
-    let mut lists = Vec::new(alloc);
-    for actor in outcome.actors() {
-        let mut list = Vec::new(alloc);
-        for item in actor.entries().stamped() {
-            list.push(item)?;
-        }
-        lists.push(list)?;
-    }
+    let lists = lists_of(alloc, &outcome)?;
     if lists.len() > 6 || !rising(&lists) {
         return Ok(Vec::new(alloc));
     }
@@ -120,19 +129,33 @@ fn merged<const D: u32, R: Threads + Wait + Sync>(
 }
 
 // One worker looks at node 1, at node 2, and at node 1 again.
+fn is_the_worked_run<R: Threads + Wait + Sync>(rt: &R, alloc: Global) -> Result<bool, Fail> {
+    let net = pair(alloc)?;
+    let rows = merged::<0, R>(rt, alloc, &net, 1)?;
+    let text = stamped_text(alloc, 2, &rows)?;
+    Ok(rows.as_slice() == whole().as_slice() && text.as_slice() == MERGED)
+}
+
+// Whether the merged run of so many workers on a small network is replayed whole.
+fn is_replayed<R: Threads + Wait + Sync>(
+    rt: &R,
+    alloc: Global,
+    number: u32,
+    workers: u32,
+) -> Result<bool, Fail> {
+    let net = small(alloc, number)?;
+    let rows = merged::<3, R>(rt, alloc, &net, workers)?;
+    Ok(refusal::<3>(alloc, &net, &rows) == None)
+}
+
 #[test]
 fn merged_runs_of_workers_are_replayed_whole(rt: HostRuntime) -> Result<(), Fail> {
     let alloc = rt.alloc();
-    let net = pair(alloc)?;
-    let rows = merged::<0, _>(&rt, alloc, &net, 1)?;
-    assert!(rt; rows.as_slice() == whole().as_slice());
-    assert!(rt; stamped_text(alloc, 2, &rows)?.as_slice() == MERGED);
+    assert!(rt; is_the_worked_run(&rt, alloc)?);
     for number in 0..50 {
-        let net = small(alloc, number)?;
         for workers in [1, 2, 4] {
-            let rows = merged::<3, _>(&rt, alloc, &net, workers)?;
             assert!(rt;
-                refusal::<3>(alloc, &net, &rows) == None,
+                is_replayed(&rt, alloc, number, workers)?,
                 "{number} {workers}"
             );
         }

@@ -1,9 +1,14 @@
 //! Runs of one worker that stop: what its first looks leave, and that each look only adds to what the ones before it
 //! did.
 
+ghost use Rattle.std.specs.Prelude.{◌≡◌, ℕ, length};
+ghost use Rattle.byte_functions.specs.interference.Net.{IsVertex, degree_of, vertices};
+ghost use Rattle.byte_functions.specs.gather_laws.Outcome.{row_in};
+
 use crate::runs::{holds, run_of_one, triangle};
 use byte_functions::{
-    Colouring, Entries, Entry, Network, OpenGate, Options, Payload, Stamped, Wire, run_workers,
+    Colouring, Entries, Entry, Network, OpenGate, Options, Outcome, Payload, Stamped, Wire,
+    run_workers,
 };
 use std::alloc::Global;
 use std::sync::Wait;
@@ -72,8 +77,34 @@ fn are(entries: &Entries<Payload>, wanted: &[StampedEntry]) -> bool {
             .all(|(entry, other)| entry == *other)
 }
 
-// Whether a run of so many looks isn't whole and leaves these entries by node, and by node and port these wires in the
-// links, each with its stamp.
+// Whether nodes are at their start, with these entries.
+fn have_entries(outcome: &Outcome<Colouring>, entries: &[&[StampedEntry]]) -> bool {
+    let mut vertex = 0u32;
+    for (actor, wanted) in outcome.actors().iter().zip(entries.iter()) {
+        vertex = vertex.wrapping_add(1);
+        let is_at_start = actor.node() == vertex && actor.alpha().pulse_number() == 0;
+        if !is_at_start || !are(actor.entries(), *wanted) {
+            return false;
+        }
+    }
+    outcome.actors().len() == entries.len()
+}
+
+// Whether the links hold these wires, by node and port, each with its stamp.
+fn hold(net: &Network, outcome: &Outcome<Colouring>, links: &[[&[Stamped<Payload>]; 2]]) -> bool
+    requires rows { length outcome.now.links ≡ length (vertices net.now) }
+    requires row { (v : ℕ) → IsVertex net.now v → length (row_in outcome.now v) ≡ degree_of net.now v }
+{
+    for v in 1..net.nodes() + 1 {
+        match links.get((v - 1) as usize) {
+            Some(by_port) if holds(net, outcome, v, by_port.as_slice()) => (),
+            _ => return false,
+        }
+    }
+    true
+}
+
+// Whether a run of so many looks isn't whole and leaves these entries by node, and these wires in the links.
 fn leaves<R: Threads + Wait + Sync>(
     rt: &R,
     alloc: Global,
@@ -83,24 +114,7 @@ fn leaves<R: Threads + Wait + Sync>(
     links: &[[&[Stamped<Payload>]; 2]],
 ) -> Result<bool, Fail> {
     let outcome = run_workers::<Colouring, OpenGate, R>(rt, alloc, net, options, &OpenGate)?;
-    if outcome.is_whole() || outcome.actors().len() != entries.len() {
-        return Ok(false);
-    }
-    let mut vertex = 0u32;
-    for (actor, wanted) in outcome.actors().iter().zip(entries.iter()) {
-        vertex = vertex.wrapping_add(1);
-        let is_at_start = actor.node() == vertex && actor.alpha().pulse_number() == 0;
-        if !is_at_start || !are(actor.entries(), *wanted) {
-            return Ok(false);
-        }
-    }
-    for v in 1..net.nodes() + 1 {
-        match links.get((v - 1) as usize) {
-            Some(by_port) if holds(net, &outcome, v, by_port.as_slice()) => (),
-            _ => return Ok(false),
-        }
-    }
-    Ok(true)
+    Ok(!outcome.is_whole() && have_entries(&outcome, entries) && hold(net, &outcome, links))
 }
 
 // The worker looks at nodes 1, 2, 3 in turn. A node at which it looks takes what its links hold, and puts what it has
@@ -148,6 +162,16 @@ fn begin(entries: &Entries<Payload>, others: &Entries<Payload>) -> bool {
             .all(|(entry, other)| entry == other)
 }
 
+// Whether a run did what another one did, and maybe more.
+fn adds_to(after: &Outcome<Colouring>, before: &Outcome<Colouring>) -> bool {
+    for (one, other) in before.actors().iter().zip(after.actors()) {
+        if !begin(one.entries(), other.entries()) {
+            return false;
+        }
+    }
+    !before.is_whole() || after.is_whole()
+}
+
 #[test]
 fn each_look_adds_to_the_entries(rt: HostRuntime) -> Result<(), Fail> {
     let alloc: Global = rt.alloc();
@@ -155,10 +179,7 @@ fn each_look_adds_to_the_entries(rt: HostRuntime) -> Result<(), Fail> {
     let mut before = run_of_one(&rt, alloc, &net, 1, 0)?;
     for turns in 1..201 {
         let after = run_of_one(&rt, alloc, &net, 1, turns)?;
-        for (one, other) in before.actors().iter().zip(after.actors()) {
-            assert!(rt; begin(one.entries(), other.entries()), "{turns}");
-        }
-        assert!(rt; !before.is_whole() || after.is_whole(), "{turns}");
+        assert!(rt; adds_to(&after, &before), "{turns}");
         before = after;
     }
     assert!(rt; before.is_whole());

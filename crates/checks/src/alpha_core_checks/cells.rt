@@ -134,7 +134,42 @@ struct Fed {
     best: u128,
 }
 
-// Plays vertex 1, with another wire, if there is one, between two lists of acts.
+// Plays a node, with another wire, if there is one, between two lists of acts, and notes what comes of it.
+fn play_with(
+    node: &mut AlphaNode<Greatest<3>>,
+    first: &[Act<Best>],
+    wire: Option<Wire<Best>>,
+    rest: &[Act<Best>],
+    fed: &mut Fed,
+) -> Result<(), Memory>
+    requires one { length node.old.node.view.ports ≡ 1 }
+{
+    play(node, first, &mut fed.played)?;
+    (fed.answer, fed.emitted) = feed(node, wire);
+    play(node, rest, &mut fed.played)?;
+    fed.drained = node.drained();
+    fed.best = node.program().best();
+    Ok(())
+}
+
+// The same of vertex 1, made anew. What owns a node does nothing else, since each place at which a node may be dropped
+// costs proof.
+fn play_anew(
+    alloc: Global,
+    net: &Network,
+    first: &[Act<Best>],
+    wire: Option<Wire<Best>>,
+    rest: &[Act<Best>],
+    fed: &mut Fed,
+) -> Result<(), Memory>
+    requires vertex { IsVertex net.now 1 }
+    requires one { degree_of net.now 1 ≡ 1 }
+{
+    let mut node = leaf(alloc, net, 1)?;
+    play_with(&mut node, first, wire, rest, fed)
+}
+
+// What comes of it.
 fn run_with(
     alloc: Global,
     net: &Network,
@@ -145,18 +180,15 @@ fn run_with(
     requires vertex { IsVertex net.now 1 }
     requires one { degree_of net.now 1 ≡ 1 }
 {
-    let mut node = leaf(alloc, net, 1)?;
-    let mut played = Played::new(alloc);
-    play(&mut node, first, &mut played)?;
-    let (answer, emitted) = feed(&mut node, wire);
-    play(&mut node, rest, &mut played)?;
-    Ok(Fed {
-        answer,
-        emitted,
-        played,
-        drained: node.drained(),
-        best: node.program().best(),
-    })
+    let mut fed = Fed {
+        answer: None,
+        emitted: None,
+        played: Played::new(alloc),
+        drained: false,
+        best: 0,
+    };
+    play_anew(alloc, net, first, wire, rest, &mut fed)?;
+    Ok(fed)
 }
 
 // What a node returns to a wire, and emits.

@@ -1,7 +1,7 @@
 //! A node of the colouring, and a neighbour that puts wires as it likes: each is taken or refused, and the node is
 //! afterwards as its twin that got only those it took.
 
-ghost use Rattle.std.specs.Prelude.{◌≡◌};
+ghost use Rattle.std.specs.Prelude.{◌≡◌, length};
 ghost use Rattle.alpha_core.specs.interference.Net.{IsVertex, degree_of};
 
 use crate::alpha_core_checks::alone::{Act, Played, leaf, play};
@@ -9,6 +9,7 @@ use crate::alpha_core_checks::runs::edge;
 use alpha_core::{AlphaNode, AlphaRefused, Memory, Network, Refused, Wire};
 use colour_program::{Colouring, Payload};
 use std::alloc::Global;
+use std::process::Abort;
 use std::test::Fail;
 
 const LABEL: Act<Payload> = Act::Take(Wire::Payload(1, Payload::Label(0)));
@@ -119,6 +120,26 @@ static UNLABELLED_PUT: [Wire<Payload>; 4] = [
 ];
 
 // Whether a node returns this to these acts, puts these wires, and is at this pulse then.
+fn plays_so(
+    alloc: Global,
+    node: &mut AlphaNode<Colouring>,
+    acts: &[Act<Payload>],
+    answers: &[Option<Result<(), AlphaRefused>>],
+    put: &[Wire<Payload>],
+    pulse: u32,
+) -> Result<bool, Memory>
+    requires one { length node.old.node.view.ports ≡ 1 }
+{
+    let mut played = Played::new(alloc);
+    play(node, acts, &mut played)?;
+    Ok(
+        played.answers.as_slice() == answers
+            && played.put.as_slice() == put
+            && node.pulse_number() == pulse,
+    )
+}
+
+// The same of the node of a vertex, made anew.
 fn plays(
     alloc: Global,
     net: &Network,
@@ -132,26 +153,18 @@ fn plays(
     requires one { degree_of net.now v ≡ 1 }
 {
     let mut node: AlphaNode<Colouring> = leaf(alloc, net, v)?;
-    let mut played = Played::new(alloc);
-    play(&mut node, acts, &mut played)?;
-    Ok(
-        played.answers.as_slice() == answers
-            && played.put.as_slice() == put
-            && node.pulse_number() == pulse,
-    )
+    plays_so(alloc, &mut node, acts, answers, put, pulse)
 }
 
-#[test]
-fn each_wire_of_a_hostile_neighbour(rt: HostRuntime) -> Result<(), Fail> {
-    let alloc = rt.alloc();
-    let net = edge(alloc)?;
+// Whether the nodes of an edge play so.
+fn all_play(rt: &impl Abort, alloc: Global, net: &Network) -> Result<(), Fail> {
     assert!(rt; net.nodes() == 2);
     assert!(rt; net.degree(1) == 1 && net.degree(2) == 1);
-    assert!(rt; plays(alloc, &net, 1, &HOSTILE, &ANSWERS, &BOTH_PUT, 0)?);
+    assert!(rt; plays(alloc, net, 1, &HOSTILE, &ANSWERS, &BOTH_PUT, 0)?);
     assert!(rt;
         plays(
             alloc,
-            &net,
+            net,
             1,
             &ONLY_TAKEN,
             &ONLY_TAKEN_ANSWERS,
@@ -159,11 +172,11 @@ fn each_wire_of_a_hostile_neighbour(rt: HostRuntime) -> Result<(), Fail> {
             0
         )?
     );
-    assert!(rt; plays(alloc, &net, 1, &TWO_PULSES, &ALL_TAKEN, &TWO_PULSES_PUT, 2)?);
+    assert!(rt; plays(alloc, net, 1, &TWO_PULSES, &ALL_TAKEN, &TWO_PULSES_PUT, 2)?);
     assert!(rt;
         plays(
             alloc,
-            &net,
+            net,
             2,
             &UNLABELLED,
             &UNLABELLED_ANSWERS,
@@ -172,4 +185,10 @@ fn each_wire_of_a_hostile_neighbour(rt: HostRuntime) -> Result<(), Fail> {
         )?
     );
     Ok(())
+}
+
+#[test]
+fn each_wire_of_a_hostile_neighbour(rt: HostRuntime) -> Result<(), Fail> {
+    let net = edge(rt.alloc())?;
+    all_play(&rt, rt.alloc(), &net)
 }

@@ -27,16 +27,13 @@ static CLOSED: [Option<Result<(), AlphaRefused>>; 3] = [
     Some(Err(AlphaRefused::AfterClose)),
 ];
 
-// A node without pulses: whether it starts halted, and is drained once it has put its close and taken its
-// neighbour's.
-fn closes(alloc: Global, net: &Network) -> Result<bool, Memory>
-    requires vertex { IsVertex net.now 1 }
-    requires one { degree_of net.now 1 ≡ 1 }
+// Whether a node without pulses starts halted, and is drained once it has put its close and taken its neighbour's.
+fn closes(alloc: Global, node: &mut AlphaNode<Greatest<0>>) -> Result<bool, Memory>
+    requires one { length node.old.node.view.ports ≡ 1 }
 {
-    let mut node: AlphaNode<Greatest<0>> = leaf(alloc, net, 1)?;
     let starts_halted = node.halted() && !node.drained();
     let mut played = Played::new(alloc);
-    play(&mut node, &CLOSING, &mut played)?;
+    play(node, &CLOSING, &mut played)?;
     Ok(
         starts_halted
             && node.drained()
@@ -45,11 +42,19 @@ fn closes(alloc: Global, net: &Network) -> Result<bool, Memory>
     )
 }
 
+fn closes_at_once(alloc: Global, net: &Network) -> Result<bool, Memory>
+    requires vertex { IsVertex net.now 1 }
+    requires one { degree_of net.now 1 ≡ 1 }
+{
+    let mut node: AlphaNode<Greatest<0>> = leaf(alloc, net, 1)?;
+    closes(alloc, &mut node)
+}
+
 #[test]
 fn a_node_without_pulses_starts_halted(rt: HostRuntime) -> Result<(), Fail> {
     let net = edge(rt.alloc())?;
     assert!(rt; net.nodes() == 2 && net.degree(1) == 1);
-    assert!(rt; closes(rt.alloc(), &net)?);
+    assert!(rt; closes_at_once(rt.alloc(), &net)?);
     Ok(())
 }
 
@@ -90,14 +95,18 @@ fn act_put<P: NodeProgram>(node: &mut AlphaNode<P>, act: Act<P::Payload>) -> u32
 }
 
 // A whole run of a node of `Greatest`: whether it is drained, and how many wires it put.
-fn whole_run<const D: u32>(alloc: Global) -> Result<(bool, u32), Fail> {
-    let net = edge(alloc)?;
+fn run_of_leaf<const D: u32>(alloc: Global, net: &Network) -> Result<(bool, u32), Fail> {
     if net.nodes() != 2 || net.degree(1) != 1 {
         return Ok((false, 0));
     }
-    let mut node: AlphaNode<Greatest<D>> = leaf(alloc, &net, 1)?;
+    let mut node: AlphaNode<Greatest<D>> = leaf(alloc, net, 1)?;
     let put = wires_put(&mut node, Best(2), D);
     Ok((node.drained(), put))
+}
+
+fn whole_run<const D: u32>(alloc: Global) -> Result<(bool, u32), Fail> {
+    let net = edge(alloc)?;
+    run_of_leaf::<D>(alloc, &net)
 }
 
 // This and the next test do the same but for the number of pulses: tests/allocations.py compares how often they
@@ -118,15 +127,21 @@ fn a_node_of_50_pulses(rt: HostRuntime) -> Result<(), Fail> {
     Ok(())
 }
 
+// How many calls there were before a whole run, how many wires it put, and how many calls there were then.
+fn calls_of_leaf(alloc: Global, net: &Network) -> Result<(Option<u32>, u32, Option<u32>), Memory>
+    requires vertex { IsVertex net.now 1 }
+    requires one { degree_of net.now 1 ≡ 1 }
+{
+    let mut node: AlphaNode<Counted<7>> = leaf(alloc, net, 1)?;
+    let before = node.program().calls();
+    let put = wires_put(&mut node, Best(2), 7);
+    Ok((before, put, node.program().calls()))
+}
+
 #[test]
 fn every_pulse_of_a_node_makes_its_three_calls_in_order(rt: HostRuntime) -> Result<(), Fail> {
-    let alloc = rt.alloc();
-    let net = edge(alloc)?;
-    assert!(rt; net.nodes() == 2);
-    assert!(rt; net.degree(1) == 1);
-    let mut node: AlphaNode<Counted<7>> = leaf(alloc, &net, 1)?;
-    assert_eq!(rt; node.program().calls(), Some(0));
-    assert_eq!(rt; wires_put(&mut node, Best(2), 7), 22);
-    assert_eq!(rt; node.program().calls(), Some(21));
+    let net = edge(rt.alloc())?;
+    assert!(rt; net.nodes() == 2 && net.degree(1) == 1);
+    assert!(rt; calls_of_leaf(rt.alloc(), &net)? == (Some(0), 22, Some(21)));
     Ok(())
 }

@@ -16,13 +16,23 @@ pub fn made(alloc: Global, net: &Network, v: u32) -> Result<Colouring, Memory>
     Colouring::make(alloc, net, v)
 }
 
-/// What a node returns on these payloads at its ports, and what it sends.
-pub fn feed(
+/// What a node shows of a pulse.
+#[derive(Clone, Copy, PartialEq)]
+pub struct Shown {
+    pub answer: Result<(), Refused>,
+    pub is_quiet: bool,
+    pub colour: u16,
+    first_colour: Option<u128>,
+    second_colour: Option<u128>,
+}
+
+/// Feeds a node with these payloads at its ports.
+pub fn show(
     alloc: Global,
     node: &mut Colouring,
     pulse: u32,
     payloads: &[Option<Payload>],
-) -> Result<(Result<(), Refused>, Outbox<Payload>), Memory>
+) -> Result<Shown, Memory>
     requires ports { length payloads.now ≡ ports node.old }
     requires few { length payloads.now ≤ MAX_DEGREE }
     ensures ports { ports node.new ≡ ports node.old }
@@ -31,7 +41,15 @@ pub fn feed(
     let mut inbox = inbox_of(alloc, payloads)?;
     let mut out = Outbox::new(alloc, degree)?;
     let answer = node.handle_messages(pulse, &mut inbox, &mut out);
-    Ok((answer, out))
+    let shown = node.node();
+    let forests = shown.forests();
+    Ok(Shown {
+        answer,
+        is_quiet: out.is_quiet(),
+        colour: node.colour(),
+        first_colour: (forests > 0).then(|| shown.forest_colour(0)),
+        second_colour: (forests > 1).then(|| shown.forest_colour(1)),
+    })
 }
 
 // An inbox of these payloads.

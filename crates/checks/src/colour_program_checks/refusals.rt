@@ -4,8 +4,8 @@ ghost use Rattle.std.specs.Prelude.{◌≡◌, IfOk};
 ghost use Rattle.alpha_core.specs.interference.Net.{IsVertex};
 ghost use Rattle.colour_program.specs.colour_rules.Node.{ports};
 
-use crate::colour_program_checks::fed::{feed, made};
-use alpha_core::{Memory, Network, Outbox, Refused};
+use crate::colour_program_checks::fed::{Shown, made, show};
+use alpha_core::{Memory, Network, Refused};
 use colour_program::Payload::{Chosen, Colour, Hello, Label};
 use colour_program::rules::{
     AFTER_HALT, COLOUR_RANGE, FOREST_RANGE, MISSING, WRONG_KIND, WRONG_ROLE,
@@ -16,7 +16,7 @@ use std::process::Abort;
 use std::test::Fail;
 
 // A pulse, and what comes to the two ports of a node at it.
-type Came = (u32, [Option<Payload>; 2]);
+type Came = (u32, Option<Payload>, Option<Payload>);
 
 // A triangle with identifiers 1, 2 and 30: two forests, degree 2, last pulse 30. Vertex 1 has two
 // parents, vertex 2 a child and a parent, vertex 3 two children.
@@ -45,8 +45,8 @@ fn came_before(v: u32, turn: u32) -> Came {
     };
     let place = (first + turn as usize).min(last);
     match (PULSES.as_slice().get(place), PAYLOADS.as_slice().get(place)) {
-        (Some(pulse), Some(payloads)) => (*pulse, *payloads),
-        _ => (0, [None, None]),
+        (Some(pulse), Some([first, second])) => (*pulse, *first, *second),
+        _ => (0, None, None),
     }
 }
 
@@ -58,33 +58,33 @@ static REFUSALS: [Row; 20] = [
     (
         1,
         0,
-        (1, [Some(Hello(2)), Some(Label(0))]),
+        (1, Some(Hello(2)), Some(Label(0))),
         WRONG_KIND,
         Some(1),
     ),
     (
         2,
         1,
-        (1, [Some(Hello(1)), Some(Hello(30))]),
+        (1, Some(Hello(1)), Some(Hello(30))),
         WRONG_ROLE,
         Some(1),
     ),
     // No such forest; a choice at the first step of a forest; one from a later forest.
-    (2, 1, (2, [Some(Label(2)), None]), FOREST_RANGE, Some(0)),
-    (1, 1, (13, [Some(Chosen(0)), None]), FOREST_RANGE, Some(0)),
-    (1, 1, (14, [None, Some(Chosen(0))]), FOREST_RANGE, Some(1)),
+    (2, 1, (2, Some(Label(2)), None), FOREST_RANGE, Some(0)),
+    (1, 1, (13, Some(Chosen(0)), None), FOREST_RANGE, Some(0)),
+    (1, 1, (14, None, Some(Chosen(0))), FOREST_RANGE, Some(1)),
     // The node's own identifier; one that came before.
     (
         1,
         0,
-        (1, [Some(Hello(2)), Some(Hello(1))]),
+        (1, Some(Hello(2)), Some(Hello(1))),
         COLOUR_RANGE,
         Some(1),
     ),
     (
         1,
         0,
-        (1, [Some(Hello(2)), Some(Hello(2))]),
+        (1, Some(Hello(2)), Some(Hello(2))),
         COLOUR_RANGE,
         Some(1),
     ),
@@ -92,53 +92,62 @@ static REFUSALS: [Row; 20] = [
     (
         1,
         1,
-        (3, [Some(Colour(2)), Some(Colour(0))]),
+        (3, Some(Colour(2)), Some(Colour(0))),
         COLOUR_RANGE,
         Some(1),
     ),
     (
         1,
         2,
-        (3, [Some(Colour(2)), Some(Colour(1))]),
+        (3, Some(Colour(2)), Some(Colour(1))),
         COLOUR_RANGE,
         Some(1),
     ),
     // A chosen colour above the greatest degree.
-    (1, 1, (14, [Some(Chosen(3)), None]), COLOUR_RANGE, Some(0)),
+    (1, 1, (14, Some(Chosen(3)), None), COLOUR_RANGE, Some(0)),
     // The node's own colour is 30 at a shift and at a drop, where the steps are left out.
-    (3, 2, (7, [None, None]), COLOUR_RANGE, None),
-    (3, 2, (8, [None, None]), COLOUR_RANGE, None),
+    (3, 2, (7, None, None), COLOUR_RANGE, None),
+    (3, 2, (8, None, None), COLOUR_RANGE, None),
     // No colour is free at the step of the pair of colours 1 and 0 in forest 1.
-    (1, 3, (25, [Some(Chosen(2)), None]), COLOUR_RANGE, None),
+    (1, 3, (25, Some(Chosen(2)), None), COLOUR_RANGE, None),
     // Nothing where something is due.
-    (1, 0, (1, [Some(Hello(2)), None]), MISSING, Some(1)),
-    (2, 1, (2, [None, None]), MISSING, Some(0)),
-    (1, 1, (3, [Some(Colour(2)), None]), MISSING, Some(1)),
+    (1, 0, (1, Some(Hello(2)), None), MISSING, Some(1)),
+    (2, 1, (2, None, None), MISSING, Some(0)),
+    (1, 1, (3, Some(Colour(2)), None), MISSING, Some(1)),
     // After the last pulse.
-    (1, 1, (31, [None, Some(Chosen(0))]), AFTER_HALT, Some(1)),
+    (1, 1, (31, None, Some(Chosen(0))), AFTER_HALT, Some(1)),
     // The first of two broken ports, and a port before the node itself.
     (
         1,
         0,
-        (1, [Some(Hello(1)), Some(Label(0))]),
+        (1, Some(Hello(1)), Some(Label(0))),
         COLOUR_RANGE,
         Some(0),
     ),
-    (1, 0, (1, [None, Some(Label(0))]), MISSING, Some(0)),
-    (3, 2, (7, [None, Some(Colour(6))]), WRONG_ROLE, Some(1)),
+    (1, 0, (1, None, Some(Label(0))), MISSING, Some(0)),
+    (3, 2, (7, None, Some(Colour(6))), WRONG_ROLE, Some(1)),
 ];
 
-// What the node returns and sends at a pulse.
-fn deliver(
-    alloc: Global,
-    node: &mut Colouring,
-    came: Came,
-) -> Result<(Result<(), Refused>, Outbox<Payload>), Memory>
+// What the node shows of a pulse at which this comes.
+fn show_of_two(alloc: Global, node: &mut Colouring, came: Came) -> Result<Shown, Memory>
     requires ports { ports node.old ≡ 2 }
     ensures ports { ports node.new ≡ 2 }
 {
-    let (pulse, payloads) = came;
-    feed(alloc, node, pulse, payloads.as_slice())
+    let (pulse, first, second) = came;
+    show(alloc, node, pulse, &[first, second])
+}
+
+// Whether a node takes what comes to its vertex in so many turns.
+fn takes(alloc: Global, node: &mut Colouring, v: u32, turns: u32) -> Result<bool, Memory>
+    requires ports { ports node.old ≡ 2 }
+    ensures ports { ports node.new ≡ 2 }
+{
+    for turn in 0..turns {
+        if show_of_two(alloc, node, came_before(v, turn))?.answer != Ok(()) {
+            return Ok(false);
+        }
+    }
+    Ok(true)
 }
 
 // The node of a vertex with two neighbours, after so many pulses.
@@ -154,37 +163,8 @@ fn node_after(
 {
     assert!(rt; net.degree(v) == 2);
     let mut node = made(alloc, net, v)?;
-    for turn in 0..turns {
-        let (answer, _) = deliver(alloc, &mut node, came_before(v, turn))?;
-        assert_eq!(rt; answer, Ok(()), "vertex {v}, turn {turn}");
-    }
+    assert!(rt; takes(alloc, &mut node, v, turns)?, "vertex {v}");
     Ok(node)
-}
-
-// What a node shows of a pulse.
-#[derive(Clone, Copy, Debug, PartialEq, Eq)]
-struct Shown {
-    answer: Result<(), Refused>,
-    is_quiet: bool,
-    colour: u16,
-    first_colour: Option<u128>,
-    second_colour: Option<u128>,
-}
-
-fn show(alloc: Global, node: &mut Colouring, came: Came) -> Result<Shown, Memory>
-    requires ports { ports node.old ≡ 2 }
-    ensures ports { ports node.new ≡ 2 }
-{
-    let (answer, out) = deliver(alloc, node, came)?;
-    let shown = node.node();
-    let forests = shown.forests();
-    Ok(Shown {
-        answer,
-        is_quiet: out.is_quiet(),
-        colour: node.colour(),
-        first_colour: (forests > 0).then(|| shown.forest_colour(0)),
-        second_colour: (forests > 1).then(|| shown.forest_colour(1)),
-    })
 }
 
 // Whether two nodes show the same of all that comes to their vertex, from the first pulse on.
@@ -198,30 +178,42 @@ fn show_the_same(
 {
     for turn in 0..3 {
         let came = came_before(v, turn);
-        if show(alloc, one, came)? != show(alloc, other, came)? {
+        if show_of_two(alloc, one, came)? != show_of_two(alloc, other, came)? {
             return Ok(false);
         }
     }
     Ok(true)
 }
 
-// Refused, and then the node goes on as its twin that wasn't fed what it refused.
-fn is_refused(rt: &impl Abort, alloc: Global, net: &Network, row: &Row) -> Result<(), Fail> {
-    let (v, turns, came, rule, port) = *row;
+// Whether a node refuses what comes, and then goes on as its twin that wasn't fed it.
+fn refuses(
+    alloc: Global,
+    node: &mut Colouring,
+    twin: &mut Colouring,
+    row: &Row,
+) -> Result<bool, Fail>
+    requires ports { (ports node.old ≡ 2) × (ports twin.old ≡ 2) }
+{
+    let (v, _, came, rule, port) = *row;
+    let colour = node.colour();
+    let shown = show_of_two(alloc, node, came)?;
+    let is_refused = shown.answer == Err(Refused { rule, port });
+    let is_as_before = shown.is_quiet && shown.colour == colour;
+    Ok(is_refused && is_as_before && show_the_same(alloc, node, twin, v)?)
+}
+
+// Whether a row is refused by two nodes made anew.
+fn is_refused(rt: &impl Abort, alloc: Global, net: &Network, row: &Row) -> Result<bool, Fail> {
+    let (v, turns, _, _, _) = *row;
     assert!(rt; 1 <= v && v <= net.nodes());
     let mut node = node_after(rt, alloc, net, v, turns)?;
     let mut twin = node_after(rt, alloc, net, v, turns)?;
-    let colour = node.colour();
-    let shown = show(alloc, &mut node, came)?;
-    assert!(rt; shown.answer == Err(Refused { rule, port }), "{row:?}");
-    assert!(rt; shown.is_quiet && shown.colour == colour, "{row:?}");
-    assert!(rt; show_the_same(alloc, &mut node, &mut twin, v)?, "{row:?}");
-    Ok(())
+    refuses(alloc, &mut node, &mut twin, row)
 }
 
 fn are_refused(rt: &impl Abort, alloc: Global, net: &Network, rows: &[Row]) -> Result<(), Fail> {
     for row in rows {
-        is_refused(rt, alloc, net, row)?;
+        assert!(rt; is_refused(rt, alloc, net, row)?, "{row:?}");
     }
     Ok(())
 }
@@ -239,7 +231,30 @@ static BOUNDS: [(u32, u128); 9] = [
     (12, 3),
 ];
 
-// One more is refused, and then the bound is taken.
+fn takes_now(alloc: Global, node: &mut Colouring, came: Came) -> Result<bool, Fail>
+    requires ports { ports node.old ≡ 2 }
+{
+    Ok(show_of_two(alloc, node, came)?.answer == Ok(()))
+}
+
+// Whether vertex 1 takes this colour from its parent by port 1 at a pulse.
+fn is_taken(
+    rt: &impl Abort,
+    alloc: Global,
+    net: &Network,
+    pulse: u32,
+    colour: u128,
+) -> Result<bool, Fail> {
+    assert!(rt; net.nodes() == 3);
+    let mut node = node_after(rt, alloc, net, 1, 1)?;
+    takes_now(
+        alloc,
+        &mut node,
+        (pulse, Some(Colour(1)), Some(Colour(colour))),
+    )
+}
+
+// One more is refused, and the bound is taken.
 fn are_bounds(
     rt: &impl Abort,
     alloc: Global,
@@ -247,31 +262,31 @@ fn are_bounds(
     rows: &[(u32, u128)],
 ) -> Result<(), Fail> {
     for (pulse, bound) in rows {
-        assert!(rt; net.nodes() == 3 && *bound < 1000);
-        let above = [Some(Colour(1)), Some(Colour(*bound + 1))];
-        is_refused(
-            rt,
-            alloc,
-            net,
-            &(1, 1, (*pulse, above), COLOUR_RANGE, Some(1)),
-        )?;
-        let mut node = node_after(rt, alloc, net, 1, 1)?;
-        let within = [Some(Colour(1)), Some(Colour(*bound))];
-        let (answer, _) = deliver(alloc, &mut node, (*pulse, within))?;
-        assert!(rt; answer == Ok(()), "at {pulse}");
+        assert!(rt; *bound < 1000);
+        let above = (*pulse, Some(Colour(1)), Some(Colour(*bound + 1)));
+        let row = (1, 1, above, COLOUR_RANGE, Some(1));
+        assert!(rt; is_refused(rt, alloc, net, &row)?, "at {pulse}");
+        assert!(rt; is_taken(rt, alloc, net, *pulse, *bound)?, "at {pulse}");
     }
     Ok(())
 }
 
+fn on_the_triangle(rt: &impl Abort, alloc: Global) -> Result<(), Fail> {
+    let net = Network::try_new(alloc, &IDS, &EDGES, &[])?;
+    are_refused(rt, alloc, &net, &REFUSALS)?;
+    are_bounds(rt, alloc, &net, &BOUNDS)
+}
+
+// On a path a node has one parent at most, and here both neighbours say that they are higher.
+fn on_a_path(rt: &impl Abort, alloc: Global) -> Result<bool, Fail> {
+    let net = Network::try_new(alloc, &[1, 2, 3], &[(1, 2), (2, 3)], &[])?;
+    let higher = (1, Some(Hello(5)), Some(Hello(6)));
+    is_refused(rt, alloc, &net, &(2, 0, higher, FOREST_RANGE, None))
+}
+
 #[test]
 fn a_refusal_has_its_rule_and_its_port(rt: HostRuntime) -> Result<(), Fail> {
-    let alloc = rt.alloc();
-    let net = Network::try_new(alloc, &IDS, &EDGES, &[])?;
-    let refusals = REFUSALS;
-    are_refused(&rt, alloc, &net, &refusals)?;
-    are_bounds(&rt, alloc, &net, &BOUNDS)?;
-    // On a path a node has one parent at most, and here both neighbours say that they are higher.
-    let path = Network::try_new(alloc, &[1, 2, 3], &[(1, 2), (2, 3)], &[])?;
-    let higher = (1, [Some(Hello(5)), Some(Hello(6))]);
-    is_refused(&rt, alloc, &path, &(2, 0, higher, FOREST_RANGE, None))
+    on_the_triangle(&rt, rt.alloc())?;
+    assert!(rt; on_a_path(&rt, rt.alloc())?);
+    Ok(())
 }

@@ -5,7 +5,7 @@ ghost use Rattle.std.specs.Prelude.{◌≡◌, IfOk};
 ghost use Rattle.alpha_core.specs.interference.Net.{IsVertex, degree_of};
 ghost use Rattle.colour_program.specs.colour_rules.Node.{ports};
 
-use crate::colour_program_checks::fed::{feed, made};
+use crate::colour_program_checks::fed::{Shown, made, show};
 use alpha_core::{Memory, Network, Refused};
 use colour_program::Payload::{Chosen, Colour, Hello, Label};
 use colour_program::rules::{AFTER_HALT, COLOUR_RANGE, FOREST_RANGE, WRONG_KIND, WRONG_ROLE};
@@ -75,17 +75,8 @@ static REFUSALS: [Row; 8] = [
     (2, 19, Hello(5), AFTER_HALT, Some(0)),
 ];
 
-/// What a node shows of a pulse.
-#[derive(Clone, Copy, Debug, PartialEq, Eq)]
-pub struct Shown {
-    pub answer: Result<(), Refused>,
-    is_quiet: bool,
-    colour: u16,
-    forest_colour: Option<u128>,
-}
-
 /// Feeds a node at its one port.
-pub fn show(
+pub fn show_of_one(
     alloc: Global,
     node: &mut Colouring,
     pulse: u32,
@@ -94,14 +85,7 @@ pub fn show(
     requires ports { ports node.old ≡ 1 }
     ensures ports { ports node.new ≡ 1 }
 {
-    let (answer, out) = feed(alloc, node, pulse, &[payload])?;
-    let shown = node.node();
-    Ok(Shown {
-        answer,
-        is_quiet: out.is_quiet(),
-        colour: node.colour(),
-        forest_colour: (shown.forests() > 0).then(|| shown.forest_colour(0)),
-    })
+    show(alloc, node, pulse, &[payload])
 }
 
 // What comes to a vertex of the edge at a pulse.
@@ -123,11 +107,22 @@ pub fn go_on_alike(
 {
     for pulse in from..20 {
         let payload = came(v, pulse);
-        if show(alloc, one, pulse, payload)? != show(alloc, other, pulse, payload)? {
+        if show_of_one(alloc, one, pulse, payload)? != show_of_one(alloc, other, pulse, payload)? {
             return Ok(false);
         }
     }
     Ok(true)
+}
+
+// Brings a node made anew to a pulse of the rounds.
+fn bring(alloc: Global, node: &mut Colouring, v: u32, pulse: u32) -> Result<(), Memory>
+    requires ports { ports node.old ≡ 1 }
+    ensures ports { ports node.new ≡ 1 }
+{
+    for earlier in 1..pulse {
+        show_of_one(alloc, node, earlier, came(v, earlier))?;
+    }
+    Ok(())
 }
 
 // The node of a vertex of the edge as it is before a pulse of the rounds.
@@ -137,60 +132,67 @@ fn brought(alloc: Global, net: &Network, v: u32, pulse: u32) -> Result<Colouring
     ensures ports { IfOk result (λ node. ports node ≡ 1) }
 {
     let mut node = made(alloc, net, v)?;
-    for earlier in 1..pulse {
-        show(alloc, &mut node, earlier, came(v, earlier))?;
-    }
+    bring(alloc, &mut node, v, pulse)?;
     Ok(node)
 }
 
-// Of two nodes in one state one refuses what comes, and then both go on alike.
+// Whether one of two nodes in one state refuses what comes, and then both go on alike, to the colours of the edge: those
+// of the plan less one.
 fn refuses_and_goes_on(
-    rt: &impl Abort,
     alloc: Global,
-    net: &Network,
+    node: &mut Colouring,
+    twin: &mut Colouring,
     row: &Row,
-) -> Result<(), Fail> {
+) -> Result<bool, Fail>
+    requires ports { (ports node.old ≡ 1) × (ports twin.old ≡ 1) }
+{
     let (v, pulse, payload, rule, port) = *row;
+    let before = node.colour();
+    let shown = show_of_one(alloc, node, pulse, Some(payload))?;
+    let is_refused = shown.answer == Err(Refused { rule, port });
+    let is_as_before = shown.is_quiet && shown.colour == before;
+    let goes_on = go_on_alike(alloc, node, twin, v, pulse)?;
+    Ok(is_refused && is_as_before && goes_on && u32::from(node.colour()) + 1 == v)
+}
+
+// The same of nodes that are brought to the pulse of a row.
+fn goes_on(rt: &impl Abort, alloc: Global, net: &Network, row: &Row) -> Result<bool, Fail> {
+    let (v, pulse, _, _, _) = *row;
     assert!(rt; 1 <= v && v <= net.nodes());
     assert!(rt; net.degree(v) == 1);
     let mut node = brought(alloc, net, v, pulse)?;
     let mut twin = brought(alloc, net, v, pulse)?;
-    let before = node.colour();
-    let shown = show(alloc, &mut node, pulse, Some(payload))?;
-    assert!(rt; shown.answer == Err(Refused { rule, port }), "{row:?}");
-    assert!(rt; shown.is_quiet && shown.colour == before, "{row:?}");
-    assert!(rt;
-        go_on_alike(alloc, &mut node, &mut twin, v, pulse)?,
-        "{row:?}"
-    );
-    // The colours of the edge: those of the plan less one.
-    assert!(rt; u32::from(node.colour()) == v - 1, "{row:?}");
-    Ok(())
+    refuses_and_goes_on(alloc, &mut node, &mut twin, row)
 }
 
 fn all_go_on(rt: &impl Abort, alloc: Global, net: &Network, rows: &[Row]) -> Result<(), Fail> {
     for row in rows {
-        refuses_and_goes_on(rt, alloc, net, row)?;
+        assert!(rt; goes_on(rt, alloc, net, row)?, "{row:?}");
     }
     Ok(())
 }
 
-// A node that has halted takes a pulse at which nothing comes, and sends nothing.
-fn rests(rt: &impl Abort, alloc: Global, net: &Network, v: u32) -> Result<(), Fail> {
+// Whether a node that has halted takes a pulse at which nothing comes, and sends nothing.
+fn rests(alloc: Global, node: &mut Colouring, v: u32) -> Result<bool, Fail>
+    requires ports { ports node.old ≡ 1 }
+{
+    let shown = show_of_one(alloc, node, 19, None)?;
+    Ok(shown.answer == Ok(()) && shown.is_quiet && u32::from(shown.colour) + 1 == v)
+}
+
+// The same of a node that is brought there.
+fn rests_at_the_end(rt: &impl Abort, alloc: Global, net: &Network, v: u32) -> Result<bool, Fail> {
     assert!(rt; 1 <= v && v <= net.nodes());
     assert!(rt; net.degree(v) == 1);
     let mut node = brought(alloc, net, v, 19)?;
-    let shown = show(alloc, &mut node, 19, None)?;
-    assert!(rt; shown.answer == Ok(()) && shown.is_quiet, "{v}");
-    assert!(rt; u32::from(shown.colour) == v - 1, "{v}");
-    Ok(())
+    rests(alloc, &mut node, v)
 }
 
 #[test]
 fn a_node_goes_on_after_a_refusal_as_its_twin(rt: HostRuntime) -> Result<(), Fail> {
     let alloc = rt.alloc();
     let net = Network::try_new(alloc, &[1, 2], &[(1, 2)], &[])?;
-    rests(&rt, alloc, &net, 1)?;
-    rests(&rt, alloc, &net, 2)?;
+    assert!(rt; rests_at_the_end(&rt, alloc, &net, 1)?);
+    assert!(rt; rests_at_the_end(&rt, alloc, &net, 2)?);
     all_go_on(&rt, alloc, &net, &REFUSALS)
 }

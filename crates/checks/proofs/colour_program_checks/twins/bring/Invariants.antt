@@ -1,6 +1,6 @@
 use Rattle.std.proofs.Common.{◌≡◌}
 use Rattle.colour_program.specs.colour_rules.Node.{ports}
-use Rattle.checks.proofs.colour_program_checks.twins.brought.Given as goal
+use Rattle.checks.proofs.colour_program_checks.twins.bring.Given as goal
 
 abbrev pub invariant-loop-earlier : goal.invariant-loop-earlier
 invariant-loop-earlier l = ports l.node ≡ 1

@@ -4,7 +4,7 @@ use Rattle.alpha_core.specs.node_api.Refused.{Refused}
 use Rattle.colour_program.specs.colour_rules.Payload.{Payload}
 use Rattle.colour_program.specs.colour_rules.Node.{Node, ports}
 use Rattle.colour_program.proofs.colour_rules.KeptPorts.{keeps}
-use Rattle.checks.proofs.colour_program_checks.fed.feed.Goals as goal
+use Rattle.checks.proofs.colour_program_checks.fed.show.Goals as goal
 
 abbrev Keeps : ℕ → Node × List (Option Payload) → Type 0
 Keeps n node = (ports node.0 ≡ n) × (length node.1 ≡ n)
