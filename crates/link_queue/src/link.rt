@@ -236,16 +236,19 @@ impl<P: NodeProgram> Link<P> {
         let TakeSide { pass: other } = take_end;
         self.queue.absorb::<TwoEnds>(&mut both, other);
         let n = self.queue.len_as::<TakesAll<P>, R>(rt, &mut both);
-        let mut held = Vec::new(alloc);
-        if held.reserve_exact(n).is_err() {
-            let other = self.queue.another::<TwoEnds>(&mut both);
-            return Err(MeetRefused {
-                link: self,
-                put_end: put_end_of(both, closed),
-                take_end: take_end_of(other),
-            });
+        match Vec::with_capacity(alloc, n) {
+            Ok(held) => {
+                let (both, held) = self.take_all(rt, both, held, n);
+                Ok(Met::of(held, both))
+            }
+            Err(_) => {
+                let other = self.queue.another::<TwoEnds>(&mut both);
+                Err(MeetRefused {
+                    link: self,
+                    put_end: put_end_of(both, closed),
+                    take_end: take_end_of(other),
+                })
+            }
         }
-        let (both, held) = self.take_all(rt, both, held, n);
-        Ok(Met::of(held, both))
     }
 }

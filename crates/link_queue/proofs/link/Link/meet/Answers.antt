@@ -1,24 +1,28 @@
-use Rattle.std.proofs.Common.{ap, sym, subst, ◌∙◌}
+use Rattle.std.proofs.Common.{◌≤◌, ◌++◌, ap, length, refl, sym, subst, ◌∙◌}
+use Rattle.crossbeam_queue.specs.Passes.{view}
 use Rattle.link_rule.specs.Legal.{IsLegalOn, LegalFor}
-use Rattle.link_queue.specs.Queued.{stamped_of}
-use Rattle.link_queue.specs.Rule.{Linked}
+use Rattle.link_queue.specs.Queued.{stamped_of, all_stamped}
+use Rattle.link_queue.specs.Rule.{Linked, has_close}
 use Rattle.link_queue.proofs.Mapped.{mapped_forks, mapped_learns, mapped_merges}
+use Rattle.link_queue.proofs.Meets.{left_over}
 use Rattle.link_queue.proofs.Rules.{merges, forks, totals}
+use Rattle.std.proofs.lemmas.List.{length-map}
 use Rattle.alpha_core.specs.StampedWires.{wires_of}
 use Rattle.link_queue.proofs.link.Link.meet.Goals as goal
+
+pub absorb-requires-clause-queue : goal.absorb-requires-clause-queue
+absorb-requires-clause-queue g c = (c.requires.put_end, c.requires.take_end)
 
 pub absorb-requires-clause-rule : goal.absorb-requires-clause-rule
 absorb-requires-clause-rule g c =
     let legal = IsLegalOn g.P.NodeProgram.program in
-    mapped_merges stamped_of (Linked legal) _ _ _ _ _ _ (merges legal _ _ _ _ c.args.put_end.puts.1 c.args.take_end.takes.1)
+    mapped_merges stamped_of (Linked legal) _ _ _ _ _ _
+    (merges legal _ _ _ _ c.args.put_end.puts.1 c.args.take_end.takes.1)
 
-pub another-other-requires-clause-rule : goal.another-other-requires-clause-rule
-another-other-requires-clause-rule g c =
-    let legal = IsLegalOn g.P.NodeProgram.program in
-    let same = c.len_as-n.ensures.queue.1 in
-    let e = same ∙ c.absorb.ensures.rule in
-    mapped_forks stamped_of (Linked legal) _ _ _ _
-    (forks legal _ _ _ (ap (λ v. v.puts) e) (ap (λ v. v.takes) e) (subst (λ v. LegalFor legal v.name (wires_of v.put)) (sym same) c.len_as-n.ensures.rule.1.2.1))
+pub len_as-n-requires-clause-queue : goal.len_as-n-requires-clause-queue
+len_as-n-requires-clause-queue g c =
+    let same = c.absorb.ensures.queue in
+    (same.0 ∙ c.requires.put_end.0, same.2 ∙ c.requires.put_end.1)
 
 pub len_as-n-requires-clause-rule : goal.len_as-n-requires-clause-rule
 len_as-n-requires-clause-rule g c =
@@ -26,7 +30,112 @@ len_as-n-requires-clause-rule g c =
     let e = c.absorb.ensures.rule in
     mapped_learns stamped_of (Linked legal) _ _ _ (totals legal _ _ (ap (λ v. v.puts) e) (ap (λ v. v.takes) e))
 
-pub returns-clause-legal : goal.returns-clause-legal
-returns-clause-legal g c =
+pub another-other-requires-clause-queue : goal.another-other-requires-clause-queue
+another-other-requires-clause-queue g c =
+    let first = c.absorb.ensures.queue in
+    let next = c.len_as-n.ensures.queue.0 in
+    (next.0 ∙ first.0 ∙ c.requires.put_end.0, next.2 ∙ first.2 ∙ c.requires.put_end.1)
+
+pub another-other-requires-clause-rule : goal.another-other-requires-clause-rule
+another-other-requires-clause-rule g c =
+    let legal = IsLegalOn g.P.NodeProgram.program in
+    let same = c.len_as-n.ensures.queue.1 in
+    let e = same ∙ c.absorb.ensures.rule in
+    mapped_forks stamped_of (Linked legal) _ _ _ _
+    (forks legal _ _ _ (ap (λ v. v.puts) e) (ap (λ v. v.takes) e)
+    (subst (λ v. LegalFor legal v.name (wires_of v.put)) (sym same) c.len_as-n.ensures.rule.1.2.1))
+
+pub put_end_of-requires-clause-puts : goal.put_end_of-requires-clause-puts
+put_end_of-requires-clause-puts g c =
+    let first = c.absorb.ensures.queue in
+    let next = c.len_as-n.ensures.queue.0 in
+    let last = c.another-other.ensures.queue.0 in
+    (last.2 ∙ next.2 ∙ first.2 ∙ c.requires.put_end.1, ap (λ v. v.puts) c.another-other.ensures.rule.0)
+
+pub put_end_of-requires-clause-closed : goal.put_end_of-requires-clause-closed
+put_end_of-requires-clause-closed g c =
+    let e = c.len_as-n.ensures.queue.1 ∙ c.absorb.ensures.rule in
+    let put = ap (λ v. v.put) c.another-other.ensures.rule.0 ∙ ap (λ v. v.put) e in
+    c.args.put_end.puts.2 ∙ sym (ap (λ l. has_close (wires_of l)) put)
+
+pub take_end_of-requires : goal.take_end_of-requires
+take_end_of-requires g c = (c.another-other.ensures.queue.1.1, ap (λ v. v.takes) c.another-other.ensures.rule.1)
+
+pub returns-in-Err-clause-met : goal.returns-in-Err-clause-met
+returns-in-Err-clause-met g c = tt
+
+pub returns-in-Err-clause-legal : goal.returns-in-Err-clause-legal
+returns-in-Err-clause-legal g c = tt
+
+pub returns-in-Err-clause-room : goal.returns-in-Err-clause-room
+returns-in-Err-clause-room g c = tt
+
+pub returns-in-Err-clause-refused : goal.returns-in-Err-clause-refused
+returns-in-Err-clause-refused g c =
+    let absorbed = c.absorb.ensures in
+    let counted = c.len_as-n.ensures.queue in
+    let split = c.another-other.ensures in
+    let e = counted.1 ∙ absorbed.rule in
+    let puts = c.put_end_of.ensures in
+    let takes = c.take_end_of.ensures in
+    let put_view = ap view puts ∙ split.rule.0 in
+    let take_view = ap view takes ∙ split.rule.1 in
+    let table = split.queue.0.0 ∙ counted.0.0 ∙ absorbed.queue.0 ∙ c.requires.put_end.0 in
+    record {
+      same_link = refl;
+      put_end = (
+        (ap (λ p. p.table_id) puts ∙ table, c.put_end_of.result.puts.0),
+        ap (λ v. v.name) put_view ∙ ap (λ v. v.name) e,
+      );
+      put = ap (λ v. v.put) put_view ∙ ap (λ v. v.put) e;
+      take_end = (
+        (ap (λ p. p.table_id) takes ∙ split.queue.1.0, c.take_end_of.result.takes.0),
+        ap (λ v. v.name) take_view ∙ ap (λ v. v.name) e ∙ c.requires.name,
+      );
+      taken = ap (λ v. v.taken) take_view ∙ ap (λ v. v.taken) e;
+    }
+
+pub take_all-both-requires-clause-pass : goal.take_all-both-requires-clause-pass
+take_all-both-requires-clause-pass g c κs within =
+    let first = c.absorb.ensures.queue in
+    let next = c.len_as-n.ensures.queue in
+    let e = next.1 ∙ c.absorb.ensures.rule in
+    let table = next.0.0 ∙ first.0 ∙ c.requires.put_end.0 in
+    let slots = next.0.2 ∙ first.2 ∙ c.requires.put_end.1 in
+    ((table, slots), ap (λ v. v.puts) e, ap (λ v. v.takes) e)
+
+pub take_all-both-requires-clause-count : goal.take_all-both-requires-clause-count
+take_all-both-requires-clause-count g c κs within =
+    let counted = c.len_as-n.ensures in
+    let left = counted.rule.1 in
+    left_over (view c.absorb.new.pass) (view c.len_as-n.new.pass) (all_stamped left.0) _ counted.queue.1 left.2.0
+    (length-map left.0 stamped_of ∙ left.1)
+
+pub take_all-both-requires-clause-room : goal.take_all-both-requires-clause-room
+take_all-both-requires-clause-room g c κs within =
+    (c.in-Ok.ensures.items, c.in-Ok.ensures.capacity)
+
+pub returns-in-Ok-clause-met : goal.returns-in-Ok-clause-met
+returns-in-Ok-clause-met g c =
+    let took = c.take_all-both.ensures in
+    let e = c.len_as-n.ensures.queue.1 ∙ c.absorb.ensures.rule in
+    let all = ap view c.of.ensures.pass ∙ took.view in
+    let put = ap (λ v. v.put) e in
+    record {
+      of_link = ap (λ v. v.name) all ∙ ap (λ v. v.name) e;
+      all_put = ap (λ v. v.put) all ∙ put;
+      in_order = sym put ∙ took.all ∙ (λ i. (e i).taken ++ (sym c.of.ensures.held i).items);
+    }
+
+pub returns-in-Ok-clause-legal : goal.returns-in-Ok-clause-legal
+returns-in-Ok-clause-legal g c =
     let legal = IsLegalOn g.P.NodeProgram.program in
     subst (λ v. LegalFor legal v.name (wires_of v.put)) c.absorb.ensures.rule c.len_as-n.ensures.rule.1.2.1
+
+pub returns-in-Ok-clause-room : goal.returns-in-Ok-clause-room
+returns-in-Ok-clause-room g c =
+    let count = ap (λ h. length h.items) c.of.ensures.held ∙ c.take_all-both.ensures.count in
+    subst (λ k. k ≤ c.args.self.queue.cap) (sym count) c.len_as-n.ensures.rule.0
+
+pub returns-in-Ok-clause-refused : goal.returns-in-Ok-clause-refused
+returns-in-Ok-clause-refused g c = tt
