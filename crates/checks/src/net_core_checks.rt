@@ -5,7 +5,8 @@ ghost use Rattle.std.specs.Prelude.{◌≡◌, IfOk};
 ghost use Rattle.alpha_core.specs.interference.Net.{count_of, degree_of};
 
 use alpha_core::Network;
-use net_core::{Event, NetState, RunRefused, StepRefused, run};
+use net_core::{Event, NetState, RunRefused, StepRefused};
+use replay::run;
 use std::alloc::Global;
 use std::test::Fail;
 use sync_rounds::Greatest;

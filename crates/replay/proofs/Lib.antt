@@ -3,4 +3,5 @@ pub mod Writes
 pub mod Replayed
 pub mod WholeReplays
 pub mod Decided
+pub mod Ones
 pub mod net_core

@@ -1,11 +1,14 @@
-//! Entries, replayed: what the nodes of a network wrote down of their events, played by the machine of `net_core`.
+//! Lists, played by the machine of `net_core`: of events, and of entries, which nodes wrote down of their events.
+//!
+//! `run` accepts a list of events, or says at which event, and why, it isn't one that can happen.
 //!
 //! `replay` takes entries, each with the vertex of its node, in the order of the events. It accepts exactly what the
 //! events of some list write down, and else names the first entry that can't be one, and why. So nothing is taken on
 //! trust: each pulse and each wire of an entry is compared with that of its event. `transcripts` reads such entries
 //! from a text.
 //!
-//! `specs/Rows.antt` has what an event writes down, `specs/Replays.antt` what a replay is and where it stops.
+//! `specs/Runs.antt` has what `run` returns, `specs/Rows.antt` what an event writes down, `specs/Replays.antt` what a
+//! replay is and where it stops.
 //!
 //! ```text
 //! let entries = [(1, Entry::Put(2, Wire::Close)), (2, Entry::Take(1, Wire::Close))];
@@ -19,6 +22,7 @@ mod entry_event;
 pub mod laws;
 mod refused;
 mod replaying;
+mod running;
 mod same_wire;
 mod whole;
 mod whole_state;
@@ -26,4 +30,5 @@ mod whole_state;
 pub use entry_event::event_of;
 pub use refused::{ReplayRefused, WholeRefused};
 pub use replaying::replay;
+pub use running::run;
 pub use whole::replay_whole;

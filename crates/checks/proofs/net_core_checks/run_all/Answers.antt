@@ -5,7 +5,7 @@ use Rattle.alpha_core.specs.node_api.Program.{Program}
 use Rattle.sync_rounds.specs.Spread.{spread}
 use Rattle.net_core.specs.declared.event.Event.{Event}
 use Rattle.net_core.specs.declared.refused.RunRefused.{RunRefused}
-use Rattle.net_core.specs.Outcome.{RunMatches}
+use Rattle.replay.specs.Runs.{RunMatches}
 use Rattle.net_core.specs.State.{NetView}
 use Rattle.checks.proofs.net_core_checks.run_all.Goals as goal
 

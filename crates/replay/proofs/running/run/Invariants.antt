@@ -1,6 +1,6 @@
 use Rattle.std.proofs.Common.{◌≡◌, take, Ok}
 use Rattle.net_core.specs.Step.{run}
-use Rattle.net_core.proofs.running.run.Given as goal
+use Rattle.replay.proofs.running.run.Given as goal
 
 abbrev pub invariant-loop-index : goal.invariant-loop-index
 invariant-loop-index g l =
