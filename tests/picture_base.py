@@ -35,10 +35,10 @@ def examples():
 
 
 class Drawing:
-    """`draw(KIND, network, text, option..)` is the picture of a text, both given as bytes."""
+    """`draw(KIND, network, text, option..)` is the picture of a text, both given as bytes, by a Painter."""
 
-    def __init__(self, folder):
-        self.folder = folder
+    def __init__(self, folder, painter):
+        self.folder, self.painter = folder, painter
 
     def file(self, name, data):
         path = os.path.join(self.folder, name)
@@ -49,11 +49,12 @@ class Drawing:
     def run(self, kind, network, text, *options, **more):
         option = {"plan": "--plan", "matrix": "--plan", "run": "--transcript", "overview": "--transcript", "node": "--transcript",
                   "tally": "--transcript"}.get(kind, "--rounds")
-        return call([kind, self.file("net.col", network), option, self.file("text", text), *map(str, options)], **more)
+        words = [kind, self.file("net.col", network), option, self.file("text", text), *map(str, options)]
+        return call(words, **more) if more else self.painter(words)
 
     def by_rounds(self, network, text, *options):
         """The tally that is counted by a text of rounds."""
-        status, picture, fault = call(["tally", self.file("net.col", network), "--rounds", self.file("text", text), *options])
+        status, picture, fault = self.painter(["tally", self.file("net.col", network), "--rounds", self.file("text", text), *options])
         if status:
             raise AssertionError(f"tally is refused: {fault.decode()}")
         return picture.decode()

@@ -23,6 +23,7 @@ from picture_maps import (bars_row, bits_rows, crowded_rows, forests_rows, grid_
                           rounds_rows)
 from picture_marks import gap, parsed, texts, titles
 from picture_names import name_rows
+from picture_process import Painter
 from picture_runs import cut_rows, long_rows, run_rows, whole_run_rows, words_rows
 from picture_broken import broken_rows
 from picture_schedules import schedule_rows
@@ -268,8 +269,8 @@ def main():
     words.add_argument("--play", metavar="PLAY")
     given = words.parse_args()
     program, play = (path and os.path.abspath(path) for path in (given.program, given.play))
-    with tempfile.TemporaryDirectory() as folder:
-        draw, all_of = Drawing(folder), examples()
+    with tempfile.TemporaryDirectory() as folder, Painter(folder, LIMIT) as painter:
+        draw, all_of = Drawing(folder, painter), examples()
         barred = all_of["petersen"] + BARS
         for name, network in (all_of | {"two": EDGE, "a row": ROW, "one apart": APART, "barred petersen": barred}).items():
             plan_rows(draw, name, network)
