@@ -1,4 +1,5 @@
 pub mod Parts
+pub mod Refusing
 pub mod LinkTable
 pub mod NetKept
 pub mod KeptSteps

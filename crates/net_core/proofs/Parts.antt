@@ -5,7 +5,9 @@ use Rattle.std.proofs.Common.{
   suc,
   zero,
   ◌+◌,
+  ◌-◌,
   ◌<◌,
+  ◌≤◌,
   List,
   [],
   ◌∷◌,
@@ -26,6 +28,9 @@ use Rattle.std.proofs.Common.{
   ap,
   ◌∙◌,
   arith,
+  Fits,
+  w32,
+  w64,
 }
 use Rattle.std.specs.Prelude.{IfErr, OnErr, slice_get}
 use Rattle.std.specs.List.{range_with_len}
@@ -95,3 +100,15 @@ first-some (y ∷ xs) x e = let same : y ≡ x = cc in (xs, ap (λ z. z ∷ xs) 
 pub first-none : {X : Type 0} (xs : List X) → slice_get xs 0 ≡ None → xs ≡ []
 first-none [] e = refl
 first-none (y ∷ xs) e = absurd cc
+
+-- a list with a first entry isn't empty
+pub some-first : {X : Type 0} (xs rest : List X) (x : X) → xs ≡ x ∷ rest → 0 < length xs
+some-first xs rest x e = omega (arith, ap length e)
+
+-- the index of a vertex is a `usize`
+pub fits_index : (v : ℕ) → Fits w32 v → Fits w64 (v - 1)
+fits_index v fits = omega arith
+
+-- a count that has come to its end
+pub counted : (i n : ℕ) → i ≤ n → n ≤ i → i ≡ n
+counted i n most least = omega arith
