@@ -22,6 +22,7 @@ use Rattle.std.proofs.Common.{
   arith,
   drop,
   get_or,
+  subst,
   inl,
   inr,
 }
@@ -37,6 +38,7 @@ use Rattle.forests.specs.declared.numbering.Role.{Role}
 use Rattle.forests.specs.declared.numbering.Role.TheVariants.{Unknown, Up, Down}
 use Rattle.colour_rules.specs.declared.payload.Payload.{Payload}
 use Rattle.colour_rules.specs.declared.payload.Payload.TheVariants.{Colour}
+use Rattle.colour_rules.specs.Node.{HasForests, IsIn}
 use Rattle.colour_rules.specs.Program.{is_up, colour_in, from_parent}
 
 none-unless : {X : Type 0} (x : Option X) → (IsSome x → ⊥) → x ≡ None
@@ -125,6 +127,10 @@ module _ (roles : List Role) (slots : List (Option Payload)) where
 
     known : role ≡ get_or roles k Unknown
     known = get_or_read roles k role here comes.is Unknown
+
+    -- a port to a parent names one of the forests
+    pub parent-in : (n : ℕ) → HasForests n roles → (f : ℕ) → role ≡ Up f → f < n
+    parent-in n each f up = subst (IsIn n) (sym known ∙ up) (each k here)
 
     slot : at_port slots k ≡ Some payload
     slot = ap (λ (s : List (Option Payload)). at_port s k) (sym comes.same) ∙ comes.reads.here k comes.at

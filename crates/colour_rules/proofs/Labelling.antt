@@ -21,6 +21,15 @@ pub record Labelled (old : List Role) (slots : List (Option Payload)) (cursor : 
   pub before : (k : ℕ) → k < cursor → get_or now k Unknown ≡ labelled (get_or old k Unknown) (at_port slots k)
   pub after : (k : ℕ) → cursor ≤ k → get_or now k Unknown ≡ get_or old k Unknown
 
+-- before the first payload nothing is taken in
+pub labelled-start : (old now : List Role) (slots : List (Option Payload)) (cursor : ℕ) → now ≡ old → cursor ≡ 0 → Labelled old slots cursor now
+labelled-start old now slots cursor same start =
+    record {
+      size = ap length same;
+      before = λ k h. absurd (omega arith);
+      after = λ k h. ap (λ roles. get_or roles k Unknown) same;
+    }
+
 -- a port that brought nothing stays
 by_nothing : (role : Role) → labelled role None ≡ role
 by_nothing Unknown = refl

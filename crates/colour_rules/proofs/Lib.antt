@@ -18,7 +18,9 @@ mod Taking
 mod Telling
 mod Turning
 mod Bytes
+mod Looping
 mod Highs
+mod Widths
 mod Valid
 pub mod Walking
 mod Worked

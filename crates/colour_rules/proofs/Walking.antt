@@ -1,5 +1,5 @@
 -- The ports looked at one after another: what is left of the look at them all.
-use Rattle.std.proofs.Common.{◌≡◌, ℕ, zero, suc, ◌+◌, ◌-◌, ◌<◌, ◌≤◌, Bool, true, false, List, [], ◌∷◌, ◌++◌, length, refl, ap, sym, ◌∙◌, arith, drop}
+use Rattle.std.proofs.Common.{◌≡◌, ℕ, zero, suc, ◌+◌, ◌-◌, ◌<◌, ◌≤◌, Bool, true, false, List, [], ◌∷◌, ◌++◌, length, refl, ap, sym, subst, ◌∙◌, arith, drop}
 use Rattle.std.specs.Prelude.{if◌then◌else◌, Option, Some, None, slice_index_or}
 use Rattle.std.proofs.lemmas.List.{drop_more, drop_all, append_assoc, append-nil}
 use Rattle.node_api.specs.Boxes.{at_port}
@@ -107,3 +107,7 @@ and_id-other heard (Hello id) h = absurd (h id refl)
 and_id-other heard (Label f) h = refl
 and_id-other heard (Colour c) h = refl
 and_id-other heard (Chosen c) h = refl
+
+-- before the first port nothing is looked at
+pub looked-start : (node : Node) (phase : Phase) (slots : List (Option Payload)) (cursor : ℕ) → cursor ≡ 0 → Looked node phase slots cursor []
+looked-start node phase slots cursor start = subst (λ (k : ℕ). Looked node phase slots k []) (sym start) (record { rest = refl; came = refl })
