@@ -7,3 +7,4 @@ pub mod Whole
 pub mod Counts
 pub mod Progress
 pub mod Merged
+pub mod alpha_laws

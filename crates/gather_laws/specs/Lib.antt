@@ -5,3 +5,4 @@ pub mod Whole
 pub mod Counts
 pub mod Progress
 pub mod Merged
+pub mod alpha_laws

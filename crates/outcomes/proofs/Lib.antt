@@ -9,3 +9,6 @@ mod MetRows
 mod Linked
 mod Stamping
 mod Full
+mod Every
+mod Meetings
+mod LinkIn

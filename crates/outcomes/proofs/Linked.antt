@@ -3,7 +3,7 @@ use Rattle.std.proofs.Common.{◌≡◌, ℕ, ◌-◌, ◌<◌, List, [], ◌++�
 use Rattle.std.proofs.Common.{Some, slice_get}
 use Rattle.std.specs.Prelude.{All}
 use Rattle.std.proofs.lemmas.List.{length-map}
-use Rattle.alpha_laws.specs.interference.Net.{Net, IsNetwork, IsVertex, degree_of, neighbour_of, back_port_of, vertices}
+use Rattle.gather_laws.specs.alpha_laws.Net.{Net, IsNetwork, IsVertex, degree_of, neighbour_of, back_port_of, vertices}
 use Rattle.actor.proofs.worker_deques.Views.{as_many}
 use Rattle.actor.specs.Node.{by_port}
 use Rattle.outcomes.specs.Rows.{AreCrossed, row_at}

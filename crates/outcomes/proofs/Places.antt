@@ -5,8 +5,8 @@ use Rattle.std.specs.Prelude.{option_map}
 use Rattle.std.specs.List.{range_with_len}
 use Rattle.std.proofs.lemmas.Option.{slice_get-map}
 use Rattle.atomic_table.specs.Seated.{TableId}
-use Rattle.alpha_laws.specs.interference.Net.{Net, IsNetwork, degree_of, neighbour_of, back_port_of, vertices}
-use Rattle.alpha_laws.proofs.Across.{over}
+use Rattle.gather_laws.specs.alpha_laws.Net.{Net, IsNetwork, degree_of, neighbour_of, back_port_of, vertices}
+use Rattle.gather_laws.proofs.alpha_laws.Across.{over}
 use Rattle.actor.specs.Node.{links_in, links_out}
 use Rattle.outcomes.proofs.ReadLists.{map-twice}
 use Rattle.outcomes.specs.Rows.{AreCrossed, HasShape, row_at}

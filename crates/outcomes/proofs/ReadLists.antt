@@ -1,5 +1,5 @@
 -- What is read of lists that are made in other ways.
-use Rattle.std.proofs.Common.{◌≡◌, ℕ, zero, suc, ◌+◌, ◌<◌, List, [], ◌∷◌, ◌++◌, length, map, get_or, refl, ap, ◌∙◌, arith}
+use Rattle.std.proofs.Common.{◌≡◌, ℕ, zero, suc, ◌+◌, ◌<◌, List, [], ◌∷◌, ◌++◌, length, map, get_or, refl, sym, ap, ◌∙◌, arith}
 use Rattle.std.proofs.Common.{Some, None, slice_get}
 use Rattle.std.specs.List.{range_with_len}
 use Rattle.std.proofs.lemmas.List.{get_or-map, length-map, map-append}
@@ -52,3 +52,9 @@ range_next g n =
     let last : 0 + n ≡ n = omega arith in
     ap (λ k. map g (range_with_len 0 k)) more ∙ ap (map g) (range_more 0 n) ∙ map-append g (range_with_len 0 n) ((0 + n) ∷ [])
     ∙ ap (λ k. map g (range_with_len 0 n) ++ g k ∷ []) last
+
+-- a list and one with the same images still have them after a push to each
+pub both_pushed : {A B C : Type 0} (f : A → C) (g : B → C) (xs new : List A) (ys : List B) (x : A) (y : B) → new ≡ xs ++ x ∷ [] → f x ≡ g y
+    → map f xs ≡ map g ys → map f new ≡ map g (ys ++ y ∷ [])
+both_pushed f g xs new ys x y e same all =
+    ap (map f) e ∙ map-append f xs (x ∷ []) ∙ (λ k. all k ++ same k ∷ []) ∙ sym (map-append g ys (y ∷ []))

@@ -8,16 +8,16 @@ use Rattle.std.specs.Prelude.{Bool, Option, All, IsTrue}
 use Rattle.std.proofs.lemmas.List.{length-map}
 use Rattle.std.proofs.lemmas.List.FromFn.{length-range_with_len}
 use Rattle.std.proofs.lemmas.Option.{get_or_from_slice_get}
-use Rattle.alpha_laws.specs.interference.Net.{Net, IsNetwork, IsVertex, count_of, degree_of, neighbour_of, back_port_of, vertices}
-use Rattle.alpha_laws.specs.node_api.Program.{Program, last_pulse_on}
-use Rattle.alpha_laws.specs.node_api.Laws.{IsProgram}
+use Rattle.gather_laws.specs.alpha_laws.Net.{Net, IsNetwork, IsVertex, count_of, degree_of, neighbour_of, back_port_of, vertices}
+use Rattle.gather_laws.specs.alpha_laws.Program.{Program, last_pulse_on}
+use Rattle.gather_laws.specs.alpha_laws.Laws.{IsProgram}
 use Rattle.actor.specs.alpha_core.Wire.{Wire}
 use Rattle.actor.specs.alpha_core.View.{Alpha, Node}
-use Rattle.alpha_laws.specs.Kept.{AllKept, NodeKept}
-use Rattle.alpha_laws.specs.Simulates.{taken_over}
-use Rattle.alpha_laws.proofs.Across.{over}
-use Rattle.alpha_laws.proofs.Runs.{runs}
-use Rattle.alpha_laws.proofs.Claims.{simulates}
+use Rattle.gather_laws.specs.alpha_laws.Kept.{AllKept, NodeKept}
+use Rattle.gather_laws.specs.alpha_laws.Simulates.{taken_over}
+use Rattle.gather_laws.proofs.alpha_laws.Across.{over}
+use Rattle.gather_laws.proofs.alpha_laws.Runs.{runs}
+use Rattle.gather_laws.proofs.alpha_laws.Claims.{simulates}
 use Rattle.actor.proofs.Kept.{node_same}
 use Rattle.actor.specs.declared.aside.Aside.{Aside}
 use Rattle.actor.specs.declared.aside.WhyAside.TheVariants.{Refused}

@@ -4,9 +4,9 @@
 -- 3. So the stamps rise, and the entries of all nodes in order are one run (`gather_laws`).
 use Rattle.std.proofs.Common.{◌≡◌, ℕ, ◌-◌, ◌<◌, List, [], ◌++◌, length, map, get_or, refl, sym, ap, ◌∙◌, subst}
 use Rattle.std.specs.Prelude.{All, Bool, IsTrue}
-use Rattle.alpha_laws.specs.interference.Net.{Net, IsNetwork, IsVertex, degree_of, neighbour_of, back_port_of, vertices}
-use Rattle.alpha_laws.specs.node_api.Program.{Program}
-use Rattle.alpha_laws.proofs.Across.{over}
+use Rattle.gather_laws.specs.alpha_laws.Net.{Net, IsNetwork, IsVertex, degree_of, neighbour_of, back_port_of, vertices}
+use Rattle.gather_laws.specs.alpha_laws.Program.{Program}
+use Rattle.gather_laws.proofs.alpha_laws.Across.{over}
 use Rattle.actor.specs.alpha_core.Stamped.{Stamped}
 use Rattle.actor.specs.alpha_core.StampedWires.{wires_of}
 use Rattle.actor.specs.entries.Entry.{Entry}

@@ -1,2 +1,2 @@
 -- What crates above name of `interference`.
-pub use Rattle.alpha_laws.specs.interference.Net
+pub use Rattle.gather_laws.specs.alpha_laws.Net

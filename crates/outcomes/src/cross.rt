@@ -2,10 +2,10 @@
 
 ghost use Rattle.std.specs.Prelude.{◌≡◌, ◌≢◌, ◌<◌, ℕ, IfOk, OnOk, None, Some, map};
 ghost use Rattle.std.specs.List.{range_with_len};
-ghost use Rattle.alpha_laws.specs.interference.Net.{IsNetwork, IsVertex, back_port_of, degree_of, neighbour_of};
+ghost use Rattle.gather_laws.specs.alpha_laws.Net.{IsNetwork, IsVertex, back_port_of, degree_of, neighbour_of};
 ghost use Rattle.outcomes.specs.Rows.{AreCrossed, HasShape, set_slot, slot_at};
 
-use alpha_laws::Network;
+use gather_laws::Network;
 use std::alloc::{AllocError, Global};
 
 /// The things of a row, each in a slot.
@@ -16,9 +16,9 @@ use std::alloc::{AllocError, Global};
 pub fn slots_of<T: Drop>(alloc: Global, row: Vec<T>) -> Result<Vec<Option<T>>, AllocError>
     ensures slots { IfOk result (λ slots. slots.items ≡ map Some row.items) }
 {
-    let mut slots = Vec::new(alloc);
+    let mut slots = Vec::with_capacity(alloc, row.len())?;
     for item in row {
-        slots.push(Some(item))?;
+        slots.push_reserved(Some(item));
     }
     Ok(slots)
 }
@@ -28,9 +28,9 @@ fn all_slots<T: Drop>(alloc: Global, rows: Vec<Vec<T>>) -> Result<Vec<Vec<Option
     ensures slots { IfOk result (λ all. map (λ row. row.items) all.items
         ≡ map (λ row. map Some row.items) rows.items) }
 {
-    let mut all = Vec::new(alloc);
+    let mut all = Vec::with_capacity(alloc, rows.len())?;
     for row in rows {
-        all.push(slots_of(alloc, row)?)?;
+        all.push_reserved(slots_of(alloc, row)?);
     }
     Ok(all)
 }
@@ -69,8 +69,7 @@ fn crossed_row<T: Drop>(
 {
     net.is_network();
     let degree = net.degree(v);
-    let mut row = Vec::new(alloc);
-    row.reserve_exact(degree as usize)?;
+    let mut row = Vec::with_capacity(alloc, degree as usize)?;
     for i in 0..degree {
         match take_out(net, slots, net.neighbour(v, i), net.back_port(v, i)) {
             Some(thing) => row.push_reserved(thing),

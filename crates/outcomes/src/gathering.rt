@@ -1,7 +1,7 @@
 //! The nodes and links of a run become its outcome.
 
 ghost use Rattle.std.specs.Prelude.{◌≡◌, ◌≤◌, ℕ, All, IfOk, false, map};
-ghost use Rattle.alpha_laws.specs.interference.Net.{vertices};
+ghost use Rattle.gather_laws.specs.alpha_laws.Net.{vertices};
 ghost use Rattle.outcomes.specs.Rows.{HasShape};
 ghost use Rattle.actor.specs.link_queue.Ends.{link_capacity};
 ghost use Rattle.actor.specs.Tables.{tables_of};
@@ -13,7 +13,7 @@ use crate::meeting::meet_rows;
 use crate::outcome::Outcome;
 use crate::taking_apart::{NodesAndEnds, apart};
 use actor::{Link, Node, Wiring};
-use alpha_laws::{Memory, Network, NodeProgram};
+use gather_laws::{Memory, Network, NodeProgram};
 use std::alloc::Global;
 use std::sync::Wait;
 

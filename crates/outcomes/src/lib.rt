@@ -29,5 +29,5 @@ pub use outcome::Outcome;
 pub use taking_apart::{Actor, some_full};
 
 // What crates above name of lower ones.
-pub use alpha_laws::{MAX_DEGREE, Memory, Network, NodeProgram};
 pub use gather_laws::laws::{whole_outcomes_are_complete, whole_outcomes_replay};
+pub use gather_laws::{MAX_DEGREE, Memory, Network, NodeProgram};

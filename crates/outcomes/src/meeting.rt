@@ -8,7 +8,7 @@ ghost use Rattle.outcomes.specs.Meets.{AreMet, RowsAreMet};
 
 use crate::pairs::pairs;
 use actor::{Link, Met, WiredPut, WiredTake, Wiring};
-use alpha_laws::{Memory, NodeProgram};
+use gather_laws::{Memory, NodeProgram};
 use std::alloc::Global;
 use std::sync::Wait;
 

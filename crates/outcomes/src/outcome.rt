@@ -7,7 +7,7 @@ ghost use Rattle.outcomes.specs.Gathers.{gathered_of};
 
 use crate::taking_apart::Actor;
 use actor::Met;
-use alpha_laws::NodeProgram;
+use gather_laws::NodeProgram;
 use std::marker::Model;
 
 /// What a run of workers leaves: every node, ascending by vertex, and every link with what it still holds.

@@ -4,7 +4,7 @@ ghost use Rattle.std.specs.Prelude.{◌≡◌, ◌≤◌, [], IfOk, map, vec_cap
 ghost use Rattle.outcomes.specs.Full.{is_full, some_full};
 
 use actor::{AlphaNode, Entries, Node, WhyAside, WiredPut, WiredTake, Wiring};
-use alpha_laws::NodeProgram;
+use gather_laws::NodeProgram;
 use std::alloc::{AllocError, Global};
 
 /// A node after the run, with its vertex and its entries.

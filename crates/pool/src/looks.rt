@@ -2,7 +2,7 @@
 
 ghost use Rattle.std.specs.Prelude.{◌≡◌, ◌<◌, map, vec_len};
 ghost use Rattle.crossbeam_deque.specs.Handles.{stealer_deque, worker_deque};
-ghost use Rattle.worker_deques.specs.Deques.{deque_of};
+ghost use Rattle.worker_deques.specs.deque_rule.Deques.{deque_of};
 
 use crate::signals::Signals;
 use actor::{Gate, Links, Node, NodeProgram, TurnRefused, Wiring};

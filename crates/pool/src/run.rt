@@ -3,7 +3,7 @@
 ghost use Rattle.std.specs.Prelude.{◌≡◌, ◌≢◌, ◌<◌, ◌≤◌, All, map, reverse, vec_len, IfOk, IfErr};
 ghost use Rattle.actor.specs.interference.Net.{vertices};
 ghost use Rattle.crossbeam_deque.specs.Handles.{stealer_deque, worker_deque};
-ghost use Rattle.worker_deques.specs.Deques.{deque_of};
+ghost use Rattle.worker_deques.specs.deque_rule.Deques.{deque_of};
 ghost use Rattle.pool.specs.declared.fault.PoolFault.TheVariants.{BadOptions, Spawn};
 
 use crate::fault::PoolFault;
@@ -25,7 +25,7 @@ pub struct Dealt;
 
 impl Split<Ledger> for Dealt {
     ghost use Rattle.std.specs.Prelude.{[], ◌-◌};
-    ghost use Rattle.worker_deques.specs.Ledgers.{ledger};
+    ghost use Rattle.worker_deques.specs.deque_rule.Ledgers.{ledger};
 
     ghost left = { λ v. ledger (v.shares - 1) [] [] };
 

@@ -4,8 +4,8 @@ ghost use Rattle.std.specs.Prelude.{◌≡◌, ◌≢◌, ◌≤◌, ◌-◌, Al
 ghost use Rattle.std.specs.List.{range_with_len};
 ghost use Rattle.crossbeam_deque.specs.Handles.{view, worker_deque};
 ghost use Rattle.run_options.specs.declared.TheConstants.{MAX_WORKERS};
-ghost use Rattle.worker_deques.specs.Deques.{deque_of};
-ghost use Rattle.worker_deques.specs.Ledgers.{AreDealt};
+ghost use Rattle.worker_deques.specs.deque_rule.Deques.{deque_of};
+ghost use Rattle.worker_deques.specs.deque_rule.Ledgers.{AreDealt};
 ghost use Rattle.actor.specs.declared.refused.TurnRefused.TheVariants as turn;
 ghost use Rattle.pool.specs.Ends.{told_after};
 ghost use Rattle.pool.specs.declared.fault.PoolFault.TheVariants.{BadOptions, Memory};

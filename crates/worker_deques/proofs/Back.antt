@@ -1,8 +1,8 @@
 -- What one worker hands back, beside the tasks so far.
 use Rattle.std.proofs.Common.{◌≡◌, ℕ, ◌+◌, List, [], ◌∷◌, ◌++◌, map, ap, ◌∙◌, arith, Option, Some, None}
 use Rattle.std.proofs.lemmas.List.{map-append}
-use Rattle.worker_deques.specs.Ledgers.{in_hand, weigh}
-use Rattle.worker_deques.proofs.Rule.{map_snoc, weigh-append}
+use Rattle.deque_rule.specs.Ledgers.{in_hand, weigh}
+use Rattle.deque_rule.proofs.Rule.{map_snoc, weigh-append}
 
 module _ {A : Type 0} (f : A → ℕ) (tasks finished : List A) where
   -- the tasks so far with those that it finished

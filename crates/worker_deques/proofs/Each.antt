@@ -6,8 +6,8 @@ use Rattle.std.specs.List.{range_with_len}
 use Rattle.std.proofs.lemmas.Bool.Decides.{eqb_tells}
 use Rattle.std.proofs.lemmas.List.FromFn.{length-range_with_len}
 use Rattle.worker_deques.specs.Places.{AreAllBelow}
-use Rattle.worker_deques.specs.Ledgers.{weigh, AreSame}
-use Rattle.worker_deques.proofs.Rule.{weigh-one, weigh-append, map_snoc}
+use Rattle.deque_rule.specs.Ledgers.{weigh, AreSame}
+use Rattle.deque_rule.proofs.Rule.{weigh-one, weigh-append, map_snoc}
 
 abbrev bit : Bool → ℕ
 bit true = 1

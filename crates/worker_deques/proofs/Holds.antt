@@ -2,8 +2,8 @@
 use Rattle.std.proofs.Common.{◌≡◌, ℕ, ◌<◌, ◌≤◌, List, [], ◌∷◌, ◌++◌, map, length, get_or, take, suc, refl, sym, ap, ◌∙◌, subst, arith}
 use Rattle.std.specs.Prelude.{All}
 use Rattle.std.proofs.lemmas.List.{length-map, length-append, map-append}
-use Rattle.worker_deques.specs.declared.ledger.Ledger.{Ledger}
-use Rattle.worker_deques.specs.Ledgers.{AreDealt, AreOut, AreSame, ledger, weigh, pushed_by, taken_by}
+use Rattle.deque_rule.specs.declared.ledger.Ledger.{Ledger}
+use Rattle.deque_rule.specs.Ledgers.{AreDealt, AreOut, AreSame, ledger, weigh, pushed_by, taken_by}
 use Rattle.worker_deques.proofs.Views.{carried, last_front, total_same, total_zero}
 
 pub holds_at : {X : Type 0} (P : X → Type 0) (xs : List X) (i : ℕ) (x : X) → i < length xs → x ≡ get_or xs i x → All P xs → P x

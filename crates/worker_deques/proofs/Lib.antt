@@ -4,6 +4,6 @@ pub mod Each
 pub mod Holds
 pub mod Out
 pub mod Pushed
-pub mod Rule
 pub mod Steps
 pub mod Views
+pub mod deque_rule

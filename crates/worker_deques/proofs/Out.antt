@@ -3,9 +3,9 @@ use Rattle.std.proofs.Common.{◌≡◌, ℕ, ◌<◌, List, [], ◌∷◌, ◌+
 use Rattle.std.specs.Prelude.{MatchOption, IfNone, IfSome}
 use Rattle.std.proofs.lemmas.List.{length-map, get_or-map, map-set}
 use Rattle.crossbeam_deque.proofs.Lists.{at_index}
-use Rattle.worker_deques.specs.declared.ledger.Ledger.{Ledger}
-use Rattle.worker_deques.specs.Ledgers.{ledger, weigh, AreOut, in_hand}
-use Rattle.worker_deques.proofs.Rule.{weigh-append, map_snoc, total_set}
+use Rattle.deque_rule.specs.declared.ledger.Ledger.{Ledger}
+use Rattle.deque_rule.specs.Ledgers.{ledger, weigh, AreOut, in_hand}
+use Rattle.deque_rule.proofs.Rule.{weigh-append, map_snoc, total_set}
 
 took : (own new : Ledger) (guests : List Ledger) (tasks : List ℕ) (k : ℕ) → new ≡ ledger own.shares own.pushed (own.taken ++ k ∷ [])
     → AreOut (own ∷ guests) tasks → AreOut (new ∷ guests) (k ∷ tasks)

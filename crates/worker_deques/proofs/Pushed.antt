@@ -2,9 +2,9 @@
 use Rattle.std.proofs.Common.{◌≡◌, ℕ, List, [], ◌∷◌, ◌++◌, map, ap, sym, ◌∙◌}
 use Rattle.std.proofs.Common.{◌+◌, arith}
 use Rattle.std.proofs.lemmas.List.{map-append}
-use Rattle.worker_deques.specs.declared.ledger.Ledger.{Ledger}
-use Rattle.worker_deques.specs.Ledgers.{ledger, in_rows, total, weigh}
-use Rattle.worker_deques.proofs.Rule.{map_snoc, total_snoc, weigh-append}
+use Rattle.deque_rule.specs.declared.ledger.Ledger.{Ledger}
+use Rattle.deque_rule.specs.Ledgers.{ledger, in_rows, total, weigh}
+use Rattle.deque_rule.proofs.Rule.{map_snoc, total_snoc, weigh-append}
 
 -- two lists with the same images still have them after a push of two things with the same image
 pub both_pushed : {A B C : Type 0} (f : A → C) (g : B → C) (xs new : List A) (ys new' : List B) (x : A) (y : B) → new ≡ xs ++ x ∷ [] → new' ≡ ys ++ y ∷ []

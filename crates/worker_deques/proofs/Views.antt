@@ -4,9 +4,9 @@ use Rattle.std.specs.Prelude.{All}
 use Rattle.std.proofs.lemmas.List.{length-map, get_or-map, map-set}
 use Rattle.std.proofs.lemmas.List.Elements.{All-map, All-head, All-tail}
 use Rattle.crossbeam_deque.proofs.Lists.{at_index}
-use Rattle.worker_deques.specs.declared.ledger.Ledger.{Ledger}
-use Rattle.worker_deques.specs.Ledgers.{total}
-use Rattle.worker_deques.proofs.Rule.{total_set}
+use Rattle.deque_rule.specs.declared.ledger.Ledger.{Ledger}
+use Rattle.deque_rule.specs.Ledgers.{total}
+use Rattle.deque_rule.proofs.Rule.{total_set}
 
 -- what is so of the images of a list is so of the list, and the other way round
 pub unmapped : {A C : Type 0} (g : A → C) (Q : C → Type 0) (ys : List A) → All Q (map g ys) → All (λ y. Q (g y)) ys

@@ -3,13 +3,11 @@
 ghost use Rattle.std.specs.Prelude.{◌≡◌, ◌<◌, ◌≤◌, ◌+◌, ◌-◌, ◌%◌, [], All, IfOk, map, vec_len};
 ghost use Rattle.crossbeam_deque.specs.Handles.{stealer_deque, view, worker_capacity, worker_deque, worker_index};
 ghost use Rattle.crossbeam_deque.specs.Handles.{worker_view};
-ghost use Rattle.worker_deques.specs.Ledgers.{AreDealt, CanSplit, all_shares, ledger, shares_of};
-ghost use Rattle.worker_deques.specs.Deques.{deque_of};
+ghost use Rattle.deque_rule.specs.Ledgers.{AreDealt, CanSplit, all_shares, ledger, shares_of};
+ghost use Rattle.deque_rule.specs.Deques.{deque_of};
 
-use crate::guest::{Guest, Own, Thief};
-use crate::ledger::{Gives, Ledger};
-use crate::task::Task;
 use crossbeam_deque::protocol::Split;
+use deque_rule::{Gives, Guest, Ledger, Own, Task, Thief};
 use std::alloc::{AllocError, Global};
 
 /// A deque for each worker, with room for all tasks, and what takes tasks from each.
@@ -23,12 +21,12 @@ pub fn make_deques<T: Task>(
     ensures new { IfOk result (λ r. All (λ o. worker_view o ≡ ledger all_shares [] []) r.0.items) }
     ensures room { IfOk result (λ r. All (λ o. worker_index o + tasks ≤ worker_capacity o) r.0.items) }
 {
-    let mut owns = Vec::new(alloc);
-    let mut thieves = Vec::new(alloc);
+    let mut owns = Vec::with_capacity(alloc, workers as usize)?;
+    let mut thieves = Vec::with_capacity(alloc, workers as usize)?;
     for _ in 0..workers {
         let own = Own::<T>::fifo_as(alloc, tasks.max(1))?;
-        thieves.push(own.stealer()?)?;
-        owns.push(own)?;
+        thieves.push_reserved(own.stealer()?);
+        owns.push_reserved(own);
     }
     Ok((owns, thieves))
 }
@@ -74,8 +72,9 @@ pub fn cut<T: Task, M: Split<Ledger>>(
     ensures right { IfOk result
         (λ r. map (λ g. view g.pass) r.1.items ≡ map (λ o. M.right (worker_view o)) owns.items) }
 {
-    let mut lefts = Vec::with_capacity(alloc, owns.len())?;
-    let mut guests = Vec::with_capacity(alloc, owns.len())?;
+    let count = owns.len();
+    let mut lefts = Vec::with_capacity(alloc, count)?;
+    let mut guests = Vec::with_capacity(alloc, count)?;
     for mut own in owns {
         guests.push_reserved(Guest::new(own.another::<M>()));
         lefts.push_reserved(own);

@@ -2,12 +2,10 @@
 
 ghost use Rattle.std.specs.Prelude.{◌≡◌, ◌≢◌, ◌<◌, ◌≤◌, ◌+◌, ◌⊎◌, ◌++◌, ◌∷◌, None, map, vec_len};
 ghost use Rattle.crossbeam_deque.specs.Handles.{stealer_deque, view, worker_deque, worker_view};
-ghost use Rattle.worker_deques.specs.Ledgers.{AreOut, all_shares, in_hand};
-ghost use Rattle.worker_deques.specs.Deques.{deque_of};
+ghost use Rattle.deque_rule.specs.Ledgers.{AreOut, all_shares, in_hand};
+ghost use Rattle.deque_rule.specs.Deques.{deque_of};
 
-use crate::guest::{Guest, Own, Thief};
-use crate::ledger::Gets;
-use crate::task::Task;
+use deque_rule::{Gets, Guest, Own, Task, Thief};
 
 /// What a worker has: its deque, its passes at the deques of all workers, the task in hand and its finished places.
 #[derive(Drop)]

@@ -2,15 +2,13 @@
 
 ghost use Rattle.std.specs.Prelude.{◌≡◌, ◌<◌, ◌≤◌, ◌-◌, [], All, IfOk, map, vec_len};
 ghost use Rattle.crossbeam_deque.specs.Handles.{view, worker_deque, worker_view};
-ghost use Rattle.run_options.specs.declared.TheConstants.{MAX_WORKERS};
-ghost use Rattle.worker_deques.specs.Ledgers.{AreOut, all_shares, ledger};
-ghost use Rattle.worker_deques.specs.Deques.{deque_of};
+ghost use Rattle.deque_rule.specs.run_options.TheConstants.{MAX_WORKERS};
+ghost use Rattle.deque_rule.specs.Ledgers.{AreOut, all_shares, ledger};
+ghost use Rattle.deque_rule.specs.Deques.{deque_of};
 
 use crate::deques::cut;
 use crate::desk::Desk;
-use crate::guest::{Guest, Own};
-use crate::ledger::OneShare;
-use crate::task::Task;
+use deque_rule::{Guest, OneShare, Own, Task};
 use std::alloc::{AllocError, Global};
 
 // A pass at each deque for each worker.
@@ -29,11 +27,11 @@ fn hire<T: Task>(
     ensures fresh { IfOk result (λ r. All (λ row. AreOut (map (λ g. view g.pass) row.items) []) r.1.items) }
 {
     let count = owns.len();
-    let mut rows = Vec::new(alloc);
+    let mut rows = Vec::with_capacity(alloc, count)?;
     for _ in 0..count {
         let (left, row) = cut::<T, OneShare>(alloc, owns)?;
         owns = left;
-        rows.push(row)?;
+        rows.push_reserved(row);
     }
     Ok((owns, rows))
 }
@@ -74,12 +72,12 @@ pub fn make_desks<T: Task>(
         ≡ map worker_deque owns.items) ds.items) }
 {
     let (owns, mut rows) = hire(alloc, owns)?;
-    let mut all = Vec::new(alloc);
+    let mut all = Vec::with_capacity(alloc, owns.len())?;
     for own in owns {
         let Some(row) = rows.pop() else {
             unreachable!();
         };
-        all.push(desk(alloc, tasks, own, row)?)?;
+        all.push_reserved(desk(alloc, tasks, own, row)?);
     }
     Ok(all)
 }

@@ -3,16 +3,14 @@
 ghost use Rattle.std.specs.Prelude.{◌≡◌, ◌<◌, ◌≤◌, ◌+◌, ◌++◌, ℕ, List, All, IfOk, map, vec_len};
 ghost use Rattle.std.specs.List.{range_with_len};
 ghost use Rattle.crossbeam_deque.specs.Handles.{view, worker_deque, worker_view};
-ghost use Rattle.worker_deques.specs.Ledgers.{AreDealt, AreSame, all_shares, in_hand, in_rows};
-ghost use Rattle.worker_deques.specs.Ledgers.{pushed_by, shares_of, taken_by, weigh};
-ghost use Rattle.worker_deques.specs.Deques.{deque_of};
-ghost use Rattle.run_options.specs.declared.TheConstants.{MAX_WORKERS};
+ghost use Rattle.deque_rule.specs.Ledgers.{AreDealt, AreSame, all_shares, in_hand, in_rows};
+ghost use Rattle.deque_rule.specs.Ledgers.{pushed_by, shares_of, taken_by, weigh};
+ghost use Rattle.deque_rule.specs.Deques.{deque_of};
+ghost use Rattle.deque_rule.specs.run_options.TheConstants.{MAX_WORKERS};
 
 use crate::desk::{Desk, Worked};
-use crate::guest::{Guest, Own};
-use crate::ledger::{Gets, OneShare};
 use crate::order::by_number;
-use crate::task::Task;
+use deque_rule::{Gets, Guest, OneShare, Own, Task};
 use std::alloc::{AllocError, Global};
 use std::sync::Wait;
 
@@ -133,8 +131,9 @@ fn apart<T: Task, E: Drop>(alloc: Global, done: Vec<Worked<T, E>>) -> Result<Bac
         + in_rows (pushed_by h) (map (λ row. map (λ g. view g.pass) row.items) b.rows.items)
         + weigh h (map (λ b. T.number_of b.value) b.tasks.items)) }
 {
-    let mut owns = Vec::with_capacity(alloc, done.len())?;
-    let mut rows = Vec::with_capacity(alloc, done.len())?;
+    let count = done.len();
+    let mut owns = Vec::with_capacity(alloc, count)?;
+    let mut rows = Vec::with_capacity(alloc, count)?;
     let mut tasks = Vec::new(alloc);
     for worked in done {
         let Desk {

@@ -2,13 +2,12 @@
 //!
 //! A worker takes the first task of its own deque, or else steals one of another's, and puts it back on its own, or
 //! keeps it once nothing is left for it to do. Whatever threads do, no task is lost and none is there twice: what was
-//! pushed to a deque is what was taken from it and what it holds (`specs/Ledgers.antt`), the sum over all deques has
-//! each task once, and `gather` returns each task once. Facts of the tasks' type stay with them.
+//! pushed to a deque is what was taken from it and what it holds (the rule of `deque_rule`), the sum over all deques
+//! has each task once, and `gather` returns each task once. Facts of the tasks' type stay with them.
 //!
-//! In reading order: `task` is what lies in the deques, `ledger` the rule of a deque, `guest` a pass at one, `desk`
-//! what a worker has. `deques` makes and fills the deques, `desks` the desks; `gathering` empties what is handed back,
-//! and `order` and `place` put the tasks in order. `promise` is for threads that hand desks back. `pool` starts the
-//! workers; its tasks are the nodes of `actor`.
+//! In reading order: `desk` is what a worker has. `deques` makes and fills the deques, `desks` the desks; `gathering`
+//! empties what is handed back, and `order` and `place` put the tasks in order. `promise` is for threads that hand
+//! desks back. `pool` starts the workers; its tasks are the nodes of `actor`.
 //!
 //! ```text
 //! let (owns, thieves) = make_deques::<T>(alloc, count, workers)?;
@@ -24,18 +23,13 @@ mod deques;
 mod desk;
 mod desks;
 mod gathering;
-mod guest;
-mod ledger;
 mod order;
 mod place;
 mod promise;
-mod task;
 
+pub use deque_rule::{Gives, Guest, Ledger, Own, Task, Thief};
 pub use deques::{cut, deal, make_deques};
 pub use desk::{Desk, Worked};
 pub use desks::make_desks;
 pub use gathering::gather;
-pub use guest::{Guest, Own, Thief};
-pub use ledger::{Gives, Ledger};
 pub use promise::SameDeques;
-pub use task::Task;

@@ -2,10 +2,10 @@
 
 ghost use Rattle.std.specs.Prelude.{◌≡◌, IfOk, map};
 ghost use Rattle.std.specs.List.{range_with_len};
-ghost use Rattle.worker_deques.specs.Ledgers.{AreSame};
+ghost use Rattle.deque_rule.specs.Ledgers.{AreSame};
 
 use crate::place::in_order;
-use crate::task::Task;
+use deque_rule::Task;
 use std::alloc::{AllocError, Global};
 
 // The tasks out of their boxes, in any order.

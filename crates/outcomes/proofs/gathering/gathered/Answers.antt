@@ -1,7 +1,7 @@
 use Rattle.std.proofs.Common.{◌≡◌, ◌≤◌, ◌++◌, List, Some, arith, ap, get_or, length, map, refl, sym, ◌∙◌, subst}
 use Rattle.std.specs.Prelude.{All}
 use Rattle.std.proofs.lemmas.List.{length-map, map-append}
-use Rattle.alpha_laws.specs.interference.Net.{IsNetwork}
+use Rattle.gather_laws.specs.alpha_laws.Net.{IsNetwork}
 use Rattle.actor.proofs.Lists.{as_long}
 use Rattle.actor.specs.Node.{by_port, reacted_to}
 use Rattle.actor.specs.Written.{IsTranscript}

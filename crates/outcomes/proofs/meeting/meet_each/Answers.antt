@@ -8,8 +8,24 @@ use Rattle.actor.specs.link_queue.Ends.{held_stamped, link_capacity, put_stamped
 use Rattle.actor.specs.Tables.{table_at, table_of}
 use Rattle.outcomes.specs.Meets.{RowsAreMet, put_of}
 use Rattle.actor.proofs.worker_deques.Views.{as_many}
+use Rattle.outcomes.proofs.Meetings.{err_says}
 use Rattle.outcomes.proofs.MetRows.{one_row_met}
 use Rattle.outcomes.proofs.meeting.meet_each.Goals as goal
+
+pub returns-in_err-all-clause-met : goal.returns-in_err-all-clause-met
+returns-in_err-all-clause-met g c = err_says _ c.from_residual.result c.from_residual.ensures.0
+
+pub returns-in_err-all-clause-room : goal.returns-in_err-all-clause-room
+returns-in_err-all-clause-room g c = err_says _ c.from_residual.result c.from_residual.ensures.0
+
+pub next-requires : goal.next-requires
+next-requires g c = tt
+
+pub returns-in_err-meet_ends-clause-met : goal.returns-in_err-meet_ends-clause-met
+returns-in_err-meet_ends-clause-met g c = err_says _ c.from_residual-in_err-meet_ends.result c.from_residual-in_err-meet_ends.ensures.0
+
+pub returns-in_err-meet_ends-clause-room : goal.returns-in_err-meet_ends-clause-room
+returns-in_err-meet_ends-clause-room g c = err_says _ c.from_residual-in_err-meet_ends.result c.from_residual-in_err-meet_ends.ensures.0
 
 pub meet_ends-requires-clause-links : goal.meet_ends-requires-clause-links
 meet_ends-requires-clause-links g c κs within =

@@ -3,8 +3,36 @@ use Rattle.std.specs.Prelude.{All, List}
 use Rattle.actor.specs.link_queue.Ends.{link_capacity, put_stamped, taken_stamped}
 use Rattle.actor.specs.Tables.{table_at, table_of}
 use Rattle.outcomes.specs.Meets.{RowsAreMet}
+use Rattle.outcomes.proofs.Meetings.{as_long, err_says, lefts_long}
 use Rattle.outcomes.proofs.Sides.{all_by, firsts, middles, lasts, same_each, ok_says}
 use Rattle.outcomes.proofs.meeting.meet_rows.Goals as goal
+
+pub pairs-requires : goal.pairs-requires
+pairs-requires g c = record {
+  long = as_long {C = List (ℕ × ℕ)} (λ row. map (λ e. (e.vertex, e.port)) row.items) (λ row. map (λ e. (e.vertex, e.port)) row.items)
+      c.args.puts.items c.args.takes.items _ _ c.args.puts.ok.0 c.args.takes.ok.0 c.requires.takes;
+}
+
+pub returns-in_err-ends-clause-met : goal.returns-in_err-ends-clause-met
+returns-in_err-ends-clause-met g c = err_says _ c.from_residual.result c.from_residual.ensures.0
+
+pub returns-in_err-ends-clause-room : goal.returns-in_err-ends-clause-room
+returns-in_err-ends-clause-room g c = err_says _ c.from_residual.result c.from_residual.ensures.0
+
+pub pairs-requires-2 : goal.pairs-requires-2
+pairs-requires-2 g c =
+    let ends = c.in_ok-ends.ends in
+    record {
+      long = as_long (λ row. map (λ link. Some (table_of link)) row.items) (λ row. map (λ e. table_at g.J.Wiring.tables e.vertex e.port) row.items)
+          c.args.links.items c.args.puts.items _ _ c.args.links.ok.0
+          (lefts_long ends.items c.args.puts.items _ ends.ok.0 c.in_ok-ends.ensures.left) c.requires.links;
+    }
+
+pub returns-in_err-rows-clause-met : goal.returns-in_err-rows-clause-met
+returns-in_err-rows-clause-met g c = err_says _ c.from_residual-in_err-rows.result c.from_residual-in_err-rows.ensures.0
+
+pub returns-in_err-rows-clause-room : goal.returns-in_err-rows-clause-room
+returns-in_err-rows-clause-room g c = err_says _ c.from_residual-in_err-rows.result c.from_residual-in_err-rows.ensures.0
 
 pub meet_each-requires-clause-links : goal.meet_each-requires-clause-links
 meet_each-requires-clause-links g c κs within =

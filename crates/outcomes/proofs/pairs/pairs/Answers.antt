@@ -1,6 +1,6 @@
-use Rattle.std.proofs.Common.{◌≡◌, ◌<◌, ◌++◌, ◌∷◌, [], None, Some, length, map, get_or, slice_get, sym, ap, ◌∙◌, arith, rules}
-use Rattle.std.proofs.lemmas.List.{length-map, length_push, map-append}
-use Rattle.std.proofs.lemmas.Iterator.Consumers.{YieldsList-turn}
+use Rattle.std.proofs.Common.{◌≡◌, ◌<◌, ◌≤◌, ◌++◌, ◌∷◌, [], None, Some, length, map, get_or, slice_get, sym, ap, ◌∙◌, arith, rules, map-id}
+use Rattle.std.proofs.lemmas.List.{length-map, length_push, map-append, take_all}
+use Rattle.std.proofs.lemmas.Iterator.Consumers.{YieldsList-end, YieldsList-turn}
 use Rattle.std.proofs.lemmas.Iterator.Adapters.{YieldsList-from_vec}
 use Rattle.outcomes.proofs.ReadLists.{some_at}
 use Rattle.outcomes.proofs.Sides.{is_there, found_at, still_waiting, longer}
@@ -34,6 +34,15 @@ module _ (g : Over) (c : After-index_mut g) where
       omega (arith, left, count, inv.slots, c.requires.long, c.loop-left.slots.ok.0, c.args.lefts.ok.0) in
       found_at c.args.rights.items c.loop-left.slots.items _ c.len.result count inv.waiting c.index_mut.result.now lt c.index_mut.ensures.value
 
+pub index_mut-requires : goal.index_mut-requires
+index_mut-requires g c =
+    let left = (YieldsList-turn (YieldsList-from_vec {s = c.into_iter-left-iterator.result} c.args.lefts.items (search rules) (search rules))
+    c.loop-left.yielded c.loop-left.left-iterator c.loop-left.yielded_by c.next.result c.next.new.self c.in-Some.left c.in-Some.is
+    c.next.ensures.steps).0 in
+    let inv = c.loop-left.invariant in
+    let many = sym (length-map c.loop-left.all.items (λ p. p.0)) ∙ ap length inv.lefts in
+    omega (arith, left, many, c.len.ensures, c.loop-left.all.ok.0, inv.slots, c.requires.long, c.args.lefts.ok.0)
+
 pub push_reserved-requires : goal.push_reserved-requires
 push_reserved-requires g c =
     let at = (goal.at.push_reserved-requires g c).After-index_mut in
@@ -59,3 +68,15 @@ unreachable-requires g c =
     let at = (goal.at.unreachable-requires g c).After-index_mut in
     is_there c.args.rights.items _ (omega (arith, left g at, c.requires.long, c.args.lefts.ok.0, c.args.rights.ok.0))
     (c.in-None-take.ensures.value ∙ slot g at)
+
+pub returns : goal.returns
+returns g c =
+    let end = YieldsList-end (YieldsList-from_vec {s = c.into_iter-left-iterator.result} c.args.lefts.items (search rules) (search rules))
+    c.loop-left.yielded c.loop-left.left-iterator c.loop-left.yielded_by c.next.result c.next.new.self c.in-None.is c.next.ensures.steps in
+    let inv = c.loop-left.invariant in
+    let all = sym (map-id c.loop-left.yielded) ∙ end.0 in
+    let long : length c.args.rights.items ≤ length c.loop-left.yielded = omega (arith, ap length all, c.requires.long, c.args.lefts.ok.0, c.args.rights.ok.0) in
+    record {
+      left = inv.lefts ∙ all;
+      right = inv.rights ∙ take_all (length c.loop-left.yielded) c.args.rights.items long;
+    }

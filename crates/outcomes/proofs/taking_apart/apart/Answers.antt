@@ -1,8 +1,9 @@
 -- There is room for what is taken off each node; at the end all nodes were taken apart.
-use Rattle.std.proofs.Common.{◌≡◌, ◌<◌, List, length, map, sym, ap, ◌∙◌, arith, rules, map-id}
+use Rattle.std.proofs.Common.{◌≡◌, ◌<◌, List, length, map, refl, sym, ap, ◌∙◌, arith, rules, map-id}
 use Rattle.std.proofs.lemmas.Iterator.Consumers.{YieldsList-end, YieldsList-turn}
 use Rattle.std.proofs.lemmas.Iterator.Adapters.{YieldsList-from_vec}
 use Rattle.actor.proofs.worker_deques.Views.{as_many}
+use Rattle.outcomes.proofs.ReadLists.{both_pushed}
 use Rattle.outcomes.proofs.taking_apart.apart.Given.{Over}
 use Rattle.outcomes.proofs.taking_apart.apart.Goals.{In-Some}
 use Rattle.outcomes.proofs.taking_apart.apart.Goals as goal
@@ -12,6 +13,19 @@ left g c =
     (YieldsList-turn (YieldsList-from_vec {s = c.into_iter-node-iterator.result} c.args.nodes.items (search rules) (search rules))
     c.loop-node.yielded c.loop-node.node-iterator c.loop-node.yielded_by c.next.result c.next.new.self c.in-Some.node c.in-Some.is
     c.next.ensures.steps).0
+
+pub loop-node-init : goal.loop-node-init
+loop-node-init g c =
+    let none = c.in_ok-all.ensures in
+    record {
+      room = (omega (arith, none.actors.1, c.len.ensures), omega (arith, none.puts.1, c.len.ensures), omega (arith, none.takes.1, c.len.ensures));
+      vertices = ap (map (λ a. a.vertex)) none.actors.0;
+      alphas = ap (map (λ a. a.alpha)) none.actors.0;
+      entries = ap (map (λ a. a.entries.items)) none.actors.0;
+      stamped = ap (map (λ a. a.entries.stamped)) none.actors.0;
+      puts = ap (map (λ row. row.items)) none.puts.0;
+      takes = ap (map (λ row. row.items)) none.takes.0;
+    }
 
 pub push_reserved-requires : goal.push_reserved-requires
 push_reserved-requires g c =
@@ -48,6 +62,24 @@ push_reserved-requires-in-loop-node-2 g c =
       c.loop-node.all.takes.ok.0,
       as_many (λ n. n.takes.items) (λ row. row.items) c.loop-node.yielded c.loop-node.all.takes.items inv.takes,
     )
+
+pub loop-node-preserved : goal.loop-node-preserved
+loop-node-preserved g c =
+    let inv = c.loop-node.invariant in
+    let yielded = c.loop-node.yielded in
+    let node = c.in-Some.node in
+    let actors = c.push_reserved.ensures in
+    let puts = c.push_reserved-in-loop-node.ensures in
+    let takes = c.push_reserved-in-loop-node-2.ensures in
+    record {
+      room = (omega (arith, actors.capacity, inv.room.0), omega (arith, puts.capacity, inv.room.1), omega (arith, takes.capacity, inv.room.2));
+      vertices = both_pushed (λ a. a.vertex) (λ n. n.vertex) _ _ yielded _ node actors.items refl inv.vertices;
+      alphas = both_pushed (λ a. a.alpha) (λ n. n.alpha) _ _ yielded _ node actors.items refl inv.alphas;
+      entries = both_pushed (λ a. a.entries.items) (λ n. n.entries.items) _ _ yielded _ node actors.items refl inv.entries;
+      stamped = both_pushed (λ a. a.entries.stamped) (λ n. n.entries.stamped) _ _ yielded _ node actors.items refl inv.stamped;
+      puts = both_pushed (λ row. row.items) (λ n. n.puts.items) _ _ yielded _ node puts.items refl inv.puts;
+      takes = both_pushed (λ row. row.items) (λ n. n.takes.items) _ _ yielded _ node takes.items refl inv.takes;
+    }
 
 pub returns : goal.returns
 returns g c =

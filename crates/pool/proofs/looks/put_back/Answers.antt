@@ -2,7 +2,7 @@ use Rattle.std.proofs.Common.{◌-◌, map, sym, ◌∙◌, arith}
 use Rattle.std.proofs.Common.{◌∷◌}
 use Rattle.crossbeam_deque.specs.Handles.{view, worker_view}
 use Rattle.worker_deques.proofs.Out.{finished, pushed}
-use Rattle.worker_deques.proofs.Rule.{gives}
+use Rattle.worker_deques.proofs.deque_rule.Rule.{gives}
 use Rattle.pool.proofs.looks.put_back.Goals as goal
 
 pub push_as-requires-clause-pushes : goal.push_as-requires-clause-pushes

@@ -1,6 +1,6 @@
 use Rattle.std.proofs.Common.{map, arith}
 use Rattle.crossbeam_deque.specs.Handles.{worker_deque}
-use Rattle.worker_deques.specs.Deques.{deque_of}
+use Rattle.worker_deques.specs.deque_rule.Deques.{deque_of}
 use Rattle.pool.proofs.Joined.{kept_images}
 use Rattle.pool.proofs.run.join_all.Goals as goal
 

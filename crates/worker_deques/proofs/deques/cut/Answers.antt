@@ -1,10 +1,11 @@
-use Rattle.std.proofs.Common.{◌≡◌, ◌<◌, length, map, ap, sym, ◌∙◌, subst, arith, rules, map-id}
+use Rattle.std.proofs.Common.{◌≡◌, ◌<◌, length, map, refl, ap, sym, ◌∙◌, subst, arith, rules, map-id}
 use Rattle.std.specs.Prelude.{get_or}
 use Rattle.std.proofs.lemmas.Iterator.Consumers.{YieldsList-end, YieldsList-turn}
 use Rattle.std.proofs.lemmas.Iterator.Adapters.{YieldsList-from_vec}
-use Rattle.crossbeam_deque.specs.Handles.{worker_deque, worker_view}
-use Rattle.worker_deques.specs.Deques.{deque_of}
-use Rattle.worker_deques.specs.Ledgers.{shares_of}
+use Rattle.crossbeam_deque.specs.Handles.{view, worker_deque, worker_view}
+use Rattle.deque_rule.specs.Deques.{deque_of}
+use Rattle.deque_rule.specs.Ledgers.{shares_of}
+use Rattle.worker_deques.proofs.Pushed.{both_pushed}
 use Rattle.worker_deques.proofs.Views.{as_many}
 use Rattle.worker_deques.proofs.deques.cut.Given.{Over}
 use Rattle.worker_deques.proofs.deques.cut.Goals.{In-Some}
@@ -35,9 +36,45 @@ push_reserved-requires-in-loop-own g c =
     let many = as_many worker_deque worker_deque c.loop-own.yielded c.loop-own.lefts.items inv.owns in
     omega (arith, (turn g (goal.at.push_reserved-requires-in-loop-own g c).In-Some).0, inv.room.0, many, c.args.owns.ok.0, c.loop-own.lefts.ok.0)
 
-pub returns-clause-right : goal.returns-clause-right
-returns-clause-right g c =
+pub loop-own-init : goal.loop-own-init
+loop-own-init g c =
+    let lefts = c.in_ok-lefts.ensures in
+    let guests = c.in_ok-guests.ensures in
+    record {
+      room = (omega (arith, lefts.capacity, c.len-count.ensures), omega (arith, guests.capacity, c.len-count.ensures));
+      owns = ap (map worker_deque) lefts.items;
+      left = ap (map worker_view) lefts.items;
+      guests = ap (map (λ g'. deque_of g'.pass)) guests.items;
+      right = ap (map (λ g'. view g'.pass)) guests.items;
+    }
+
+pub loop-own-preserved : goal.loop-own-preserved
+loop-own-preserved g c =
+    let inv = c.loop-own.invariant in
+    let own = c.in-Some.own in
+    let said = c.another.ensures in
+    let pass = c.new.ensures.pass in
+    let lefts = c.push_reserved-in-loop-own.ensures in
+    let guests = c.push_reserved.ensures in
+    record {
+      room = (omega (arith, lefts.capacity, inv.room.0), omega (arith, guests.capacity, inv.room.1));
+      owns = both_pushed worker_deque worker_deque _ _ c.loop-own.yielded _ _ own lefts.items refl said.same.0.0 inv.owns;
+      left = both_pushed worker_view (λ o. g.M.Split.left (worker_view o)) _ _ c.loop-own.yielded _ _ own lefts.items refl said.rule.0 inv.left;
+      guests = both_pushed (λ g'. deque_of g'.pass) worker_deque _ _ c.loop-own.yielded _ _ own guests.items refl
+          (ap deque_of pass ∙ (λ k. (said.same.2.0 k, said.same.2.1 k))) inv.guests;
+      right = both_pushed (λ g'. view g'.pass) (λ o. g.M.Split.right (worker_view o)) _ _ c.loop-own.yielded _ _ own guests.items refl
+          (ap view pass ∙ said.rule.1) inv.right;
+    }
+
+pub returns : goal.returns
+returns g c =
     let end = YieldsList-end (YieldsList-from_vec {s = c.into_iter-own-iterator.result} c.args.owns.items (search rules) (search rules))
     c.loop-own.yielded c.loop-own.own-iterator c.loop-own.yielded_by c.next.result c.next.new.self c.in-None.is c.next.ensures.steps in
     let all = sym (map-id c.loop-own.yielded) ∙ end.0 in
-    c.loop-own.invariant.right ∙ ap (map (λ o. g.M.Split.right (worker_view o))) all
+    let inv = c.loop-own.invariant in
+    record {
+      owns = inv.owns ∙ ap (map worker_deque) all;
+      left = inv.left ∙ ap (map (λ o. g.M.Split.left (worker_view o))) all;
+      guests = inv.guests ∙ ap (map worker_deque) all;
+      right = inv.right ∙ ap (map (λ o. g.M.Split.right (worker_view o))) all;
+    }

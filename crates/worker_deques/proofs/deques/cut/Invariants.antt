@@ -1,6 +1,6 @@
 use Rattle.std.proofs.Common.{◌≡◌, ◌≤◌, map, vec_len, vec_capacity}
 use Rattle.crossbeam_deque.specs.Handles.{view, worker_deque, worker_view}
-use Rattle.worker_deques.specs.Deques.{deque_of}
+use Rattle.deque_rule.specs.Deques.{deque_of}
 use Rattle.worker_deques.proofs.deques.cut.Given as goal
 
 abbrev pub invariant-loop-own : goal.invariant-loop-own

@@ -1,9 +1,9 @@
 use Rattle.std.proofs.Common.{◌≡◌, ◌+◌, ◌<◌, ◌≤◌, [], ◌∷◌, length, map, ap, refl, ◌∙◌, arith, vec_len}
 use Rattle.std.proofs.lemmas.List.Elements.{All-set}
 use Rattle.crossbeam_deque.specs.Handles.{worker_capacity, worker_deque, worker_index, worker_view}
-use Rattle.worker_deques.specs.declared.ledger.Ledger.{Ledger}
-use Rattle.worker_deques.specs.Ledgers.{all_shares, shares_of, weigh}
-use Rattle.worker_deques.proofs.Rule.{gives, map_snoc, weigh-append}
+use Rattle.deque_rule.specs.declared.ledger.Ledger.{Ledger}
+use Rattle.deque_rule.specs.Ledgers.{all_shares, shares_of, weigh}
+use Rattle.deque_rule.proofs.Rule.{gives, map_snoc, weigh-append}
 use Rattle.worker_deques.proofs.Views.{map_change, total_change}
 use Rattle.worker_deques.proofs.Holds.{fresh_sums, holds_at}
 use Rattle.worker_deques.proofs.deques.deal.Goals as goal

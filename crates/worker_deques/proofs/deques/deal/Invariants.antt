@@ -1,7 +1,7 @@
 use Rattle.std.proofs.Common.{◌≡◌, ◌+◌, ◌<◌, ◌≤◌, ℕ, map, vec_len}
 use Rattle.std.specs.Prelude.{All}
 use Rattle.crossbeam_deque.specs.Handles.{worker_capacity, worker_deque, worker_index, worker_view}
-use Rattle.worker_deques.specs.Ledgers.{all_shares, pushed_by, shares_of, taken_by, weigh}
+use Rattle.deque_rule.specs.Ledgers.{all_shares, pushed_by, shares_of, taken_by, weigh}
 use Rattle.worker_deques.proofs.deques.deal.Given as goal
 
 abbrev pub invariant-each : goal.invariant-each

@@ -1,11 +1,11 @@
 use Rattle.std.proofs.Common.{◌≡◌, ◌+◌, ◌-◌, [], map, refl, ap, ◌∙◌, arith}
 use Rattle.std.proofs.lemmas.List.Elements.{All-push, All-same}
 use Rattle.crossbeam_deque.specs.Handles.{view, worker_deque, worker_view}
-use Rattle.worker_deques.specs.declared.ledger.Ledger.{Ledger}
-use Rattle.worker_deques.specs.Deques.{deque_of}
-use Rattle.worker_deques.specs.Ledgers.{AreOut, all_shares, ledger}
+use Rattle.deque_rule.specs.declared.ledger.Ledger.{Ledger}
+use Rattle.deque_rule.specs.Deques.{deque_of}
+use Rattle.deque_rule.specs.Ledgers.{AreOut, all_shares, ledger}
 use Rattle.worker_deques.proofs.Holds.{all_to, fresh_out}
-use Rattle.worker_deques.proofs.Rule.{forks}
+use Rattle.deque_rule.proofs.Rule.{forks}
 use Rattle.worker_deques.proofs.desks.hire.Goals as goal
 
 pub cut-requires-clause-rule : goal.cut-requires-clause-rule
@@ -21,17 +21,21 @@ cut-requires-clause-shares g c k d lt =
     let n = c.len-count.ensures in
     omega arith
 
+pub push_reserved-requires : goal.push_reserved-requires
+push_reserved-requires g c = omega (arith, c.loop.invariant.rows, c.loop.invariant.room, c.loop-test.true, c.len-count.ensures)
+
 pub loop-preserved : goal.loop-preserved
 loop-preserved g c =
     let inv = c.loop.invariant in
     let said = c.in_ok-left.ensures in
-    let more = c.in_ok-push.ensures in
+    let more = c.push_reserved.ensures in
     let before = ledger (all_shares - 1 - c.loop.counter) [] [] in
     let fewer : all_shares - 1 - c.loop.counter - 1 ≡ all_shares - 1 - (c.loop.counter + 1) = omega arith in
     record {
       owns = said.owns ∙ inv.owns;
       left = all_to worker_view worker_view (λ v. ledger (v.shares - 1) v.pushed v.taken) c.loop.owns.items _ before _ said.left
           (ap (λ k. ledger k [] []) fewer) inv.left;
+      room = omega (arith, more.capacity, inv.room);
       rows = let n = more.len in let i = inv.rows in omega arith;
       guests = All-same (λ row. map (λ g'. deque_of g'.pass) row.items ≡ map worker_deque c.args.owns.items) _ _ more.items
           (All-push (λ row. map (λ g'. deque_of g'.pass) row.items ≡ map worker_deque c.args.owns.items) c.loop.rows.items _ inv.guests

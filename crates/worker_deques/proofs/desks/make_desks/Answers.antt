@@ -4,8 +4,8 @@ use Rattle.std.proofs.lemmas.List.Elements.{All-pop, All-push, All-same}
 use Rattle.std.proofs.lemmas.Iterator.Consumers.{YieldsList-end, YieldsList-turn}
 use Rattle.std.proofs.lemmas.Iterator.Adapters.{YieldsList-from_vec}
 use Rattle.crossbeam_deque.specs.Handles.{view, worker_deque, worker_view}
-use Rattle.worker_deques.specs.Deques.{deque_of}
-use Rattle.worker_deques.specs.Ledgers.{AreOut, all_shares, ledger}
+use Rattle.deque_rule.specs.Deques.{deque_of}
+use Rattle.deque_rule.specs.Ledgers.{AreOut, all_shares, ledger}
 use Rattle.worker_deques.proofs.Pushed.{both_pushed}
 use Rattle.worker_deques.proofs.Views.{as_many}
 use Rattle.worker_deques.proofs.desks.make_desks.Goals as goal
@@ -36,12 +36,20 @@ desk-requires-clause-fresh g c =
     (All-pop (λ row. AreOut (map (λ g'. view g'.pass) row.items) []) _ c.pop.new.self.items (Some c.in-Some-pop.row) c.in-Some-pop.ensures.items
     c.loop-own.invariant.fresh).1
 
+pub push_reserved-requires : goal.push_reserved-requires
+push_reserved-requires g c =
+    let turn = YieldsList-turn (YieldsList-from_vec {s = c.into_iter-own-iterator.result} c.in_ok-owns.owns.items (search rules) (search rules))
+    c.loop-own.yielded c.loop-own.own-iterator c.loop-own.yielded_by c.next.result c.next.new.self c.in-Some.own c.in-Some.is c.next.ensures.steps in
+    let same = as_many worker_deque worker_deque c.args.owns.items c.in_ok-owns.owns.items c.in_ok-owns.ensures.owns in
+    let many = as_many worker_deque (λ d. worker_deque d.own) c.loop-own.yielded c.loop-own.all.items c.loop-own.invariant.owns in
+    omega (arith, turn.0, same, many, c.loop-own.invariant.room, c.args.owns.ok.0, c.in_ok-owns.owns.ok.0, c.loop-own.all.ok.0)
+
 pub loop-own-preserved : goal.loop-own-preserved
 loop-own-preserved g c =
     let inv = c.loop-own.invariant in
     let row = c.in-Some-pop.row in
     let said = c.in_ok-desk.ensures in
-    let more = c.in_ok-push.ensures in
+    let more = c.push_reserved.ensures in
     let theirs = All-pop (λ row. map (λ g'. deque_of g'.pass) row.items ≡ map worker_deque c.args.owns.items) _ c.pop.new.self.items (Some row)
     c.in-Some-pop.ensures.items inv.theirs in
     record {
@@ -50,6 +58,7 @@ loop-own-preserved g c =
       guests = All-same (λ d. map (λ g'. deque_of g'.pass) d.guests.items ≡ map worker_deque c.args.owns.items) _ _ more.items
           (All-push (λ d. map (λ g'. deque_of g'.pass) d.guests.items ≡ map worker_deque c.args.owns.items) c.loop-own.all.items _ inv.guests
           (ap (λ gs. map (λ g'. deque_of g'.pass) gs.items) said.guests ∙ theirs.1));
+      room = omega (arith, more.capacity, inv.room);
       rows = let l = c.in-Some-pop.ensures.len in let i = inv.rows in omega (arith, length_push c.loop-own.yielded c.in-Some.own);
       theirs = theirs.0;
       fresh = (All-pop (λ row. AreOut (map (λ g'. view g'.pass) row.items) []) _ c.pop.new.self.items (Some row) c.in-Some-pop.ensures.items inv.fresh).0;

@@ -1,14 +1,15 @@
-use Rattle.std.proofs.Common.{◌≡◌, ◌+◌, [], length, map, vec_len}
+use Rattle.std.proofs.Common.{◌≡◌, ◌≤◌, ◌+◌, [], length, map, vec_len, vec_capacity}
 use Rattle.std.specs.Prelude.{All}
 use Rattle.crossbeam_deque.specs.Handles.{view, worker_deque}
-use Rattle.worker_deques.specs.Ledgers.{AreOut}
-use Rattle.worker_deques.specs.Deques.{deque_of}
+use Rattle.deque_rule.specs.Ledgers.{AreOut}
+use Rattle.deque_rule.specs.Deques.{deque_of}
 use Rattle.worker_deques.proofs.desks.make_desks.Given as goal
 
 abbrev pub invariant-loop-own : goal.invariant-loop-own
 invariant-loop-own g l = record {
   owns : map (λ d. worker_deque d.own) l.all.items ≡ map worker_deque l.yielded;
   guests : All (λ d. map (λ g'. deque_of g'.pass) d.guests.items ≡ map worker_deque l.fn.owns.items) l.all.items;
+  room : vec_len l.fn.owns ≤ vec_capacity l.all;
   rows : vec_len l.rows + length l.yielded ≡ vec_len l.fn.owns;
   theirs : All (λ row. map (λ g'. deque_of g'.pass) row.items ≡ map worker_deque l.fn.owns.items) l.rows.items;
   fresh : All (λ row. AreOut (map (λ g'. view g'.pass) row.items) []) l.rows.items;

@@ -2,10 +2,10 @@ use Rattle.std.proofs.Common.{◌≡◌, ◌+◌, ◌<◌, length, map, get_or, 
 use Rattle.std.proofs.lemmas.List.{length-map, get_or-map, take_all}
 use Rattle.std.proofs.lemmas.List.Elements.{All-set}
 use Rattle.crossbeam_deque.specs.Handles.{view, worker_deque, worker_view}
-use Rattle.worker_deques.specs.declared.ledger.Ledger.{Ledger}
-use Rattle.worker_deques.specs.Ledgers.{shares_of, total, weigh}
-use Rattle.worker_deques.specs.Deques.{deque_of}
-use Rattle.worker_deques.proofs.Rule.{merges, weigh-append}
+use Rattle.deque_rule.specs.declared.ledger.Ledger.{Ledger}
+use Rattle.deque_rule.specs.Ledgers.{shares_of, total, weigh}
+use Rattle.deque_rule.specs.Deques.{deque_of}
+use Rattle.deque_rule.proofs.Rule.{merges, weigh-append}
 use Rattle.worker_deques.proofs.Views.{as_many, map_change, total_change}
 use Rattle.worker_deques.proofs.Absorbing.{IsUpTo, all_up_to, set_up_to, up_to_all}
 use Rattle.worker_deques.proofs.Holds.{holds_at, length_more, popped_front}

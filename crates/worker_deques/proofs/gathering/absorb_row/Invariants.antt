@@ -1,8 +1,8 @@
 use Rattle.std.proofs.Common.{◌≡◌, ◌+◌, ◌<◌, ◌≤◌, ℕ, map, take, length, vec_len}
 use Rattle.std.specs.Prelude.{All}
 use Rattle.crossbeam_deque.specs.Handles.{view, worker_deque, worker_view}
-use Rattle.worker_deques.specs.Ledgers.{pushed_by, shares_of, taken_by}
-use Rattle.worker_deques.specs.Deques.{deque_of}
+use Rattle.deque_rule.specs.Ledgers.{pushed_by, shares_of, taken_by}
+use Rattle.deque_rule.specs.Deques.{deque_of}
 use Rattle.worker_deques.proofs.Absorbing.{IsUpTo}
 use Rattle.worker_deques.proofs.gathering.absorb_row.Given as goal
 

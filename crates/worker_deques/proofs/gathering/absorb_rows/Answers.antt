@@ -3,7 +3,7 @@ use Rattle.std.proofs.lemmas.List.{length-append}
 use Rattle.std.proofs.lemmas.Iterator.Consumers.{YieldsList-end}
 use Rattle.std.proofs.lemmas.Iterator.Adapters.{YieldsList-from_vec}
 use Rattle.crossbeam_deque.specs.Handles.{view}
-use Rattle.worker_deques.specs.Ledgers.{pushed_by, taken_by}
+use Rattle.deque_rule.specs.Ledgers.{pushed_by, taken_by}
 use Rattle.worker_deques.proofs.Pushed.{in_rows_more}
 use Rattle.worker_deques.proofs.gathering.absorb_rows.Goals as goal
 

@@ -1,7 +1,7 @@
 use Rattle.std.proofs.Common.{◌≡◌, ◌+◌, ◌<◌, ℕ, map, length}
 use Rattle.std.specs.Prelude.{All}
 use Rattle.crossbeam_deque.specs.Handles.{view, worker_deque, worker_view}
-use Rattle.worker_deques.specs.Ledgers.{in_rows, pushed_by, shares_of, taken_by}
+use Rattle.deque_rule.specs.Ledgers.{in_rows, pushed_by, shares_of, taken_by}
 use Rattle.worker_deques.proofs.gathering.absorb_rows.Given as goal
 
 abbrev pub invariant-loop-row : goal.invariant-loop-row

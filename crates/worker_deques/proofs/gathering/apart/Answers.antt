@@ -3,8 +3,8 @@ use Rattle.std.proofs.Common.{◌≡◌, ◌<◌, length, map, map-id, refl, sym
 use Rattle.std.proofs.lemmas.Iterator.Adapters.{YieldsList-from_vec}
 use Rattle.std.proofs.lemmas.Iterator.Consumers.{YieldsList-end, YieldsList-turn}
 use Rattle.crossbeam_deque.specs.Handles.{view, worker_deque, worker_view}
-use Rattle.worker_deques.specs.Deques.{deque_of}
-use Rattle.worker_deques.specs.Ledgers.{in_rows, pushed_by, shares_of, taken_by, weigh}
+use Rattle.deque_rule.specs.Deques.{deque_of}
+use Rattle.deque_rule.specs.Ledgers.{in_rows, pushed_by, shares_of, taken_by, weigh}
 use Rattle.worker_deques.proofs.Pushed.{both_pushed, in_rows_more, total_more}
 use Rattle.worker_deques.proofs.Views.{as_many}
 use Rattle.worker_deques.proofs.gathering.apart.Given.{Over}
@@ -29,6 +29,24 @@ push_reserved-requires-in-loop-worked g c =
     let many = as_many (λ w. map (λ g'. deque_of g'.pass) w.desk.guests.items) (λ row. map (λ g'. deque_of g'.pass) row.items)
     c.loop-worked.yielded c.loop-worked.rows.items inv.rows in
     omega (arith, left g (goal.at.push_reserved-requires-in-loop-worked g c).In-Some, inv.room.1, many, c.args.done.ok.0, c.loop-worked.rows.ok.0)
+
+pub loop-worked-init : goal.loop-worked-init
+loop-worked-init g c =
+    let owns = c.in_ok-owns.ensures.items in
+    let rows = c.in_ok-rows.ensures.items in
+    record {
+      room = (omega (arith, c.in_ok-owns.ensures.capacity, c.len-count.ensures), omega (arith, c.in_ok-rows.ensures.capacity, c.len-count.ensures));
+      owns = ap (map worker_deque) owns;
+      rows = ap (map (λ row. map (λ g'. deque_of g'.pass) row.items)) rows;
+      shares = ap (map (λ o. shares_of (worker_view o))) owns;
+      out = λ h.
+          let t = ap (λ os. taken_by h (map worker_view os)) owns in
+          let p = ap (λ os. pushed_by h (map worker_view os)) owns in
+          let rt = ap (λ rs. in_rows (taken_by h) (map (λ row. map (λ g'. view g'.pass) row.items) rs)) rows in
+          let rp = ap (λ rs. in_rows (pushed_by h) (map (λ row. map (λ g'. view g'.pass) row.items) rs)) rows in
+          let w = ap (λ ts. weigh h (map (λ b. g.T.Task.number_of b.value) ts)) c.new-tasks.ensures.items in
+          omega arith;
+    }
 
 pub loop-worked-preserved : goal.loop-worked-preserved
 loop-worked-preserved g c =
@@ -59,8 +77,15 @@ loop-worked-preserved g c =
           omega arith;
     }
 
-pub returns-clause-shares : goal.returns-clause-shares
-returns-clause-shares g c =
+pub returns : goal.returns
+returns g c =
     let end = YieldsList-end (YieldsList-from_vec {s = c.into_iter-worked-iterator.result} c.args.done.items (search rules) (search rules))
     c.loop-worked.yielded c.loop-worked.worked-iterator c.loop-worked.yielded_by c.next.result c.next.new.self c.in-None.is c.next.ensures.steps in
-    c.loop-worked.invariant.shares ∙ ap (map (λ w. shares_of (worker_view w.desk.own))) (sym (map-id c.loop-worked.yielded) ∙ end.0)
+    let all = sym (map-id c.loop-worked.yielded) ∙ end.0 in
+    let inv = c.loop-worked.invariant in
+    record {
+      owns = inv.owns ∙ ap (map (λ w. worker_deque w.desk.own)) all;
+      rows = inv.rows ∙ ap (map (λ w. map (λ g'. deque_of g'.pass) w.desk.guests.items)) all;
+      shares = inv.shares ∙ ap (map (λ w. shares_of (worker_view w.desk.own))) all;
+      out = inv.out;
+    }

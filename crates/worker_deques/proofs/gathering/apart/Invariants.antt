@@ -1,7 +1,7 @@
 use Rattle.std.proofs.Common.{◌≡◌, ◌≤◌, ◌+◌, ℕ, map, vec_len, vec_capacity}
 use Rattle.crossbeam_deque.specs.Handles.{view, worker_deque, worker_view}
-use Rattle.worker_deques.specs.Ledgers.{in_rows, pushed_by, shares_of, taken_by, weigh}
-use Rattle.worker_deques.specs.Deques.{deque_of}
+use Rattle.deque_rule.specs.Ledgers.{in_rows, pushed_by, shares_of, taken_by, weigh}
+use Rattle.deque_rule.specs.Deques.{deque_of}
 use Rattle.worker_deques.proofs.gathering.apart.Given as goal
 
 abbrev pub invariant-loop-worked : goal.invariant-loop-worked

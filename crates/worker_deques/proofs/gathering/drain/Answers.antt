@@ -1,7 +1,7 @@
 use Rattle.std.proofs.Common.{ℕ, [], ◌∷◌, ◌++◌, ap, ◌∙◌, arith}
 use Rattle.crossbeam_deque.specs.Handles.{worker_view}
 use Rattle.worker_deques.proofs.Pushed.{popped_more}
-use Rattle.worker_deques.proofs.Rule.{emptied, pops, takes}
+use Rattle.deque_rule.proofs.Rule.{emptied, pops, takes}
 use Rattle.worker_deques.proofs.gathering.drain.Goals as goal
 
 pub pop_as-requires-clause-fifo : goal.pop_as-requires-clause-fifo

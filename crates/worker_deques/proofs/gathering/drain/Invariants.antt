@@ -1,6 +1,6 @@
 use Rattle.std.proofs.Common.{◌≡◌, ◌+◌, ℕ, map}
 use Rattle.crossbeam_deque.specs.Handles.{worker_view}
-use Rattle.worker_deques.specs.Ledgers.{all_shares, weigh}
+use Rattle.deque_rule.specs.Ledgers.{all_shares, weigh}
 use Rattle.worker_deques.proofs.gathering.drain.Given as goal
 
 abbrev pub invariant-loop : goal.invariant-loop

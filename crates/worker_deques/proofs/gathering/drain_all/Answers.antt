@@ -1,6 +1,6 @@
 use Rattle.std.proofs.Common.{arith}
 use Rattle.crossbeam_deque.specs.Handles.{worker_view}
-use Rattle.worker_deques.specs.Ledgers.{weigh}
+use Rattle.deque_rule.specs.Ledgers.{weigh}
 use Rattle.worker_deques.proofs.Pushed.{total_more}
 use Rattle.worker_deques.proofs.gathering.drain_all.Goals as goal
 

@@ -1,6 +1,6 @@
 use Rattle.std.proofs.Common.{◌≡◌, ◌+◌, ℕ, map}
 use Rattle.crossbeam_deque.specs.Handles.{worker_view}
-use Rattle.worker_deques.specs.Ledgers.{pushed_by, taken_by, weigh}
+use Rattle.deque_rule.specs.Ledgers.{pushed_by, taken_by, weigh}
 use Rattle.worker_deques.proofs.gathering.drain_all.Given as goal
 
 abbrev pub invariant-loop-own : goal.invariant-loop-own

@@ -1,7 +1,7 @@
 use Rattle.std.proofs.Common.{◌≡◌, ◌+◌, ◌-◌, ◌<◌, ◌∙◌, length, map, get_or, sym, arith}
 use Rattle.crossbeam_deque.specs.Handles.{worker_deque, worker_view}
-use Rattle.worker_deques.specs.Deques.{deque_of}
-use Rattle.worker_deques.specs.Ledgers.{all_shares, shares_of}
+use Rattle.deque_rule.specs.Deques.{deque_of}
+use Rattle.deque_rule.specs.Ledgers.{all_shares, shares_of}
 use Rattle.worker_deques.proofs.Views.{as_many, carried}
 use Rattle.worker_deques.proofs.gathering.gather_boxes.Goals as goal
 

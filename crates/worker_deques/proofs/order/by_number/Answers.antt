@@ -1,7 +1,7 @@
 use Rattle.std.proofs.Common.{◌≡◌, ◌∙◌, ap, arith, length, map, vec_len}
 use Rattle.std.proofs.lemmas.List.{length-map}
 use Rattle.std.specs.List.{range_with_len}
-use Rattle.worker_deques.specs.Ledgers.{AreSame}
+use Rattle.deque_rule.specs.Ledgers.{AreSame}
 use Rattle.worker_deques.proofs.Each.{all_below, as_many, ok_says}
 use Rattle.worker_deques.proofs.order.by_number.Goals as goal
 

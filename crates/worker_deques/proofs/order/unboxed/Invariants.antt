@@ -1,5 +1,5 @@
 use Rattle.std.proofs.Common.{◌≤◌, ◌+◌, ◌++◌, map, vec_len, vec_capacity}
-use Rattle.worker_deques.specs.Ledgers.{AreSame}
+use Rattle.deque_rule.specs.Ledgers.{AreSame}
 use Rattle.worker_deques.proofs.order.unboxed.Given as goal
 
 abbrev pub invariant-each : goal.invariant-each

@@ -1,8 +1,8 @@
 use Rattle.std.proofs.Common.{arith}
 use Rattle.crossbeam_deque.specs.Handles.{worker_view}
-use Rattle.worker_deques.specs.Ledgers.{KnowsEmpty}
+use Rattle.deque_rule.specs.Ledgers.{KnowsEmpty}
 use Rattle.worker_deques.proofs.Out.{popped}
-use Rattle.worker_deques.proofs.Rule.{pops, takes}
+use Rattle.deque_rule.proofs.Rule.{pops, takes}
 use Rattle.worker_deques.proofs.desk.Desk.pop.Goals as goal
 
 pub pop_as-requires-clause-fifo : goal.pop_as-requires-clause-fifo

@@ -1,6 +1,6 @@
 use Rattle.std.proofs.Common.{◌<◌, length, arith}
 use Rattle.crossbeam_deque.specs.Handles.{stealer_deque, view, worker_view}
-use Rattle.worker_deques.specs.Deques.{deque_of}
+use Rattle.deque_rule.specs.Deques.{deque_of}
 use Rattle.worker_deques.proofs.Out.{stolen}
 use Rattle.worker_deques.proofs.Views.{as_many, same_at, map_change}
 use Rattle.worker_deques.proofs.desk.Desk.steal.Goals as goal

@@ -1,7 +1,7 @@
 use Rattle.std.proofs.Common.{◌≡◌, map, subst, sym, ◌∙◌}
 use Rattle.std.specs.Prelude.{IfOk}
 use Rattle.crossbeam_deque.specs.Handles.{worker_deque}
-use Rattle.worker_deques.specs.Deques.{deque_of}
+use Rattle.worker_deques.specs.deque_rule.Deques.{deque_of}
 use Rattle.pool.specs.declared.fault.PoolFault.TheVariants.{BadOptions, Memory}
 use Rattle.worker_deques.proofs.Each.{err_says}
 use Rattle.pool.proofs.run.fn.run_nodes.scope.Goals as goal

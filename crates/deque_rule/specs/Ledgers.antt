@@ -3,7 +3,7 @@ use Rattle.std.specs.Prelude.{◌≡◌, ℕ, ◌+◌, ◌<◌, List, [], ◌∷
 use mathlib.Core.Option as option
 use lib.ListN.{get_elem?}
 use Rattle.crossbeam_deque.specs.Tasks.{Forks}
-use Rattle.worker_deques.specs.declared.ledger.Ledger.{Ledger}
+use Rattle.deque_rule.specs.declared.ledger.Ledger.{Ledger}
 use Rattle.run_options.specs.declared.TheConstants.{MAX_WORKERS}
 
 -- what a pass of a deque knows: its shares of the right to know the whole, and the numbers that it pushed and took

@@ -2,8 +2,8 @@
 
 ghost use Rattle.std.specs.Prelude.{◌≡◌, ◌++◌, ◌∷◌, [], IfNone, IfSome, None};
 ghost use Rattle.crossbeam_deque.specs.Handles.{stealer_deque, view};
-ghost use Rattle.worker_deques.specs.Ledgers.{ledger};
-ghost use Rattle.worker_deques.specs.Deques.{deque_of};
+ghost use Rattle.deque_rule.specs.Ledgers.{ledger};
+ghost use Rattle.deque_rule.specs.Deques.{deque_of};
 
 use crate::ledger::{Balance, Ledger, Steals};
 use crate::task::Task;

@@ -21,7 +21,7 @@ pub struct Balance;
 
 impl<T: Task> Protocol<Box<T>, Ledger> for Balance {
     ghost use Rattle.std.specs.Prelude.{[], map};
-    ghost use Rattle.worker_deques.specs.Ledgers.{Balanced, all_shares, ledger};
+    ghost use Rattle.deque_rule.specs.Ledgers.{Balanced, all_shares, ledger};
 
     ghost holds = { λ items views. Balanced (map (λ b. T.number_of b.value) items) views };
 
@@ -35,7 +35,7 @@ pub struct OneShare;
 
 impl Split<Ledger> for OneShare {
     ghost use Rattle.std.specs.Prelude.{[], ◌-◌};
-    ghost use Rattle.worker_deques.specs.Ledgers.{ledger};
+    ghost use Rattle.deque_rule.specs.Ledgers.{ledger};
 
     ghost left = { λ v. ledger (v.shares - 1) v.pushed v.taken };
 
@@ -44,7 +44,7 @@ impl Split<Ledger> for OneShare {
 
 impl Join<Ledger> for OneShare {
     ghost use Rattle.std.specs.Prelude.{[], ◌+◌, ◌++◌};
-    ghost use Rattle.worker_deques.specs.Ledgers.{ledger};
+    ghost use Rattle.deque_rule.specs.Ledgers.{ledger};
 
     ghost both = { λ v w. ledger (v.shares + w.shares) (v.pushed ++ w.pushed) (v.taken ++ w.taken) };
 
@@ -56,7 +56,7 @@ pub struct Gives;
 
 impl<T: Task> Outcome<Box<T>, Ledger> for Gives {
     ghost use Rattle.std.specs.Prelude.{◌≡◌, ◌++◌, map};
-    ghost use Rattle.worker_deques.specs.Ledgers.{ledger};
+    ghost use Rattle.deque_rule.specs.Ledgers.{ledger};
 
     ghost then = { λ v xs w. w ≡ ledger v.shares (v.pushed ++ map (λ b. T.number_of b.value) xs) v.taken };
 }
@@ -66,7 +66,7 @@ pub struct Gets;
 
 impl<T: Task> Outcome<Box<T>, Ledger> for Gets {
     ghost use Rattle.std.specs.Prelude.{◌≡◌, ◌++◌, map};
-    ghost use Rattle.worker_deques.specs.Ledgers.{KnowsEmpty, ledger};
+    ghost use Rattle.deque_rule.specs.Ledgers.{KnowsEmpty, ledger};
 
     ghost then = { λ v xs w. w ≡ ledger v.shares v.pushed (v.taken ++ map (λ b. T.number_of b.value) xs) };
 
@@ -78,7 +78,7 @@ pub struct Steals;
 
 impl<T: Task> Outcome<Box<T>, Ledger> for Steals {
     ghost use Rattle.std.specs.Prelude.{◌≡◌, ◌++◌, map};
-    ghost use Rattle.worker_deques.specs.Ledgers.{ledger};
+    ghost use Rattle.deque_rule.specs.Ledgers.{ledger};
 
     ghost then = { λ v stolen w. w ≡ ledger v.shares v.pushed (v.taken ++ map (λ b. T.number_of b.value) stolen) };
 }

@@ -1,0 +1,3 @@
+pub mod Deques
+pub mod Ledgers
+pub mod run_options

@@ -1,0 +1,18 @@
+//! The rule of a worker's deque of tasks, and a pass at such a deque.
+//!
+//! What was pushed to a deque is what was taken from it and what it holds, whatever threads do (`specs/Ledgers.antt`):
+//! so no task is lost and none is there twice. The tasks are known by their numbers.
+//!
+//! `task` is what lies in a deque, `ledger` the rule and what each of its steps says, `guest` a pass at another
+//! worker's deque, by which it steals. `worker_deques` has the deques of all workers.
+//!
+//! Limits: `MAX_WORKERS` of `run_options`, for each of which a deque has a pass.
+#![tactic(auto)]
+
+mod guest;
+mod ledger;
+mod task;
+
+pub use guest::{Guest, Own, Thief};
+pub use ledger::{Balance, Gets, Gives, Ledger, OneShare, Steals};
+pub use task::Task;
