@@ -30,6 +30,7 @@ fn text_of_actors(
     push_first_line(&mut text, count)?;
     for actor in actors {
         let pushed = push_entries(&mut text, actor.node(), actor.entries());
+        // Before `?`, so that the node is dropped at one place, which the prover checks sooner.
         drop(actor);
         pushed?;
     }

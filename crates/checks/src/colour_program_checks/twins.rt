@@ -136,8 +136,8 @@ fn brought(alloc: Global, net: &Network, v: u32, pulse: u32) -> Result<Colouring
     Ok(node)
 }
 
-// Whether one of two nodes in one state refuses what comes, and then both go on alike, to the colours of the edge: those
-// of the plan less one.
+// Whether one of two nodes in one state refuses what comes, and then both go on alike, to the colours of the edge:
+// those of the plan less one.
 fn refuses_and_goes_on(
     alloc: Global,
     node: &mut Colouring,
