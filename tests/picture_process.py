@@ -2,6 +2,7 @@
 
 Run as a program it takes requests on standard input, a line of JSON each, and answers each with the child's status. The tests ask
 it by `Painter`; what depends on how the command is started they ask of the command."""
+import argparse
 import json
 import os
 import signal
@@ -67,4 +68,5 @@ def serve():
 
 
 if __name__ == "__main__":
+    argparse.ArgumentParser(description=__doc__, formatter_class=argparse.RawDescriptionHelpFormatter).parse_args()
     serve()
