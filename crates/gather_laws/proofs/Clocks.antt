@@ -39,7 +39,8 @@ module _ {M : Type 0} where
   puts_above s ((t, u, Put to x) ∷ rows) v w all =
       let more = puts_above s rows v w (All-tail (λ (r : StampedRow M). s ≤ r.0) (t, u, Put to x) rows all) in
       ⊎_elim
-      (λ yes. rw yes (All-cons (λ (y : Stamped M). s ≤ y.stamp) (stamped t x) (puts_at rows v w) (All-head (λ (r : StampedRow M). s ≤ r.0) (t, u, Put to x) rows all) more))
+      (λ yes. rw yes (All-cons (λ (y : Stamped M). s ≤ y.stamp) (stamped t x) (puts_at rows v w)
+      (All-head (λ (r : StampedRow M). s ≤ r.0) (t, u, Put to x) rows all) more))
       (λ no. rw no more)
       (cases_Bool ((u == v) && (to == w)))
   puts_above s ((t, u, Take from x) ∷ rows) v w all = puts_above s rows v w (All-tail (λ (r : StampedRow M). s ≤ r.0) (t, u, Take from x) rows all)
@@ -74,7 +75,8 @@ module _ {S M E : Type 0} (program : Program S M E) (net : Net) (v : ℕ) where
       take_port before s w x after record from { view = put_done from.view (port_to net v u) } to is.1.1
   take_port ((t, Take u y) ∷ before) s w x after from to is =
       let rest = bare_of (before ++ ((s, Take w x) ∷ after)) in
-      let got = matched (reaction (last_pulse_on program net) from.view (port_to net v u) y) (λ view. Leads program net v rest record from { view = view } to) is.1 in
+      let got = matched (reaction (last_pulse_on program net) from.view (port_to net v u) y)
+      (λ view. Leads program net v rest record from { view = view } to) is.1 in
       take_port before s w x after record from { view = got.0 } to got.2
 
 module _ {S M E : Type 0} (program : Program S M E) (net : Net) (ok : IsNetwork net) (nodes : ℕ → Node S M) (counters : ℕ → ℕ)
@@ -87,7 +89,8 @@ module _ {S M E : Type 0} (program : Program S M E) (net : Net) (ok : IsNetwork 
       sym (merge.each v vertex) ∙ ap (λ l. entries_at l v) is ∙ entries_append before ((s, v, e) ∷ after) v
       ∙ ap (λ l. entries_at before v ++ l) (entry_here s v e after)
 
-  stamp_taken : (before : List (StampedRow M)) (s v w : ℕ) (x : Wire M) (after : List (StampedRow M)) → rows ≡ before ++ ((s, v, Take w x) ∷ after) → IsVertex net v
+  stamp_taken : (before : List (StampedRow M)) (s v w : ℕ) (x : Wire M) (after : List (StampedRow M)) → rows ≡ before ++ ((s, v, Take w x) ∷ after)
+      → IsVertex net v
       → s ≡ stamp_behind before (s, v, Take w x)
   stamp_taken before s v w x after is vertex =
       let b = entries_at before v in
@@ -107,7 +110,8 @@ module _ {S M E : Type 0} (program : Program S M E) (net : Net) (ok : IsNetwork 
       let q = puts_at after w v in
       -- what w put for v
       let all : p ++ q ≡ took ++ held (neighbour_of net v i) j =
-      sym (puts_append before ((s, v, Take w x) ∷ after) w v) ∙ ap (λ l. puts_at l w v) (sym is) ∙ puts_are rows w v ∙ ap (λ l. put_in l v) (merge.each w vertex')
+      sym (puts_append before ((s, v, Take w x) ∷ after) w v) ∙ ap (λ l. puts_at l w v) (sym is) ∙ puts_are rows w v ∙ ap (λ l. put_in l v)
+      (merge.each w vertex')
       ∙ ap (λ u. put_in (wrote u) v) (sym to) ∙ ap (λ u. put_in (wrote (neighbour_of net v i)) u) (sym back)
       ∙ (met.keeps (neighbour_of net v i) (ok.vertices v i vertex lt)).put_are j (ok.symmetric v i vertex lt)
       ∙ met.splits (neighbour_of net v i) j (ok.vertices v i vertex lt) (ok.symmetric v i vertex lt)
@@ -133,13 +137,16 @@ module _ {S M E : Type 0} (program : Program S M E) (net : Net) (ok : IsNetwork 
       let a = ap (λ l. length l) all in let d = length-append took (held (neighbour_of net v i) j) in omega (arith, a, d, many) in
       let ordered = rest_ordered before ((s, v, Take w x) ∷ after) (subst AreOrdered is merge.ordered) in
       let high : All (λ (y : Stamped M). s ≤ y.stamp) q =
-      puts_above s after w v (All-weaker (Precedes (s, v, Take w x)) (λ (r : StampedRow M). s ≤ r.0) (λ r pre. not_above (s, v, Take w x) r pre) after ordered.0) in
+      puts_above s after w v (All-weaker (Precedes (s, v, Take w x)) (λ (r : StampedRow M). s ≤ r.0)
+      (λ r pre. not_above (s, v, Take w x) r pre) after ordered.0) in
       let same : get_or (stamps_of took) k 0 ≡ get_or (stamps_of p) k 0 = came ∙ first_part k s p q high long low in
       right ∙ ap (λ t. suc (max (counter_of b) t)) same
 
   at_row : (row : StampedRow M) (before after : List (StampedRow M)) → rows ≡ before ++ (row ∷ after) → IsVertex net row.1 → row.0 ≡ stamp_behind before row
-  at_row (s, v, Pulse p) before after is vertex = (met.keeps v vertex).stamped (entries_at before v) (s, Pulse p) (entries_at after v) (split_at before s v (Pulse p) after is vertex)
-  at_row (s, v, Put w x) before after is vertex = (met.keeps v vertex).stamped (entries_at before v) (s, Put w x) (entries_at after v) (split_at before s v (Put w x) after is vertex)
+  at_row (s, v, Pulse p) before after is vertex = (met.keeps v vertex).stamped (entries_at before v) (s, Pulse p) (entries_at after v)
+      (split_at before s v (Pulse p) after is vertex)
+  at_row (s, v, Put w x) before after is vertex = (met.keeps v vertex).stamped (entries_at before v) (s, Put w x) (entries_at after v)
+      (split_at before s v (Put w x) after is vertex)
   at_row (s, v, Take w x) before after is vertex = stamp_taken before s v w x after is vertex
 
   stamped_rows : AreStampedRows rows

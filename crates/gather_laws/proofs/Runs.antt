@@ -69,12 +69,14 @@ module _ {S M E : Type 0} (program : Program S M E) (net : Net) (ok : IsNetwork 
     row = λ v vertex. ap length (made_at (λ u. replicate (degree_of net u) no_link) v [] vertex) ∙ length-replicate (degree_of net v) no_link;
   }
 
-  module _ (wrote : ℕ → List (StampedEntry M)) (rows : List (StampedRow M)) (are : AreWritten program net nodes links wrote) (merge : IsMerge (count_of net) wrote rows) where
+  module _ (wrote : ℕ → List (StampedEntry M)) (rows : List (StampedRow M)) (are : AreWritten program net nodes links wrote)
+      (merge : IsMerge (count_of net) wrote rows) where
     starts : Left program net nodes links rows (start program net)
     starts = record {
       table = start_table;
       leads = λ v vertex.
-          subst (λ n. Leads program net v (bare_of (entries_at rows v)) n (nodes v)) (sym (made_at (λ u. start_node program net u) v (start_node program net v) vertex))
+          subst (λ n. Leads program net v (bare_of (entries_at rows v)) n (nodes v))
+          (sym (made_at (λ u. start_node program net u) v (start_node program net v) vertex))
           (subst (λ l. Leads program net v (bare_of l) (start_node program net v) (nodes v)) (sym (merge.each v vertex)) (are.written v vertex).run);
       comes = λ v i vertex lt.
           let w = neighbour_of net v i in

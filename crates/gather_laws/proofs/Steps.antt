@@ -123,8 +123,10 @@ module _ {S M E : Type 0} (program : Program S M E) (net : Net) (ok : IsNetwork 
   comes_on : (rows rows' : List (StampedRow M)) (state : State S M) (v i : ℕ) (link : Link M) → IsVertex net v → i < degree_of net v
       → Left program net nodes links rows' state
       → Comes link (puts_at rows v (neighbour_of net v i)) (takes_at rows (neighbour_of net v i) v) (links v i)
-      → ((u j : ℕ) → IsVertex net u → j < degree_of net u → (u ≡ v → j ≡ i → ⊥) → puts_at rows' u (neighbour_of net u j) ≡ puts_at rows u (neighbour_of net u j))
-      → ((u j : ℕ) → IsVertex net u → j < degree_of net u → (u ≡ v → j ≡ i → ⊥) → takes_at rows' (neighbour_of net u j) u ≡ takes_at rows (neighbour_of net u j) u)
+      → ((u j : ℕ) → IsVertex net u → j < degree_of net u → (u ≡ v → j ≡ i → ⊥)
+      → puts_at rows' u (neighbour_of net u j) ≡ puts_at rows u (neighbour_of net u j))
+      → ((u j : ℕ) → IsVertex net u → j < degree_of net u → (u ≡ v → j ≡ i → ⊥)
+      → takes_at rows' (neighbour_of net u j) u ≡ takes_at rows (neighbour_of net u j) u)
       → (u j : ℕ) → IsVertex net u → j < degree_of net u
       → Comes (link_at (set_link state.links v i link) u j) (puts_at rows u (neighbour_of net u j)) (takes_at rows (neighbour_of net u j) u) (links u j)
   comes_on rows rows' state v i link vertex lt left new same_puts same_takes u j vertex' lt' =
@@ -148,7 +150,8 @@ module _ {S M E : Type 0} (program : Program S M E) (net : Net) (ok : IsNetwork 
       (λ ne. other (λ a b. ne a))
       (cases_eq u v)
 
-  put_made : (s v w : ℕ) (x : Wire M) (rows : List (StampedRow M)) (state : State S M) → IsVertex net v → Left program net nodes links ((s, v, Put w x) ∷ rows) state
+  put_made : (s v w : ℕ) (x : Wire M) (rows : List (StampedRow M)) (state : State S M) → IsVertex net v
+      → Left program net nodes links ((s, v, Put w x) ∷ rows) state
       → Made program net nodes links (v, Put w x) rows state
   put_made s v w x rows state vertex left =
       let node = node_of program net state v in
@@ -193,7 +196,8 @@ module _ {S M E : Type 0} (program : Program S M E) (net : Net) (ok : IsNetwork 
       one_port u j vertex' lt' same to = sym (port_to-is net ok u j vertex' lt') ∙ ap (λ k. port_to net u k) to ∙ ap (λ a. port_to net a w) same
 
   -- a link whose next wire is taken, by a row with the least stamp
-  next_held : (s : ℕ) (x : Wire M) (link end : Link M) (puts takes : List (Stamped M)) → ((y : Stamped M) (more : List (Stamped M)) → puts ≡ y ∷ more → s ≤ y.stamp)
+  next_held : (s : ℕ) (x : Wire M) (link end : Link M) (puts takes : List (Stamped M)) →
+      ((y : Stamped M) (more : List (Stamped M)) → puts ≡ y ∷ more → s ≤ y.stamp)
       → Comes link puts (stamped s x ∷ takes) end
       → (rest : List (Wire M)) × (link.held ≡ x ∷ rest) × Comes record { taken = link.taken ++ (x ∷ []); held = rest } puts takes end
   next_held s x link end puts takes least comes = by_held comes.held comes.held_are comes.carried
@@ -206,7 +210,8 @@ module _ {S M E : Type 0} (program : Program S M E) (net : Net) (ok : IsNetwork 
           let lt = got.1 in
           omega (arith, le, lt)
 
-      no_put : (l : List (Stamped M)) → puts ≡ l → Carries puts (stamped s x ∷ takes) end.held → ((y : Stamped M) (more : List (Stamped M)) → puts ≡ y ∷ more → ⊥) → ⊥
+      no_put : (l : List (Stamped M)) → puts ≡ l → Carries puts (stamped s x ∷ takes) end.held →
+          ((y : Stamped M) (more : List (Stamped M)) → puts ≡ y ∷ more → ⊥) → ⊥
       no_put [] is carried bad = subst (λ l. Carries l (stamped s x ∷ takes) end.held) is carried
       no_put (y ∷ more) is carried bad = bad y more is
 
@@ -232,7 +237,8 @@ module _ {S M E : Type 0} (program : Program S M E) (net : Net) (ok : IsNetwork 
       let here = leads_first s v (Take w x) rows state vertex left in
       let i = port_to net v w in
       let lt = here.0 in
-      let got = matched (reaction last node.view i x) (λ view. Leads program net v (bare_of (entries_at rows v)) record node { view = view } (nodes v)) here.1 in
+      let got = matched (reaction last node.view i x)
+      (λ view. Leads program net v (bare_of (entries_at rows v)) record node { view = view } (nodes v)) here.1 in
       let from : neighbour_of net v i ≡ w = place_of-is w (neighbours net v) 0 lt in
       let inside = port_is net v i vertex lt in
       let u = neighbour_of net v i in

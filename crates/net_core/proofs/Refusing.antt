@@ -1,4 +1,4 @@
--- An event that names no vertex or port of the network is refused, and no refusal of an event is want of memory.
+-- An event that names no vertex or port of the network is refused, and no refusal of an event is `Memory`.
 use Rattle.std.proofs.Common.{◌≡◌, ℕ, false, Ok, Err, ap}
 use Rattle.std.specs.Prelude.{◌≢◌, if◌then◌else◌}
 use Rattle.alpha_laws.specs.interference.Net.{Net}

@@ -7,12 +7,14 @@ use Rattle.stamps.specs.Merged.{StampedRow}
 use Rattle.stamps.specs.Gathered.{rows_from, with_vertex}
 
 module _ {M : Type 0} where
-  pub entry_more : (rows : List (StampedRow M)) (v : ℕ) (entries : List (StampedEntry M)) (i : ℕ) (e : StampedEntry M) → i < length entries → e ≡ get_or entries i e
+  pub entry_more : (rows : List (StampedRow M)) (v : ℕ) (entries : List (StampedEntry M)) (i : ℕ) (e : StampedEntry M)
+      → i < length entries → e ≡ get_or entries i e
       → (rows ++ with_vertex v (take i entries)) ++ ((e.0, v, e.1) ∷ []) ≡ rows ++ with_vertex v (take (i + 1) entries)
   entry_more rows v entries i e lt is =
       let more : suc i ≡ i + 1 = omega arith in
       append_assoc rows (with_vertex v (take i entries)) ((e.0, v, e.1) ∷ [])
-      ∙ ap (λ l. rows ++ l) (sym (map-append (λ x. (x.0, v, x.1)) (take i entries) (e ∷ [])) ∙ ap (λ l. with_vertex v l) (sym (take-suc entries i e lt ∙ ap (λ x. take i entries ++ (x ∷ [])) (sym is)))
+      ∙ ap (λ l. rows ++ l) (sym (map-append (λ x. (x.0, v, x.1)) (take i entries) (e ∷ [])) ∙ ap (λ l. with_vertex v l)
+      (sym (take-suc entries i e lt ∙ ap (λ x. take i entries ++ (x ∷ [])) (sym is)))
       ∙ ap (λ k. with_vertex v (take k entries)) more)
 
   rows_behind : (v : ℕ) (lists : List (List (StampedEntry M))) (list : List (StampedEntry M))
@@ -27,7 +29,10 @@ module _ {M : Type 0} where
       → rows_from 1 (map f (take i lists)) ++ with_vertex (i + 1) (f list) ≡ rows_from 1 (map f (take (i + 1) lists))
   list_more f lists i list lt is =
       let more : suc i ≡ i + 1 = omega arith in
-      let many : i + 1 ≡ 1 + length (map f (take i lists)) = (let le : i ≤ length lists = omega (arith, lt) in let n = length-take-le i lists le in omega (arith, n, length-map (take i lists) f)) in
+      let le : i ≤ length lists = omega (arith, lt) in
+      let n = length-take-le i lists le in
+      let many : i + 1 ≡ 1 + length (map f (take i lists)) = omega (arith, n, length-map (take i lists) f) in
       ap (λ k. rows_from 1 (map f (take i lists)) ++ with_vertex k (f list)) many
       ∙ sym (rows_behind 1 (map f (take i lists)) (f list))
-      ∙ ap (λ l. rows_from 1 l) (sym (map-append f (take i lists) (list ∷ [])) ∙ ap (λ l. map f l) (sym (take-suc lists i list lt ∙ ap (λ x. take i lists ++ (x ∷ [])) (sym is))) ∙ ap (λ k. map f (take k lists)) more)
+      ∙ ap (λ l. rows_from 1 l) (sym (map-append f (take i lists) (list ∷ [])) ∙ ap (λ l. map f l)
+      (sym (take-suc lists i list lt ∙ ap (λ x. take i lists ++ (x ∷ [])) (sym is))) ∙ ap (λ k. map f (take k lists)) more)

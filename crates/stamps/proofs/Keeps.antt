@@ -53,7 +53,8 @@ module _ {M : Type 0} where
   stamped_more came came' entries same right before (s, Pulse p) after split = right before (s, Pulse p) after split
   stamped_more came came' entries same right before (s, Put w x) after split = right before (s, Put w x) after split
   stamped_more came came' entries same right before (s, Take w x) after split =
-      let all : taken_in entries w ≡ taken_in before w ++ taken_in ((s, Take w x) ∷ after) w = ap (λ l. taken_in l w) split ∙ taken_more before ((s, Take w x) ∷ after) w in
+      let all : taken_in entries w ≡ taken_in before w ++ taken_in ((s, Take w x) ∷ after) w =
+      ap (λ l. taken_in l w) split ∙ taken_more before ((s, Take w x) ∷ after) w in
       let one : taken_in ((s, Take w x) ∷ after) w ≡ stamped s x ∷ taken_in after w = let yes = eq-eqb w w refl in rw yes refl in
       let lt : length (taken_in before w) < length (taken_in entries w) =
       let a = ap (λ l. length l) all in let b = ap (λ l. length l) one in let c = length-append (taken_in before w) (taken_in ((s, Take w x) ∷ after) w) in

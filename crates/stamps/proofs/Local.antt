@@ -22,7 +22,8 @@ module _ {M : Type 0} where
       (cases_Bool (from == w))
 
   -- one entry more
-  count_more : (before : List (StampedEntry M)) (e : StampedEntry M) (w : ℕ) → length (taken_in (before ++ (e ∷ [])) w) ≡ length (taken_in before w) + length (taken_in (e ∷ []) w)
+  count_more : (before : List (StampedEntry M)) (e : StampedEntry M) (w : ℕ)
+      → length (taken_in (before ++ (e ∷ [])) w) ≡ length (taken_in before w) + length (taken_in (e ∷ []) w)
   count_more before e w = ap (λ l. length l) (taken_more before (e ∷ []) w) ∙ length-append (taken_in before w) (taken_in (e ∷ []) w)
 
   -- the entries left of a node, and the wires left of those that came from w
@@ -46,20 +47,24 @@ module _ {M : Type 0} where
       let one : taken_in ((s, Take from x) ∷ []) w ≡ stamped s x ∷ [] = rw here refl in
       subst (λ l. Carries (left ++ held) l (wires_of held)) (sym first)
       (by_left left (λ done' rest came_is many wires.
-      carries_from came w (before ++ ((s, Take from x) ∷ [])) entries done' rest held (subst (AreStamped came) (sym (append_assoc before ((s, Take from x) ∷ []) entries)) right)
+      carries_from came w (before ++ ((s, Take from x) ∷ [])) entries done' rest held
+      (subst (AreStamped came) (sym (append_assoc before ((s, Take from x) ∷ []) entries)) right)
       came_is many wires)
       (is, (sym (ap (λ l. wires_of l) first) ∙ same, (eqb-true from w here, one)))))
       (λ other.
       let first : taken_in ((s, Take from x) ∷ entries) w ≡ taken_in entries w = rw other refl in
       let one : taken_in ((s, Take from x) ∷ []) w ≡ [] = rw other refl in
       subst (λ l. Carries (left ++ held) l (wires_of held)) (sym first)
-      (carries_from came w (before ++ ((s, Take from x) ∷ [])) entries done left held (subst (AreStamped came) (sym (append_assoc before ((s, Take from x) ∷ []) entries)) right) is
-      (let more = count_more before (s, Take from x) w in let none = ap (λ l. length l) one in omega (arith, count, more, none)) (sym (ap (λ l. wires_of l) first) ∙ same)))
+      (carries_from came w (before ++ ((s, Take from x) ∷ [])) entries done left held
+      (subst (AreStamped came) (sym (append_assoc before ((s, Take from x) ∷ []) entries)) right) is
+      (let more = count_more before (s, Take from x) w in let none = ap (λ l. length l) one in omega (arith, count, more, none))
+      (sym (ap (λ l. wires_of l) first) ∙ same)))
       (cases_Bool (from == w))
     where
       by_left : (rest : List (Stamped M)) → ((done' rest' : List (Stamped M)) → came w ≡ stamps_of (done' ++ rest')
           → length done' ≡ length (taken_in (before ++ ((s, Take from x) ∷ [])) w) → wires_of (taken_in entries w) ≡ wires_of rest'
-          → Carries (rest' ++ held) (taken_in entries w) (wires_of held)) → (came w ≡ stamps_of (done ++ rest)) × ((x ∷ wires_of (taken_in entries w) ≡ wires_of rest) × ((from ≡ w) × (taken_in ((s, Take from x) ∷ []) w ≡ stamped s x ∷ [])))
+          → Carries (rest' ++ held) (taken_in entries w) (wires_of held)) → (came w ≡ stamps_of (done ++ rest)) ×
+          ((x ∷ wires_of (taken_in entries w) ≡ wires_of rest) × ((from ≡ w) × (taken_in ((s, Take from x) ∷ []) w ≡ stamped s x ∷ [])))
           → Carries (rest ++ held) (stamped s x ∷ taken_in entries w) (wires_of held)
       by_left [] again (came_is, (wires, more)) = absurd cc
       by_left (y ∷ rest) again (came_is, (wires, (from_is, one))) =
