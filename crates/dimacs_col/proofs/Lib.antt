@@ -12,3 +12,4 @@ pub mod BarLines
 pub mod Whole
 pub mod Unique
 pub mod LineEnds
+mod Refused

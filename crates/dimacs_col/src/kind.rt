@@ -36,5 +36,5 @@ impl Kind {
 pub fn is_format(word: &[u8]) -> bool
     ensures { result ≡ is_format word.now }
 {
-    matches!(word, b"edge" | b"edges" | b"col")
+    word == b"edge".as_slice() || word == b"edges".as_slice() || word == b"col".as_slice()
 }

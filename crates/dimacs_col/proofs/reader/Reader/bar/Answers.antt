@@ -4,10 +4,11 @@ use Rattle.std.proofs.Common.{◌≡◌, ◌∙◌, ℕ, List, sym, ap, Some, ar
 use Rattle.dimacs_col.specs.Kinds.{kind_of_word}
 use Rattle.dimacs_col.specs.Lines.{Line, field_at}
 use Rattle.dimacs_col.specs.State.{Knows, kept_number}
-use Rattle.dimacs_col.specs.declared.fault.ColFault.TheVariants.{VertexRange, ChannelRange, TooManyBars}
+use Rattle.dimacs_col.specs.declared.fault.ColFault.TheVariants.{EarlyLine, VertexRange, ChannelRange, TooManyBars}
 use Rattle.dimacs_col.specs.declared.kind.Kind.TheVariants.{Bar}
 use Rattle.dimacs_col.proofs.Verdicts.{field_at-drop}
 use Rattle.dimacs_col.proofs.BarLines.{IsBarLine, outside-told, channel-told, many-told, knows-barred, not-back}
+use Rattle.dimacs_col.proofs.Refused.{bar_early, memory_judged}
 use Rattle.dimacs_col.proofs.reader.Reader.bar.Goals as goal
 use Rattle.dimacs_col.proofs.reader.Reader.bar.Goals.{In-Some-Some, then-channel-eq0-via-then-channel-eq0}
 use Rattle.dimacs_col.proofs.reader.Reader.bar.Goals.{then-channel-eq0-via-else-channel-eq0+then-channel-from}
@@ -54,3 +55,11 @@ returns-clause-judged c = λ before word knows line kind.
     knows-barred before word c.args.fields c.args.self.now c.in-Some.nodes c.in-Some-Some.v c.in-Some-Some.channel e (omega arith) (omega arith)
     (omega arith) (omega arith) c.args.self.now.line c.insert.new.self few c.in_ok-insert.ensures.members
     (c.in_ok-insert.ensures.counted knows.bars_counted taken)
+
+pub returns-in_default-clause-judged : goal.returns-in_default-clause-judged
+returns-in_default-clause-judged c = λ before word knows line kind.
+    bar_early before word c.args.fields (sym knows.nodes_are ∙ c.in_default.is) kind ∙ ap (λ n. Some (EarlyLine n)) (sym line)
+
+pub returns-in_err-insert-clause-judged : goal.returns-in_err-insert-clause-judged
+returns-in_err-insert-clause-judged c = λ before word knows line kind.
+    memory_judged before _ _ c.from_residual.result c.from_residual.ensures.1

@@ -4,10 +4,11 @@ use Rattle.std.proofs.Common.{◌≡◌, ◌∙◌, ℕ, List, sym, ap, Some, ar
 use Rattle.dimacs_col.specs.Kinds.{kind_of_word}
 use Rattle.dimacs_col.specs.Lines.{Line, field_at}
 use Rattle.dimacs_col.specs.State.{Knows, kept_number}
-use Rattle.dimacs_col.specs.declared.fault.ColFault.TheVariants.{VertexRange, TooLarge}
+use Rattle.dimacs_col.specs.declared.fault.ColFault.TheVariants.{EdgeBeforeProblem, VertexRange, TooLarge}
 use Rattle.dimacs_col.specs.declared.kind.Kind.TheVariants.{Edge}
 use Rattle.dimacs_col.proofs.Verdicts.{field_at-drop}
 use Rattle.dimacs_col.proofs.Edges.{IsEdge, IsPut, told-range, told-large, knows-put}
+use Rattle.dimacs_col.proofs.Refused.{edge_early, memory_judged}
 use Rattle.dimacs_col.proofs.reader.Reader.edge.Goals as goal
 use Rattle.dimacs_col.proofs.reader.Reader.edge.Goals.{In-Some-Some, After-is_too_large}
 
@@ -53,3 +54,11 @@ returns-clause-judged c = λ before word knows line kind.
     let at = goal.at.returns-clause-judged c in
     knows-put before word c.args.fields c.args.self.now c.args.self.now.line c.in-Some.nodes c.in-Some-Some.v c.in-Some-Some.w c.insert.new.self
     (as-put at.After-is_too_large before word (as-edge at.In-Some-Some before word knows kind)) (sym c.is_too_large.ensures ∙ c.if-is_too_large.false)
+
+pub returns-in_default-clause-judged : goal.returns-in_default-clause-judged
+returns-in_default-clause-judged c = λ before word knows line kind.
+    edge_early before word c.args.fields (sym knows.nodes_are ∙ c.in_default.is) kind ∙ ap (λ n. Some (EdgeBeforeProblem n)) (sym line)
+
+pub returns-in_err-insert-clause-judged : goal.returns-in_err-insert-clause-judged
+returns-in_err-insert-clause-judged c = λ before word knows line kind.
+    memory_judged before _ _ c.from_residual.result c.from_residual.ensures.1

@@ -7,11 +7,12 @@ use Rattle.std.specs.Ordering.{nat_cmp}
 use Rattle.dimacs_col.specs.Kinds.{kind_of_word}
 use Rattle.dimacs_col.specs.Lines.{Line, field_at, fitting, number_of}
 use Rattle.dimacs_col.specs.State.{Knows}
-use Rattle.dimacs_col.specs.declared.fault.ColFault.TheVariants.{VertexRange, NumberRange, IdTwice}
+use Rattle.dimacs_col.specs.declared.fault.ColFault.TheVariants.{EarlyLine, VertexRange, NumberRange, IdTwice}
 use Rattle.dimacs_col.specs.declared.kind.Kind.TheVariants.{Identifier}
 use Rattle.dimacs_col.proofs.Verdicts.{field_at-drop, none-from}
 use Rattle.dimacs_col.proofs.FieldNumbers.{IsFitting, fitting-from, fits, fits-not}
 use Rattle.dimacs_col.proofs.Identifiers.{IsNamed, outside-told, great-told, twice-told, knows-named}
+use Rattle.dimacs_col.proofs.Refused.{identifier_early, memory_judged}
 use Rattle.dimacs_col.proofs.reader.Reader.identify.Goals as goal
 use Rattle.dimacs_col.proofs.reader.Reader.identify.Goals.{In-Some-Some}
 
@@ -62,3 +63,11 @@ returns-clause-judged c = λ before word knows line kind.
     (as-named at before word knows kind) (omega arith) (omega arith) c.args.self.now.line c.insert.new.self fit.0
     (sym c.in_ok-insert.ensures.old ∙ none-from c.in_ok-insert.field-0 (sym c.is_some.ensures ∙ c.if-is_some.false))
     (subst (λ n. Updates nat_cmp c.args.self.now.ids c.insert.new.self c.in-Some-Some.v (Some n)) fit.1 c.in_ok-insert.ensures.updates)
+
+pub returns-in_default-clause-judged : goal.returns-in_default-clause-judged
+returns-in_default-clause-judged c = λ before word knows line kind.
+    identifier_early before word c.args.fields (sym knows.nodes_are ∙ c.in_default.is) kind ∙ ap (λ n. Some (EarlyLine n)) (sym line)
+
+pub returns-in_err-insert-clause-judged : goal.returns-in_err-insert-clause-judged
+returns-in_err-insert-clause-judged c = λ before word knows line kind.
+    memory_judged before _ _ c.from_residual.result c.from_residual.ensures.1
