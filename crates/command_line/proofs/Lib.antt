@@ -6,3 +6,4 @@ mod Passing
 mod RunOptions
 mod Used
 mod Walked
+mod Refused

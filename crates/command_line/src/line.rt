@@ -45,8 +45,21 @@ fn with_command<'a>(command: Command<'a>, sub: Command<'a>) -> Result<Command<'a
     command.subcommand(sub)
 }
 
-// The commands that make something of a network. At most three a helper: the proof search follows no longer
-// chain.
+// A program with one more command, which has no options.
+fn with_plain_command<'a>(
+    alloc: Global,
+    program: Command<'a>,
+    name: &'a str,
+    help: Help,
+) -> Result<Command<'a>, AllocError>
+    requires { (out-Command program).has_globals ≡ false }
+    ensures shape { IfOk result (λ c. app_of c ≡ with_subcommand (app_of program.entry) (new_app name.entry.now).top) }
+    ensures local { IfOk result (λ c. (out-Command c).has_globals ≡ false) }
+{
+    with_command(program, command(alloc, name, help))
+}
+
+// The commands that make something of a network.
 fn with_network_commands<'a>(alloc: Global, program: Command<'a>) -> Result<Command<'a>, AllocError>
     requires { (out-Command program).has_globals ≡ false }
     ensures shape { IfOk result (λ c. app_of c ≡ with_network_commands (app_of program.entry)) }
@@ -84,7 +97,7 @@ fn with_plan_commands<'a>(alloc: Global, program: Command<'a>) -> Result<Command
 {
     let program = with_network_commands(alloc, program)?;
     let program = with_worker_commands(alloc, program)?;
-    with_command(program, command(alloc, "check", help::CHECK))
+    with_plain_command(alloc, program, "check", help::CHECK)
 }
 
 // The commands for lessons.
@@ -93,9 +106,9 @@ fn with_play_commands<'a>(alloc: Global, program: Command<'a>) -> Result<Command
     ensures shape { IfOk result (λ c. app_of c ≡ with_play_commands (app_of program.entry)) }
     ensures local { IfOk result (λ c. (out-Command c).has_globals ≡ false) }
 {
-    let program = with_command(program, command(alloc, "events", help::EVENTS))?;
-    let program = with_command(program, command(alloc, "replay", help::REPLAY))?;
-    with_command(program, command(alloc, "rounds", help::ROUNDS))
+    let program = with_plain_command(alloc, program, "events", help::EVENTS)?;
+    let program = with_plain_command(alloc, program, "replay", help::REPLAY)?;
+    with_plain_command(alloc, program, "rounds", help::ROUNDS)
 }
 
 /// The whole command line of a program.

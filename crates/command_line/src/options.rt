@@ -51,12 +51,18 @@ pub fn with_run_options<'a>(alloc: Global, command: Command<'a>) -> Result<Comma
     ensures shape { IfOk result (λ c. app_of c ≡ with_run_options (app_of command.entry)) }
     ensures local { IfOk result (λ c. (out-Command c).has_globals ≡ false) }
 {
-    let workers = number(alloc, "workers", 1, u64::from(MAX_WORKERS), "4", WORKERS);
-    let capacity = number(alloc, "capacity", 1, u64::from(MAX_CAPACITY), "4", CAPACITY);
-    let turns = number(alloc, "turns", 0, MAX_TURNS, "1000000000", TURNS);
-    let command = with_number(command, workers)?;
-    let command = with_number(command, capacity)?;
-    with_number(command, turns)
+    let command = with_number(
+        command,
+        number(alloc, "workers", 1, u64::from(MAX_WORKERS), "4", WORKERS),
+    )?;
+    let command = with_number(
+        command,
+        number(alloc, "capacity", 1, u64::from(MAX_CAPACITY), "4", CAPACITY),
+    )?;
+    with_number(
+        command,
+        number(alloc, "turns", 0, MAX_TURNS, "1000000000", TURNS),
+    )
 }
 
 /// A command with the option `--edition` behind its others.
