@@ -56,7 +56,7 @@ module _ (p : ℕ) (kept : List Kept) (v : AtPulse Marks) (is : record { pulse =
   pub inside : (i : ℕ) → i < length v.ports → i < length kept
   inside i h = omega (arith, h, ap (λ (w : AtPulse Marks). length w.ports) is, length-map kept (marks_with p))
 
-  seen : (i : ℕ) (o : Kept) → o ≡ get_or kept i o → i < length v.ports → marks_at v.ports i ≡ marks_with p o
+  pub seen : (i : ℕ) (o : Kept) → o ≡ get_or kept i o → i < length v.ports → marks_at v.ports i ≡ marks_with p o
   seen i o was h =
       ap (λ (w : AtPulse Marks). marks_at w.ports i) (sym is) ∙ get_or-map (marks_with p) kept i o no_marks (inside i h) ∙ ap (marks_with p) (sym was)
 

@@ -1,13 +1,19 @@
 pub mod Wires
 pub mod Due
 pub mod Cells
+mod Reacting
 pub mod PortLists
 mod Changed
 mod Counts
 mod Kept
+mod KeptFlags
+mod PayloadPlaces
 mod PortRows
+mod RowLengths
+mod Taken
 mod OutLists
 mod OutWires
+mod FrontWires
 mod KeptOuts
 mod Followed
 mod Settled

@@ -1,7 +1,9 @@
 use Rattle.std.proofs.Common.{refl, arith}
 use Rattle.alpha_core.specs.declared.marks.Kept.{Kept}
 use Rattle.alpha_core.specs.declared.marks.Marks.{Marks}
+use Rattle.alpha_core.proofs.OutWires.{bit-le}
 use Rattle.alpha_core.proofs.Kept.{are-counted, inside, marks-set, step-of, waits-counted}
+use Rattle.alpha_core.proofs.KeptFlags.{count-fits}
 use Rattle.alpha_core.proofs.marks.MarkList.set_waits.Goals as goal
 
 pub overflow_sub-self : goal.overflow_sub-self
@@ -41,3 +43,24 @@ returns c =
       set = marks-set a.pulse a.kept.items c.args.self.now c.self.view_is c.args.port o m c.index-kept.ensures c.requires.port
           (λ (x : Marks). record x { waits = c.args.waits }) refl;
     }
+
+pub index-kept-requires : goal.index-kept-requires
+index-kept-requires c =
+    let a = c.self.inside in
+    omega (arith, inside a.pulse a.kept.items c.args.self.now c.self.view_is c.args.port c.requires.port, a.kept.ok.0)
+
+pub overflow_add-self : goal.overflow_add-self
+overflow_add-self c =
+    let a = c.self.inside in
+    omega (
+      arith,
+      c.self.invariant.waits,
+      count-fits a.pulse a.kept.items (λ m. m.waits),
+      bit-le c.one_if-2.result c.args.waits c.one_if-2.ensures.one,
+      a.kept.ok.0,
+    )
+
+pub index_mut-requires : goal.index_mut-requires
+index_mut-requires c =
+    let a = c.self.inside in
+    omega (arith, inside a.pulse a.kept.items c.args.self.now c.self.view_is c.args.port c.requires.port, a.kept.ok.0)
