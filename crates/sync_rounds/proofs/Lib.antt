@@ -1,3 +1,4 @@
+pub mod Bounds
 pub mod Received
 pub mod Turns
 pub mod Clearing

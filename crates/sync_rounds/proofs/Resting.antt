@@ -1,8 +1,8 @@
 -- What every vertex sends as one list, and vertices that are passed over.
-use Rattle.std.proofs.Common.{◌≡◌, ℕ, suc, ◌+◌, ◌-◌, ◌<◌, List, [], length, get_or, set}
+use Rattle.std.proofs.Common.{◌≡◌, ℕ, suc, ◌+◌, ◌-◌, ◌<◌, List, [], ◌∷◌, length, get_or, set}
 use Rattle.std.proofs.Common.{replicate, take, drop, ◌++◌, Bool, true, false, inl, inr, refl, ap, sym, ◌∙◌, arith, subst}
 use Rattle.std.specs.Prelude.{Option, Ok, Result}
-use Rattle.std.proofs.lemmas.List.{get_or-replicate, length-replicate, length-set, take-append-le, take_all}
+use Rattle.std.proofs.lemmas.List.{get_or-replicate, get_or_append_left, get_or_push, length-replicate, length-set, take-append-le, take_all}
 use Rattle.std.proofs.lemmas.List.FromFn.{length-map-range_with_len, get_or-map-range_with_len}
 use Rattle.node_api.specs.interference.Net.{Net, IsVertex, count_of, degree_of}
 use Rattle.node_api.specs.Boxes.{Mail, nothing, unread, HasFrom}
@@ -82,6 +82,19 @@ rests-unknown program net p n untils size is = record {
 -- a slice of a whole list that keeps its length
 pub whole_written : {X : Type 0} (xs ys : List X) (n : ℕ) → length ys ≡ length xs → length xs ≡ n → take n (ys ++ drop (length ys) xs) ≡ ys
 whole_written xs ys n same size = take-append-le n ys (drop (length ys) xs) (omega arith) ∙ take_all n ys (omega arith)
+
+-- one outbox more, of the next degree
+pub outboxes-push : {M : Type 0} (n : ℕ) (occurs : List Bool) (outs : List (List (Option M))) (out : List (Option M)) → length outs ≡ n →
+    ((k : ℕ) (d : List (Option M)) → k < n → get_or occurs k false ≡ true → get_or outs k d ≡ nothing k) →
+    (get_or occurs n false ≡ true → out ≡ nothing n) → (k : ℕ) (d : List (Option M)) → k < n + 1 → get_or occurs k false ≡ true →
+    get_or (outs ++ out ∷ []) k d ≡ nothing k
+outboxes-push {M} n occurs outs out size before new k d low is =
+    elim (below_or_last k n low) [
+      | inl below ↦ get_or_append_left outs (out ∷ []) d k (omega (arith, size)) ∙ before k d below is
+      | inr same ↦
+          subst (λ (j : ℕ). get_or (outs ++ out ∷ []) j d ≡ nothing {M = M} j) (sym same)
+          (get_or_push outs out d n size ∙ new (subst (λ (j : ℕ). get_or occurs j false ≡ true) same is))
+    ]
 
 -- the degree of one vertex more occurs
 pub degrees-more : (net : Net) (n degree : ℕ) (occurs : List Bool) → degree < length occurs → degree ≡ degree_of net (n + 1) → HasDegrees net n occurs →

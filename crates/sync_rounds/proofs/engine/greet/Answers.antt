@@ -1,5 +1,5 @@
 -- A node that was made greets (`started`), so its outbox is the run's, and what is in it goes to the neighbours.
-use Rattle.std.proofs.Common.{◌≡◌, ℕ, length, set, ap, sym, ◌∙◌, subst}
+use Rattle.std.proofs.Common.{◌≡◌, ◌<◌, ℕ, length, set, ap, sym, ◌∙◌, subst}
 use Rattle.node_api.specs.interference.Net.{degree_of}
 use Rattle.node_api.specs.Boxes.{nothing}
 use Rattle.node_api.specs.Program.{own_of}
@@ -7,6 +7,10 @@ use Rattle.sync_rounds.specs.Rests.{HasOutboxes, sent_by}
 use Rattle.sync_rounds.proofs.Resting.{outboxes_kept, own_out, sent_by-at, sent-length}
 use Rattle.sync_rounds.proofs.Steps.{started}
 use Rattle.sync_rounds.proofs.engine.greet.Goals as goal
+
+pub bounds-outs-degree : goal.bounds-outs-degree
+bounds-outs-degree g c =
+    subst (λ (d : ℕ). d < length c.args.outs.now) (sym c.degree.ensures.value) (c.requires.outs.within c.args.v c.requires.vertex)
 
 pub init-requires : goal.init-requires
 init-requires g c =
@@ -17,6 +21,9 @@ init-requires g c =
       out = own_out c.args.net.now c.args.outs.now c.args.v c.degree.result c.index-outs-degree.result c.requires.vertex c.requires.outs c.degree.ensures.value
           ∙ ap (λ (n : ℕ). nothing n) ports;
     }
+
+pub send_out-requires-clause-vertex : goal.send_out-requires-clause-vertex
+send_out-requires-clause-vertex g c = c.requires.vertex
 
 pub send_out-requires-clause-ports : goal.send_out-requires-clause-ports
 send_out-requires-clause-ports g c =

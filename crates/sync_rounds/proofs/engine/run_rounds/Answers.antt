@@ -1,5 +1,5 @@
 -- A round leaves all as the next one asks for it, once the inboxes have changed places; after the last pulse the nodes are the run's.
-use Rattle.std.proofs.Common.{◌≡◌, ◌<◌, ◌≤◌, ◌+◌, ℕ, suc, List, length, ap, sym, ◌∙◌, arith, subst}
+use Rattle.std.proofs.Common.{◌≡◌, ◌<◌, ◌≤◌, ◌+◌, ℕ, suc, List, length, ap, sym, ◌∙◌, arith, subst, true, false}
 use Rattle.std.specs.Prelude.{Option, slice_index_or}
 use Rattle.node_api.specs.interference.Net.{count_of}
 use Rattle.node_api.specs.Boxes.{Mail, unread}
@@ -7,10 +7,54 @@ use Rattle.node_api.specs.Program.{last_pulse_on}
 use Rattle.node_api.specs.Run.{inbox_at, state_at}
 use Rattle.sync_rounds.specs.Lists.{Lists, empty_inbox}
 use Rattle.sync_rounds.specs.Rests.{AreResting, HasOutboxes}
+use Rattle.sync_rounds.proofs.Bounds.{at_least_none, fewer}
 use Rattle.sync_rounds.proofs.Received.{listed_from}
-use Rattle.sync_rounds.proofs.Resting.{whole_written}
+use Rattle.sync_rounds.proofs.Resting.{rests-unknown, whole_written}
 use Rattle.sync_rounds.proofs.Still.{still-inboxes, still-nodes, still-rests}
 use Rattle.sync_rounds.proofs.engine.run_rounds.Goals as goal
+
+pub loop-done-init : goal.loop-done-init
+loop-done-init g c = record {
+  nodes = c.in_ok-nodes.ensures.nodes;
+  outs = c.in_ok-nodes.ensures.outs;
+  rests = rests-unknown g.P.NodeProgram.program c.args.net.now 0 c.nodes.result c.in_ok-untils.untils.items c.nodes.ensures.count
+      (c.in_ok-untils.ensures.items_if_clones_equal (λ y same. same));
+  now = c.in_ok-nodes.ensures.now;
+  quiet = λ none. absurd (let wrong : true ≡ false = none in cc);
+  least = λ k d below. at_least_none _;
+  later = c.in_ok-later.ensures.empty;
+}
+
+pub loop-done-smaller-then-done-all_rest : goal.loop-done-smaller-then-done-all_rest
+loop-done-smaller-then-done-all_rest g c = fewer _ _ c.loop-done-test.true
+
+pub round-sent-requires-clause-nodes : goal.round-sent-requires-clause-nodes
+round-sent-requires-clause-nodes g c κs within =
+    subst (λ (xs : List _). Lists (count_of c.args.net.now) (state_at g.P.NodeProgram.program c.args.net.now c.loop-done.done) xs)
+    (sym c.deref_mut.ensures.value) c.loop-done.invariant.nodes
+
+pub round-sent-requires-clause-outs : goal.round-sent-requires-clause-outs
+round-sent-requires-clause-outs g c κs within =
+    subst (λ (xs : List (List (Option _))). HasOutboxes c.args.net.now xs) (sym c.deref_mut-in-loop-done.ensures.value) c.loop-done.invariant.outs
+
+pub round-sent-requires-clause-rests : goal.round-sent-requires-clause-rests
+round-sent-requires-clause-rests g c κs within =
+    subst (λ (xs : List ℕ). AreResting g.P.NodeProgram.program c.args.net.now c.loop-done.done xs) (sym c.deref_mut-in-loop-done-2.ensures.value)
+    c.loop-done.invariant.rests
+
+pub round-sent-requires-clause-now : goal.round-sent-requires-clause-now
+round-sent-requires-clause-now g c κs within =
+    let m = g.P.NodeProgram in
+    subst (λ (xs : List (Mail _)). Lists (count_of c.args.net.now) (λ v. unread (inbox_at m.program c.args.net.now (suc c.loop-done.done) v)) xs)
+    (sym c.deref_mut-in-loop-done-3.ensures.value) c.loop-done.invariant.now
+
+pub round-sent-requires-clause-later : goal.round-sent-requires-clause-later
+round-sent-requires-clause-later g c κs within =
+    subst (λ (xs : List (Mail _)). Lists (count_of c.args.net.now) (empty_inbox c.args.net.now) xs) (sym c.deref_mut-in-loop-done-4.ensures.value)
+    c.loop-done.invariant.later
+
+pub loop-done-smaller : goal.loop-done-smaller
+loop-done-smaller g c = fewer _ _ c.loop-done-test.true
 
 pub loop-done-preserved : goal.loop-done-preserved
 loop-done-preserved g c =

@@ -1,11 +1,22 @@
 -- The node makes the run's next pulse (`stepped`), so its outbox is the run's, and what is in it goes to the neighbours.
-use Rattle.std.proofs.Common.{◌≡◌, ◌+◌, ℕ, suc, length, set, ap, sym, ◌∙◌, arith, subst}
+use Rattle.std.proofs.Common.{◌≡◌, ◌<◌, ◌+◌, ℕ, suc, length, set, ap, sym, ◌∙◌, arith, subst}
 use Rattle.node_api.specs.Boxes.{Mail, nothing}
 use Rattle.node_api.specs.Program.{RestsUntil}
 use Rattle.sync_rounds.specs.Rests.{HasOutboxes, sent_by}
+use Rattle.sync_rounds.proofs.Bounds.{one_next}
 use Rattle.sync_rounds.proofs.Resting.{outboxes_kept, own_out, sent_by-at, sent-length}
-use Rattle.sync_rounds.proofs.Steps.{inbox_fits, left_empty, out_empty, stepped}
+use Rattle.sync_rounds.proofs.Steps.{inbox_fits, left_empty, out_empty, stepped, unread_is}
 use Rattle.sync_rounds.proofs.engine.turn.Goals as goal
+
+pub bounds-outs-degree : goal.bounds-outs-degree
+bounds-outs-degree g c =
+    subst (λ (d : ℕ). d < length c.args.outs.now) (sym c.degree.ensures.value) (c.requires.outs.within c.args.v c.requires.vertex)
+
+pub pulse_one-requires-clause-pulse : goal.pulse_one-requires-clause-pulse
+pulse_one-requires-clause-pulse g c κs within = one_next c.args.done
+
+pub pulse_one-requires-clause-unread : goal.pulse_one-requires-clause-unread
+pulse_one-requires-clause-unread g c κs within = unread_is _ _ c.requires.inbox
 
 pub pulse_one-requires-clause-ports : goal.pulse_one-requires-clause-ports
 pulse_one-requires-clause-ports g c κs within =
@@ -17,6 +28,9 @@ pulse_one-requires-clause-out g c κs within =
     let m = g.P.NodeProgram in
     out_empty m.program m.laws.keeps_ports c.args.net.now c.args.done c.args.v _ _ c.requires.node
     (own_out c.args.net.now c.args.outs.now c.args.v c.degree.result c.index-outs-degree.result c.requires.vertex c.requires.outs c.degree.ensures.value)
+
+pub send_out-is_loud-requires-clause-vertex : goal.send_out-is_loud-requires-clause-vertex
+send_out-is_loud-requires-clause-vertex g c = c.requires.vertex
 
 pub send_out-is_loud-requires-clause-ports : goal.send_out-is_loud-requires-clause-ports
 send_out-is_loud-requires-clause-ports g c =
