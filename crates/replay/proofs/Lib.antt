@@ -1,4 +1,5 @@
 pub mod Ports
+pub mod Missing
 pub mod Writes
 pub mod Replayed
 pub mod WholeReplays

@@ -1,11 +1,15 @@
 -- The plan: the port is that of the neighbour (place), and the wire at its front is what the put writes down (front).
-use Rattle.std.proofs.Common.{Ok, ◌≡◌, ◌<◌, ap, sym, ◌∙◌, subst, slice_get}
-use Rattle.alpha_laws.specs.interference.Net.{degree_of, port_to}
+use Rattle.std.proofs.Common.{Ok, ◌≡◌, ◌<◌, ◌≤◌, ap, length, sym, ◌∙◌, subst, slice_get}
+use Rattle.std.proofs.lemmas.Result.{IfOk-from_err}
+use Rattle.alpha_laws.specs.interference.Net.{IsVertex, degree_of, port_to}
 use Rattle.alpha_laws.specs.alpha_core.View.{port_at}
 use Rattle.stamps.specs.entries.Entry.TheVariants as entry
 use Rattle.net_core.specs.declared.event.Event.TheVariants.{Put}
 use Rattle.net_core.specs.State.{node_of}
 use Rattle.net_core.specs.Step.{step}
+use Rattle.replay.specs.declared.refused.EntryRefused.TheVariants.{Step}
+use Rattle.replay.specs.Replays.{IsRefusedEntry}
+use Rattle.replay.proofs.Missing.{no-put, refused-step}
 use Rattle.replay.proofs.Writes.{put-other, row-is}
 use Rattle.replay.proofs.entry_event.make_put.Goals as goal
 use Rattle.replay.proofs.entry_event.make_put.Goals.{In_ok-step}
@@ -29,6 +33,51 @@ leads : (g : _) (c : In_ok-step g) →
     ≡ Ok c.step.new.self.state
 leads g c =
     ap (λ i. step g.P.NodeProgram.program c.args.state.now.net c.args.state.now.state (Put c.args.v i)) (sym (place g c)) ∙ c.in_ok-step.ensures.step
+
+pub network-requires : goal.network-requires
+network-requires g c = (c.type_bounds.send-P, c.type_bounds.send-P-Payload)
+
+pub port_to-requires : goal.port_to-requires
+port_to-requires g c = record { vertex = subst (λ n. IsVertex n c.args.v) (sym c.network.ensures.network) c.requires.vertex }
+
+pub returns-in_default-clause-refused : goal.returns-in_default-clause-refused
+returns-in_default-clause-refused g c = λ never.
+    no-put g.P.NodeProgram.program c.args.state.now.net c.args.state.now.state c.args.v c.args.w
+    (subst (λ n. degree_of n c.args.v ≤ port_to n c.args.v c.args.w) c.network.ensures.network c.in_default.ensures.none)
+
+pub is_simulation-requires : goal.is_simulation-requires
+is_simulation-requires g c = (c.type_bounds.send-P, c.type_bounds.send-P-Payload)
+
+pub node-requires : goal.node-requires
+node-requires g c = (c.type_bounds.send-P, (c.type_bounds.send-P-Payload, c.requires.vertex))
+
+-- the node has as many ports as its vertex
+pub front-oldest-requires : goal.front-oldest-requires
+front-oldest-requires g c =
+    let count = ap (λ n. length n.view.ports) c.node.ensures.node ∙ (c.is_simulation.ensures.simulates.fits c.args.v c.requires.vertex).count in (
+      c.type_bounds.send-P,
+      (
+        c.type_bounds.send-P-Payload,
+        subst (λ k. c.in-Some.port < k) (sym count)
+            (subst (λ n. c.in-Some.port < degree_of n c.args.v) c.network.ensures.network c.in-Some.ensures.port.1),
+      ),
+    )
+
+pub step-requires : goal.step-requires
+step-requires g c = (c.type_bounds.send-P, c.type_bounds.send-P-Payload)
+
+pub returns-in_err-step-clause-made : goal.returns-in_err-step-clause-made
+returns-in_err-step-clause-made g c = IfOk-from_err c.from_residual.result _ c.from_residual.ensures.0
+
+-- the refused put is that of the neighbour's port
+pub returns-in_err-step-clause-refused : goal.returns-in_err-step-clause-refused
+returns-in_err-step-clause-refused g c =
+    let old = c.args.state.now in
+    let place = c.in-Some.ensures.port.0 ∙ ap (λ n. port_to n c.args.v c.args.w) c.network.ensures.network in
+    refused-step c.from_residual.result (IsRefusedEntry g.P.NodeProgram.program old (c.args.v, entry.Put c.args.w c.args.wire))
+    c.in_err-step.field-0.0 c.from_residual.ensures.1
+    (λ never. ap (λ i. step g.P.NodeProgram.program old.net old.state (Put c.args.v i)) (sym place)
+    ∙ c.in_err-step.ensures.step (λ e. never (ap Step e)))
 
 pub returns-then-carries-clause-made : goal.returns-then-carries-clause-made
 returns-then-carries-clause-made g c =

@@ -1,14 +1,18 @@
 -- The plan: the port is that of the neighbour (place), and the oldest wire of the link that comes by it is what the take
--- writes down (oldest).
-use Rattle.std.proofs.Common.{Ok, ◌≡◌, ◌<◌, ap, sym, ◌∙◌, subst, slice_get}
-use Rattle.alpha_laws.specs.interference.Net.{degree_of, port_to, neighbour_of, back_port_of}
+-- writes down (oldest). Each network that the state lends is its own (port-there).
+use Rattle.std.proofs.Common.{Ok, ◌≡◌, ◌<◌, ◌≤◌, ap, sym, ◌∙◌, subst, slice_get}
+use Rattle.std.proofs.lemmas.Result.{IfOk-from_err}
+use Rattle.alpha_laws.specs.interference.Net.{IsVertex, degree_of, port_to, neighbour_of, back_port_of}
 use Rattle.stamps.specs.entries.Entry.TheVariants as entry
 use Rattle.net_core.specs.declared.event.Event.TheVariants.{Take}
 use Rattle.net_core.specs.State.{link_at, link_to}
 use Rattle.net_core.specs.Step.{step}
+use Rattle.replay.specs.declared.refused.EntryRefused.TheVariants.{Step}
+use Rattle.replay.specs.Replays.{IsRefusedEntry}
+use Rattle.replay.proofs.Missing.{no-take, refused-step}
 use Rattle.replay.proofs.Writes.{row-is, take-other}
 use Rattle.replay.proofs.entry_event.make_take.Goals as goal
-use Rattle.replay.proofs.entry_event.make_take.Goals.{In_ok-step}
+use Rattle.replay.proofs.entry_event.make_take.Goals.{After-network-net, In_ok-step}
 
 place : (g : _) (c : In_ok-step g) → c.in-Some.port ≡ port_to c.args.state.now.net c.args.v c.args.w
 place g c = c.in-Some.ensures.port.0 ∙ ap (λ n. port_to n c.args.v c.args.w) c.network.ensures.network
@@ -35,6 +39,65 @@ leads : (g : _) (c : In_ok-step g) →
     ≡ Ok c.step.new.self.state
 leads g c =
     ap (λ i. step g.P.NodeProgram.program c.args.state.now.net c.args.state.now.state (Take c.args.v i)) (sym (place g c)) ∙ c.in_ok-step.ensures.step
+
+port-there : (g : _) (c : After-network-net g) → c.in-Some.port < degree_of c.network-net.result.now c.args.v
+port-there g c = subst (λ n. c.in-Some.port < degree_of n c.args.v) (c.network.ensures.network ∙ sym c.network-net.ensures.network) c.in-Some.ensures.port.1
+
+pub network-requires : goal.network-requires
+network-requires g c = (c.type_bounds.send-P, c.type_bounds.send-P-Payload)
+
+pub port_to-requires : goal.port_to-requires
+port_to-requires g c = record { vertex = subst (λ n. IsVertex n c.args.v) (sym c.network.ensures.network) c.requires.vertex }
+
+pub returns-in_default-clause-refused : goal.returns-in_default-clause-refused
+returns-in_default-clause-refused g c = λ never.
+    no-take g.P.NodeProgram.program c.args.state.now.net c.args.state.now.state c.args.v c.args.w
+    (subst (λ n. degree_of n c.args.v ≤ port_to n c.args.v c.args.w) c.network.ensures.network c.in_default.ensures.none)
+
+pub network-net-requires : goal.network-net-requires
+network-net-requires g c = (c.type_bounds.send-P, c.type_bounds.send-P-Payload)
+
+pub neighbour-requires-clause-vertex : goal.neighbour-requires-clause-vertex
+neighbour-requires-clause-vertex g c = subst (λ n. IsVertex n c.args.v) (sym c.network-net.ensures.network) c.requires.vertex
+
+pub neighbour-requires-clause-port : goal.neighbour-requires-clause-port
+neighbour-requires-clause-port g c = port-there g (goal.at.neighbour-requires-clause-port g c).After-network-net
+
+pub back_port-requires-clause-vertex : goal.back_port-requires-clause-vertex
+back_port-requires-clause-vertex g c = subst (λ n. IsVertex n c.args.v) (sym c.network-net.ensures.network) c.requires.vertex
+
+pub back_port-requires-clause-port : goal.back_port-requires-clause-port
+back_port-requires-clause-port g c = port-there g (goal.at.back_port-requires-clause-port g c).After-network-net
+
+pub link-requires : goal.link-requires
+link-requires g c =
+    let same = c.network-net.ensures.network in (
+      c.type_bounds.send-P,
+      (
+        c.type_bounds.send-P-Payload,
+        (
+          subst (λ n. IsVertex n c.neighbour.result) same c.neighbour.ensures.vertex,
+          subst (λ n. c.back_port.result < degree_of n c.neighbour.result) same
+              (subst (λ u. c.back_port.result < degree_of c.network-net.result.now u) (sym c.neighbour.ensures.value) c.back_port.ensures.port),
+        ),
+      ),
+    )
+
+pub step-requires : goal.step-requires
+step-requires g c = (c.type_bounds.send-P, c.type_bounds.send-P-Payload)
+
+pub returns-in_err-step-clause-made : goal.returns-in_err-step-clause-made
+returns-in_err-step-clause-made g c = IfOk-from_err c.from_residual.result _ c.from_residual.ensures.0
+
+-- the refused take is that of the neighbour's port
+pub returns-in_err-step-clause-refused : goal.returns-in_err-step-clause-refused
+returns-in_err-step-clause-refused g c =
+    let old = c.args.state.now in
+    let place = c.in-Some.ensures.port.0 ∙ ap (λ n. port_to n c.args.v c.args.w) c.network.ensures.network in
+    refused-step c.from_residual.result (IsRefusedEntry g.P.NodeProgram.program old (c.args.v, entry.Take c.args.w c.args.wire))
+    c.in_err-step.field-0.0 c.from_residual.ensures.1
+    (λ never. ap (λ i. step g.P.NodeProgram.program old.net old.state (Take c.args.v i)) (sym place)
+    ∙ c.in_err-step.ensures.step (λ e. never (ap Step e)))
 
 pub returns-then-carries-clause-made : goal.returns-then-carries-clause-made
 returns-then-carries-clause-made g c =
