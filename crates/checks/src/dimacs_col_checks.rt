@@ -3,7 +3,6 @@
 use dimacs_col::ColFault;
 use std::alloc::Global;
 use std::fmt::Write;
-use std::test::Fail;
 
 static FAULT_TEXTS: [(ColFault, &str); 14] = [
     (ColFault::NoProblem, "F1: no problem line"),
@@ -58,16 +57,14 @@ static FAULT_TEXTS: [(ColFault, &str); 14] = [
     (ColFault::Memory, "F9: out of memory"),
 ];
 
-fn text_of(alloc: Global, fault: ColFault) -> Result<String, Fail> {
+fn has_text(alloc: Global, fault: ColFault, text: &str) -> bool {
     let mut written = String::new(alloc);
-    write!(written, "{fault}")?;
-    Ok(written)
+    write!(written, "{fault}").is_ok() && written.as_str() == text
 }
 
 #[test]
-fn each_fault_has_its_text(rt: HostRuntime) -> Result<(), Fail> {
+fn each_fault_has_its_text(rt: HostRuntime) {
     for (fault, text) in &FAULT_TEXTS {
-        assert!(rt; text_of(rt.alloc(), *fault)?.as_str() == *text, "{text}");
+        assert!(rt; has_text(rt.alloc(), *fault, *text), "{text}");
     }
-    Ok(())
 }

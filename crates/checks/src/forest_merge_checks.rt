@@ -5,22 +5,46 @@ use forest_merge::{COLOURS, ChosenSet, has_free, least_free, step_of};
 // The greatest colour.
 const GREATEST: u16 = COLOURS - 1;
 
+// Colours at the ends of words, and others.
+static ADDED: [u16; 7] = [0, 1, 63, 64, 127, 128, GREATEST];
+
+static OTHERS: [u16; 9] = [2, 62, 65, 126, 129, 191, 1023, 1024, 2046];
+
+// Whether a set has a colour only once it is added.
+fn has_what_is_added(chosen: &mut ChosenSet, colour: u16) -> bool {
+    if colour > GREATEST || chosen.has(colour) {
+        return false;
+    }
+    chosen.add(colour);
+    chosen.has(colour)
+}
+
+fn has_all_that_is_added(chosen: &mut ChosenSet, colours: &[u16]) -> bool {
+    for colour in colours {
+        if !has_what_is_added(chosen, *colour) {
+            return false;
+        }
+    }
+    true
+}
+
+fn has_none(chosen: &ChosenSet, colours: &[u16]) -> bool {
+    for colour in colours {
+        if *colour > GREATEST || chosen.has(*colour) {
+            return false;
+        }
+    }
+    true
+}
+
 #[test]
 fn a_set_has_what_was_added(rt: HostRuntime) {
     let mut chosen = ChosenSet::new();
-    for colour in [0, 1, 63, 64, 127, 128, GREATEST] {
-        assert!(rt; !chosen.has(colour), "{colour} before");
-        chosen.add(colour);
-        assert!(rt; chosen.has(colour), "{colour} after");
-    }
-    for colour in [2, 62, 65, 126, 129, 191, 1023, 1024, 2046] {
-        assert!(rt; !chosen.has(colour), "{colour}");
-    }
+    assert!(rt; has_all_that_is_added(&mut chosen, &ADDED));
+    assert!(rt; has_none(&chosen, &OTHERS));
     assert!(rt; chosen.copy().has(127));
     chosen.clear();
-    for colour in [0, 63, 64, GREATEST] {
-        assert!(rt; !chosen.has(colour), "{colour} after clear");
-    }
+    assert!(rt; has_none(&chosen, &ADDED));
 }
 
 // The colours below `end` are chosen, those from `first` and below `last` barred; the least free colour of 0 to `span`.
@@ -101,19 +125,25 @@ fn a_gap_that_is_not_barred_is_chosen(rt: HostRuntime) {
     assert!(rt; gap_is_chosen(&chosen, &mut barred));
 }
 
+// Steps and spans, and the pairs and colours that they are of.
+static STEPS: [(u32, u16, u32, u8, u16); 9] = [
+    (0, 2, 0, 0, 0),
+    (8, 2, 0, 2, 2),
+    (9, 2, 1, 0, 0),
+    (17, 2, 1, 2, 2),
+    (5, 0, 1, 2, 0),
+    (3071, 1023, 0, 2, 1023),
+    (3072, 1023, 1, 0, 0),
+    (6143, GREATEST, 0, 2, GREATEST),
+    (6144, GREATEST, 1, 0, 0),
+];
+
 #[test]
 fn steps_are_counted(rt: HostRuntime) {
-    for (t, span, step) in [
-        (0, 2, (0, 0, 0)),
-        (8, 2, (0, 2, 2)),
-        (9, 2, (1, 0, 0)),
-        (17, 2, (1, 2, 2)),
-        (5, 0, (1, 2, 0)),
-        (3071, 1023, (0, 2, 1023)),
-        (3072, 1023, (1, 0, 0)),
-        (6143, GREATEST, (0, 2, GREATEST)),
-        (6144, GREATEST, (1, 0, 0)),
-    ] {
-        assert_eq!(rt; step_of(t, span), step, "step {t}, span {span}");
+    for (t, span, round, pair, colour) in &STEPS {
+        assert!(rt;
+            step_of(*t, *span) == (*round, *pair, *colour),
+            "step {t}, span {span}"
+        );
     }
 }

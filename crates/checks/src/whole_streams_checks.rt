@@ -3,7 +3,6 @@
 use std::alloc::Global;
 use std::io;
 use std::io::{Error, ErrorKind, Read, Write};
-use std::test::Fail;
 use whole_streams::{ReadFault, Sink, Source, WriteFault, read_whole, write_whole};
 
 // Bytes of which one read fails, after `before` reads. It shows that a reader can meet the trait
@@ -61,21 +60,25 @@ impl Source for OneFault<'_> {
     }
 }
 
-#[test]
-fn reads_to_the_end_or_to_the_fault(rt: HostRuntime) -> Result<(), Fail> {
-    for (before, read) in [(0, false), (1, false), (2, true)] {
-        let mut input = OneFault {
-            rest: b"abcdef",
-            before,
-            failed: false,
-            counted: 9,
-        };
-        match read_whole(rt.alloc(), &mut input) {
-            Ok(bytes) => assert!(rt; read && bytes.as_slice() == b"abcdef".as_slice()),
-            Err(fault) => assert!(rt; !read && fault == ReadFault::Stream),
-        }
+// Whether six bytes of which one read fails, after so many, are read as a whole if that is said, and else aren't.
+fn reads_so(alloc: Global, before: u32, read: bool) -> bool {
+    let mut input = OneFault {
+        rest: b"abcdef",
+        before,
+        failed: false,
+        counted: 9,
+    };
+    match read_whole(alloc, &mut input) {
+        Ok(bytes) => read && bytes.as_slice() == b"abcdef".as_slice(),
+        Err(fault) => !read && fault == ReadFault::Stream,
     }
-    Ok(())
+}
+
+#[test]
+fn reads_to_the_end_or_to_the_fault(rt: HostRuntime) {
+    assert!(rt; reads_so(rt.alloc(), 0, false));
+    assert!(rt; reads_so(rt.alloc(), 1, false));
+    assert!(rt; reads_so(rt.alloc(), 2, true));
 }
 
 // Takes two bytes at a time, and then none.
@@ -104,29 +107,42 @@ impl Sink for Full {
     }
 }
 
-#[test]
-fn writes_all_or_a_beginning(rt: HostRuntime) -> Result<(), Fail> {
-    let alloc = rt.alloc();
-    for most in 0..8 {
-        let mut output = Full {
-            bytes: Vec::new(alloc),
-            most,
-        };
-        let done = write_whole(&mut output, b"abcdef");
-        assert!(rt; done == if most < 6 { Err(WriteFault) } else { Ok(()) });
-        assert!(rt; output.bytes.as_slice() == &b"abcdef"[..most.min(6)]);
-    }
-    Ok(())
+// Whether of six bytes as many are written as the writer takes, and less than all are a fault.
+fn writes_so(alloc: Global, most: usize) -> bool {
+    let mut output = Full {
+        bytes: Vec::new(alloc),
+        most,
+    };
+    let is_whole = write_whole(&mut output, b"abcdef") == Ok(());
+    is_whole == (most >= 6) && output.bytes.as_slice() == &b"abcdef"[..most.min(6)]
 }
 
 #[test]
-fn streams_of_memory(rt: HostRuntime) -> Result<(), Fail> {
-    let alloc: Global = rt.alloc();
+fn writes_all_or_a_beginning(rt: HostRuntime) {
+    for most in 0..8 {
+        assert!(rt; writes_so(rt.alloc(), most), "{most}");
+    }
+}
+
+// Whether "abc" is written behind "->".
+fn writes_abc(alloc: Global, bytes: &[u8]) -> bool {
+    match Vec::from_slice(alloc, b"->") {
+        Ok(mut output) => {
+            write_whole(&mut output, bytes).is_ok() && output.as_slice() == b"->abc".as_slice()
+        }
+        Err(_) => false,
+    }
+}
+
+fn reads_and_writes_abc(alloc: Global) -> bool {
     let mut input: &[u8] = b"abc";
-    let bytes = read_whole(alloc, &mut input)?;
-    let mut output = Vec::from_slice(alloc, b"->")?;
-    assert!(rt; write_whole(&mut output, bytes.as_slice()).is_ok());
-    assert!(rt; output.as_slice() == b"->abc".as_slice());
-    assert!(rt; input.is_empty());
-    Ok(())
+    match read_whole(alloc, &mut input) {
+        Ok(bytes) => writes_abc(alloc, bytes.as_slice()) && input.is_empty(),
+        Err(_) => false,
+    }
+}
+
+#[test]
+fn streams_of_memory(rt: HostRuntime) {
+    assert!(rt; reads_and_writes_abc(rt.alloc()));
 }
