@@ -1,6 +1,6 @@
 //! A node by itself, whose counter is near the greatest number.
 
-ghost use Rattle.std.specs.Prelude.{◌≡◌, IfOk};
+ghost use Rattle.std.specs.Prelude.{◌≡◌, [], ◌∷◌, IfOk, map};
 ghost use Rattle.checks.specs.LinkRows.{lone_net};
 
 use actor::TurnRefused;
@@ -27,29 +27,85 @@ impl Wiring for Alone {
 
 // No links out of the one node.
 fn no_links(alloc: Global) -> Result<Links<Alone, Greatest<2>>, Memory> {
-    Ok(Links::new(vec![in alloc; Vec::new(alloc)]?))
+    match vec![in alloc; Vec::new(alloc)] {
+        Ok(rows) => Ok(Links::new(rows)),
+        Err(_) => Err(Memory),
+    }
 }
 
-// The node at its start, with its counter moved past a stamp.
-fn node_past(
-    alloc: Global,
-    network: &Network,
-    stamp: u64,
-) -> Result<Node<Alone, Greatest<2>>, Memory>
+fn lone_node(alloc: Global, network: &Network) -> Result<Node<Alone, Greatest<2>>, Memory>
     requires network { network.now ≡ lone_net }
     ensures vertex { IfOk result (λ node. node.vertex ≡ 1) }
 {
-    let mut node = Node::<Alone, Greatest<2>>::start(
-        alloc,
-        network,
-        1,
-        Vec::new(alloc),
-        Vec::new(alloc),
-        false,
-    )?;
-    match node.counter.past(stamp) {
-        Ok(_) => Ok(node),
-        Err(_) => Err(Memory),
+    Node::start(alloc, network, 1, Vec::new(alloc), Vec::new(alloc), false)
+}
+
+// The pulse and the counter of the one node.
+fn end_of(nodes: &[Node<Alone, Greatest<2>>]) -> Result<(u32, u64), PoolFault> {
+    match nodes {
+        [node] => Ok((node.alpha.pulse_number(), node.counter.value())),
+        _ => Err(PoolFault::Memory),
+    }
+}
+
+// What owns a node or a list of nodes does nothing else, since each place at which it may be dropped costs proof.
+fn run_row<R: Threads + Wait + Sync>(
+    rt: &R,
+    alloc: Global,
+    links: &Links<Alone, Greatest<2>>,
+    nodes: Vec<Box<Node<Alone, Greatest<2>>>>,
+) -> Result<(u32, u64), PoolFault>
+    requires one { map (λ b. b.value.vertex) nodes.items ≡ 1 ∷ [] }
+{
+    match run_nodes(rt, alloc, links, &OpenGate, nodes, 1, 100) {
+        Ok(nodes) => end_of(nodes.as_slice()),
+        Err(fault) => Err(fault),
+    }
+}
+
+fn run_boxed<R: Threads + Wait + Sync>(
+    rt: &R,
+    alloc: Global,
+    links: &Links<Alone, Greatest<2>>,
+    node: Box<Node<Alone, Greatest<2>>>,
+) -> Result<(u32, u64), PoolFault>
+    requires vertex { node.value.vertex ≡ 1 }
+{
+    match vec![in alloc; node] {
+        Ok(nodes) => run_row(rt, alloc, links, nodes),
+        Err(_) => Err(PoolFault::Memory),
+    }
+}
+
+// Runs a node whose counter is moved past a stamp before.
+fn run_past<R: Threads + Wait + Sync>(
+    rt: &R,
+    alloc: Global,
+    links: &Links<Alone, Greatest<2>>,
+    mut node: Node<Alone, Greatest<2>>,
+    stamp: u64,
+) -> Result<(u32, u64), PoolFault>
+    requires vertex { node.vertex ≡ 1 }
+{
+    let is_past = node.counter.past(stamp).is_ok();
+    match Box::new(alloc, node) {
+        Ok(node) if is_past => run_boxed(rt, alloc, links, node),
+        _ => Err(PoolFault::Memory),
+    }
+}
+
+fn run_over<R: Threads + Wait + Sync>(
+    rt: &R,
+    alloc: Global,
+    network: &Network,
+    links: &Links<Alone, Greatest<2>>,
+    stamp: u64,
+) -> Result<(u32, u64), PoolFault>
+    requires network { network.now ≡ lone_net }
+{
+    match lone_node(alloc, network) {
+        Ok(node) => run_past(rt, alloc, links, node, stamp),
+        Err(_) => Err(PoolFault::Memory),
     }
 }
 
@@ -62,21 +118,21 @@ pub fn run_from<R: Threads + Wait + Sync>(
 ) -> Result<(u32, u64), PoolFault>
     requires network { network.now ≡ lone_net }
 {
-    let links = no_links(alloc)?;
-    let node = Box::new(alloc, node_past(alloc, network, stamp)?)?;
-    let nodes = run_nodes(rt, alloc, &links, &OpenGate, vec![in alloc; node]?, 1, 100)?;
-    match nodes.as_slice() {
-        [node] => Ok((node.alpha.pulse_number(), node.counter.value())),
-        _ => Err(PoolFault::Memory),
+    match no_links(alloc) {
+        Ok(links) => run_over(rt, alloc, network, &links, stamp),
+        Err(_) => Err(PoolFault::Memory),
     }
 }
 
-// Whether a node refuses its second turn, and stays as it was.
+// Whether a node whose counter leaves one stamp refuses its second turn, and stays as it was.
 fn refuses_the_second_turn<R: Wait>(
     rt: &R,
     links: &Links<Alone, Greatest<2>>,
     node: &mut Node<Alone, Greatest<2>>,
 ) -> bool {
+    if node.counter.past(u64::MAX - 2).is_err() {
+        return false;
+    }
     let first = node.turn(rt, links, &OpenGate, 0);
     let second = node.turn(rt, links, &OpenGate, 0);
     first == Ok(true)
@@ -86,11 +142,26 @@ fn refuses_the_second_turn<R: Wait>(
         && node.aside.is_none()
 }
 
-/// Whether the node is as it was after a turn that it refuses for want of a stamp.
-pub fn stays_as_it_was<R: Wait>(rt: &R, alloc: Global, network: &Network) -> Result<bool, Memory>
+fn stays_over<R: Wait>(
+    rt: &R,
+    alloc: Global,
+    network: &Network,
+    links: &Links<Alone, Greatest<2>>,
+) -> bool
     requires network { network.now ≡ lone_net }
 {
-    let links = no_links(alloc)?;
-    let mut node = node_past(alloc, network, u64::MAX - 2)?;
-    Ok(refuses_the_second_turn(rt, &links, &mut node))
+    match lone_node(alloc, network) {
+        Ok(mut node) => refuses_the_second_turn(rt, links, &mut node),
+        Err(_) => false,
+    }
+}
+
+/// Whether the node is as it was after a turn that it refuses for want of a stamp.
+pub fn stays_as_it_was<R: Wait>(rt: &R, alloc: Global, network: &Network) -> bool
+    requires network { network.now ≡ lone_net }
+{
+    match no_links(alloc) {
+        Ok(links) => stays_over(rt, alloc, network, &links),
+        Err(_) => false,
+    }
 }

@@ -31,6 +31,8 @@ mod link_threads;
 #[cfg(test)]
 mod net_core_checks;
 #[cfg(test)]
+mod networks;
+#[cfg(test)]
 mod node_api_checks;
 #[cfg(test)]
 mod pool_checks;

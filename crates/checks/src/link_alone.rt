@@ -1,64 +1,138 @@
-//! Links of capacity 1 in one thread, at `Greatest`.
+//! Links of capacity 1 in one thread, at `Greatest`. What owns a link and its ends does nothing else, since each place at
+//! which they may be dropped costs proof.
 
 ghost use Rattle.std.specs.Prelude.{◌≡◌};
+ghost use Rattle.link_rule.specs.Legal.{name_of};
+ghost use Rattle.link_queue.specs.Ends.{IsNewPutEnd, IsPutEndOf, IsTakeEndOf, StaysPutEnd, StaysTakeEnd, put_name};
+ghost use Rattle.link_queue.specs.Ends.{take_name};
 ghost use Rattle.checks.specs.LinkRows.{pair_net};
 
 use alpha_core::{Memory, Network, Stamped, Wire};
-use link_queue::{Full, Link, MeetRefused};
+use link_queue::{Full, Link, MeetRefused, Met, PutEnd, TakeEnd};
 use std::alloc::Global;
 use std::sync::Wait;
 use sync_rounds::{Best, Greatest};
 
-/// What each step returned.
-#[derive(Drop)]
+/// What each step behind the first put returned.
+#[derive(Clone, Copy)]
 pub struct Steps {
-    pub put: bool,
-    pub full: Option<Stamped<Best>>,
+    pub full: Stamped<Best>,
     pub taken: Option<Stamped<Best>>,
     pub none: Option<Stamped<Best>>,
     pub put_again: bool,
     pub taken_again: Option<Stamped<Best>>,
-    pub held: usize,
 }
 
-/// A put, a put that finds the link full, a take, a take that finds it empty, a put, a take; then the ends meet.
-pub fn one_after_another<R: Wait>(rt: &R, alloc: Global, network: &Network) -> Result<Steps, Memory>
-    requires network { network.now ≡ pair_net }
+// A put, a put that finds the link full, a take, a take that finds it empty, a put, a take. Nothing if the first put finds
+// the link full, or the second doesn't.
+fn steps_of<R: Wait>(
+    rt: &R,
+    link: &Link<Greatest<1>>,
+    put_end: &mut PutEnd<Greatest<1>>,
+    take_end: &mut TakeEnd<Greatest<1>>,
+) -> Option<Steps>
+    requires put_end { IsNewPutEnd link.now put_end.old (name_of pair_net 1 0) }
+    requires take_end { IsTakeEndOf link.now take_end.old }
+    ensures put_end { StaysPutEnd link.now put_end.old put_end.new }
+    ensures take_end { StaysTakeEnd link.now take_end.old take_end.new }
 {
-    let (link, mut put_end, mut take_end) = Link::<Greatest<1>>::new(alloc, network, 1, 0, 1)?;
-    let payload = Stamped {
-        stamp: 1,
-        wire: Wire::Payload(0, Best(1)),
-    };
-    let put = match link.put(rt, &mut put_end, payload) {
-        Ok(()) => true,
-        Err(_) => return Err(Memory),
-    };
+    let (stamp, wire) = (1, Wire::Payload(0, Best(1)));
+    match link.put(rt, put_end, Stamped { stamp, wire }) {
+        Ok(()) => (),
+        Err(_) => return None,
+    }
     let safe = Stamped {
         stamp: u64::MAX,
         wire: Wire::Safe(0),
     };
-    let full = match link.put(rt, &mut put_end, safe) {
-        Ok(()) => return Err(Memory),
-        Err(Full(item)) => Some(item),
+    let full = match link.put(rt, put_end, safe) {
+        Ok(()) => return None,
+        Err(Full(item)) => item,
     };
-    let taken = link.take(rt, &mut take_end);
-    let none = link.take(rt, &mut take_end);
-    let put_again = link.put(rt, &mut put_end, safe).is_ok();
-    let taken_again = link.take(rt, &mut take_end);
-    let held = match link.meet(rt, alloc, put_end, take_end) {
-        Ok(met) => met.held().len(),
-        Err(_) => return Err(Memory),
-    };
-    Ok(Steps {
-        put,
+    let taken = link.take(rt, take_end);
+    let none = link.take(rt, take_end);
+    let put_again = link.put(rt, put_end, safe).is_ok();
+    let taken_again = link.take(rt, take_end);
+    Some(Steps {
         full,
         taken,
         none,
         put_again,
         taken_again,
-        held,
     })
+}
+
+/// The steps of a new link; then the ends meet, and how many wires the link holds.
+pub fn one_after_another<R: Wait>(
+    rt: &R,
+    alloc: Global,
+    network: &Network,
+) -> Result<(Option<Steps>, usize), Memory>
+    requires network { network.now ≡ pair_net }
+{
+    let (link, mut put_end, mut take_end) = Link::<Greatest<1>>::new(alloc, network, 1, 0, 1)?;
+    let steps = steps_of(rt, &link, &mut put_end, &mut take_end);
+    match link.meet(rt, alloc, put_end, take_end) {
+        Ok(met) => Ok((steps, met.held().len())),
+        Err(_) => Err(Memory),
+    }
+}
+
+// A put, a take and a put; whether the link had room for both and a wire for the take.
+fn put_take_put<R: Wait>(
+    rt: &R,
+    link: &Link<Greatest<1>>,
+    put_end: &mut PutEnd<Greatest<1>>,
+    take_end: &mut TakeEnd<Greatest<1>>,
+) -> bool
+    requires put_end { IsNewPutEnd link.now put_end.old (name_of pair_net 1 0) }
+    requires take_end { IsTakeEndOf link.now take_end.old }
+    ensures put_end { StaysPutEnd link.now put_end.old put_end.new }
+    ensures take_end { StaysTakeEnd link.now take_end.old take_end.new }
+{
+    let (stamp, wire) = (2, Wire::Payload(0, Best(1)));
+    match link.put(rt, put_end, Stamped { stamp, wire }) {
+        Ok(()) => (),
+        Err(_) => return false,
+    }
+    let is_taken = link.take(rt, take_end).is_some();
+    let (stamp, wire) = (3, Wire::Safe(0));
+    link.put(rt, put_end, Stamped { stamp, wire }).is_ok() && is_taken
+}
+
+// The one wire that a link holds.
+fn only_held(met: &Met<Best>) -> Option<Stamped<Best>> {
+    match met.held() {
+        [item] => Some(*item),
+        _ => None,
+    }
+}
+
+// The one wire that a link holds when its ends meet. If memory is refused to the meeting, they meet again.
+fn meet_again<R: Wait>(
+    rt: &R,
+    alloc: Global,
+    link: Link<Greatest<1>>,
+    put_end: PutEnd<Greatest<1>>,
+    take_end: TakeEnd<Greatest<1>>,
+) -> Option<Stamped<Best>>
+    requires put_end { IsPutEndOf link put_end }
+    requires take_end { IsTakeEndOf link take_end }
+    requires name { put_name put_end ≡ take_name take_end }
+{
+    match link.meet(rt, alloc, put_end, take_end) {
+        Ok(met) => only_held(&met),
+        Err(
+            MeetRefused {
+                link,
+                put_end,
+                take_end,
+            },
+        ) => match link.meet(rt, alloc, put_end, take_end) {
+            Ok(met) => only_held(&met),
+            Err(_) => None,
+        },
+    }
 }
 
 /// The one wire that a link holds when its ends meet after a put, a take and a put. If memory is refused to the
@@ -71,33 +145,7 @@ pub fn met_again<R: Wait>(
     requires network { network.now ≡ pair_net }
 {
     let (link, mut put_end, mut take_end) = Link::<Greatest<1>>::new(alloc, network, 1, 0, 1)?;
-    let (stamp, wire) = (2, Wire::Payload(0, Best(1)));
-    match link.put(rt, &mut put_end, Stamped { stamp, wire }) {
-        Ok(()) => (),
-        Err(_) => return Ok(None),
-    }
-    if link.take(rt, &mut take_end).is_none() {
-        return Ok(None);
-    }
-    let (stamp, wire) = (3, Wire::Safe(0));
-    if link.put(rt, &mut put_end, Stamped { stamp, wire }).is_err() {
-        return Ok(None);
-    }
-    let met = match link.meet(rt, alloc, put_end, take_end) {
-        Ok(met) => met,
-        Err(
-            MeetRefused {
-                link,
-                put_end,
-                take_end,
-            },
-        ) => match link.meet(rt, alloc, put_end, take_end) {
-            Ok(met) => met,
-            Err(_) => return Ok(None),
-        },
-    };
-    match met.held() {
-        [item] => Ok(Some(*item)),
-        _ => Ok(None),
-    }
+    let is_put = put_take_put(rt, &link, &mut put_end, &mut take_end);
+    let held = meet_again(rt, alloc, link, put_end, take_end);
+    Ok(if is_put { held } else { None })
 }

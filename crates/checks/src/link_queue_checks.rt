@@ -3,9 +3,9 @@
 ghost use Rattle.std.specs.Prelude.{◌≡◌, ◌<◌, ◌≤◌, IfOk};
 ghost use Rattle.checks.specs.LinkRows.{pair_net};
 
-use crate::link_alone::{met_again, one_after_another};
+use crate::link_alone::{Steps, met_again, one_after_another};
 use crate::link_threads::hand_over;
-use alpha_core::{NetFault, Network, Stamped, Wire, bars_fit, edges_fit};
+use alpha_core::{Memory, NetFault, Network, Stamped, Wire, bars_fit, edges_fit};
 use link_rule::StreamCheck;
 use run_options::MAX_CAPACITY;
 use std::alloc::Global;
@@ -30,34 +30,55 @@ fn item<T>(stamp: u64, wire: Wire<T>) -> Stamped<T> {
     Stamped { stamp, wire }
 }
 
-#[test]
-fn one_thread_puts_and_takes(rt: HostRuntime) -> Result<(), Fail> {
-    let alloc: Global = rt.alloc();
-    let network = pair(&rt, alloc)?;
-    let steps = one_after_another(&rt, alloc, &network)?;
+// Whether the steps of a new link return what is due.
+fn are_due(steps: Option<Steps>) -> bool {
     let payload = item(1, Wire::Payload(0, Best(1)));
     let safe = item(u64::MAX, Wire::Safe(0));
-    assert!(rt; steps.put);
-    assert!(rt; steps.full == Some(safe));
-    assert!(rt; steps.taken == Some(payload));
-    assert!(rt; steps.none == None);
-    assert!(rt; steps.put_again);
-    assert!(rt; steps.taken_again == Some(safe));
-    assert_eq!(rt; steps.held, 0);
-    // A check refuses a wire out of order or a stamp that doesn't rise, and then goes on as if it hadn't come.
-    let mut check = StreamCheck::new(1);
-    for (stamp, wire, passes) in [
-        (0, Wire::Payload(0, Best(1)), false),
-        (7, Wire::Safe(1), false),
-        (5, Wire::Payload(0, Best(1)), true),
-        (5, Wire::Safe(0), false),
-        (4, Wire::Safe(0), false),
-        (6, Wire::Safe(0), true),
-        (u64::MAX, Wire::Close, true),
-        (u64::MAX, Wire::Ack(0), false),
-    ] {
-        assert!(rt; check.feed(&item(stamp, wire)) == passes, "{stamp}");
+    match steps {
+        Some(steps) => {
+            steps.full == safe
+                && steps.taken == Some(payload)
+                && steps.none == None
+                && steps.put_again
+                && steps.taken_again == Some(safe)
+        }
+        None => false,
     }
+}
+
+// Stamps, wires, and whether a check passes them. It refuses a wire out of order or a stamp that doesn't rise, and then
+// goes on as if it hadn't come.
+static CHECKED: [(u64, Wire<Best>, bool); 8] = [
+    (0, Wire::Payload(0, Best(1)), false),
+    (7, Wire::Safe(1), false),
+    (5, Wire::Payload(0, Best(1)), true),
+    (5, Wire::Safe(0), false),
+    (4, Wire::Safe(0), false),
+    (6, Wire::Safe(0), true),
+    (u64::MAX, Wire::Close, true),
+    (u64::MAX, Wire::Ack(0), false),
+];
+
+fn passes_what_is_due(check: &mut StreamCheck) -> bool {
+    for (stamp, wire, passes) in &CHECKED {
+        if check.feed(&item(*stamp, *wire)) != *passes {
+            return false;
+        }
+    }
+    true
+}
+
+fn takes_its_steps<R: Abort + Wait>(rt: &R, alloc: Global) -> Result<(), Fail> {
+    let network = pair(rt, alloc)?;
+    let (steps, held) = one_after_another(rt, alloc, &network)?;
+    assert!(rt; are_due(steps) && held == 0);
+    Ok(())
+}
+
+#[test]
+fn one_thread_puts_and_takes(rt: HostRuntime) -> Result<(), Fail> {
+    takes_its_steps(&rt, rt.alloc())?;
+    assert!(rt; passes_what_is_due(&mut StreamCheck::new(1)));
     Ok(())
 }
 
@@ -78,18 +99,32 @@ fn a_link_meets_again_after_a_refused_growth(rt: HostRuntime) -> Result<(), Fail
     Ok(())
 }
 
+// Whether these are the four wires of a node that makes one pulse.
+fn are_four(got: &[Option<Stamped<Best>>; 4]) -> bool {
+    got[0] == Some(item(1, Wire::Payload(0, Best(1))))
+        && got[1] == Some(item(2, Wire::Ack(0)))
+        && got[2] == Some(item(3, Wire::Safe(0)))
+        && got[3] == Some(item(4, Wire::Close))
+}
+
+// Whether two threads hand over these four wires, and the link holds none then.
+fn hand_over_four<R: Threads + Wait + Sync>(
+    rt: &R,
+    alloc: Global,
+    network: &Network,
+) -> Result<bool, Memory>
+    requires network { network.now ≡ pair_net }
+{
+    let mut got = [None; 4];
+    let (done, held) = hand_over::<1, _>(rt, alloc, network, 1, 1, 1, &mut got)?;
+    Ok(done && held == 0 && are_four(&got))
+}
+
 #[test]
 fn two_threads_hand_over_four_wires(rt: HostRuntime) -> Result<(), Fail> {
     let alloc: Global = rt.alloc();
     let network = pair(&rt, alloc)?;
-    let mut got = [None; 4];
-    let (done, held) = hand_over::<1, _>(&rt, alloc, &network, 1, 1, 1, &mut got)?;
-    assert!(rt; done);
-    assert_eq!(rt; held, 0);
-    assert!(rt; got[0] == Some(item(1, Wire::Payload(0, Best(1)))));
-    assert!(rt; got[1] == Some(item(2, Wire::Ack(0))));
-    assert!(rt; got[2] == Some(item(3, Wire::Safe(0))));
-    assert!(rt; got[3] == Some(item(4, Wire::Close)));
+    assert!(rt; hand_over_four(&rt, alloc, &network)?);
     Ok(())
 }
 
@@ -106,13 +141,25 @@ fn wire_at(place: u32) -> Wire<Best> {
     }
 }
 
-// Hands over a hundred thousand wires between two threads, and compares each that is taken with the one put.
-fn hand_over_all<R: Abort + Threads + Wait + Sync>(
+// Whether each wire that is taken is the one put, with the stamp behind the last.
+fn are_all(got: &[Option<Stamped<Best>>]) -> bool {
+    let mut place = 0u32;
+    for taken in got {
+        if *taken != Some(item(u64::from(place) + 1, wire_at(place))) {
+            return false;
+        }
+        place = place.wrapping_add(1);
+    }
+    place == 100_000
+}
+
+// Whether two threads hand over a hundred thousand wires, and the link holds none then.
+fn hand_over_all<R: Threads + Wait + Sync>(
     rt: &R,
     alloc: Global,
     network: &Network,
     capacity: usize,
-) -> Result<(), Fail>
+) -> Result<bool, Memory>
     requires capacity { (0 < capacity) × (capacity ≤ MAX_CAPACITY) }
     requires network { network.now ≡ pair_net }
 {
@@ -126,23 +173,29 @@ fn hand_over_all<R: Abort + Threads + Wait + Sync>(
         capacity,
         got.as_mut_slice(),
     )?;
-    assert!(rt; done);
-    assert_eq!(rt; held, 0);
-    let mut place = 0u32;
-    for taken in &got {
-        assert!(rt; *taken == Some(item(u64::from(place) + 1, wire_at(place))));
-        place = place.wrapping_add(1);
-    }
-    assert_eq!(rt; place, 100_000);
-    Ok(())
+    Ok(done && held == 0 && are_all(got.as_slice()))
+}
+
+// The same at four capacities.
+fn hand_over_at_each<R: Threads + Wait + Sync>(
+    rt: &R,
+    alloc: Global,
+    network: &Network,
+) -> Result<bool, Memory>
+    requires network { network.now ≡ pair_net }
+{
+    Ok(
+        hand_over_all(rt, alloc, network, 1)?
+            && hand_over_all(rt, alloc, network, 2)?
+            && hand_over_all(rt, alloc, network, 4)?
+            && hand_over_all(rt, alloc, network, 64)?,
+    )
 }
 
 #[test]
 fn two_threads_hand_over_a_hundred_thousand_wires(rt: HostRuntime) -> Result<(), Fail> {
     let alloc: Global = rt.alloc();
     let network = pair(&rt, alloc)?;
-    hand_over_all(&rt, alloc, &network, 1)?;
-    hand_over_all(&rt, alloc, &network, 2)?;
-    hand_over_all(&rt, alloc, &network, 4)?;
-    hand_over_all(&rt, alloc, &network, 64)
+    assert!(rt; hand_over_at_each(&rt, alloc, &network)?);
+    Ok(())
 }

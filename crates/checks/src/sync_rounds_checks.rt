@@ -3,75 +3,100 @@
 use crate::counted::Counted;
 use alpha_core::{Network, PayloadText};
 use std::alloc::Global;
-use std::test::Fail;
 use sync_rounds::{Best, Greatest, run_rounds};
 
-// Whether the nodes end with these greatest identifiers.
-fn end_with<const D: u32>(alloc: Global, net: &Network, wanted: &[u128]) -> Result<bool, Fail> {
-    let mut bests = Vec::new(alloc);
-    for node in &run_rounds::<Greatest<D>>(alloc, net)? {
-        bests.push(node.best())?;
+fn know<const D: u32>(nodes: &[Greatest<D>], wanted: &[u128]) -> bool {
+    if nodes.len() != wanted.len() {
+        return false;
     }
-    Ok(bests.as_slice() == wanted)
+    for i in 0..nodes.len() {
+        if nodes[i].best() != wanted[i] {
+            return false;
+        }
+    }
+    true
 }
 
-fn path(alloc: Global) -> Result<Network, Fail> {
-    Ok(Network::try_new(alloc, &[1, 2, 3], &[(1, 2), (2, 3)], &[])?)
+// Whether the nodes end with these greatest identifiers.
+fn end_with<const D: u32>(alloc: Global, net: &Network, wanted: &[u128]) -> bool {
+    match run_rounds::<Greatest<D>>(alloc, net) {
+        Ok(nodes) => know(nodes.as_slice(), wanted),
+        Err(_) => false,
+    }
+}
+
+static PATH: [(u32, u32); 2] = [(1, 2), (2, 3)];
+
+fn path_ends_with<const D: u32>(alloc: Global, wanted: &[u128]) -> bool {
+    match Network::try_new(alloc, &[1, 2, 3], &PATH, &[]) {
+        Ok(net) => end_with::<D>(alloc, &net, wanted),
+        Err(_) => false,
+    }
 }
 
 // This and the next test do the same but for the number of pulses: tests/allocations.py compares how
 // often they allocate.
 #[test]
-fn greatest_within_1_link(rt: HostRuntime) -> Result<(), Fail> {
-    let net = path(rt.alloc())?;
-    assert!(rt; end_with::<1>(rt.alloc(), &net, &[2, 3, 3])?);
-    Ok(())
+fn greatest_within_1_link(rt: HostRuntime) {
+    assert!(rt; path_ends_with::<1>(rt.alloc(), &[2, 3, 3]));
 }
 
 #[test]
-fn greatest_within_50_links(rt: HostRuntime) -> Result<(), Fail> {
-    let net = path(rt.alloc())?;
-    assert!(rt; end_with::<50>(rt.alloc(), &net, &[3, 3, 3])?);
-    Ok(())
+fn greatest_within_50_links(rt: HostRuntime) {
+    assert!(rt; path_ends_with::<50>(rt.alloc(), &[3, 3, 3]));
 }
 
 // Vertices 1 and 2 with identifiers 9 and 4, vertex 3 alone, and a star of 5 about vertex 4.
-#[test]
-fn greatest_stays_in_its_part_of_the_network(rt: HostRuntime) -> Result<(), Fail> {
-    let alloc = rt.alloc();
-    let ids = [9, 4, 20, 5, 8, 6, 7];
-    let net = Network::try_new(alloc, &ids, &[(1, 2), (4, 5), (4, 6), (4, 7)], &[])?;
-    assert!(rt; end_with::<0>(alloc, &net, &ids)?);
-    assert!(rt; end_with::<1>(alloc, &net, &[9, 9, 20, 8, 8, 6, 7])?);
-    assert!(rt; end_with::<3>(alloc, &net, &[9, 9, 20, 8, 8, 8, 8])?);
-    Ok(())
+static IDS: [u128; 7] = [9, 4, 20, 5, 8, 6, 7];
+
+static EDGES: [(u32, u32); 4] = [(1, 2), (4, 5), (4, 6), (4, 7)];
+
+fn stays_in_its_part(alloc: Global, net: &Network) -> bool {
+    end_with::<0>(alloc, net, &IDS)
+        && end_with::<1>(alloc, net, &[9, 9, 20, 8, 8, 6, 7])
+        && end_with::<3>(alloc, net, &[9, 9, 20, 8, 8, 8, 8])
 }
 
 #[test]
-fn the_word_of_greatest_is_best(rt: HostRuntime) -> Result<(), Fail> {
-    let none = Network::try_new(rt.alloc(), &[], &[], &[])?;
-    assert!(rt; end_with::<1>(rt.alloc(), &none, &[])?);
+fn greatest_stays_in_its_part_of_the_network(rt: HostRuntime) {
+    let net = Network::try_new(rt.alloc(), &IDS, &EDGES, &[]).expect(&rt, "network");
+    assert!(rt; stays_in_its_part(rt.alloc(), &net));
+}
+
+fn has_the_word_best() -> bool {
     let (word, number) = Best(7).words();
-    assert!(rt; word == "best" && number == 7 && Best::from_words(word, number) == Some(Best(7)));
-    Ok(())
+    word == "best" && number == 7 && Best::from_words(word, number) == Some(Best(7))
 }
 
-// Whether each node of the path of three made so many calls, in order.
-fn make_calls<const D: u32>(alloc: Global, calls: u32) -> Result<bool, Fail> {
-    let net = path(alloc)?;
-    let nodes = run_rounds::<Counted<D>>(alloc, &net)?;
-    for node in &nodes {
+#[test]
+fn the_word_of_greatest_is_best(rt: HostRuntime) {
+    let none = Network::try_new(rt.alloc(), &[], &[], &[]).expect(&rt, "network");
+    assert!(rt; end_with::<1>(rt.alloc(), &none, &[]));
+    assert!(rt; has_the_word_best());
+}
+
+// Whether each of these nodes made so many calls, in order.
+fn made_calls<const D: u32>(nodes: &[Counted<D>], calls: u32) -> bool {
+    for node in nodes {
         if node.calls() != Some(calls) {
-            return Ok(false);
+            return false;
         }
     }
-    Ok(nodes.len() == 3)
+    true
+}
+
+// Whether each node of the path of three did.
+fn make_calls<const D: u32>(alloc: Global, net: &Network, calls: u32) -> bool {
+    match run_rounds::<Counted<D>>(alloc, net) {
+        Ok(nodes) => nodes.len() == 3 && made_calls(nodes.as_slice(), calls),
+        Err(_) => false,
+    }
 }
 
 #[test]
-fn every_pulse_makes_its_three_calls_in_order(rt: HostRuntime) -> Result<(), Fail> {
-    assert!(rt; make_calls::<0>(rt.alloc(), 0)?);
-    assert!(rt; make_calls::<1>(rt.alloc(), 3)?);
-    assert!(rt; make_calls::<7>(rt.alloc(), 21)?);
-    Ok(())
+fn every_pulse_makes_its_three_calls_in_order(rt: HostRuntime) {
+    let net = Network::try_new(rt.alloc(), &[1, 2, 3], &PATH, &[]).expect(&rt, "network");
+    assert!(rt; make_calls::<0>(rt.alloc(), &net, 0));
+    assert!(rt; make_calls::<1>(rt.alloc(), &net, 3));
+    assert!(rt; make_calls::<7>(rt.alloc(), &net, 21));
 }

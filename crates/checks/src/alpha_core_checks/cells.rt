@@ -5,9 +5,10 @@ ghost use Rattle.std.specs.Prelude.{◌≡◌, length};
 ghost use Rattle.alpha_core.specs.interference.Net.{IsVertex, degree_of};
 
 use crate::alpha_core_checks::alone::{Act, Played, ask, leaf, play, put_next};
-use alpha_core::{AlphaNode, AlphaRefused, Memory, Network, Wire};
+use crate::networks::edge;
+use alpha_core::{AlphaNode, AlphaRefused, Network, Wire};
 use std::alloc::Global;
-use std::test::Fail;
+use std::process::Abort;
 use sync_rounds::{Best, Greatest};
 
 // A legal list of wires for vertex 1 of two, whose last pulse is 3, and its pulses among them.
@@ -42,7 +43,7 @@ static PUT: [Wire<Best>; 10] = [
 ];
 
 // What a cell says of its wire.
-#[derive(Debug, Clone, Copy, PartialEq, Eq)]
+#[derive(Clone, Copy)]
 enum Cell {
     // It is taken, and nothing, an acknowledgement of pulse 1, or safe of it is emitted.
     Taken,
@@ -134,22 +135,34 @@ struct Fed {
     best: u128,
 }
 
-// Plays a node, with another wire, if there is one, between two lists of acts, and notes what comes of it.
+// Before a run.
+fn not_fed(alloc: Global) -> Fed {
+    Fed {
+        answer: None,
+        emitted: None,
+        played: Played::new(alloc),
+        drained: false,
+        best: 0,
+    }
+}
+
+// Plays a node, with another wire, if there is one, between two lists of acts, and notes what comes of it. Whether memory
+// was enough.
 fn play_with(
     node: &mut AlphaNode<Greatest<3>>,
     first: &[Act<Best>],
     wire: Option<Wire<Best>>,
     rest: &[Act<Best>],
     fed: &mut Fed,
-) -> Result<(), Memory>
+) -> bool
     requires one { length node.old.node.view.ports ≡ 1 }
 {
-    play(node, first, &mut fed.played)?;
+    let begins = play(node, first, &mut fed.played).is_ok();
     (fed.answer, fed.emitted) = feed(node, wire);
-    play(node, rest, &mut fed.played)?;
+    let ends = play(node, rest, &mut fed.played).is_ok();
     fed.drained = node.drained();
     fed.best = node.program().best();
-    Ok(())
+    begins && ends
 }
 
 // The same of vertex 1, made anew. What owns a node does nothing else, since each place at which a node may be dropped
@@ -161,34 +174,14 @@ fn play_anew(
     wire: Option<Wire<Best>>,
     rest: &[Act<Best>],
     fed: &mut Fed,
-) -> Result<(), Memory>
+) -> bool
     requires vertex { IsVertex net.now 1 }
     requires one { degree_of net.now 1 ≡ 1 }
 {
-    let mut node = leaf(alloc, net, 1)?;
-    play_with(&mut node, first, wire, rest, fed)
-}
-
-// What comes of it.
-fn run_with(
-    alloc: Global,
-    net: &Network,
-    first: &[Act<Best>],
-    wire: Option<Wire<Best>>,
-    rest: &[Act<Best>],
-) -> Result<Fed, Memory>
-    requires vertex { IsVertex net.now 1 }
-    requires one { degree_of net.now 1 ≡ 1 }
-{
-    let mut fed = Fed {
-        answer: None,
-        emitted: None,
-        played: Played::new(alloc),
-        drained: false,
-        best: 0,
-    };
-    play_anew(alloc, net, first, wire, rest, &mut fed)?;
-    Ok(fed)
+    match leaf(alloc, net, 1) {
+        Ok(mut node) => play_with(&mut node, first, wire, rest, fed),
+        Err(_) => false,
+    }
 }
 
 // What a node returns to a wire, and emits.
@@ -231,32 +224,36 @@ fn is_told(cell: Cell, node: &Fed, twin: &Fed) -> bool {
 }
 
 // Whether a node says of a wire after so many acts of the run what the cell says.
-fn walk(alloc: Global, net: &Network, row: &Row) -> Result<bool, Memory> {
+fn walk(alloc: Global, net: &Network, row: &Row) -> bool
+    requires vertex { IsVertex net.now 1 }
+    requires one { degree_of net.now 1 ≡ 1 }
+{
     let (before, wire, cell) = *row;
-    if net.nodes() != 2 || net.degree(1) != 1 || before > RUN.len() {
-        return Ok(false);
+    if before > RUN.len() {
+        return false;
     }
     let (first, rest) = RUN.split_at(before);
-    let node = run_with(alloc, net, first, Some(wire), rest)?;
-    let twin = run_with(alloc, net, first, None, rest)?;
-    Ok(is_told(cell, &node, &twin) && twin.played.put.as_slice() == PUT.as_slice())
+    let mut node = not_fed(alloc);
+    let mut twin = not_fed(alloc);
+    play_anew(alloc, net, first, Some(wire), rest, &mut node)
+        && play_anew(alloc, net, first, None, rest, &mut twin)
+        && is_told(cell, &node, &twin)
+        && twin.played.put.as_slice() == PUT.as_slice()
 }
 
-// The first row of which a node says something else.
-fn first_wrong(alloc: Global, net: &Network, rows: &[Row]) -> Result<Option<Row>, Memory> {
-    for row in rows {
-        if !walk(alloc, net, row)? {
-            return Ok(Some(*row));
-        }
+fn walk_all(rt: &impl Abort, alloc: Global, net: &Network, rows: &[Row])
+    requires vertex { IsVertex net.now 1 }
+    requires one { degree_of net.now 1 ≡ 1 }
+{
+    for i in 0..rows.len() {
+        assert!(rt; walk(alloc, net, &rows[i]), "row {i}");
     }
-    Ok(None)
 }
 
 #[test]
-fn each_cell_that_calls_reach(rt: HostRuntime) -> Result<(), Fail> {
-    let alloc = rt.alloc();
-    let net = Network::try_new(alloc, &[1, 2], &[(1, 2)], &[])?;
-    assert_eq!(rt; first_wrong(alloc, &net, &TABLE)?, None);
-    assert_eq!(rt; first_wrong(alloc, &net, &CONDITIONS)?, None);
-    Ok(())
+fn each_cell_that_calls_reach(rt: HostRuntime) {
+    let net = edge(rt.alloc()).expect(&rt, "network");
+    assert!(rt; net.nodes() == 2 && net.degree(1) == 1);
+    walk_all(&rt, rt.alloc(), &net, &TABLE);
+    walk_all(&rt, rt.alloc(), &net, &CONDITIONS);
 }

@@ -5,12 +5,10 @@ ghost use Rattle.std.specs.Prelude.{◌≡◌, length};
 ghost use Rattle.alpha_core.specs.interference.Net.{IsVertex, degree_of};
 
 use crate::alpha_core_checks::alone::{Act, Played, leaf, play};
-use crate::alpha_core_checks::runs::edge;
-use alpha_core::{AlphaNode, AlphaRefused, Memory, Network, Refused, Wire};
+use crate::networks::edge;
+use alpha_core::{AlphaNode, AlphaRefused, Network, Refused, Wire};
 use colour_program::{Colouring, Payload};
 use std::alloc::Global;
-use std::process::Abort;
-use std::test::Fail;
 
 const LABEL: Act<Payload> = Act::Take(Wire::Payload(1, Payload::Label(0)));
 
@@ -127,16 +125,14 @@ fn plays_so(
     answers: &[Option<Result<(), AlphaRefused>>],
     put: &[Wire<Payload>],
     pulse: u32,
-) -> Result<bool, Memory>
+) -> bool
     requires one { length node.old.node.view.ports ≡ 1 }
 {
     let mut played = Played::new(alloc);
-    play(node, acts, &mut played)?;
-    Ok(
-        played.answers.as_slice() == answers
-            && played.put.as_slice() == put
-            && node.pulse_number() == pulse,
-    )
+    play(node, acts, &mut played).is_ok()
+        && played.answers.as_slice() == answers
+        && played.put.as_slice() == put
+        && node.pulse_number() == pulse
 }
 
 // The same of the node of a vertex, made anew.
@@ -148,47 +144,53 @@ fn plays(
     answers: &[Option<Result<(), AlphaRefused>>],
     put: &[Wire<Payload>],
     pulse: u32,
-) -> Result<bool, Memory>
+) -> bool
     requires vertex { IsVertex net.now v }
     requires one { degree_of net.now v ≡ 1 }
 {
-    let mut node: AlphaNode<Colouring> = leaf(alloc, net, v)?;
-    plays_so(alloc, &mut node, acts, answers, put, pulse)
+    match leaf(alloc, net, v) {
+        Ok(mut node) => plays_so(alloc, &mut node, acts, answers, put, pulse),
+        Err(_) => false,
+    }
 }
 
 // Whether the nodes of an edge play so.
-fn all_play(rt: &impl Abort, alloc: Global, net: &Network) -> Result<(), Fail> {
-    assert!(rt; net.nodes() == 2);
-    assert!(rt; net.degree(1) == 1 && net.degree(2) == 1);
-    assert!(rt; plays(alloc, net, 1, &HOSTILE, &ANSWERS, &BOTH_PUT, 0)?);
-    assert!(rt;
-        plays(
+fn first_plays(alloc: Global, net: &Network) -> bool
+    requires vertex { IsVertex net.now 1 }
+    requires one { degree_of net.now 1 ≡ 1 }
+{
+    plays(alloc, net, 1, &HOSTILE, &ANSWERS, &BOTH_PUT, 0)
+        && plays(
             alloc,
             net,
             1,
             &ONLY_TAKEN,
             &ONLY_TAKEN_ANSWERS,
             &BOTH_PUT,
-            0
-        )?
-    );
-    assert!(rt; plays(alloc, net, 1, &TWO_PULSES, &ALL_TAKEN, &TWO_PULSES_PUT, 2)?);
-    assert!(rt;
-        plays(
-            alloc,
-            net,
-            2,
-            &UNLABELLED,
-            &UNLABELLED_ANSWERS,
-            &UNLABELLED_PUT,
-            1
-        )?
-    );
-    Ok(())
+            0,
+        )
+        && plays(alloc, net, 1, &TWO_PULSES, &ALL_TAKEN, &TWO_PULSES_PUT, 2)
+}
+
+fn second_plays(alloc: Global, net: &Network) -> bool
+    requires vertex { IsVertex net.now 2 }
+    requires one { degree_of net.now 2 ≡ 1 }
+{
+    plays(
+        alloc,
+        net,
+        2,
+        &UNLABELLED,
+        &UNLABELLED_ANSWERS,
+        &UNLABELLED_PUT,
+        1,
+    )
 }
 
 #[test]
-fn each_wire_of_a_hostile_neighbour(rt: HostRuntime) -> Result<(), Fail> {
-    let net = edge(rt.alloc())?;
-    all_play(&rt, rt.alloc(), &net)
+fn each_wire_of_a_hostile_neighbour(rt: HostRuntime) {
+    let net = edge(rt.alloc()).expect(&rt, "network");
+    assert!(rt; net.nodes() == 2 && net.degree(1) == 1 && net.degree(2) == 1);
+    assert!(rt; first_plays(rt.alloc(), &net));
+    assert!(rt; second_plays(rt.alloc(), &net));
 }

@@ -5,14 +5,10 @@ ghost use Rattle.alpha_core.specs.interference.Net.{IsVertex, degree_of};
 
 use crate::alpha_core_checks::alone::{Act, Played, ask, leaf, play, put_next};
 use crate::counted::Counted;
-use alpha_core::{AlphaNode, AlphaRefused, Memory, Network, NodeProgram, Wire};
+use crate::networks::edge;
+use alpha_core::{AlphaNode, AlphaRefused, Network, NodeProgram, Wire};
 use std::alloc::Global;
-use std::test::Fail;
 use sync_rounds::{Best, Greatest};
-
-pub fn edge(alloc: Global) -> Result<Network, Fail> {
-    Ok(Network::try_new(alloc, &[1, 2], &[(1, 2)], &[])?)
-}
 
 // What comes to a node without pulses, and what it returns: nothing but a close, and after it nothing at all.
 static CLOSING: [Act<Best>; 3] = [
@@ -28,34 +24,34 @@ static CLOSED: [Option<Result<(), AlphaRefused>>; 3] = [
 ];
 
 // Whether a node without pulses starts halted, and is drained once it has put its close and taken its neighbour's.
-fn closes(alloc: Global, node: &mut AlphaNode<Greatest<0>>) -> Result<bool, Memory>
+fn closes(alloc: Global, node: &mut AlphaNode<Greatest<0>>) -> bool
     requires one { length node.old.node.view.ports ≡ 1 }
 {
     let starts_halted = node.halted() && !node.drained();
     let mut played = Played::new(alloc);
-    play(node, &CLOSING, &mut played)?;
-    Ok(
-        starts_halted
-            && node.drained()
-            && played.answers.as_slice() == CLOSED.as_slice()
-            && played.put.as_slice() == [Wire::Close].as_slice(),
-    )
+    let is_played = play(node, &CLOSING, &mut played).is_ok();
+    starts_halted
+        && is_played
+        && node.drained()
+        && played.answers.as_slice() == CLOSED.as_slice()
+        && played.put.as_slice() == [Wire::Close].as_slice()
 }
 
-fn closes_at_once(alloc: Global, net: &Network) -> Result<bool, Memory>
+fn closes_at_once(alloc: Global, net: &Network) -> bool
     requires vertex { IsVertex net.now 1 }
     requires one { degree_of net.now 1 ≡ 1 }
 {
-    let mut node: AlphaNode<Greatest<0>> = leaf(alloc, net, 1)?;
-    closes(alloc, &mut node)
+    match leaf(alloc, net, 1) {
+        Ok(mut node) => closes(alloc, &mut node),
+        Err(_) => false,
+    }
 }
 
 #[test]
-fn a_node_without_pulses_starts_halted(rt: HostRuntime) -> Result<(), Fail> {
-    let net = edge(rt.alloc())?;
+fn a_node_without_pulses_starts_halted(rt: HostRuntime) {
+    let net = edge(rt.alloc()).expect(&rt, "network");
     assert!(rt; net.nodes() == 2 && net.degree(1) == 1);
-    assert!(rt; closes_at_once(rt.alloc(), &net)?);
-    Ok(())
+    assert!(rt; closes_at_once(rt.alloc(), &net));
 }
 
 // Plays a node up to its last pulse, with a payload from its neighbour at each, and counts the wires that it puts. It
@@ -94,54 +90,66 @@ fn act_put<P: NodeProgram>(node: &mut AlphaNode<P>, act: Act<P::Payload>) -> u32
     u32::from(put_next(node).is_some())
 }
 
-// A whole run of a node of `Greatest`: whether it is drained, and how many wires it put.
-fn run_of_leaf<const D: u32>(alloc: Global, net: &Network) -> Result<(bool, u32), Fail> {
-    if net.nodes() != 2 || net.degree(1) != 1 {
-        return Ok((false, 0));
-    }
-    let mut node: AlphaNode<Greatest<D>> = leaf(alloc, net, 1)?;
-    let put = wires_put(&mut node, Best(2), D);
-    Ok((node.drained(), put))
+// Whether a node of `Greatest` puts so many wires in a whole run, and is drained then.
+fn runs_to_the_end<const D: u32>(node: &mut AlphaNode<Greatest<D>>, wires: u32) -> bool
+    requires one { length node.old.node.view.ports ≡ 1 }
+{
+    wires_put(node, Best(2), D) == wires && node.drained()
 }
 
-fn whole_run<const D: u32>(alloc: Global) -> Result<(bool, u32), Fail> {
-    let net = edge(alloc)?;
-    run_of_leaf::<D>(alloc, &net)
+fn run_of_leaf<const D: u32>(alloc: Global, net: &Network, wires: u32) -> bool
+    requires vertex { IsVertex net.now 1 }
+    requires one { degree_of net.now 1 ≡ 1 }
+{
+    match leaf(alloc, net, 1) {
+        Ok(mut node) => runs_to_the_end::<D>(&mut node, wires),
+        Err(_) => false,
+    }
+}
+
+fn whole_run<const D: u32>(alloc: Global, wires: u32) -> bool {
+    match edge(alloc) {
+        Ok(net) => {
+            net.nodes() == 2 && net.degree(1) == 1 && run_of_leaf::<D>(alloc, &net, wires)
+        }
+        Err(_) => false,
+    }
 }
 
 // This and the next test do the same but for the number of pulses: tests/allocations.py compares how often they
 // allocate.
 #[test]
-fn a_node_of_1_pulse(rt: HostRuntime) -> Result<(), Fail> {
-    let (drained, put) = whole_run::<1>(rt.alloc())?;
-    assert!(rt; drained);
-    assert_eq!(rt; put, 4);
-    Ok(())
+fn a_node_of_1_pulse(rt: HostRuntime) {
+    assert!(rt; whole_run::<1>(rt.alloc(), 4));
 }
 
 #[test]
-fn a_node_of_50_pulses(rt: HostRuntime) -> Result<(), Fail> {
-    let (drained, put) = whole_run::<50>(rt.alloc())?;
-    assert!(rt; drained);
-    assert_eq!(rt; put, 151);
-    Ok(())
+fn a_node_of_50_pulses(rt: HostRuntime) {
+    assert!(rt; whole_run::<50>(rt.alloc(), 151));
 }
 
-// How many calls there were before a whole run, how many wires it put, and how many calls there were then.
-fn calls_of_leaf(alloc: Global, net: &Network) -> Result<(Option<u32>, u32, Option<u32>), Memory>
+// Whether a node counts its calls: none before a whole run, and three for each pulse behind it.
+fn counts_its_calls(node: &mut AlphaNode<Counted<7>>) -> bool
+    requires one { length node.old.node.view.ports ≡ 1 }
+{
+    node.program().calls() == Some(0)
+        && wires_put(node, Best(2), 7) == 22
+        && node.program().calls() == Some(21)
+}
+
+fn calls_of_leaf(alloc: Global, net: &Network) -> bool
     requires vertex { IsVertex net.now 1 }
     requires one { degree_of net.now 1 ≡ 1 }
 {
-    let mut node: AlphaNode<Counted<7>> = leaf(alloc, net, 1)?;
-    let before = node.program().calls();
-    let put = wires_put(&mut node, Best(2), 7);
-    Ok((before, put, node.program().calls()))
+    match leaf(alloc, net, 1) {
+        Ok(mut node) => counts_its_calls(&mut node),
+        Err(_) => false,
+    }
 }
 
 #[test]
-fn every_pulse_of_a_node_makes_its_three_calls_in_order(rt: HostRuntime) -> Result<(), Fail> {
-    let net = edge(rt.alloc())?;
+fn every_pulse_of_a_node_makes_its_three_calls_in_order(rt: HostRuntime) {
+    let net = edge(rt.alloc()).expect(&rt, "network");
     assert!(rt; net.nodes() == 2 && net.degree(1) == 1);
-    assert!(rt; calls_of_leaf(rt.alloc(), &net)? == (Some(0), 22, Some(21)));
-    Ok(())
+    assert!(rt; calls_of_leaf(rt.alloc(), &net));
 }

@@ -2,10 +2,11 @@
 
 ghost use Rattle.std.specs.Prelude.{◌≡◌, ◌≤◌, IfOk, length};
 ghost use Rattle.alpha_core.specs.interference.Net.{IsVertex, degree_of};
+ghost use Rattle.alpha_core.specs.node_api.Boxes.{nothing};
 ghost use Rattle.colour_program.specs.colour_rules.Node.{ports};
 
 use alpha_core::{Inbox, MAX_DEGREE, Memory, Network, NodeProgram, Outbox, Refused};
-use colour_program::{Colouring, Payload};
+use colour_program::{ColourNode, Colouring, Payload};
 use std::alloc::Global;
 
 /// The node of a vertex, which knows no port.
@@ -26,30 +27,101 @@ pub struct Shown {
     second_colour: Option<u128>,
 }
 
-/// Feeds a node with these payloads at its ports.
+// The node's colour in a forest, if there is such a forest.
+fn forest_colour(node: &ColourNode, forest: u16) -> Option<u128> {
+    if forest < node.forests() {
+        Some(node.forest_colour(forest))
+    } else {
+        None
+    }
+}
+
+// What a node shows that is fed an inbox.
+fn shown_of(
+    node: &mut Colouring,
+    pulse: u32,
+    inbox: &mut Inbox<Payload>,
+    out: &mut Outbox<Payload>,
+) -> Shown
+    requires rewound { inbox.old.cursor ≡ 0 }
+    requires inbox { length inbox.old.slots ≡ ports node.old }
+    requires out { out.old ≡ nothing (ports node.old) }
+    ensures ports { ports node.new ≡ ports node.old }
+{
+    let answer = node.handle_messages(pulse, inbox, out);
+    Shown {
+        answer,
+        is_quiet: out.is_quiet(),
+        colour: node.colour(),
+        first_colour: forest_colour(node.node(), 0),
+        second_colour: forest_colour(node.node(), 1),
+    }
+}
+
+fn show_inbox(
+    alloc: Global,
+    node: &mut Colouring,
+    pulse: u32,
+    inbox: &mut Inbox<Payload>,
+    degree: u32,
+) -> Option<Shown>
+    requires rewound { inbox.old.cursor ≡ 0 }
+    requires inbox { length inbox.old.slots ≡ ports node.old }
+    requires degree { degree ≡ ports node.old }
+    requires few { degree ≤ MAX_DEGREE }
+    ensures ports { ports node.new ≡ ports node.old }
+{
+    match Outbox::new(alloc, degree) {
+        Ok(mut out) => Some(shown_of(node, pulse, inbox, &mut out)),
+        Err(_) => None,
+    }
+}
+
+/// Feeds a node with these payloads at its ports; nothing if memory is refused.
 pub fn show(
     alloc: Global,
     node: &mut Colouring,
     pulse: u32,
     payloads: &[Option<Payload>],
-) -> Result<Shown, Memory>
+) -> Option<Shown>
     requires ports { length payloads.now ≡ ports node.old }
     requires few { length payloads.now ≤ MAX_DEGREE }
     ensures ports { ports node.new ≡ ports node.old }
 {
-    let degree = payloads.len() as u32;
-    let mut inbox = inbox_of(alloc, payloads)?;
-    let mut out = Outbox::new(alloc, degree)?;
-    let answer = node.handle_messages(pulse, &mut inbox, &mut out);
-    let shown = node.node();
-    let forests = shown.forests();
-    Ok(Shown {
-        answer,
-        is_quiet: out.is_quiet(),
-        colour: node.colour(),
-        first_colour: (forests > 0).then(|| shown.forest_colour(0)),
-        second_colour: (forests > 1).then(|| shown.forest_colour(1)),
-    })
+    match inbox_of(alloc, payloads) {
+        Ok(mut inbox) => show_inbox(alloc, node, pulse, &mut inbox, payloads.len() as u32),
+        Err(_) => None,
+    }
+}
+
+/// Whether a node takes these payloads.
+pub fn takes(alloc: Global, node: &mut Colouring, pulse: u32, payloads: &[Option<Payload>]) -> bool
+    requires ports { length payloads.now ≡ ports node.old }
+    requires few { length payloads.now ≤ MAX_DEGREE }
+    ensures ports { ports node.new ≡ ports node.old }
+{
+    match show(alloc, node, pulse, payloads) {
+        Some(shown) => shown.answer == Ok(()),
+        None => false,
+    }
+}
+
+/// Whether two nodes show the same of these payloads.
+pub fn show_alike(
+    alloc: Global,
+    one: &mut Colouring,
+    other: &mut Colouring,
+    pulse: u32,
+    payloads: &[Option<Payload>],
+) -> bool
+    requires one { length payloads.now ≡ ports one.old }
+    requires other { length payloads.now ≡ ports other.old }
+    requires few { length payloads.now ≤ MAX_DEGREE }
+    ensures one { ports one.new ≡ ports one.old }
+    ensures other { ports other.new ≡ ports other.old }
+{
+    let shown = show(alloc, one, pulse, payloads);
+    shown.is_some() && show(alloc, other, pulse, payloads) == shown
 }
 
 // An inbox of these payloads.

@@ -1,11 +1,11 @@
 //! Refusals by value, by what is missing and by the node itself, and that they leave the node as it was.
 
-ghost use Rattle.std.specs.Prelude.{◌≡◌, IfOk};
-ghost use Rattle.alpha_core.specs.interference.Net.{IsVertex};
+ghost use Rattle.std.specs.Prelude.{◌≡◌};
+ghost use Rattle.alpha_core.specs.interference.Net.{IsVertex, degree_of};
 ghost use Rattle.colour_program.specs.colour_rules.Node.{ports};
 
-use crate::colour_program_checks::fed::{Shown, made, show};
-use alpha_core::{Memory, Network, Refused};
+use crate::colour_program_checks::fed::{made, show, show_alike, takes};
+use alpha_core::{Network, Refused};
 use colour_program::Payload::{Chosen, Colour, Hello, Label};
 use colour_program::rules::{
     AFTER_HALT, COLOUR_RANGE, FOREST_RANGE, MISSING, WRONG_KIND, WRONG_ROLE,
@@ -13,7 +13,6 @@ use colour_program::rules::{
 use colour_program::{Colouring, Payload};
 use std::alloc::Global;
 use std::process::Abort;
-use std::test::Fail;
 
 // A pulse, and what comes to the two ports of a node at it.
 type Came = (u32, Option<Payload>, Option<Payload>);
@@ -128,94 +127,94 @@ static REFUSALS: [Row; 20] = [
     (3, 2, (7, None, Some(Colour(6))), WRONG_ROLE, Some(1)),
 ];
 
-// What the node shows of a pulse at which this comes.
-fn show_of_two(alloc: Global, node: &mut Colouring, came: Came) -> Result<Shown, Memory>
-    requires ports { ports node.old ≡ 2 }
-    ensures ports { ports node.new ≡ 2 }
-{
-    let (pulse, first, second) = came;
-    show(alloc, node, pulse, &[first, second])
-}
-
 // Whether a node takes what comes to its vertex in so many turns.
-fn takes(alloc: Global, node: &mut Colouring, v: u32, turns: u32) -> Result<bool, Memory>
+fn takes_turns(alloc: Global, node: &mut Colouring, v: u32, turns: u32) -> bool
     requires ports { ports node.old ≡ 2 }
     ensures ports { ports node.new ≡ 2 }
 {
     for turn in 0..turns {
-        if show_of_two(alloc, node, came_before(v, turn))?.answer != Ok(()) {
-            return Ok(false);
+        let (pulse, first, second) = came_before(v, turn);
+        if !takes(alloc, node, pulse, &[first, second]) {
+            return false;
         }
     }
-    Ok(true)
-}
-
-// The node of a vertex with two neighbours, after so many pulses.
-fn node_after(
-    rt: &impl Abort,
-    alloc: Global,
-    net: &Network,
-    v: u32,
-    turns: u32,
-) -> Result<Colouring, Fail>
-    requires vertex { IsVertex net.now v }
-    ensures ports { IfOk result (λ node. ports node ≡ 2) }
-{
-    assert!(rt; net.degree(v) == 2);
-    let mut node = made(alloc, net, v)?;
-    assert!(rt; takes(alloc, &mut node, v, turns)?, "vertex {v}");
-    Ok(node)
+    true
 }
 
 // Whether two nodes show the same of all that comes to their vertex, from the first pulse on.
-fn show_the_same(
-    alloc: Global,
-    one: &mut Colouring,
-    other: &mut Colouring,
-    v: u32,
-) -> Result<bool, Memory>
+fn show_the_same(alloc: Global, one: &mut Colouring, other: &mut Colouring, v: u32) -> bool
     requires ports { (ports one.old ≡ 2) × (ports other.old ≡ 2) }
 {
     for turn in 0..3 {
-        let came = came_before(v, turn);
-        if show_of_two(alloc, one, came)? != show_of_two(alloc, other, came)? {
-            return Ok(false);
+        let (pulse, first, second) = came_before(v, turn);
+        if !show_alike(alloc, one, other, pulse, &[first, second]) {
+            return false;
         }
     }
-    Ok(true)
+    true
 }
 
 // Whether a node refuses what comes, and then goes on as its twin that wasn't fed it.
-fn refuses(
-    alloc: Global,
-    node: &mut Colouring,
-    twin: &mut Colouring,
-    row: &Row,
-) -> Result<bool, Fail>
+fn refuses(alloc: Global, node: &mut Colouring, twin: &mut Colouring, row: &Row) -> bool
     requires ports { (ports node.old ≡ 2) × (ports twin.old ≡ 2) }
 {
     let (v, _, came, rule, port) = *row;
+    let (pulse, first, second) = came;
     let colour = node.colour();
-    let shown = show_of_two(alloc, node, came)?;
-    let is_refused = shown.answer == Err(Refused { rule, port });
-    let is_as_before = shown.is_quiet && shown.colour == colour;
-    Ok(is_refused && is_as_before && show_the_same(alloc, node, twin, v)?)
-}
-
-// Whether a row is refused by two nodes made anew.
-fn is_refused(rt: &impl Abort, alloc: Global, net: &Network, row: &Row) -> Result<bool, Fail> {
-    let (v, turns, _, _, _) = *row;
-    assert!(rt; 1 <= v && v <= net.nodes());
-    let mut node = node_after(rt, alloc, net, v, turns)?;
-    let mut twin = node_after(rt, alloc, net, v, turns)?;
-    refuses(alloc, &mut node, &mut twin, row)
-}
-
-fn are_refused(rt: &impl Abort, alloc: Global, net: &Network, rows: &[Row]) -> Result<(), Fail> {
-    for row in rows {
-        assert!(rt; is_refused(rt, alloc, net, row)?, "{row:?}");
+    match show(alloc, node, pulse, &[first, second]) {
+        Some(shown) => {
+            shown.answer == Err(Refused { rule, port })
+                && shown.is_quiet
+                && shown.colour == colour
+                && show_the_same(alloc, node, twin, v)
+        }
+        None => false,
     }
-    Ok(())
+}
+
+// Whether a node and its twin take what comes before a row, and the node refuses the row.
+fn refuses_then(alloc: Global, node: &mut Colouring, twin: &mut Colouring, row: &Row) -> bool
+    requires ports { (ports node.old ≡ 2) × (ports twin.old ≡ 2) }
+{
+    let (v, turns, _, _, _) = *row;
+    takes_turns(alloc, node, v, turns)
+        && takes_turns(alloc, twin, v, turns)
+        && refuses(alloc, node, twin, row)
+}
+
+// The same of a twin made anew. What owns a node does nothing else, since each place at which a node may be dropped
+// costs proof.
+fn refuses_beside(alloc: Global, net: &Network, node: &mut Colouring, v: u32, row: &Row) -> bool
+    requires vertex { IsVertex net.now v }
+    requires two { degree_of net.now v ≡ 2 }
+    requires ports { ports node.old ≡ 2 }
+{
+    match made(alloc, net, v) {
+        Ok(mut twin) => refuses_then(alloc, node, &mut twin, row),
+        Err(_) => false,
+    }
+}
+
+// Whether a row is refused by one of two nodes made anew.
+fn is_refused_at(alloc: Global, net: &Network, v: u32, row: &Row) -> bool
+    requires vertex { IsVertex net.now v }
+    requires two { degree_of net.now v ≡ 2 }
+{
+    match made(alloc, net, v) {
+        Ok(mut node) => refuses_beside(alloc, net, &mut node, v, row),
+        Err(_) => false,
+    }
+}
+
+fn is_refused(alloc: Global, net: &Network, row: &Row) -> bool {
+    let v = row.0;
+    1 <= v && v <= net.nodes() && net.degree(v) == 2 && is_refused_at(alloc, net, v, row)
+}
+
+fn are_refused(rt: &impl Abort, alloc: Global, net: &Network, rows: &[Row]) {
+    for i in 0..rows.len() {
+        assert!(rt; is_refused(alloc, net, &rows[i]), "row {i}");
+    }
 }
 
 // The greatest colour that may come from a parent at each pulse from 4 on.
@@ -231,62 +230,61 @@ static BOUNDS: [(u32, u128); 9] = [
     (12, 3),
 ];
 
-fn takes_now(alloc: Global, node: &mut Colouring, came: Came) -> Result<bool, Fail>
+// Whether vertex 1, after its first turn, takes this colour from its parent by port 1 at a pulse.
+fn takes_colour(alloc: Global, node: &mut Colouring, pulse: u32, colour: u128) -> bool
     requires ports { ports node.old ≡ 2 }
 {
-    Ok(show_of_two(alloc, node, came)?.answer == Ok(()))
+    takes_turns(alloc, node, 1, 1)
+        && takes(alloc, node, pulse, &[Some(Colour(1)), Some(Colour(colour))])
 }
 
-// Whether vertex 1 takes this colour from its parent by port 1 at a pulse.
-fn is_taken(
-    rt: &impl Abort,
-    alloc: Global,
-    net: &Network,
-    pulse: u32,
-    colour: u128,
-) -> Result<bool, Fail> {
-    assert!(rt; net.nodes() == 3);
-    let mut node = node_after(rt, alloc, net, 1, 1)?;
-    takes_now(
-        alloc,
-        &mut node,
-        (pulse, Some(Colour(1)), Some(Colour(colour))),
-    )
-}
-
-// One more is refused, and the bound is taken.
-fn are_bounds(
-    rt: &impl Abort,
-    alloc: Global,
-    net: &Network,
-    rows: &[(u32, u128)],
-) -> Result<(), Fail> {
-    for (pulse, bound) in rows {
-        assert!(rt; *bound < 1000);
-        let above = (*pulse, Some(Colour(1)), Some(Colour(*bound + 1)));
-        let row = (1, 1, above, COLOUR_RANGE, Some(1));
-        assert!(rt; is_refused(rt, alloc, net, &row)?, "at {pulse}");
-        assert!(rt; is_taken(rt, alloc, net, *pulse, *bound)?, "at {pulse}");
+// The same of a node made anew.
+fn is_taken(alloc: Global, net: &Network, pulse: u32, colour: u128) -> bool
+    requires vertex { IsVertex net.now 1 }
+    requires two { degree_of net.now 1 ≡ 2 }
+{
+    match made(alloc, net, 1) {
+        Ok(mut node) => takes_colour(alloc, &mut node, pulse, colour),
+        Err(_) => false,
     }
-    Ok(())
 }
 
-fn on_the_triangle(rt: &impl Abort, alloc: Global) -> Result<(), Fail> {
-    let net = Network::try_new(alloc, &IDS, &EDGES, &[])?;
-    are_refused(rt, alloc, &net, &REFUSALS)?;
-    are_bounds(rt, alloc, &net, &BOUNDS)
+// Whether one more is refused, and the bound is taken.
+fn is_bound(alloc: Global, net: &Network, pulse: u32, bound: u128) -> bool {
+    if bound >= 1000 || net.nodes() != 3 || net.degree(1) != 2 {
+        return false;
+    }
+    let above = (pulse, Some(Colour(1)), Some(Colour(bound + 1)));
+    is_refused_at(alloc, net, 1, &(1, 1, above, COLOUR_RANGE, Some(1)))
+        && is_taken(alloc, net, pulse, bound)
+}
+
+fn are_bounds(rt: &impl Abort, alloc: Global, net: &Network) {
+    for (pulse, bound) in &BOUNDS {
+        assert!(rt; is_bound(alloc, net, *pulse, *bound), "at {pulse}");
+    }
 }
 
 // On a path a node has one parent at most, and here both neighbours say that they are higher.
-fn on_a_path(rt: &impl Abort, alloc: Global) -> Result<bool, Fail> {
-    let net = Network::try_new(alloc, &[1, 2, 3], &[(1, 2), (2, 3)], &[])?;
-    let higher = (1, Some(Hello(5)), Some(Hello(6)));
-    is_refused(rt, alloc, &net, &(2, 0, higher, FOREST_RANGE, None))
+static HIGHER: Row = (
+    2,
+    0,
+    (1, Some(Hello(5)), Some(Hello(6))),
+    FOREST_RANGE,
+    None,
+);
+
+fn is_refused_on_a_path(alloc: Global) -> bool {
+    match Network::try_new(alloc, &[1, 2, 3], &[(1, 2), (2, 3)], &[]) {
+        Ok(net) => is_refused(alloc, &net, &HIGHER),
+        Err(_) => false,
+    }
 }
 
 #[test]
-fn a_refusal_has_its_rule_and_its_port(rt: HostRuntime) -> Result<(), Fail> {
-    on_the_triangle(&rt, rt.alloc())?;
-    assert!(rt; on_a_path(&rt, rt.alloc())?);
-    Ok(())
+fn a_refusal_has_its_rule_and_its_port(rt: HostRuntime) {
+    let net = Network::try_new(rt.alloc(), &IDS, &EDGES, &[]).expect(&rt, "network");
+    are_refused(&rt, rt.alloc(), &net, &REFUSALS);
+    are_bounds(&rt, rt.alloc(), &net);
+    assert!(rt; is_refused_on_a_path(rt.alloc()));
 }

@@ -1,18 +1,18 @@
 //! The nodes of an edge at the pulses of their rounds, and twins: of two nodes in one state one refuses what comes,
 //! and then both go on alike.
 
-ghost use Rattle.std.specs.Prelude.{◌≡◌, IfOk};
+ghost use Rattle.std.specs.Prelude.{◌≡◌};
 ghost use Rattle.alpha_core.specs.interference.Net.{IsVertex, degree_of};
 ghost use Rattle.colour_program.specs.colour_rules.Node.{ports};
 
-use crate::colour_program_checks::fed::{Shown, made, show};
-use alpha_core::{Memory, Network, Refused};
+use crate::colour_program_checks::fed::{made, show, show_alike};
+use crate::networks::edge;
+use alpha_core::{Network, Refused};
 use colour_program::Payload::{Chosen, Colour, Hello, Label};
 use colour_program::rules::{AFTER_HALT, COLOUR_RANGE, FOREST_RANGE, WRONG_KIND, WRONG_ROLE};
 use colour_program::{Colouring, Payload};
 use std::alloc::Global;
 use std::process::Abort;
-use std::test::Fail;
 
 // What comes to vertices 1 and 2 of an edge at the pulses from 1 on, worked by hand: vertex 2 is the root of the one
 // forest, its colours there are 2, then 0 after each bit step, then 1, 1, 0, 0, 1, 1. Vertex 1 chooses at pulse 13,
@@ -75,19 +75,6 @@ static REFUSALS: [Row; 8] = [
     (2, 19, Hello(5), AFTER_HALT, Some(0)),
 ];
 
-/// Feeds a node at its one port.
-pub fn show_of_one(
-    alloc: Global,
-    node: &mut Colouring,
-    pulse: u32,
-    payload: Option<Payload>,
-) -> Result<Shown, Memory>
-    requires ports { ports node.old ≡ 1 }
-    ensures ports { ports node.new ≡ 1 }
-{
-    show(alloc, node, pulse, &[payload])
-}
-
 // What comes to a vertex of the edge at a pulse.
 fn came(v: u32, pulse: u32) -> Option<Payload> {
     let row = CAME.as_slice().get(v.wrapping_sub(1) as usize)?;
@@ -102,97 +89,127 @@ pub fn go_on_alike(
     other: &mut Colouring,
     v: u32,
     from: u32,
-) -> Result<bool, Memory>
+) -> bool
     requires ports { (ports one.old ≡ 1) × (ports other.old ≡ 1) }
 {
     for pulse in from..20 {
-        let payload = came(v, pulse);
-        if show_of_one(alloc, one, pulse, payload)? != show_of_one(alloc, other, pulse, payload)? {
-            return Ok(false);
+        if !show_alike(alloc, one, other, pulse, &[came(v, pulse)]) {
+            return false;
         }
     }
-    Ok(true)
+    true
 }
 
-// Brings a node made anew to a pulse of the rounds.
-fn bring(alloc: Global, node: &mut Colouring, v: u32, pulse: u32) -> Result<(), Memory>
+// Brings a node made anew to a pulse of the rounds; whether memory is enough.
+fn bring(alloc: Global, node: &mut Colouring, v: u32, pulse: u32) -> bool
     requires ports { ports node.old ≡ 1 }
     ensures ports { ports node.new ≡ 1 }
 {
     for earlier in 1..pulse {
-        show_of_one(alloc, node, earlier, came(v, earlier))?;
+        if show(alloc, node, earlier, &[came(v, earlier)]).is_none() {
+            return false;
+        }
     }
-    Ok(())
-}
-
-// The node of a vertex of the edge as it is before a pulse of the rounds.
-fn brought(alloc: Global, net: &Network, v: u32, pulse: u32) -> Result<Colouring, Memory>
-    requires vertex { IsVertex net.now v }
-    requires one { degree_of net.now v ≡ 1 }
-    ensures ports { IfOk result (λ node. ports node ≡ 1) }
-{
-    let mut node = made(alloc, net, v)?;
-    bring(alloc, &mut node, v, pulse)?;
-    Ok(node)
+    true
 }
 
 // Whether one of two nodes in one state refuses what comes, and then both go on alike, to the colours of the edge:
 // those of the plan less one.
-fn refuses_and_goes_on(
-    alloc: Global,
-    node: &mut Colouring,
-    twin: &mut Colouring,
-    row: &Row,
-) -> Result<bool, Fail>
+fn refuses_and_goes_on(alloc: Global, node: &mut Colouring, twin: &mut Colouring, row: &Row) -> bool
     requires ports { (ports node.old ≡ 1) × (ports twin.old ≡ 1) }
 {
     let (v, pulse, payload, rule, port) = *row;
     let before = node.colour();
-    let shown = show_of_one(alloc, node, pulse, Some(payload))?;
-    let is_refused = shown.answer == Err(Refused { rule, port });
-    let is_as_before = shown.is_quiet && shown.colour == before;
-    let goes_on = go_on_alike(alloc, node, twin, v, pulse)?;
-    Ok(is_refused && is_as_before && goes_on && u32::from(node.colour()) + 1 == v)
+    match show(alloc, node, pulse, &[Some(payload)]) {
+        Some(shown) => {
+            shown.answer == Err(Refused { rule, port })
+                && shown.is_quiet
+                && shown.colour == before
+                && go_on_alike(alloc, node, twin, v, pulse)
+                && u32::from(node.colour()) + 1 == v
+        }
+        None => false,
+    }
 }
 
 // The same of nodes that are brought to the pulse of a row.
-fn goes_on(rt: &impl Abort, alloc: Global, net: &Network, row: &Row) -> Result<bool, Fail> {
+fn goes_on_from(alloc: Global, node: &mut Colouring, twin: &mut Colouring, row: &Row) -> bool
+    requires ports { (ports node.old ≡ 1) × (ports twin.old ≡ 1) }
+{
     let (v, pulse, _, _, _) = *row;
-    assert!(rt; 1 <= v && v <= net.nodes());
-    assert!(rt; net.degree(v) == 1);
-    let mut node = brought(alloc, net, v, pulse)?;
-    let mut twin = brought(alloc, net, v, pulse)?;
-    refuses_and_goes_on(alloc, &mut node, &mut twin, row)
+    bring(alloc, node, v, pulse)
+        && bring(alloc, twin, v, pulse)
+        && refuses_and_goes_on(alloc, node, twin, row)
 }
 
-fn all_go_on(rt: &impl Abort, alloc: Global, net: &Network, rows: &[Row]) -> Result<(), Fail> {
-    for row in rows {
-        assert!(rt; goes_on(rt, alloc, net, row)?, "{row:?}");
+// The same of a twin made anew.
+fn goes_on_beside(alloc: Global, net: &Network, node: &mut Colouring, v: u32, row: &Row) -> bool
+    requires vertex { IsVertex net.now v }
+    requires one { degree_of net.now v ≡ 1 }
+    requires ports { ports node.old ≡ 1 }
+{
+    match made(alloc, net, v) {
+        Ok(mut twin) => goes_on_from(alloc, node, &mut twin, row),
+        Err(_) => false,
     }
-    Ok(())
+}
+
+// The same of a node made anew.
+fn goes_on_at(alloc: Global, net: &Network, v: u32, row: &Row) -> bool
+    requires vertex { IsVertex net.now v }
+    requires one { degree_of net.now v ≡ 1 }
+{
+    match made(alloc, net, v) {
+        Ok(mut node) => goes_on_beside(alloc, net, &mut node, v, row),
+        Err(_) => false,
+    }
+}
+
+fn goes_on(alloc: Global, net: &Network, row: &Row) -> bool {
+    let v = row.0;
+    1 <= v && v <= net.nodes() && net.degree(v) == 1 && goes_on_at(alloc, net, v, row)
+}
+
+fn all_go_on(rt: &impl Abort, alloc: Global, net: &Network, rows: &[Row]) {
+    for i in 0..rows.len() {
+        assert!(rt; goes_on(alloc, net, &rows[i]), "row {i}");
+    }
 }
 
 // Whether a node that has halted takes a pulse at which nothing comes, and sends nothing.
-fn rests(alloc: Global, node: &mut Colouring, v: u32) -> Result<bool, Fail>
+fn rests(alloc: Global, node: &mut Colouring, v: u32) -> bool
     requires ports { ports node.old ≡ 1 }
 {
-    let shown = show_of_one(alloc, node, 19, None)?;
-    Ok(shown.answer == Ok(()) && shown.is_quiet && u32::from(shown.colour) + 1 == v)
+    match show(alloc, node, 19, &[None]) {
+        Some(shown) => {
+            shown.answer == Ok(()) && shown.is_quiet && u32::from(shown.colour) + 1 == v
+        }
+        None => false,
+    }
 }
 
-// The same of a node that is brought there.
-fn rests_at_the_end(rt: &impl Abort, alloc: Global, net: &Network, v: u32) -> Result<bool, Fail> {
-    assert!(rt; 1 <= v && v <= net.nodes());
-    assert!(rt; net.degree(v) == 1);
-    let mut node = brought(alloc, net, v, 19)?;
-    rests(alloc, &mut node, v)
+fn is_brought_to_rest(alloc: Global, node: &mut Colouring, v: u32) -> bool
+    requires ports { ports node.old ≡ 1 }
+{
+    bring(alloc, node, v, 19) && rests(alloc, node, v)
+}
+
+// The same of a node made anew.
+fn rests_at_the_end(alloc: Global, net: &Network, v: u32) -> bool
+    requires vertex { IsVertex net.now v }
+    requires one { degree_of net.now v ≡ 1 }
+{
+    match made(alloc, net, v) {
+        Ok(mut node) => is_brought_to_rest(alloc, &mut node, v),
+        Err(_) => false,
+    }
 }
 
 #[test]
-fn a_node_goes_on_after_a_refusal_as_its_twin(rt: HostRuntime) -> Result<(), Fail> {
-    let alloc = rt.alloc();
-    let net = Network::try_new(alloc, &[1, 2], &[(1, 2)], &[])?;
-    assert!(rt; rests_at_the_end(&rt, alloc, &net, 1)?);
-    assert!(rt; rests_at_the_end(&rt, alloc, &net, 2)?);
-    all_go_on(&rt, alloc, &net, &REFUSALS)
+fn a_node_goes_on_after_a_refusal_as_its_twin(rt: HostRuntime) {
+    let net = edge(rt.alloc()).expect(&rt, "network");
+    assert!(rt; net.nodes() == 2 && net.degree(1) == 1 && net.degree(2) == 1);
+    assert!(rt; rests_at_the_end(rt.alloc(), &net, 1));
+    assert!(rt; rests_at_the_end(rt.alloc(), &net, 2));
+    all_go_on(&rt, rt.alloc(), &net, &REFUSALS);
 }

@@ -4,7 +4,7 @@ use Rattle.alpha_core.specs.node_api.Refused.{Refused}
 use Rattle.colour_program.specs.colour_rules.Payload.{Payload}
 use Rattle.colour_program.specs.colour_rules.Node.{Node, ports}
 use Rattle.colour_program.proofs.colour_rules.KeptPorts.{keeps}
-use Rattle.checks.proofs.colour_program_checks.fed.show.Goals as goal
+use Rattle.checks.proofs.colour_program_checks.fed.shown_of.Goals as goal
 
 abbrev Keeps : ℕ → Node × List (Option Payload) → Type 0
 Keeps n node = (ports node.0 ≡ n) × (length node.1 ≡ n)
@@ -21,5 +21,5 @@ returns c =
     let answer = c.handle_messages-answer in
     record {
       ports = ports-kept c.args.node.now answer.new.self answer.new.out _ _ answer.result
-          (keeps.next_shape c.args.node.now c.args.pulse _ (c.in_ok-inbox.ensures.ports ∙ c.requires.ports)) answer.ensures.answer answer.ensures.refused;
+          (keeps.next_shape c.args.node.now c.args.pulse _ c.requires.inbox) answer.ensures.answer answer.ensures.refused;
     }
