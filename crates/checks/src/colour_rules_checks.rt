@@ -1,6 +1,14 @@
 //! The text of each kind of payload, at its greatest number and one beyond; and each call once.
+
+ghost use Rattle.std.specs.Prelude.{◌≡◌};
+ghost use Rattle.alpha_core.specs.interference.Net.{IsVertex, degree_of};
+ghost use Rattle.alpha_core.specs.node_api.Boxes.{nothing, unread};
+ghost use Rattle.colour_program.specs.colour_rules.Node.{ports};
+
+use crate::networks::edge;
 use alpha_core::{Inbox, Network, Outbox, PayloadText};
 use colour_program::{ColourNode, IdlePulses, Payload, Phase, Reduction};
+use std::alloc::Global;
 
 static TEXTS: [(Payload, &str, u128); 4] = [
     (Payload::Hello(u128::MAX), "hello", u128::MAX),
@@ -48,20 +56,52 @@ fn has_phases(node: &ColourNode) -> bool {
     true
 }
 
+// Whether a node with identifier 1 and one port greets its neighbour, and takes a greeting.
+fn begins(node: &mut ColourNode, inbox: &mut Inbox<Payload>, out: &mut Outbox<Payload>) -> bool
+    requires node { ports node.old ≡ 1 }
+    requires inbox { inbox.old ≡ unread (nothing 1) }
+    requires out { out.old ≡ nothing 1 }
+{
+    node.greet(out);
+    let greets = out.get(0) == Some(Payload::Hello(1)) && node.colour() == 0 && has_phases(node);
+    inbox.put(0, Payload::Hello(2));
+    out.clear();
+    greets && node.pulse(1, inbox, out) == Ok(IdlePulses::none())
+}
+
+fn begins_over(alloc: Global, node: &mut ColourNode, inbox: &mut Inbox<Payload>) -> bool
+    requires node { ports node.old ≡ 1 }
+    requires inbox { inbox.old ≡ unread (nothing 1) }
+{
+    match Outbox::new(alloc, 1) {
+        Ok(mut out) => begins(node, inbox, &mut out),
+        Err(_) => false,
+    }
+}
+
+fn begins_with(alloc: Global, node: &mut ColourNode) -> bool
+    requires node { ports node.old ≡ 1 }
+{
+    match Inbox::new(alloc, 1) {
+        Ok(mut inbox) => begins_over(alloc, node, &mut inbox),
+        Err(_) => false,
+    }
+}
+
+fn begins_anew(alloc: Global, net: &Network) -> bool
+    requires vertex { IsVertex net.now 1 }
+    requires one { degree_of net.now 1 ≡ 1 }
+{
+    match ColourNode::make(alloc, net, 1) {
+        Ok(mut node) => begins_with(alloc, &mut node),
+        Err(_) => false,
+    }
+}
+
 // Two nodes with identifiers 1 and 2 and an edge: one forest, degree 1, last pulse 18.
 #[test]
 fn a_node_begins(rt: HostRuntime) {
-    let alloc = rt.alloc();
-    let net = Network::try_new(alloc, &[1, 2], &[(1, 2)], &[]).expect(&rt, "network");
-    assert!(rt; net.nodes() == 2);
-    assert!(rt; net.degree(1) == 1);
-    let mut node = ColourNode::make(alloc, &net, 1).expect(&rt, "memory");
-    let mut out = Outbox::new(alloc, 1).expect(&rt, "memory");
-    node.greet(&mut out);
-    assert!(rt; out.get(0) == Some(Payload::Hello(1)) && node.colour() == 0);
-    assert!(rt; has_phases(&node));
-    let mut inbox = Inbox::new(alloc, 1).expect(&rt, "memory");
-    inbox.put(0, Payload::Hello(2));
-    out.clear();
-    assert!(rt; node.pulse(1, &mut inbox, &mut out) == Ok(IdlePulses::none()));
+    let net = edge(rt.alloc()).expect(&rt, "network");
+    assert!(rt; net.nodes() == 2 && net.degree(1) == 1);
+    assert!(rt; begins_anew(rt.alloc(), &net));
 }

@@ -1,10 +1,10 @@
 //! The table of what may come to a node: 96 cells, by phase, kind of payload and role of the port.
 
 ghost use Rattle.std.specs.Prelude.{◌≡◌};
-ghost use Rattle.alpha_core.specs.interference.Net.{IsVertex, degree_of};
 ghost use Rattle.colour_program.specs.colour_rules.Node.{ports};
 
-use crate::colour_program_checks::fed::{made, show, takes};
+use crate::colour_program_checks::asked::{Asked, holds_at};
+use crate::colour_program_checks::fed::{show, takes};
 use crate::colour_program_checks::twins::go_on_alike;
 use crate::networks::edge;
 use alpha_core::{Network, Refused};
@@ -100,69 +100,34 @@ fn both_take(
     true
 }
 
-// Whether a node returns this on a payload, once others came at the pulses from 1 on. If it refuses the payload, it shows
-// the same from then on as its twin that wasn't fed it.
-fn returns_beside(
+/// What a node returns on a payload at a pulse, once others came at the pulses from 1 on.
+#[derive(Clone, Copy)]
+pub struct Cell<'a> {
+    earlier: &'a [Payload],
+    pulse: u32,
+    payload: Payload,
+    due: Result<(), Refused>,
+}
+
+/// Whether a node returns what a cell says. If it refuses the payload, it shows the same from then on as its twin that
+/// wasn't fed it.
+pub fn is_told(
     alloc: Global,
     node: &mut Colouring,
     twin: &mut Colouring,
     v: u32,
-    earlier: &[Payload],
-    pulse: u32,
-    payload: Payload,
-    due: Result<(), Refused>,
+    cell: Cell,
 ) -> bool
     requires ports { (ports node.old ≡ 1) × (ports twin.old ≡ 1) }
 {
-    if !both_take(alloc, node, twin, earlier) {
+    if !both_take(alloc, node, twin, cell.earlier) {
         return false;
     }
-    match show(alloc, node, pulse, &[Some(payload)]) {
+    match show(alloc, node, cell.pulse, &[Some(cell.payload)]) {
         Some(shown) => {
-            shown.answer == due && (due.is_ok() || go_on_alike(alloc, node, twin, v, 1))
+            shown.answer == cell.due && (cell.due.is_ok() || go_on_alike(alloc, node, twin, v, 1))
         }
         None => false,
-    }
-}
-
-// The same of a twin made anew. What owns a node does nothing else, since each place at which a node may be dropped
-// costs proof.
-fn returns_anew(
-    alloc: Global,
-    net: &Network,
-    node: &mut Colouring,
-    v: u32,
-    earlier: &[Payload],
-    pulse: u32,
-    payload: Payload,
-    due: Result<(), Refused>,
-) -> bool
-    requires vertex { IsVertex net.now v }
-    requires one { degree_of net.now v ≡ 1 }
-    requires ports { ports node.old ≡ 1 }
-{
-    match made(alloc, net, v) {
-        Ok(mut twin) => { returns_beside(alloc, node, &mut twin, v, earlier, pulse, payload, due) }
-        Err(_) => false,
-    }
-}
-
-// The same of a node made anew.
-fn returns(
-    alloc: Global,
-    net: &Network,
-    v: u32,
-    earlier: &[Payload],
-    pulse: u32,
-    payload: Payload,
-    due: Result<(), Refused>,
-) -> bool
-    requires vertex { IsVertex net.now v }
-    requires one { degree_of net.now v ≡ 1 }
-{
-    match made(alloc, net, v) {
-        Ok(mut node) => returns_anew(alloc, net, &mut node, v, earlier, pulse, payload, due),
-        Err(_) => false,
     }
 }
 
@@ -177,23 +142,31 @@ fn told(broken: Option<u16>) -> Result<(), Refused> {
     }
 }
 
+// Whether new nodes of a vertex return this on a payload, once others came.
+fn returns(
+    alloc: Global,
+    net: &Network,
+    v: u32,
+    earlier: &[Payload],
+    pulse: u32,
+    payload: Payload,
+    broken: Option<u16>,
+) -> bool {
+    let cell = Cell {
+        earlier,
+        pulse,
+        payload,
+        due: told(broken),
+    };
+    holds_at(alloc, net, v, Asked::Cell(cell))
+}
+
 // Whether nodes with a port of each kind return what a row says.
 fn walk(alloc: Global, net: &Network, row: &Row) -> bool {
-    if net.nodes() != 2 || net.degree(1) != 1 || net.degree(2) != 1 {
-        return false;
-    }
     let (pulse, payload, unknown, up, down) = *row;
-    returns(alloc, net, 1, &[], pulse, payload, told(unknown))
-        && returns(alloc, net, 1, &[HELLO], pulse, payload, told(up))
-        && returns(
-            alloc,
-            net,
-            2,
-            &[LOWER_HELLO, LABEL],
-            pulse,
-            payload,
-            told(down),
-        )
+    returns(alloc, net, 1, &[], pulse, payload, unknown)
+        && returns(alloc, net, 1, &[HELLO], pulse, payload, up)
+        && returns(alloc, net, 2, &[LOWER_HELLO, LABEL], pulse, payload, down)
 }
 
 fn walk_all(rt: &impl Abort, alloc: Global, net: &Network, rows: &[Row]) {

@@ -1,10 +1,10 @@
 //! Refusals by value, by what is missing and by the node itself, and that they leave the node as it was.
 
 ghost use Rattle.std.specs.Prelude.{◌≡◌};
-ghost use Rattle.alpha_core.specs.interference.Net.{IsVertex, degree_of};
 ghost use Rattle.colour_program.specs.colour_rules.Node.{ports};
 
-use crate::colour_program_checks::fed::{made, show, show_alike, takes};
+use crate::colour_program_checks::asked::{Asked, holds_at};
+use crate::colour_program_checks::fed::{show, show_alike, takes};
 use alpha_core::{Network, Refused};
 use colour_program::Payload::{Chosen, Colour, Hello, Label};
 use colour_program::rules::{
@@ -49,10 +49,10 @@ fn came_before(v: u32, turn: u32) -> Came {
     }
 }
 
-// A vertex, how many pulses came before, what it refuses then, by which rule and of which port.
-type Row = (u32, u32, Came, u16, Option<u32>);
+/// A vertex, how many pulses came before, what it refuses then, by which rule and of which port.
+pub type Refusal = (u32, u32, Came, u16, Option<u32>);
 
-static REFUSALS: [Row; 20] = [
+static REFUSALS: [Refusal; 20] = [
     // A wrong kind, and a wrong role.
     (
         1,
@@ -155,7 +155,7 @@ fn show_the_same(alloc: Global, one: &mut Colouring, other: &mut Colouring, v: u
 }
 
 // Whether a node refuses what comes, and then goes on as its twin that wasn't fed it.
-fn refuses(alloc: Global, node: &mut Colouring, twin: &mut Colouring, row: &Row) -> bool
+fn refuses(alloc: Global, node: &mut Colouring, twin: &mut Colouring, row: &Refusal) -> bool
     requires ports { (ports node.old ≡ 2) × (ports twin.old ≡ 2) }
 {
     let (v, _, came, rule, port) = *row;
@@ -172,8 +172,13 @@ fn refuses(alloc: Global, node: &mut Colouring, twin: &mut Colouring, row: &Row)
     }
 }
 
-// Whether a node and its twin take what comes before a row, and the node refuses the row.
-fn refuses_then(alloc: Global, node: &mut Colouring, twin: &mut Colouring, row: &Row) -> bool
+/// Whether a node and its twin take what comes before a row, and the node refuses the row.
+pub fn refuses_then(
+    alloc: Global,
+    node: &mut Colouring,
+    twin: &mut Colouring,
+    row: &Refusal,
+) -> bool
     requires ports { (ports node.old ≡ 2) × (ports twin.old ≡ 2) }
 {
     let (v, turns, _, _, _) = *row;
@@ -182,36 +187,11 @@ fn refuses_then(alloc: Global, node: &mut Colouring, twin: &mut Colouring, row: 
         && refuses(alloc, node, twin, row)
 }
 
-// The same of a twin made anew. What owns a node does nothing else, since each place at which a node may be dropped
-// costs proof.
-fn refuses_beside(alloc: Global, net: &Network, node: &mut Colouring, v: u32, row: &Row) -> bool
-    requires vertex { IsVertex net.now v }
-    requires two { degree_of net.now v ≡ 2 }
-    requires ports { ports node.old ≡ 2 }
-{
-    match made(alloc, net, v) {
-        Ok(mut twin) => refuses_then(alloc, node, &mut twin, row),
-        Err(_) => false,
-    }
+fn is_refused(alloc: Global, net: &Network, row: &Refusal) -> bool {
+    holds_at(alloc, net, row.0, Asked::Refusal(row))
 }
 
-// Whether a row is refused by one of two nodes made anew.
-fn is_refused_at(alloc: Global, net: &Network, v: u32, row: &Row) -> bool
-    requires vertex { IsVertex net.now v }
-    requires two { degree_of net.now v ≡ 2 }
-{
-    match made(alloc, net, v) {
-        Ok(mut node) => refuses_beside(alloc, net, &mut node, v, row),
-        Err(_) => false,
-    }
-}
-
-fn is_refused(alloc: Global, net: &Network, row: &Row) -> bool {
-    let v = row.0;
-    1 <= v && v <= net.nodes() && net.degree(v) == 2 && is_refused_at(alloc, net, v, row)
-}
-
-fn are_refused(rt: &impl Abort, alloc: Global, net: &Network, rows: &[Row]) {
+fn are_refused(rt: &impl Abort, alloc: Global, net: &Network, rows: &[Refusal]) {
     for i in 0..rows.len() {
         assert!(rt; is_refused(alloc, net, &rows[i]), "row {i}");
     }
@@ -230,33 +210,19 @@ static BOUNDS: [(u32, u128); 9] = [
     (12, 3),
 ];
 
-// Whether vertex 1, after its first turn, takes this colour from its parent by port 1 at a pulse.
-fn takes_colour(alloc: Global, node: &mut Colouring, pulse: u32, colour: u128) -> bool
+/// Whether vertex 1, after its first turn, takes this colour from its parent by port 1 at a pulse.
+pub fn takes_colour(alloc: Global, node: &mut Colouring, pulse: u32, colour: u128) -> bool
     requires ports { ports node.old ≡ 2 }
 {
     takes_turns(alloc, node, 1, 1)
         && takes(alloc, node, pulse, &[Some(Colour(1)), Some(Colour(colour))])
 }
 
-// The same of a node made anew.
-fn is_taken(alloc: Global, net: &Network, pulse: u32, colour: u128) -> bool
-    requires vertex { IsVertex net.now 1 }
-    requires two { degree_of net.now 1 ≡ 2 }
-{
-    match made(alloc, net, 1) {
-        Ok(mut node) => takes_colour(alloc, &mut node, pulse, colour),
-        Err(_) => false,
-    }
-}
-
 // Whether one more is refused, and the bound is taken.
 fn is_bound(alloc: Global, net: &Network, pulse: u32, bound: u128) -> bool {
-    if bound >= 1000 || net.nodes() != 3 || net.degree(1) != 2 {
-        return false;
-    }
-    let above = (pulse, Some(Colour(1)), Some(Colour(bound + 1)));
-    is_refused_at(alloc, net, 1, &(1, 1, above, COLOUR_RANGE, Some(1)))
-        && is_taken(alloc, net, pulse, bound)
+    let above = (pulse, Some(Colour(1)), Some(Colour(bound.wrapping_add(1))));
+    is_refused(alloc, net, &(1, 1, above, COLOUR_RANGE, Some(1)))
+        && holds_at(alloc, net, 1, Asked::Colour(pulse, bound))
 }
 
 fn are_bounds(rt: &impl Abort, alloc: Global, net: &Network) {
@@ -266,7 +232,7 @@ fn are_bounds(rt: &impl Abort, alloc: Global, net: &Network) {
 }
 
 // On a path a node has one parent at most, and here both neighbours say that they are higher.
-static HIGHER: Row = (
+static HIGHER: Refusal = (
     2,
     0,
     (1, Some(Hello(5)), Some(Hello(6))),

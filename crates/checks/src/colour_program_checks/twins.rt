@@ -2,10 +2,10 @@
 //! and then both go on alike.
 
 ghost use Rattle.std.specs.Prelude.{◌≡◌};
-ghost use Rattle.alpha_core.specs.interference.Net.{IsVertex, degree_of};
 ghost use Rattle.colour_program.specs.colour_rules.Node.{ports};
 
-use crate::colour_program_checks::fed::{made, show, show_alike};
+use crate::colour_program_checks::asked::{Asked, holds_at};
+use crate::colour_program_checks::fed::{show, show_alike};
 use crate::networks::edge;
 use alpha_core::{Network, Refused};
 use colour_program::Payload::{Chosen, Colour, Hello, Label};
@@ -60,10 +60,10 @@ static CAME: [[Option<Payload>; 18]; 2] = [
     ],
 ];
 
-// A vertex, a pulse, what comes at it in place of what is due, and the rule and port of the refusal.
-type Row = (u32, u32, Payload, u16, Option<u32>);
+/// A vertex, a pulse, what comes at it in place of what is due, and the rule and port of the refusal.
+pub type GoneOn = (u32, u32, Payload, u16, Option<u32>);
 
-static REFUSALS: [Row; 8] = [
+static REFUSALS: [GoneOn; 8] = [
     (1, 1, Hello(1), COLOUR_RANGE, Some(0)),
     (1, 2, Label(0), WRONG_ROLE, Some(0)),
     (1, 4, Colour(256), COLOUR_RANGE, Some(0)),
@@ -115,7 +115,12 @@ fn bring(alloc: Global, node: &mut Colouring, v: u32, pulse: u32) -> bool
 
 // Whether one of two nodes in one state refuses what comes, and then both go on alike, to the colours of the edge:
 // those of the plan less one.
-fn refuses_and_goes_on(alloc: Global, node: &mut Colouring, twin: &mut Colouring, row: &Row) -> bool
+fn refuses_and_goes_on(
+    alloc: Global,
+    node: &mut Colouring,
+    twin: &mut Colouring,
+    row: &GoneOn,
+) -> bool
     requires ports { (ports node.old ≡ 1) × (ports twin.old ≡ 1) }
 {
     let (v, pulse, payload, rule, port) = *row;
@@ -132,8 +137,8 @@ fn refuses_and_goes_on(alloc: Global, node: &mut Colouring, twin: &mut Colouring
     }
 }
 
-// The same of nodes that are brought to the pulse of a row.
-fn goes_on_from(alloc: Global, node: &mut Colouring, twin: &mut Colouring, row: &Row) -> bool
+/// The same of nodes that are brought to the pulse of a row.
+pub fn goes_on_from(alloc: Global, node: &mut Colouring, twin: &mut Colouring, row: &GoneOn) -> bool
     requires ports { (ports node.old ≡ 1) × (ports twin.old ≡ 1) }
 {
     let (v, pulse, _, _, _) = *row;
@@ -142,37 +147,10 @@ fn goes_on_from(alloc: Global, node: &mut Colouring, twin: &mut Colouring, row: 
         && refuses_and_goes_on(alloc, node, twin, row)
 }
 
-// The same of a twin made anew.
-fn goes_on_beside(alloc: Global, net: &Network, node: &mut Colouring, v: u32, row: &Row) -> bool
-    requires vertex { IsVertex net.now v }
-    requires one { degree_of net.now v ≡ 1 }
-    requires ports { ports node.old ≡ 1 }
-{
-    match made(alloc, net, v) {
-        Ok(mut twin) => goes_on_from(alloc, node, &mut twin, row),
-        Err(_) => false,
-    }
-}
-
-// The same of a node made anew.
-fn goes_on_at(alloc: Global, net: &Network, v: u32, row: &Row) -> bool
-    requires vertex { IsVertex net.now v }
-    requires one { degree_of net.now v ≡ 1 }
-{
-    match made(alloc, net, v) {
-        Ok(mut node) => goes_on_beside(alloc, net, &mut node, v, row),
-        Err(_) => false,
-    }
-}
-
-fn goes_on(alloc: Global, net: &Network, row: &Row) -> bool {
-    let v = row.0;
-    1 <= v && v <= net.nodes() && net.degree(v) == 1 && goes_on_at(alloc, net, v, row)
-}
-
-fn all_go_on(rt: &impl Abort, alloc: Global, net: &Network, rows: &[Row]) {
+fn all_go_on(rt: &impl Abort, alloc: Global, net: &Network, rows: &[GoneOn]) {
     for i in 0..rows.len() {
-        assert!(rt; goes_on(alloc, net, &rows[i]), "row {i}");
+        let row = &rows[i];
+        assert!(rt; holds_at(alloc, net, row.0, Asked::GoesOn(row)), "row {i}");
     }
 }
 
@@ -188,28 +166,17 @@ fn rests(alloc: Global, node: &mut Colouring, v: u32) -> bool
     }
 }
 
-fn is_brought_to_rest(alloc: Global, node: &mut Colouring, v: u32) -> bool
+/// The same of a node that is brought there.
+pub fn is_brought_to_rest(alloc: Global, node: &mut Colouring, v: u32) -> bool
     requires ports { ports node.old ≡ 1 }
 {
     bring(alloc, node, v, 19) && rests(alloc, node, v)
 }
 
-// The same of a node made anew.
-fn rests_at_the_end(alloc: Global, net: &Network, v: u32) -> bool
-    requires vertex { IsVertex net.now v }
-    requires one { degree_of net.now v ≡ 1 }
-{
-    match made(alloc, net, v) {
-        Ok(mut node) => is_brought_to_rest(alloc, &mut node, v),
-        Err(_) => false,
-    }
-}
-
 #[test]
 fn a_node_goes_on_after_a_refusal_as_its_twin(rt: HostRuntime) {
     let net = edge(rt.alloc()).expect(&rt, "network");
-    assert!(rt; net.nodes() == 2 && net.degree(1) == 1 && net.degree(2) == 1);
-    assert!(rt; rests_at_the_end(rt.alloc(), &net, 1));
-    assert!(rt; rests_at_the_end(rt.alloc(), &net, 2));
+    assert!(rt; holds_at(rt.alloc(), &net, 1, Asked::Rests));
+    assert!(rt; holds_at(rt.alloc(), &net, 2, Asked::Rests));
     all_go_on(&rt, rt.alloc(), &net, &REFUSALS);
 }

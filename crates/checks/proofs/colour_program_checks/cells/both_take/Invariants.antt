@@ -3,4 +3,4 @@ use Rattle.colour_program.specs.colour_rules.Node.{ports}
 use Rattle.checks.proofs.colour_program_checks.cells.both_take.Given as goal
 
 abbrev pub invariant-loop-payload : goal.invariant-loop-payload
-invariant-loop-payload g l = (ports l.node ≡ 1) × (ports l.twin ≡ 1)
+invariant-loop-payload l = (ports l.node ≡ 1) × (ports l.twin ≡ 1)
