@@ -8,7 +8,7 @@ use crate::signals::Signals;
 use actor::{Gate, Links, Node, NodeProgram, TurnRefused, Wiring};
 use std::sync::Wait;
 use std::thread;
-use worker_deques::{Desk, Gives, Thief, Worked};
+use worker_deques::{Desk, Gives, Task, Thief, Worked};
 
 /// What all workers share besides the deques.
 #[derive(Drop)]
@@ -20,7 +20,7 @@ pub struct Crew<'a, J: Wiring, P: NodeProgram, G: Gate> {
 }
 
 /// What a worker hands back.
-pub type Done<J: Wiring, P: NodeProgram> = Worked<Node<J, P>, TurnRefused>;
+pub type Done<T: Task> = Worked<T, TurnRefused>;
 
 // The node goes to the finished places, if nothing is left for it to do, or else to the worker's own deque. If that
 // refuses it, it stays in hand.
@@ -106,7 +106,7 @@ pub fn work<J: Wiring, P: NodeProgram, R: Wait, G: Gate>(
     worker: u32,
     mut desk: Desk<Node<J, P>>,
     turns: u64,
-) -> Done<J, P>
+) -> Done<Node<J, P>>
     requires worker { worker < vec_len thieves.now }
     requires deques { map (λ g. deque_of g.pass) desk.guests.items ≡ map stealer_deque thieves.now.items }
     ensures own { worker_deque result.desk.own ≡ worker_deque desk.own }

@@ -18,7 +18,7 @@ use std::snapshot::Snapshot;
 use std::sync::Wait;
 use std::thread;
 use std::thread::{PromisedHandle, Scope, Threads};
-use worker_deques::{Desk, Ledger, SameDeques, Thief, cut, deal, make_deques, make_desks};
+use worker_deques::{Desk, Ledger, SameDeques, Task, Thief, cut, deal, make_deques, make_desks};
 
 // A share is cut off with all that was pushed and taken so far.
 pub struct Dealt;
@@ -33,7 +33,7 @@ impl Split<Ledger> for Dealt {
 }
 
 // A worker in a thread of its own, which can be joined.
-type Child<J: Wiring, P: NodeProgram> = PromisedHandle<Done<J, P>, SameDeques<Node<J, P>>>;
+type Child<T: Task> = PromisedHandle<Done<T>, SameDeques<T>>;
 
 // Starts a worker in a thread of the scope.
 fn start<'s, E, J: Wiring + Send + Sync, P: NodeProgram, G: Gate + Sync, R: Threads + Wait + Sync>(
@@ -44,7 +44,7 @@ fn start<'s, E, J: Wiring + Send + Sync, P: NodeProgram, G: Gate + Sync, R: Thre
     worker: u32,
     desk: Desk<Node<J, P>>,
     turns: u64,
-) -> Result<Child<J, P>, PoolFault>
+) -> Result<Child<Node<J, P>>, PoolFault>
     requires worker { worker < vec_len thieves.now }
     requires deques { map (λ g. deque_of g.pass) desk.guests.items ≡ map stealer_deque thieves.now.items }
     ensures desk { IfOk result (λ h. h.promise.0.value ≡ desk) }
@@ -53,7 +53,7 @@ fn start<'s, E, J: Wiring + Send + Sync, P: NodeProgram, G: Gate + Sync, R: Thre
 {
     let started = scope.spawn_with(
         SameDeques(Snapshot::of(&desk)),
-        move || -> Done<J, P>
+        move || -> Done<Node<J, P>>
             requires { (worker < vec_len thieves.now)
                 × (map (λ g. deque_of g.pass) desk.guests.items ≡ map stealer_deque thieves.now.items) }
             ensures { (worker_deque result.desk.own ≡ worker_deque desk.own)
@@ -86,7 +86,7 @@ fn start_all<
     thieves: &'s Vec<Thief<Node<J, P>>>,
     desks: Vec<Desk<Node<J, P>>>,
     turns: u64,
-) -> Result<Vec<Child<J, P>>, PoolFault>
+) -> Result<Vec<Child<Node<J, P>>>, PoolFault>
     requires few { vec_len desks ≤ MAX_WORKERS }
     requires workers { vec_len desks ≡ vec_len thieves.now }
     requires deques { All (λ d. map (λ g. deque_of g.pass) d.guests.items
@@ -104,11 +104,11 @@ fn start_all<
 }
 
 // All workers come back.
-fn join_all<J: Wiring, P: NodeProgram, R: Threads + Wait>(
+fn join_all<T: Task, R: Threads + Wait>(
     rt: &R,
     signals: &Signals,
-    children: Vec<Child<J, P>>,
-) -> Result<Vec<Done<J, P>>, PoolFault>
+    children: Vec<Child<T>>,
+) -> Result<Vec<Done<T>>, PoolFault>
     ensures owns { IfOk result (λ done. map (λ w. worker_deque w.desk.own) done.items
         ≡ map (λ d. worker_deque d.own) (map (λ h. h.promise.0.value) children.items)) }
     ensures guests { IfOk result (λ done. map (λ w. map (λ g. deque_of g.pass) w.desk.guests.items) done.items
@@ -162,7 +162,7 @@ pub fn run_nodes<J: Wiring + Send + Sync, P: NodeProgram, G: Gate + Sync, R: Thr
     let done = thread::scope(
         thread::scope_env(),
         rt,
-        move |scope| -> Result<Vec<Done<J, P>>, PoolFault>
+        move |scope| -> Result<Vec<Done<Node<J, P>>>, PoolFault>
             requires { (vec_len desks ≤ MAX_WORKERS) × (vec_len desks ≡ vec_len thieves.now)
                 × All (λ d. map (λ g. deque_of g.pass) d.guests.items
                 ≡ map stealer_deque thieves.now.items) desks.items }

@@ -1,6 +1,6 @@
 //! Which fault a run has if turns of its workers ended early.
 
-ghost use Rattle.std.specs.Prelude.{◌≡◌, ◌≢◌, ◌≤◌, ◌-◌, All, Contains, Err, IfErr, IfOk, false, map, vec_len};
+ghost use Rattle.std.specs.Prelude.{◌≡◌, ◌≢◌, ◌≤◌, All, Contains, Err, IfErr, IfOk, false, map, vec_len};
 ghost use Rattle.std.specs.List.{range_with_len};
 ghost use Rattle.crossbeam_deque.specs.Handles.{view, worker_deque};
 ghost use Rattle.run_options.specs.declared.TheConstants.{MAX_WORKERS};
@@ -12,13 +12,13 @@ ghost use Rattle.pool.specs.declared.fault.PoolFault.TheVariants.{BadOptions, Me
 
 use crate::fault::PoolFault;
 use crate::looks::Done;
-use actor::{Node, NodeProgram, TurnRefused, Wiring};
+use actor::TurnRefused;
 use std::alloc::Global;
 use std::sync::Wait;
-use worker_deques::{Guest, gather};
+use worker_deques::{Guest, Task, gather};
 
 // What is told of a run: memory first.
-fn told_of<J: Wiring, P: NodeProgram>(done: &Vec<Done<J, P>>) -> Result<(), PoolFault>
+fn told_of<T: Task>(done: &Vec<Done<T>>) -> Result<(), PoolFault>
     ensures told { result ≡ told_after tt (map (λ w. w.written) done.now.items) false }
     ensures fault { IfErr result (λ fault. fault ≢ BadOptions) }
 {
@@ -37,7 +37,7 @@ fn told_of<J: Wiring, P: NodeProgram>(done: &Vec<Done<J, P>>) -> Result<(), Pool
 }
 
 // The fault of a run in which a turn of a worker ended early, if there is such a turn. Memory is told first.
-fn told<J: Wiring, P: NodeProgram>(done: &Vec<Done<J, P>>) -> Result<(), PoolFault>
+fn told<T: Task>(done: &Vec<Done<T>>) -> Result<(), PoolFault>
     ensures ended { IfOk result (λ _. All (λ w. IfErr w.written (λ _. ⊥)) done.now.items) }
     ensures memory_first { Contains (map (λ w. w.written) done.now.items) (Err turn.Memory) → result ≡ Err Memory }
     ensures fault { IfErr result (λ fault. fault ≢ BadOptions) }
@@ -48,26 +48,26 @@ fn told<J: Wiring, P: NodeProgram>(done: &Vec<Done<J, P>>) -> Result<(), PoolFau
     }
 }
 
-/// Each node once, ascending, of what was dealt and what all workers handed back; or the fault of a turn that ended
+/// Each task once, ascending, of what was dealt and what all workers handed back; or the fault of a turn that ended
 /// early, memory first.
 ///
 /// # Errors
 ///
 /// `Memory` if memory is refused, or was refused to a worker. `StampFull` if no worker was refused memory, and a stamp
 /// of one would pass 18446744073709551615.
-pub fn gather_told<J: Wiring, P: NodeProgram, R: Wait>(
+pub fn gather_told<T: Task, R: Wait>(
     rt: &R,
     alloc: Global,
     count: usize,
-    dealt: Vec<Guest<Node<J, P>>>,
-    done: Vec<Done<J, P>>,
-) -> Result<Vec<Node<J, P>>, PoolFault>
+    dealt: Vec<Guest<T>>,
+    done: Vec<Done<T>>,
+) -> Result<Vec<T>, PoolFault>
     requires deques { map (λ g. deque_of g.pass) dealt.items ≡ map (λ w. worker_deque w.desk.own) done.items }
     requires guests { All (λ w. map (λ g. deque_of g.pass) w.desk.guests.items
         ≡ map (λ g. deque_of g.pass) dealt.items) done.items }
     requires few { vec_len dealt ≤ MAX_WORKERS }
     requires dealt { AreDealt (map (λ g. view g.pass) dealt.items) (range_with_len 0 count) }
-    ensures order { IfOk result (λ all. map (λ n. n.vertex - 1) all.items ≡ range_with_len 0 count) }
+    ensures order { IfOk result (λ all. map T.number_of all.items ≡ range_with_len 0 count) }
     ensures ended { IfOk result (λ _. All (λ w. IfErr w.written (λ _. ⊥)) done.items) }
     ensures memory_first { Contains (map (λ w. w.written) done.items) (Err turn.Memory) → result ≡ Err Memory }
     ensures fault { IfErr result (λ fault. fault ≢ BadOptions) }

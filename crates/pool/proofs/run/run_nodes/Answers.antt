@@ -62,11 +62,11 @@ scoped-requires g c =
     }
 
 pub gather_told-requires-clause-deques : goal.gather_told-requires-clause-deques
-gather_told-requires-clause-deques g c κ b =
+gather_told-requires-clause-deques g c =
     c.in_ok-owns-2.ensures.guests ∙ sym c.in_ok-owns-2.ensures.owns ∙ sym c.in_ok-desks.ensures.owns ∙ sym c.in_ok-done.ensures.1.0
 
 pub gather_told-requires-clause-guests : goal.gather_told-requires-clause-guests
-gather_told-requires-clause-guests g c κ b =
+gather_told-requires-clause-guests g c =
     carried (λ d. map (λ g'. deque_of g'.pass) d.guests.items) (λ w. map (λ g'. deque_of g'.pass) w.desk.guests.items)
     (λ ids. ids ≡ map (λ g'. deque_of g'.pass) c.in_ok-owns-2.dealt.items) c.in_ok-desks.desks.items _ c.in_ok-done.ensures.1.1.0
     (λ k d lt. c.in_ok-desks.ensures.guests k d lt ∙ c.in_ok-owns-2.ensures.owns ∙ sym c.in_ok-owns-2.ensures.guests)
@@ -82,7 +82,7 @@ gather_told-requires-clause-few g c =
 
 -- what was dealt are the numbers below the count
 pub gather_told-requires-clause-dealt : goal.gather_told-requires-clause-dealt
-gather_told-requires-clause-dealt g c κ b =
+gather_told-requires-clause-dealt g c =
     let nodes = c.args.nodes in
     let n = count_of g.J.Wiring.net in
     let many = many_nodes (λ b. b.value.vertex) nodes.items n c.requires.nodes in
