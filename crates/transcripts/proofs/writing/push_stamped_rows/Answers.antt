@@ -1,8 +1,17 @@
-use Rattle.std.proofs.Common.{◌++◌, ◌∷◌, [], ◌∙◌, ap, flat_map, subst, sym, take}
-use Rattle.std.proofs.lemmas.List.{flat_map_more, take_more}
-use Rattle.std.proofs.lemmas.List.Elements.{All-more}
+use Rattle.std.proofs.Common.{◌++◌, ◌∷◌, [], ◌∙◌, All, ap, append-nil, flat_map, subst, sym, take}
+use Rattle.std.proofs.lemmas.List.{flat_map_more, take_all, take_more}
+use Rattle.std.proofs.lemmas.List.Elements.{All-more, All-nil}
+use Rattle.std.proofs.lemmas.Result.{IfOk-from_err}
 use Rattle.transcripts.specs.TranscriptText.{IsReadableStamped, stamped_row_text}
 use Rattle.transcripts.proofs.writing.push_stamped_rows.Goals as goal
+
+pub loop-row-init : goal.loop-row-init
+loop-row-init g c =
+    let m = g.T.PayloadText in
+    record {
+      text = sym (append-nil c.args.text.now.items);
+      readable = All-nil (IsReadableStamped m.word_of m.number_of m.payload_of);
+    }
 
 pub loop-row-preserved : goal.loop-row-preserved
 loop-row-preserved g c =
@@ -19,3 +28,23 @@ loop-row-preserved g c =
       readable = All-more (IsReadableStamped m.word_of m.number_of m.payload_of) rows i row c.loop-row-test.true c.loop-row.invariant.readable
           (subst (IsReadableStamped m.word_of m.number_of m.payload_of) c.row-item.is c.in_ok-push_stamped_row.ensures.readable);
     }
+
+pub returns-in_err-push_stamped_row-clause-text : goal.returns-in_err-push_stamped_row-clause-text
+returns-in_err-push_stamped_row-clause-text g c = IfOk-from_err c.from_residual.result _ c.from_residual.ensures.0
+
+pub returns-in_err-push_stamped_row-clause-readable : goal.returns-in_err-push_stamped_row-clause-readable
+returns-in_err-push_stamped_row-clause-readable g c = IfOk-from_err c.from_residual.result _ c.from_residual.ensures.0
+
+-- at the end the entries so far are all
+pub returns-clause-text : goal.returns-clause-text
+returns-clause-text g c =
+    let m = g.T.PayloadText in
+    c.loop-row.invariant.text
+    ∙ ap (λ l. c.args.text.now.items ++ flat_map (stamped_row_text m.word_of m.number_of) l)
+    (take_all c.loop-row.row-index c.args.rows.now c.loop-row-test.false)
+
+pub returns-clause-readable : goal.returns-clause-readable
+returns-clause-readable g c =
+    let m = g.T.PayloadText in
+    subst (All (IsReadableStamped m.word_of m.number_of m.payload_of)) (take_all c.loop-row.row-index c.args.rows.now c.loop-row-test.false)
+    c.loop-row.invariant.readable
