@@ -23,7 +23,7 @@ from-first v other = omega arith
 module _ (net : Net) (v : ℕ) where
   -- vertices are numbered from 1 on
   pub before-first : v ≡ 0 → is_vertex net v ≡ false
-  before-first zero = ap (λ k. nat_le 1 k && nat_le k (count_of net)) zero
+  before-first none = ap (λ k. nat_le 1 k && nat_le k (count_of net)) none
 
   pub behind-last : count_of net < v → is_vertex net v ≡ false
   behind-last past = and_right (nat_le 1 v) (nat_le v (count_of net)) (lt-leb v (count_of net) past)

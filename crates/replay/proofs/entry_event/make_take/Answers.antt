@@ -41,7 +41,8 @@ leads g c =
     ap (λ i. step g.P.NodeProgram.program c.args.state.now.net c.args.state.now.state (Take c.args.v i)) (sym (place g c)) ∙ c.in_ok-step.ensures.step
 
 port-there : (g : _) (c : After-network-net g) → c.in-Some.port < degree_of c.network-net.result.now c.args.v
-port-there g c = subst (λ n. c.in-Some.port < degree_of n c.args.v) (c.network.ensures.network ∙ sym c.network-net.ensures.network) c.in-Some.ensures.port.1
+port-there g c =
+    subst (λ n. c.in-Some.port < degree_of n c.args.v) (c.network.ensures.network ∙ sym c.network-net.ensures.network) c.in-Some.ensures.port.1
 
 pub network-requires : goal.network-requires
 network-requires g c = (c.type_bounds.send-P, c.type_bounds.send-P-Payload)
