@@ -77,6 +77,13 @@ fn run_boxed<R: Threads + Wait + Sync>(
     }
 }
 
+// Moves a node's counter past a stamp; whether there is one left.
+fn moves_past(node: &mut Node<Alone, Greatest<2>>, stamp: u64) -> bool
+    ensures vertex { node.new.vertex ≡ node.old.vertex }
+{
+    node.counter.past(stamp).is_ok()
+}
+
 // Runs a node whose counter is moved past a stamp before.
 fn run_past<R: Threads + Wait + Sync>(
     rt: &R,
@@ -87,11 +94,12 @@ fn run_past<R: Threads + Wait + Sync>(
 ) -> Result<(u32, u64), PoolFault>
     requires vertex { node.vertex ≡ 1 }
 {
-    let is_past = node.counter.past(stamp).is_ok();
-    match Box::new(alloc, node) {
-        Ok(node) if is_past => run_boxed(rt, alloc, links, node),
-        _ => Err(PoolFault::Memory),
-    }
+    let is_past = moves_past(&mut node, stamp);
+    let end = match Box::new(alloc, node) {
+        Ok(node) => run_boxed(rt, alloc, links, node),
+        Err(_) => Err(PoolFault::Memory),
+    };
+    if is_past { end } else { Err(PoolFault::Memory) }
 }
 
 fn run_over<R: Threads + Wait + Sync>(
@@ -130,7 +138,7 @@ fn refuses_the_second_turn<R: Wait>(
     links: &Links<Alone, Greatest<2>>,
     node: &mut Node<Alone, Greatest<2>>,
 ) -> bool {
-    if node.counter.past(u64::MAX - 2).is_err() {
+    if !moves_past(node, u64::MAX - 2) {
         return false;
     }
     let first = node.turn(rt, links, &OpenGate, 0);

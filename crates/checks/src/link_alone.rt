@@ -1,5 +1,5 @@
-//! Links of capacity 1 in one thread, at `Greatest`. What owns a link and its ends does nothing else, since each place at
-//! which they may be dropped costs proof.
+//! Links of capacity 1 in one thread, at `Greatest`. What owns a link and its ends does nothing else, since each place
+//! at which they may be dropped costs proof.
 
 ghost use Rattle.std.specs.Prelude.{◌≡◌};
 ghost use Rattle.link_rule.specs.Legal.{name_of};
@@ -23,8 +23,8 @@ pub struct Steps {
     pub taken_again: Option<Stamped<Best>>,
 }
 
-// A put, a put that finds the link full, a take, a take that finds it empty, a put, a take. Nothing if the first put finds
-// the link full, or the second doesn't.
+// A put, a put that finds the link full, a take, a take that finds it empty, a put, a take. Nothing is returned if the
+// first put finds the link full, or the second doesn't.
 fn steps_of<R: Wait>(
     rt: &R,
     link: &Link<Greatest<1>>,

@@ -146,8 +146,8 @@ fn not_fed(alloc: Global) -> Fed {
     }
 }
 
-// Plays a node, with another wire, if there is one, between two lists of acts, and notes what comes of it. Whether memory
-// was enough.
+// Plays a node, with another wire, if there is one, between two lists of acts, and notes what comes of it. Returns
+// whether memory was enough.
 fn play_with(
     node: &mut AlphaNode<Greatest<3>>,
     first: &[Act<Best>],

@@ -1,5 +1,5 @@
-//! What a test asks of two nodes of a vertex, made anew. What makes them does nothing else, and there is one such function
-//! for all tests, since each place at which a node may be dropped costs proof.
+//! What a test asks of two nodes of a vertex, made anew. What makes them does nothing else, and all tests share it,
+//! since each place at which a node may be dropped costs proof.
 
 ghost use Rattle.std.specs.Prelude.{◌≡◌};
 ghost use Rattle.alpha_core.specs.interference.Net.{IsVertex, degree_of};
