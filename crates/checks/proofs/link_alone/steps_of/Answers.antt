@@ -21,7 +21,8 @@ pub put-requires-3-clause-legal : goal.put-requires-3-clause-legal
 put-requires-3-clause-legal g c κs within =
     let made = c.requires.put_end in
     let first = c.in-Ok.ensures.put ∙ ap (λ l. l ++ Payload 0 (record { 0 = 1 }) ∷ []) made.put in
-    first_front (Payload 0 (record { 0 = 1 }) ∷ Safe 0 ∷ []) [] _ _ refl (ap (λ l. l ++ Safe 0 ∷ []) (ap (λ l. wires_of l) c.in-Err-put.ensures.unchanged ∙ first))
+    first_front (Payload 0 (record { 0 = 1 }) ∷ Safe 0 ∷ []) [] _ _ refl
+    (ap (λ l. l ++ Safe 0 ∷ []) (ap (λ l. wires_of l) c.in-Err-put.ensures.unchanged ∙ first))
     (c.put-2.ensures.end.1 ∙ c.put.ensures.end.1 ∙ made.named)
 
 pub put-requires-clause-above : goal.put-requires-clause-above

@@ -72,34 +72,44 @@ pub returns-in_err-by_vertex-clause-fault : goal.returns-in_err-by_vertex-clause
 returns-in_err-by_vertex-clause-fault c = λ lines knows. memory_says lines c.from_residual.result c.from_residual.ensures.1
 
 pub returns-in_err-into_ascending-clause-ok : goal.returns-in_err-into_ascending-clause-ok
-returns-in_err-into_ascending-clause-ok c = λ lines knows. err_says _ _ c.from_residual-in_err-into_ascending.result c.from_residual-in_err-into_ascending.ensures.1
+returns-in_err-into_ascending-clause-ok c = λ lines knows.
+    err_says _ _ c.from_residual-in_err-into_ascending.result c.from_residual-in_err-into_ascending.ensures.1
 
 pub returns-in_err-into_ascending-clause-vertices : goal.returns-in_err-into_ascending-clause-vertices
-returns-in_err-into_ascending-clause-vertices c = λ lines knows. err_says _ _ c.from_residual-in_err-into_ascending.result c.from_residual-in_err-into_ascending.ensures.1
+returns-in_err-into_ascending-clause-vertices c = λ lines knows.
+    err_says _ _ c.from_residual-in_err-into_ascending.result c.from_residual-in_err-into_ascending.ensures.1
 
 pub returns-in_err-into_ascending-clause-limits : goal.returns-in_err-into_ascending-clause-limits
-returns-in_err-into_ascending-clause-limits c = λ lines knows. err_says _ _ c.from_residual-in_err-into_ascending.result c.from_residual-in_err-into_ascending.ensures.1
+returns-in_err-into_ascending-clause-limits c = λ lines knows.
+    err_says _ _ c.from_residual-in_err-into_ascending.result c.from_residual-in_err-into_ascending.ensures.1
 
 pub returns-in_err-into_ascending-clause-bars : goal.returns-in_err-into_ascending-clause-bars
-returns-in_err-into_ascending-clause-bars c = λ lines knows. err_says _ _ c.from_residual-in_err-into_ascending.result c.from_residual-in_err-into_ascending.ensures.1
+returns-in_err-into_ascending-clause-bars c = λ lines knows.
+    err_says _ _ c.from_residual-in_err-into_ascending.result c.from_residual-in_err-into_ascending.ensures.1
 
 pub returns-in_err-into_ascending-clause-fault : goal.returns-in_err-into_ascending-clause-fault
-returns-in_err-into_ascending-clause-fault c = λ lines knows. memory_says lines c.from_residual-in_err-into_ascending.result c.from_residual-in_err-into_ascending.ensures.1
+returns-in_err-into_ascending-clause-fault c = λ lines knows.
+    memory_says lines c.from_residual-in_err-into_ascending.result c.from_residual-in_err-into_ascending.ensures.1
 
 pub returns-in_err-into_ascending-2-clause-ok : goal.returns-in_err-into_ascending-2-clause-ok
-returns-in_err-into_ascending-2-clause-ok c = λ lines knows. err_says _ _ c.from_residual-in_err-into_ascending-2.result c.from_residual-in_err-into_ascending-2.ensures.1
+returns-in_err-into_ascending-2-clause-ok c = λ lines knows.
+    err_says _ _ c.from_residual-in_err-into_ascending-2.result c.from_residual-in_err-into_ascending-2.ensures.1
 
 pub returns-in_err-into_ascending-2-clause-vertices : goal.returns-in_err-into_ascending-2-clause-vertices
-returns-in_err-into_ascending-2-clause-vertices c = λ lines knows. err_says _ _ c.from_residual-in_err-into_ascending-2.result c.from_residual-in_err-into_ascending-2.ensures.1
+returns-in_err-into_ascending-2-clause-vertices c = λ lines knows.
+    err_says _ _ c.from_residual-in_err-into_ascending-2.result c.from_residual-in_err-into_ascending-2.ensures.1
 
 pub returns-in_err-into_ascending-2-clause-limits : goal.returns-in_err-into_ascending-2-clause-limits
-returns-in_err-into_ascending-2-clause-limits c = λ lines knows. err_says _ _ c.from_residual-in_err-into_ascending-2.result c.from_residual-in_err-into_ascending-2.ensures.1
+returns-in_err-into_ascending-2-clause-limits c = λ lines knows.
+    err_says _ _ c.from_residual-in_err-into_ascending-2.result c.from_residual-in_err-into_ascending-2.ensures.1
 
 pub returns-in_err-into_ascending-2-clause-bars : goal.returns-in_err-into_ascending-2-clause-bars
-returns-in_err-into_ascending-2-clause-bars c = λ lines knows. err_says _ _ c.from_residual-in_err-into_ascending-2.result c.from_residual-in_err-into_ascending-2.ensures.1
+returns-in_err-into_ascending-2-clause-bars c = λ lines knows.
+    err_says _ _ c.from_residual-in_err-into_ascending-2.result c.from_residual-in_err-into_ascending-2.ensures.1
 
 pub returns-in_err-into_ascending-2-clause-fault : goal.returns-in_err-into_ascending-2-clause-fault
-returns-in_err-into_ascending-2-clause-fault c = λ lines knows. memory_says lines c.from_residual-in_err-into_ascending-2.result c.from_residual-in_err-into_ascending-2.ensures.1
+returns-in_err-into_ascending-2-clause-fault c = λ lines knows.
+    memory_says lines c.from_residual-in_err-into_ascending-2.result c.from_residual-in_err-into_ascending-2.ensures.1
 
 pub returns-in_default-clause-fault : goal.returns-in_default-clause-fault
 returns-in_default-clause-fault c = λ lines knows. (knows.good, sym knows.nodes_are ∙ c.in_default.is)

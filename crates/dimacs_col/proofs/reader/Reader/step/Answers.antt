@@ -29,23 +29,28 @@ returns-in-Unknown-clause-judged c = λ before knows line.
 pub returns-in-Problem-clause-judged : goal.returns-in-Problem-clause-judged
 returns-in-Problem-clause-judged c = λ before knows line.
     let e : slice_get (fields_of c.args.line.now) 0 ≡ Some c.in-Some.first.now = rw (← c.of-fields.ensures) (sym c.in-Some.ensures.first) in
-    subst (λ fs. Judged before fs c.problem.new.self c.problem.result) (sym (fields_are c.args.line.now _ c.in-Some.first.now _ c.of-fields.ensures e c.next.ensures.rest))
+    subst (λ fs. Judged before fs c.problem.new.self c.problem.result)
+    (sym (fields_are c.args.line.now _ c.in-Some.first.now _ c.of-fields.ensures e c.next.ensures.rest))
     (c.problem.ensures.judged before c.in-Some.first.now (knows_on before c.args.self.now _ knows) (ap (λ n. n + 1) line) (sym c.of.ensures ∙ c.in-Problem.is))
 
 pub returns-in-Edge-clause-judged : goal.returns-in-Edge-clause-judged
 returns-in-Edge-clause-judged c = λ before knows line.
     let e : slice_get (fields_of c.args.line.now) 0 ≡ Some c.in-Some.first.now = rw (← c.of-fields.ensures) (sym c.in-Some.ensures.first) in
-    subst (λ fs. Judged before fs c.edge.new.self c.edge.result) (sym (fields_are c.args.line.now _ c.in-Some.first.now _ c.of-fields.ensures e c.next.ensures.rest))
+    subst (λ fs. Judged before fs c.edge.new.self c.edge.result)
+    (sym (fields_are c.args.line.now _ c.in-Some.first.now _ c.of-fields.ensures e c.next.ensures.rest))
     (c.edge.ensures.judged before c.in-Some.first.now (knows_on before c.args.self.now _ knows) (ap (λ n. n + 1) line) (sym c.of.ensures ∙ c.in-Edge.is))
 
 pub returns-in-Identifier-clause-judged : goal.returns-in-Identifier-clause-judged
 returns-in-Identifier-clause-judged c = λ before knows line.
     let e : slice_get (fields_of c.args.line.now) 0 ≡ Some c.in-Some.first.now = rw (← c.of-fields.ensures) (sym c.in-Some.ensures.first) in
-    subst (λ fs. Judged before fs c.identify.new.self c.identify.result) (sym (fields_are c.args.line.now _ c.in-Some.first.now _ c.of-fields.ensures e c.next.ensures.rest))
-    (c.identify.ensures.judged before c.in-Some.first.now (knows_on before c.args.self.now _ knows) (ap (λ n. n + 1) line) (sym c.of.ensures ∙ c.in-Identifier.is))
+    subst (λ fs. Judged before fs c.identify.new.self c.identify.result)
+    (sym (fields_are c.args.line.now _ c.in-Some.first.now _ c.of-fields.ensures e c.next.ensures.rest))
+    (c.identify.ensures.judged before c.in-Some.first.now (knows_on before c.args.self.now _ knows)
+    (ap (λ n. n + 1) line) (sym c.of.ensures ∙ c.in-Identifier.is))
 
 pub returns-in-Bar-clause-judged : goal.returns-in-Bar-clause-judged
 returns-in-Bar-clause-judged c = λ before knows line.
     let e : slice_get (fields_of c.args.line.now) 0 ≡ Some c.in-Some.first.now = rw (← c.of-fields.ensures) (sym c.in-Some.ensures.first) in
-    subst (λ fs. Judged before fs c.bar.new.self c.bar.result) (sym (fields_are c.args.line.now _ c.in-Some.first.now _ c.of-fields.ensures e c.next.ensures.rest))
+    subst (λ fs. Judged before fs c.bar.new.self c.bar.result)
+    (sym (fields_are c.args.line.now _ c.in-Some.first.now _ c.of-fields.ensures e c.next.ensures.rest))
     (c.bar.ensures.judged before c.in-Some.first.now (knows_on before c.args.self.now _ knows) (ap (λ n. n + 1) line) (sym c.of.ensures ∙ c.in-Bar.is))
