@@ -4,6 +4,7 @@ pub mod Kept
 pub mod Steps
 pub mod Written
 pub mod Writes
+pub mod Refusals
 pub mod Rows
 pub mod alpha_core
 pub mod StampedEntries

@@ -1,5 +1,5 @@
 -- Lists by port, and one of them that gets longer.
-use Rattle.std.proofs.Common.{◌≡◌, ℕ, zero, suc, ◌-◌, ◌<◌, List, [], ◌∷◌, ◌++◌, length, map, take, drop, set, get_or, refl, sym, ap, ◌∙◌}
+use Rattle.std.proofs.Common.{◌≡◌, ℕ, zero, suc, ◌-◌, ◌<◌, List, [], ◌∷◌, ◌++◌, length, map, take, drop, set, get_or, refl, sym, ap, ◌∙◌, subst}
 use Rattle.std.proofs.Common.{Some, slice_get, arith}
 use Rattle.std.specs.Prelude.{All}
 use Rattle.std.specs.List.{range_with_len}
@@ -19,6 +19,17 @@ same_all f xs i x y is e = map-set_same f xs i y x (e ∙ ap f is)
 
 pub get_map : {A B : Type 0} (f : A → B) (xs : List A) (i : ℕ) (x : A) (d : B) → i < length xs → x ≡ get_or xs i x → f x ≡ get_or (map f xs) i d
 get_map f xs i x d lt is = ap f is ∙ sym (get_or-map f xs i x d lt)
+
+-- a place below what is as much as another number, and below as many
+pub below_same : (i m n : ℕ) → m ≡ n → i < m → i < n
+below_same i m n e lt = subst (λ k. i < k) e lt
+
+pub below_as_many : (i m n : ℕ) → m ≡ n → i < n → i < m
+below_as_many i m n e lt = subst (λ k. i < k) (sym e) lt
+
+-- What follows from one proof, which it names more than once: so the proof is written out once.
+pub from_one : {A B : Type 0} → A → (A → B) → B
+from_one x f = f x
 
 -- a list that is given place by place
 pub as_long : {A B : Type 0} (f : A → B) (g : ℕ → B) (xs : List A) (n : ℕ) → map f xs ≡ map g (range_with_len 0 n) → length xs ≡ n

@@ -16,7 +16,7 @@ use Rattle.alpha_laws.specs.Kept.{NodeKept}
 use Rattle.alpha_laws.proofs.NodeLaws.{puts_keep, takes_keep, pulses_keep}
 use Rattle.alpha_laws.proofs.Runs.{runs}
 use Rattle.actor.specs.declared.aside.Aside.{Aside}
-use Rattle.actor.specs.declared.aside.WhyAside.TheVariants.{Refused}
+use Rattle.actor.specs.declared.aside.WhyAside.TheVariants.{Refused, StampFull}
 use Rattle.actor.specs.Node.{by_port, reacted_to, all_but_last, IsAside}
 use Rattle.actor.proofs.Lists.{same_all, get_map, one_more, set_aside, but_last-more, first_is}
 use Rattle.actor.proofs.Kept.{not_due}
@@ -115,6 +115,20 @@ answered (Err e) said good bad = absurd (bad e said)
 
 ok_same : {A B : Type 0} (r : Result A B) (x y : A) → r ≡ Ok x → r ≡ Ok y → x ≡ y
 ok_same r x y a b = let e = sym a ∙ b in cc
+
+-- a node that has set no wire aside has none
+pub none_and_some : {A : Type 0} (o : Option A) (a : A) → o ≡ None → o ≡ Some a → ⊥
+none_and_some o a none some = let is = sym none ∙ some in cc
+
+-- why a wire was set aside: refused, or for its stamp
+pub refused_not_full : (s : ℕ) → Refused ≡ StampFull s → ⊥
+refused_not_full s e = cc
+
+pub full_not_refused : (s : ℕ) → StampFull s ≡ Refused → ⊥
+full_not_refused s e = cc
+
+pub full_stamp : (s s' : ℕ) → StampFull s ≡ StampFull s' → s ≡ s'
+full_stamp s s' e = cc
 
 not_both : {A B : Type 0} (r : Result A B) (x : A) (e : B) → r ≡ Ok x → r ≡ Err e → ⊥
 not_both r x e a b = let is = sym a ∙ b in cc

@@ -1,13 +1,18 @@
-use Rattle.std.proofs.Common.{ℕ, [], ◌∷◌, ◌++◌, ◌<◌, length, refl, sym, ap, ◌∙◌, subst, arith}
+use Rattle.std.proofs.Common.{ℕ, [], ◌∷◌, ◌++◌, ◌<◌, ◌^◌, length, refl, sym, ap, ◌∙◌, subst, true≢false, arith}
+use Rattle.std.specs.Prelude.{IsTrue}
+use Rattle.std.proofs.lemmas.Result.{IfOk-from_err}
 use Rattle.alpha_laws.specs.alpha_core.StampedWires.{last_stamp, wires_of}
 use Rattle.link_queue.specs.Ends.{put_list, put_stamped, taken_list, taken_stamped}
-use Rattle.actor.proofs.Lists.{same_all, get_map, as_long, at_place}
+use Rattle.actor.proofs.Lists.{same_all, get_map, as_long, at_place, below_same, below_as_many}
 use Rattle.actor.proofs.Kept.{may_put, legal_by_name}
 use Rattle.actor.proofs.HasStamps.{has_none_put, has_put}
-use Rattle.actor.proofs.Steps.{put_none, put_one}
+use Rattle.actor.proofs.Steps.{none_and_some, put_none, put_one}
 use Rattle.actor.proofs.Writes.{wrote_none_put, wrote_one_put}
 use Rattle.alpha_laws.specs.interference.Net.{degree_of, neighbour_of, back_port_of}
 use Rattle.alpha_laws.specs.alpha_core.Program.{IsLegal}
+use Rattle.actor.specs.HasStamps.{aside_stamp}
+use Rattle.actor.specs.declared.refused.TurnRefused.TheVariants.{Memory, StampFull}
+use Rattle.actor.proofs.Refusals.{first_there, full_not_memory, memory_not_full, next_above, on_refusal, past_greater}
 use Rattle.actor.proofs.node.Node.put_one.Goals as goal
 
 -- there is an end for each port
@@ -34,8 +39,8 @@ put-requires-clause-legal g c κs within =
     let program = g.P.NodeProgram.program in
     let is = c.index_mut.ensures.value in
     let count = as_long (λ e. (e.vertex, e.port)) (λ i. (v, i)) old.puts.items (degree_of net v) old.outs in
-    let lt : c.args.port < degree_of net v = omega (arith, c.requires.port, old.ports) in
-    let inside : c.args.port < length old.puts.items = omega (arith, lt, count) in
+    let lt = below_same c.args.port old.degree (degree_of net v) old.ports c.requires.port in
+    let inside = below_as_many c.args.port (length old.puts.items) (degree_of net v) count lt in
     let place = at_place (λ e. (e.vertex, e.port)) (λ i. (v, i)) old.puts.items (degree_of net v) c.args.port _ old.outs lt is in
     let legal = may_put program net v c.args.port _ _ _ c.in-Some.wire old.keeps lt (sym c.in-Some.ensures.oldest) in
     let here = get_map (λ e. put_list e.end) old.puts.items c.args.port _ [] inside is in
@@ -70,12 +75,12 @@ invariant_of-self-in-Err g c =
       last = old.last;
       keeps = put_none g.P.NodeProgram.program g.J.Wiring.net (λ e. put_list e.end) (λ e. taken_list e.end) _ _ _ _ _ _ _ _ is
           (ap (λ l. wires_of l) at.unchanged) old.keeps;
-      set_aside = λ a e. absurd (let none = sym c.requires.going ∙ e in cc);
+      set_aside = λ a e. absurd (none_and_some old.aside a c.requires.going e);
       writes = wrote_none_put g.P.NodeProgram.program g.J.Wiring.net (λ e. put_list e.end) (λ e. taken_list e.end) _ _ _ _ _ _ _ _ _ _ _ is
           (ap (λ l. wires_of l) at.unchanged) c.keep_room.ensures.same old.writes;
       stamps = has_none_put g.P.NodeProgram.program g.J.Wiring.net (λ e. put_stamped e.end) (λ e. taken_stamped e.end) _ _ _ _ _ _ _ _ _ _ _ _ is at.unchanged
           c.keep_room.ensures.same c.keep_room.ensures.stamped old.stamps;
-      full = λ a e. absurd (let none = sym c.requires.going ∙ e in cc);
+      full = λ a e. absurd (none_and_some old.aside a c.requires.going e);
     }
 
 pub invariant_of-self-in-Ok : goal.invariant_of-self-in-Ok
@@ -87,7 +92,7 @@ invariant_of-self-in-Ok g c =
     let is = c.index_mut.ensures.value in
     let outs = same_all (λ e. (e.vertex, e.port)) _ _ _ _ is (λ i. (at.place.0 i, at.place.1 i)) in
     let count = as_long (λ e. (e.vertex, e.port)) (λ i. (v, i)) old.puts.items (degree_of net v) old.outs in
-    let lt : c.args.port < degree_of net v = omega (arith, c.requires.port, old.ports) in
+    let lt = below_same c.args.port old.degree (degree_of net v) old.ports c.requires.port in
     let from = at_place (λ e. (e.vertex, e.port)) (λ i. (neighbour_of net v i, back_port_of net v i)) old.takes.items (degree_of net v) c.args.port _
     old.ins lt c.index-neighbour.ensures in
     record {
@@ -100,14 +105,14 @@ invariant_of-self-in-Ok g c =
       last = c.put_done.ensures.last ∙ old.last;
       keeps = put_one g.P.NodeProgram.program net (λ e. put_list e.end) (λ e. taken_list e.end) _ _ _ _ _ _ _ _ _ _ count lt is at.put
           (sym c.in-Some.ensures.oldest) c.put_done.ensures.view c.put_done.ensures.state old.keeps;
-      set_aside = λ a e. absurd (let none = sym c.requires.going ∙ e in cc);
+      set_aside = λ a e. absurd (none_and_some old.aside a c.requires.going e);
       writes = wrote_one_put g.P.NodeProgram.program net (λ e. put_list e.end) (λ e. taken_list e.end) _ _ old.network old.is_vertex _ _ _ _ _ _ _ _ _ _ _ _ _
           count lt is at.put (sym c.in-Some.ensures.oldest) c.put_done.ensures.view c.put_done.ensures.state c.keep_room.ensures.same
           (ap (λ (p : ℕ × ℕ). p.0) from) c.write_put.ensures.entries old.writes;
       stamps = has_put g.P.NodeProgram.program net (λ e. put_stamped e.end) (λ e. taken_stamped e.end) _ _ old.network old.is_vertex _ _ _ _ _ _ _ _ _
           c.in-Some.wire _ _ _ _ _ _ count lt is (at.stamped) c.keep_room.ensures.same c.keep_room.ensures.stamped (ap (λ (p : ℕ × ℕ). p.0) from)
           c.in_ok-stamp.ensures.stamp c.advance.ensures.value c.write_put.ensures.entries c.write_put.ensures.stamped old.stamps;
-      full = λ a e. absurd (let none = sym c.requires.going ∙ e in cc);
+      full = λ a e. absurd (none_and_some old.aside a c.requires.going e);
     }
 
 -- the link was full
@@ -120,3 +125,89 @@ returns-in-Err-clause-unmoved g c _ = record {
   entries = c.keep_room.ensures.same;
   counter = refl;
 }
+
+-- the port is one of the node's
+pub front-requires-clause-port : goal.front-requires-clause-port
+front-requires-clause-port g c κs within =
+    let old = c.args.self.now in
+    below_as_many c.args.port _ old.degree (old.keeps.ports.count ∙ sym old.ports) c.requires.port
+
+pub put_done-requires-clause-port : goal.put_done-requires-clause-port
+put_done-requires-clause-port g c κs within =
+    let old = c.args.self.now in
+    below_as_many c.args.port _ old.degree (old.keeps.ports.count ∙ sym old.ports) c.requires.port
+
+pub put_done-requires-clause-some : goal.put_done-requires-clause-some
+put_done-requires-clause-some g c κs within = first_there _ c.in-Some.wire (sym c.in-Some.ensures.oldest)
+
+-- without a wire to put nothing happens
+pub invariant_of-self : goal.invariant_of-self
+invariant_of-self g c =
+    let old = c.args.self.now in
+    record {
+      network = old.network;
+      is_vertex = old.is_vertex;
+      recorded = old.recorded;
+      ports = old.ports;
+      outs = old.outs;
+      ins = old.ins;
+      last = old.last;
+      keeps = old.keeps;
+      set_aside = old.set_aside;
+      writes = old.writes;
+      stamps = old.stamps;
+      full = old.full;
+    }
+
+pub returns-in_default-clause-unmoved : goal.returns-in_default-clause-unmoved
+returns-in_default-clause-unmoved g c _ = record { alpha = refl; aside = refl; puts = refl; takes = refl; entries = refl; counter = refl }
+
+pub returns-in_default-clause-going : goal.returns-in_default-clause-going
+returns-in_default-clause-going g c = c.requires.going
+
+-- the stamp would be too great
+pub returns-in_err-stamp-clause-unmoved : goal.returns-in_err-stamp-clause-unmoved
+returns-in_err-stamp-clause-unmoved g c = IfOk-from_err c.from_residual.result _ c.from_residual.ensures.0
+
+pub returns-in_err-stamp-clause-refused : goal.returns-in_err-stamp-clause-refused
+returns-in_err-stamp-clause-refused g c = full_not_memory _ c.from_residual.result c.from_residual.ensures.1
+
+pub returns-in_err-stamp-clause-full : goal.returns-in_err-stamp-clause-full
+returns-in_err-stamp-clause-full g c =
+    let old = c.args.self.now in
+    on_refusal c.from_residual.result StampFull (past_greater (2 ^ 64) old.counter (aside_stamp old.aside) c.in_err-stamp.ensures.full)
+
+pub returns-in_err-stamp-clause-going : goal.returns-in_err-stamp-clause-going
+returns-in_err-stamp-clause-going g c = c.requires.going
+
+-- memory was refused
+pub returns-in_err-keep_room-clause-unmoved : goal.returns-in_err-keep_room-clause-unmoved
+returns-in_err-keep_room-clause-unmoved g c =
+    IfOk-from_err c.from_residual-in_err-keep_room.result _ c.from_residual-in_err-keep_room.ensures.0
+
+pub returns-in_err-keep_room-clause-refused : goal.returns-in_err-keep_room-clause-refused
+returns-in_err-keep_room-clause-refused g c =
+    on_refusal c.from_residual-in_err-keep_room.result Memory (subst IsTrue c.args.self.now.recorded c.in_err-keep_room.ensures.refused)
+
+pub returns-in_err-keep_room-clause-full : goal.returns-in_err-keep_room-clause-full
+returns-in_err-keep_room-clause-full g c =
+    memory_not_full _ c.from_residual-in_err-keep_room.result c.from_residual-in_err-keep_room.ensures.1
+
+pub returns-in_err-keep_room-clause-going : goal.returns-in_err-keep_room-clause-going
+returns-in_err-keep_room-clause-going g c = c.requires.going
+
+pub advance-requires : goal.advance-requires
+advance-requires g c = record { above = next_above c.in_ok-stamp.stamp c.args.self.now.counter c.in_ok-stamp.ensures.stamp }
+
+pub write_put-requires : goal.write_put-requires
+write_put-requires g c = record { room = c.in_ok-keep_room.ensures.room }
+
+pub returns-in-Err-clause-going : goal.returns-in-Err-clause-going
+returns-in-Err-clause-going g c = c.requires.going
+
+-- a wire was put
+pub returns-in-Ok-clause-unmoved : goal.returns-in-Ok-clause-unmoved
+returns-in-Ok-clause-unmoved g c did = absurd (true≢false did)
+
+pub returns-in-Ok-clause-going : goal.returns-in-Ok-clause-going
+returns-in-Ok-clause-going g c = c.requires.going
