@@ -5,6 +5,7 @@ pub mod Steps
 pub mod Written
 pub mod Writes
 pub mod Refusals
+pub mod Unmoved
 pub mod Rows
 pub mod alpha_core
 pub mod StampedEntries

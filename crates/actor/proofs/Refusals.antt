@@ -23,6 +23,12 @@ pub full_not_memory : {T : Type 0} (P : Type 0) (r : Result T TurnRefused) → I
 full_not_memory P (Ok x) is = tt
 full_not_memory P (Err e) is = λ memory. absurd (full-isnt_memory (sym is ∙ memory))
 
+-- a refusal that is handed on
+pub same_refusal : {T : Type 0} (P : Type 0) (r : Result T TurnRefused) (e why : TurnRefused) → IsErrAnd r (λ error. error ≡ e) → (e ≡ why → P)
+    → IfErr r (λ error. error ≡ why → P)
+same_refusal P (Ok x) e why is says = tt
+same_refusal P (Err error) e why is says = λ at. says (sym is ∙ at)
+
 -- a stamp past the counter is past the greater one of two
 pub past_greater : (n a b : ℕ) → n ≤ a + 1 → n ≤ max a b + 1
 past_greater n a b le = omega (arith, le)
