@@ -15,11 +15,13 @@ memory-isnt_full e = cc
 pub full-isnt_memory : StampFull ≡ Memory → ⊥
 full-isnt_memory e = cc
 
-pub memory_not_full : {T : Type 0} (P : Type 0) (r : Result T TurnRefused) → IsErrAnd r (λ error. error ≡ Memory) → IfErr r (λ error. error ≡ StampFull → P)
+pub memory_not_full : {T : Type 0} (P : Type 0) (r : Result T TurnRefused) → IsErrAnd r (λ error. error ≡ Memory)
+    → IfErr r (λ error. error ≡ StampFull → P)
 memory_not_full P (Ok x) is = tt
 memory_not_full P (Err e) is = λ full. absurd (memory-isnt_full (sym is ∙ full))
 
-pub full_not_memory : {T : Type 0} (P : Type 0) (r : Result T TurnRefused) → IsErrAnd r (λ error. error ≡ StampFull) → IfErr r (λ error. error ≡ Memory → P)
+pub full_not_memory : {T : Type 0} (P : Type 0) (r : Result T TurnRefused) → IsErrAnd r (λ error. error ≡ StampFull)
+    → IfErr r (λ error. error ≡ Memory → P)
 full_not_memory P (Ok x) is = tt
 full_not_memory P (Err e) is = λ memory. absurd (full-isnt_memory (sym is ∙ memory))
 

@@ -108,9 +108,6 @@ returns-then-not-can_pulse-clause-unmoved g c _ = record { alpha = refl; aside =
 pub returns-then-not-can_pulse-clause-blocked : goal.returns-then-not-can_pulse-clause-blocked
 returns-then-not-can_pulse-clause-blocked g c _ = sym c.can_pulse.ensures.can ∙ c.if-not-can_pulse.true
 
-pub pulse-requires-clause-can : goal.pulse-requires-clause-can
-pulse-requires-clause-can g c κs within = sym c.can_pulse.ensures.can ∙ c.if-not-can_pulse.false
-
 pub returns-clause-unmoved : goal.returns-clause-unmoved
 returns-clause-unmoved g c did = absurd (true≢false did)
 

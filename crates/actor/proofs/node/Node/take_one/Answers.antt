@@ -138,7 +138,8 @@ invariant_of-self-in-Err g c =
           c.requires.going is taken same c.keep_room.ensures.same old.writes;
       stamps = has_aside g.P.NodeProgram.program net (λ e. put_stamped e.end) (λ e. taken_stamped e.end) _ _ old.network old.is_vertex _ _ _ _ _ _ _ _ _ _ _ _ _ count lt
           c.requires.going is stamped_ c.keep_room.ensures.same c.keep_room.ensures.stamped old.writes old.stamps;
-      full = full_aside (λ e. taken_stamped e.end) old.takes.items c.args.port _ _ _ aside within is stamped_ refl (λ s e. absurd (refused_not_full s e));
+      full = full_aside (λ e. taken_stamped e.end) old.takes.items c.args.port _ _ _ aside within is stamped_ refl
+          (λ s e. absurd (refused_not_full s e));
     })))
 
 -- the stamp of the take would be too great
@@ -222,8 +223,8 @@ invariant_of-self g c =
       writes = subst (λ es. IsTranscript g.P.NodeProgram.program g.J.Wiring.net old.vertex old.transcript old.alpha.node
           (by_port (map (λ e. put_list e.end) old.puts.items)) (by_port (reacted_to old.aside (map (λ e. taken_list e.end) old.takes.items))) es)
           (sym c.keep_room.ensures.same) old.writes;
-      stamps = has_room g.P.NodeProgram.program g.J.Wiring.net (λ e. put_stamped e.end) (λ e. taken_stamped e.end) _ _ _ _ _ _ _ _ _ c.keep_room.ensures.same
-          c.keep_room.ensures.stamped old.stamps;
+      stamps = has_room g.P.NodeProgram.program g.J.Wiring.net (λ e. put_stamped e.end) (λ e. taken_stamped e.end) _ _ _ _ _ _ _ _ _
+          c.keep_room.ensures.same c.keep_room.ensures.stamped old.stamps;
       full = old.full;
     }
 

@@ -1,11 +1,10 @@
 -- The plan: a part of the turn that ended early says why, and the turn ends so too.
-use Rattle.std.proofs.Common.{ap, subst, sym, true≢false, ◌∙◌}
+use Rattle.std.proofs.Common.{subst, sym, true≢false, ◌∙◌}
 use Rattle.std.specs.Prelude.{IsSome}
 use Rattle.std.proofs.lemmas.Result.{IfOk-from_err}
 use Rattle.actor.specs.declared.refused.TurnRefused.TheVariants.{Memory, StampFull}
 use Rattle.actor.proofs.Refusals.{same_refusal}
 use Rattle.actor.proofs.Unmoved.{still_unmoved}
-use Rattle.alpha_laws.specs.alpha_core.View.{can_pulse}
 use Rattle.actor.proofs.node.Node.turn.Goals as goal
 
 pub returns-in_err-took-clause-unmoved : goal.returns-in_err-took-clause-unmoved
@@ -15,10 +14,12 @@ pub returns-in_err-took-clause-blocked : goal.returns-in_err-took-clause-blocked
 returns-in_err-took-clause-blocked g c = IfOk-from_err c.from_residual.result _ c.from_residual.ensures.0
 
 pub returns-in_err-took-clause-refused : goal.returns-in_err-took-clause-refused
-returns-in_err-took-clause-refused g c = same_refusal _ c.from_residual.result _ Memory c.from_residual.ensures.1 c.in_err-took.ensures.refused
+returns-in_err-took-clause-refused g c =
+    same_refusal _ c.from_residual.result _ Memory c.from_residual.ensures.1 c.in_err-took.ensures.refused
 
 pub returns-in_err-took-clause-full : goal.returns-in_err-took-clause-full
-returns-in_err-took-clause-full g c = same_refusal _ c.from_residual.result _ StampFull c.from_residual.ensures.1 c.in_err-took.ensures.full
+returns-in_err-took-clause-full g c =
+    same_refusal _ c.from_residual.result _ StampFull c.from_residual.ensures.1 c.in_err-took.ensures.full
 
 pub returns-in_err-pulsed-clause-unmoved : goal.returns-in_err-pulsed-clause-unmoved
 returns-in_err-pulsed-clause-unmoved g c = IfOk-from_err c.from_residual-in_err-pulsed.result _ c.from_residual-in_err-pulsed.ensures.0
@@ -27,10 +28,12 @@ pub returns-in_err-pulsed-clause-blocked : goal.returns-in_err-pulsed-clause-blo
 returns-in_err-pulsed-clause-blocked g c = IfOk-from_err c.from_residual-in_err-pulsed.result _ c.from_residual-in_err-pulsed.ensures.0
 
 pub returns-in_err-pulsed-clause-refused : goal.returns-in_err-pulsed-clause-refused
-returns-in_err-pulsed-clause-refused g c = same_refusal _ c.from_residual-in_err-pulsed.result _ Memory c.from_residual-in_err-pulsed.ensures.1 c.in_err-pulsed.ensures.refused
+returns-in_err-pulsed-clause-refused g c =
+    same_refusal _ c.from_residual-in_err-pulsed.result _ Memory c.from_residual-in_err-pulsed.ensures.1 c.in_err-pulsed.ensures.refused
 
 pub returns-in_err-pulsed-clause-full : goal.returns-in_err-pulsed-clause-full
-returns-in_err-pulsed-clause-full g c = same_refusal _ c.from_residual-in_err-pulsed.result _ StampFull c.from_residual-in_err-pulsed.ensures.1 c.in_err-pulsed.ensures.full
+returns-in_err-pulsed-clause-full g c =
+    same_refusal _ c.from_residual-in_err-pulsed.result _ StampFull c.from_residual-in_err-pulsed.ensures.1 c.in_err-pulsed.ensures.full
 
 pub returns-in_err-put-clause-unmoved : goal.returns-in_err-put-clause-unmoved
 returns-in_err-put-clause-unmoved g c = IfOk-from_err c.from_residual-in_err-put.result _ c.from_residual-in_err-put.ensures.0
@@ -39,10 +42,12 @@ pub returns-in_err-put-clause-blocked : goal.returns-in_err-put-clause-blocked
 returns-in_err-put-clause-blocked g c = IfOk-from_err c.from_residual-in_err-put.result _ c.from_residual-in_err-put.ensures.0
 
 pub returns-in_err-put-clause-refused : goal.returns-in_err-put-clause-refused
-returns-in_err-put-clause-refused g c = same_refusal _ c.from_residual-in_err-put.result _ Memory c.from_residual-in_err-put.ensures.1 c.in_err-put.ensures.refused
+returns-in_err-put-clause-refused g c =
+    same_refusal _ c.from_residual-in_err-put.result _ Memory c.from_residual-in_err-put.ensures.1 c.in_err-put.ensures.refused
 
 pub returns-in_err-put-clause-full : goal.returns-in_err-put-clause-full
-returns-in_err-put-clause-full g c = same_refusal _ c.from_residual-in_err-put.result _ StampFull c.from_residual-in_err-put.ensures.1 c.in_err-put.ensures.full
+returns-in_err-put-clause-full g c =
+    same_refusal _ c.from_residual-in_err-put.result _ StampFull c.from_residual-in_err-put.ensures.1 c.in_err-put.ensures.full
 
 -- a node that has set a wire aside: the takes did so, or did nothing
 pub returns-then-is_some-clause-unmoved : goal.returns-then-is_some-clause-unmoved
@@ -58,9 +63,6 @@ returns-then-is_some-clause-blocked g c did none =
 pub returns-else-pulsed-clause-unmoved : goal.returns-else-pulsed-clause-unmoved
 returns-else-pulsed-clause-unmoved g c did same =
     let none = c.if-pulsed.false in
-    let pulsed = still_unmoved c.args.self.now c.take_all.new.self c.pulse.new.self (c.in_ok-took.ensures.unmoved none.0) (c.in_ok-pulsed.ensures.unmoved none.1) in
+    let pulsed = still_unmoved c.args.self.now c.take_all.new.self c.pulse.new.self (c.in_ok-took.ensures.unmoved none.0)
+    (c.in_ok-pulsed.ensures.unmoved none.1) in
     still_unmoved c.args.self.now c.pulse.new.self c.put_all.new.self pulsed (c.in_ok-put.ensures.unmoved did)
-
-pub returns-else-pulsed-clause-blocked : goal.returns-else-pulsed-clause-blocked
-returns-else-pulsed-clause-blocked g c did none =
-    ap (λ a. can_pulse a.last a.node.view) (c.in_ok-put.ensures.unmoved did).alpha ∙ c.in_ok-pulsed.ensures.blocked c.if-pulsed.false.1
