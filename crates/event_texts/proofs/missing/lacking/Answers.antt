@@ -2,6 +2,10 @@ use Rattle.std.proofs.Common.{◌≡◌, ◌+◌, [], arith}
 use Rattle.net_core.specs.State.{node_of}
 use Rattle.event_texts.specs.Missing.{lacking_at}
 use Rattle.wire_texts.proofs.Ranges.{texts-more}
+use Rattle.std.proofs.Common.{◌∙◌, ap}
+use Rattle.std.specs.List.{flat_map, range_with_len}
+use Rattle.alpha_core.specs.interference.Net.{degree_of}
+use Rattle.event_texts.proofs.Told.{at_end, err_says}
 use Rattle.event_texts.proofs.missing.lacking.Goals as goal
 
 pub loop-port-preserved : goal.loop-port-preserved
@@ -11,3 +15,18 @@ loop-port-preserved g c =
     let same : 0 + c.loop-port.port ≡ c.loop-port.port = omega arith in
     texts-more (λ port. lacking_at state.net c.args.v view c.args.lack port) 0 c.loop-port.port c.loop-port.port [] c.loop-port.names.items
     c.push_lacking.new.names.items same c.loop-port.invariant c.in_ok-push_lacking.ensures
+
+pub loop-port-init : goal.loop-port-init
+loop-port-init g c = c.new-names.ensures.items
+
+pub returns : goal.returns
+returns g c =
+    let state = c.args.state.now in
+    let view = (node_of g.P.NodeProgram.program state.net state.state c.args.v).view in
+    c.loop-port.invariant
+    ∙ ap (λ n. flat_map (λ port. lacking_at state.net c.args.v view c.args.lack port) (range_with_len 0 n))
+    (at_end c.loop-port.port c.degree-port-end.result (degree_of state.net c.args.v) c.loop-port.auto.port-end c.loop-port-test.false
+    (c.degree-port-end.ensures.value ∙ ap (λ n. degree_of n c.args.v) c.network.ensures.network))
+
+pub returns-in_err-push_lacking : goal.returns-in_err-push_lacking
+returns-in_err-push_lacking g c = err_says _ _ c.from_residual.result c.from_residual.ensures.1

@@ -4,6 +4,7 @@ use Rattle.net_core.specs.declared.event.Event.TheVariants.{Pulse}
 use Rattle.net_core.specs.Step.{step}
 use Rattle.event_texts.specs.Played.{IsToldOfStep}
 use Rattle.event_texts.proofs.Plays.{fault-told, play-next}
+use Rattle.event_texts.proofs.Told.{err_says}
 use Rattle.event_texts.proofs.playing.play.Goals as goal
 
 pub loop-row-preserved : goal.loop-row-preserved
@@ -32,3 +33,12 @@ returns-in-Err-clause-fault g c =
     (subst (λ n. IsToldOfStep program n state row.0 row.1 c.in-Err.refused c.fault_of.result) c.loop-row.invariant.net
     (subst (λ view. IsToldOfStep program view.net view.state row.0 row.1 c.in-Err.refused c.fault_of.result) c.in-Err.ensures.refused
     c.fault_of.ensures))
+
+pub returns-clause-net : goal.returns-clause-net
+returns-clause-net g c = c.loop-row.invariant.net
+
+pub returns-in_err-state-clause-net : goal.returns-in_err-state-clause-net
+returns-in_err-state-clause-net g c = err_says _ _ c.from_residual.result c.from_residual.ensures.1
+
+pub returns-in_err-state-clause-ok : goal.returns-in_err-state-clause-ok
+returns-in_err-state-clause-ok g c = err_says _ _ c.from_residual.result c.from_residual.ensures.1

@@ -5,6 +5,7 @@ use Rattle.net_core.specs.State.{link_at}
 use Rattle.wire_texts.specs.WireText.{numbered}
 use Rattle.event_texts.specs.StateText.{colour_wire_text}
 use Rattle.wire_texts.proofs.Ranges.{behind}
+use Rattle.event_texts.proofs.Told.{err_says}
 use Rattle.event_texts.proofs.state_text.push_link.Goals as goal
 
 pub returns : goal.returns
@@ -27,3 +28,18 @@ returns c =
     let t4 = behind text (first ++ second ++ third) fourth c.push_numbered-3.new.text.items c.push_wires.new.text.items t3
     (c.in_ok-push_wires.ensures ∙ ap (λ ws. c.push_numbered-3.new.text.items ++ flat_map colour_wire_text ws) c.link-taken.ensures.held) in
     behind text (first ++ second ++ third ++ fourth) (codes "\n") c.push_wires.new.text.items c.push.new.self.items t4 c.in_ok-push.ensures.items
+
+pub returns-in_err-push_numbered : goal.returns-in_err-push_numbered
+returns-in_err-push_numbered c = err_says _ _ c.from_residual.result c.from_residual.ensures.1
+
+pub returns-in_err-push_numbered-2 : goal.returns-in_err-push_numbered-2
+returns-in_err-push_numbered-2 c = err_says _ _ c.from_residual-in_err-push_numbered-2.result c.from_residual-in_err-push_numbered-2.ensures.1
+
+pub returns-in_err-push_numbered-3 : goal.returns-in_err-push_numbered-3
+returns-in_err-push_numbered-3 c = err_says _ _ c.from_residual-in_err-push_numbered-3.result c.from_residual-in_err-push_numbered-3.ensures.1
+
+pub returns-in_err-push_wires : goal.returns-in_err-push_wires
+returns-in_err-push_wires c = err_says _ _ c.from_residual-in_err-push_wires.result c.from_residual-in_err-push_wires.ensures.1
+
+pub returns-in_err-push : goal.returns-in_err-push
+returns-in_err-push c = err_says _ _ c.from_residual-in_err-push.result c.from_residual-in_err-push.ensures.1
