@@ -16,8 +16,10 @@ MOST_TOLD = 2000
 
 PAIRS = list(itertools.product((1, 2, 4, 64), repeat=2))
 SMALL_FAMILY, SMALL_NETWORKS = "random on up to 12 nodes", 20
-# Families whose runs take a second or two, and how many of their networks are played: in the first, each pair once.
-LONG = {"random on 20 to 40 nodes": len(PAIRS), "bars on 20 to 40 nodes": len(PAIRS) // 2}
+# Families whose runs take seconds, and how many of their networks are played: in the first, each pair once; of those that climb, with
+# each number of parents twice, and the first.
+LONG = {"random on 20 to 40 nodes": len(PAIRS), "bars on 20 to 40 nodes": len(PAIRS) // 2, "climbing on 1,000 nodes": 6,
+        "climbing on 20,000 nodes": 1}
 
 TRIANGLE = b"p edge 3 3\ne 1 2\ne 1 3\ne 2 3\n"
 TRIANGLE_PLAN = b"plan\n1 2\n2 3\n3 1\n"
