@@ -1,52 +1,70 @@
 //! Runs of nodes on worker threads.
 
 use crate::meeting::Meeting;
-use crate::runs::{apart, greatest, path, small, triangle};
+use crate::runs::{BY_TWO, apart, ends_with, path, small, triangle};
 use crate::stealing::Stealing;
-use byte_functions::{Colouring, Network, OpenGate, Options, PoolFault, run_workers};
+use byte_functions::{Colouring, Gate, Network, OpenGate, Options, PoolFault, run_workers};
 use std::alloc::Global;
 use std::sync::Wait;
-use std::test::*;
 use std::thread::Threads;
 use sync_rounds::{Greatest, run_rounds};
 
 // How many pulses a node of the triangle makes at least; a turn makes one at most.
 pub const PULSES: u64 = 30;
 
-#[test]
-fn two_workers_are_in_turns_at_once(rt: HostRuntime) -> Result<(), Fail> {
-    let alloc: Global = rt.alloc();
-    let net = triangle(alloc)?;
+// Whether a run of two workers through a gate is whole.
+fn is_whole_by_two<G: Gate + Sync, R: Threads + Wait + Sync>(
+    rt: &R,
+    alloc: Global,
+    net: &Network,
+    gate: &G,
+) -> bool {
+    match run_workers::<Colouring, G, R>(rt, alloc, net, BY_TWO, gate) {
+        Ok(outcome) => outcome.is_whole(),
+        Err(_) => false,
+    }
+}
+
+fn two_meet<R: Threads + Wait + Sync>(rt: &R, alloc: Global, net: &Network) -> bool {
     let gate = Meeting::new();
-    let options = Options {
-        workers: 2,
-        capacity: 4,
-        turns: 1_000_000_000,
-        transcript: false,
-    };
-    let outcome = run_workers::<Colouring, Meeting, _>(&rt, alloc, &net, options, &gate)?;
-    assert!(rt; gate.saw_two_at_once(PULSES));
-    assert!(rt; outcome.is_whole());
-    Ok(())
+    is_whole_by_two(rt, alloc, net, &gate) && gate.saw_two_at_once(PULSES)
+}
+
+#[test]
+fn two_workers_are_in_turns_at_once(rt: HostRuntime) {
+    let net = triangle(rt.alloc()).expect(&rt, "network");
+    assert!(rt; two_meet(&rt, rt.alloc(), &net));
 }
 
 // Two workers, the first of which has nodes 1 and 3: while one is held at node 1, the other has to steal node 3, or to
 // have stolen node 1.
-#[test]
-fn a_worker_steals(rt: HostRuntime) -> Result<(), Fail> {
-    let alloc: Global = rt.alloc();
-    let net = apart(alloc)?;
+fn one_steals<R: Threads + Wait + Sync>(rt: &R, alloc: Global, net: &Network) -> bool {
     let gate = Stealing::new();
-    let options = Options {
-        workers: 2,
-        capacity: 4,
-        turns: 1_000_000_000,
-        transcript: false,
-    };
-    let outcome = run_workers::<Colouring, Stealing, _>(&rt, alloc, &net, options, &gate)?;
-    assert!(rt; gate.saw_a_steal());
-    assert!(rt; outcome.is_whole());
-    Ok(())
+    is_whole_by_two(rt, alloc, net, &gate) && gate.saw_a_steal()
+}
+
+#[test]
+fn a_worker_steals(rt: HostRuntime) {
+    let net = apart(rt.alloc()).expect(&rt, "network");
+    assert!(rt; one_steals(&rt, rt.alloc(), &net));
+}
+
+// The greatest identifiers that nodes of the rounds know.
+fn bests_of(alloc: Global, nodes: &[Greatest<3>]) -> Option<Vec<u128>> {
+    let mut bests = Vec::new(alloc);
+    for node in nodes {
+        if bests.push(node.best()).is_err() {
+            return None;
+        }
+    }
+    Some(bests)
+}
+
+fn bests_of_the_rounds(alloc: Global, net: &Network) -> Option<Vec<u128>> {
+    match run_rounds::<Greatest<3>>(alloc, net) {
+        Ok(nodes) => bests_of(alloc, nodes.as_slice()),
+        Err(_) => None,
+    }
 }
 
 // The greatest identifiers on a network, by so many workers, are those of the rounds.
@@ -56,14 +74,10 @@ fn are_those_of_the_rounds<R: Threads + Wait + Sync>(
     net: &Network,
     workers: u32,
     capacity: u32,
-) -> Result<bool, Fail> {
-    let mut bests = Vec::new(alloc);
-    for node in &run_rounds::<Greatest<3>>(alloc, net)? {
-        bests.push(node.best())?;
-    }
-    match greatest::<3, R>(rt, alloc, net, workers, capacity)? {
-        Some(ours) => Ok(ours.as_slice() == bests.as_slice()),
-        None => Ok(false),
+) -> bool {
+    match bests_of_the_rounds(alloc, net) {
+        Some(bests) => ends_with::<3, R>(rt, alloc, net, workers, capacity, bests.as_slice()),
+        None => false,
     }
 }
 
@@ -72,32 +86,35 @@ fn are_alike_on_a_small_one<R: Threads + Wait + Sync>(
     alloc: Global,
     number: u32,
     workers: u32,
-) -> Result<bool, Fail> {
-    let net = small(alloc, number)?;
-    are_those_of_the_rounds(rt, alloc, &net, workers, number % 4 + 1)
+) -> bool {
+    match small(alloc, number) {
+        Some(net) => are_those_of_the_rounds(rt, alloc, &net, workers, number % 4 + 1),
+        None => false,
+    }
 }
 
 // Whether within two links all nodes of the path of three know the greatest.
-fn are_3_on_the_path<R: Threads + Wait + Sync>(
-    rt: &R,
-    alloc: Global,
-    workers: u32,
-) -> Result<bool, Fail> {
-    let net = path(alloc)?;
-    let bests = greatest::<2, R>(rt, alloc, &net, workers, 4)?;
-    Ok(bests.is_some_and(|bests| bests.as_slice() == [3, 3, 3].as_slice()))
+fn are_3_on_the_path<R: Threads + Wait + Sync>(rt: &R, alloc: Global, workers: u32) -> bool {
+    match path(alloc) {
+        Some(net) => ends_with::<2, R>(rt, alloc, &net, workers, 4, &[3, 3, 3]),
+        None => false,
+    }
+}
+
+fn end_as_the_rounds_do<R: Threads + Wait + Sync>(rt: &R, alloc: Global, workers: u32) -> bool {
+    for number in 0..100 {
+        if !are_alike_on_a_small_one(rt, alloc, number, workers) {
+            return false;
+        }
+    }
+    are_3_on_the_path(rt, alloc, workers)
 }
 
 #[test]
-fn workers_end_as_the_rounds_do(rt: HostRuntime) -> Result<(), Fail> {
-    let alloc: Global = rt.alloc();
-    for workers in [1, 2, 4] {
-        assert!(rt; are_3_on_the_path(&rt, alloc, workers)?);
-        for number in 0..100 {
-            assert!(rt; are_alike_on_a_small_one(&rt, alloc, number, workers)?);
-        }
-    }
-    Ok(())
+fn workers_end_as_the_rounds_do(rt: HostRuntime) {
+    assert!(rt; end_as_the_rounds_do(&rt, rt.alloc(), 1));
+    assert!(rt; end_as_the_rounds_do(&rt, rt.alloc(), 2));
+    assert!(rt; end_as_the_rounds_do(&rt, rt.alloc(), 4));
 }
 
 // What a run with this many workers over links of this capacity returns, if it isn't an outcome.
@@ -120,38 +137,55 @@ fn refusal<R: Threads + Wait + Sync>(
     }
 }
 
-// Whether a run with the greatest options and no look is whole.
+// Whether a run with the greatest options and no look is whole; nothing if there is no outcome.
 fn is_whole_without_a_look<R: Threads + Wait + Sync>(
     rt: &R,
     alloc: Global,
     net: &Network,
-) -> Result<bool, Fail> {
+) -> Option<bool> {
     let options = Options {
         workers: 64,
         capacity: 64,
         turns: 0,
         transcript: false,
     };
-    let outcome = run_workers::<Greatest<1>, OpenGate, R>(rt, alloc, net, options, &OpenGate)?;
-    Ok(outcome.is_whole())
+    match run_workers::<Greatest<1>, OpenGate, R>(rt, alloc, net, options, &OpenGate) {
+        Ok(outcome) => Some(outcome.is_whole()),
+        Err(_) => None,
+    }
+}
+
+// Workers and capacities of which one is out of range, or both are.
+static OUT_OF_RANGE: [(u32, u32); 6] = [
+    (0, 4),
+    (65, 4),
+    (4, 0),
+    (4, 65),
+    (0, 0),
+    (u32::MAX, u32::MAX),
+];
+
+fn are_refused<R: Threads + Wait + Sync>(rt: &R, alloc: Global, net: &Network) -> bool {
+    for (workers, capacity) in &OUT_OF_RANGE {
+        if refusal(rt, alloc, net, *workers, *capacity) != Some(PoolFault::BadOptions) {
+            return false;
+        }
+    }
+    true
+}
+
+// Whether a run on no nodes is whole without a look.
+fn none_is_whole<R: Threads + Wait + Sync>(rt: &R, alloc: Global) -> bool {
+    match Network::try_new(alloc, &[], &[], &[]) {
+        Ok(none) => is_whole_without_a_look(rt, alloc, &none) == Some(true),
+        Err(_) => false,
+    }
 }
 
 #[test]
-fn options_out_of_range_are_refused_first(rt: HostRuntime) -> Result<(), Fail> {
-    let alloc: Global = rt.alloc();
-    let net = path(alloc)?;
-    for (workers, capacity) in [
-        (0, 4),
-        (65, 4),
-        (4, 0),
-        (4, 65),
-        (0, 0),
-        (u32::MAX, u32::MAX),
-    ] {
-        assert!(rt; refusal(&rt, alloc, &net, workers, capacity) == Some(PoolFault::BadOptions));
-    }
-    assert!(rt; !is_whole_without_a_look(&rt, alloc, &net)?);
-    let none = Network::try_new(alloc, &[], &[], &[])?;
-    assert!(rt; is_whole_without_a_look(&rt, alloc, &none)?);
-    Ok(())
+fn options_out_of_range_are_refused_first(rt: HostRuntime) {
+    let net = path(rt.alloc()).expect(&rt, "network");
+    assert!(rt; are_refused(&rt, rt.alloc(), &net));
+    assert!(rt; is_whole_without_a_look(&rt, rt.alloc(), &net) == Some(false));
+    assert!(rt; none_is_whole(&rt, rt.alloc()));
 }

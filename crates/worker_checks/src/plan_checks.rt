@@ -2,45 +2,51 @@
 
 use crate::meeting::Meeting;
 use crate::node_pool_checks::PULSES;
-use byte_functions::{Edition, Options, plan_bytes, replay_bytes, transcript_bytes};
+use crate::runs::BY_TWO;
+use byte_functions::{Edition, plan_bytes, replay_bytes, transcript_bytes};
 use std::alloc::Global;
-use std::test::Fail;
+use std::sync::Wait;
+use std::thread::Threads;
 
 const TRIANGLE: &[u8] = b"p edge 3 3\ne 1 2\ne 1 3\ne 2 3\n";
 
 const TRIANGLE_PLAN: &[u8] = b"plan\n1 2\n2 3\n3 1\n";
 
-// More looks than a run needs that gets on at all.
-const BY_TWO: Options = Options {
-    workers: 2,
-    capacity: 4,
-    turns: 1_000_000_000,
-    transcript: false,
-};
+// Whether two workers make the plan through a gate.
+fn make_the_plan<R: Threads + Wait + Sync>(rt: &R, alloc: Global, gate: &Meeting) -> bool {
+    match plan_bytes(rt, alloc, TRIANGLE, BY_TWO, gate) {
+        Ok(plan) => plan.as_slice() == TRIANGLE_PLAN,
+        Err(_) => false,
+    }
+}
 
 #[test]
-fn two_workers_make_a_plan_at_once(rt: HostRuntime) -> Result<(), Fail> {
+fn two_workers_make_a_plan_at_once(rt: HostRuntime) {
     let gate = Meeting::new();
-    let plan = plan_bytes(&rt, rt.alloc(), TRIANGLE, BY_TWO, &gate)?;
+    assert!(rt; make_the_plan(&rt, rt.alloc(), &gate));
     assert!(rt; gate.saw_two_at_once(PULSES));
-    assert!(rt; plan.as_slice() == TRIANGLE_PLAN);
-    Ok(())
 }
 
 // Whether a transcript of edition 2 is replayed behind its network.
-fn is_replayed(alloc: Global, transcript: &[u8]) -> Result<bool, Fail> {
+fn is_replayed(alloc: Global, transcript: &[u8]) -> bool {
     let mut text = Vec::new(alloc);
-    text.extend_from_slice(TRIANGLE)?;
-    text.extend_from_slice(transcript)?;
-    Ok(transcript.starts_with(b"transcript 2 3\n") && replay_bytes(alloc, &text).is_ok())
+    text.extend_from_slice(TRIANGLE).is_ok()
+        && text.extend_from_slice(transcript).is_ok()
+        && transcript.starts_with(b"transcript 2 3\n")
+        && replay_bytes(alloc, &text).is_ok()
+}
+
+// Whether two workers make a transcript through a gate that is replayed.
+fn make_a_transcript<R: Threads + Wait + Sync>(rt: &R, alloc: Global, gate: &Meeting) -> bool {
+    match transcript_bytes(rt, alloc, TRIANGLE, BY_TWO, Edition::Two, gate) {
+        Ok(transcript) => is_replayed(alloc, transcript.as_slice()),
+        Err(_) => false,
+    }
 }
 
 #[test]
-fn two_workers_make_a_transcript_at_once(rt: HostRuntime) -> Result<(), Fail> {
-    let (alloc, edition) = (rt.alloc(), Edition::Two);
+fn two_workers_make_a_transcript_at_once(rt: HostRuntime) {
     let gate = Meeting::new();
-    let transcript = transcript_bytes(&rt, alloc, TRIANGLE, BY_TWO, edition, &gate)?;
+    assert!(rt; make_a_transcript(&rt, rt.alloc(), &gate));
     assert!(rt; gate.saw_two_at_once(PULSES));
-    assert!(rt; is_replayed(alloc, transcript.as_slice())?);
-    Ok(())
 }

@@ -4,11 +4,10 @@
 ghost use Rattle.std.specs.Prelude.{◌≡◌};
 ghost use Rattle.byte_functions.specs.interference.Net.{count_of};
 
+use crate::runs::pair;
 use byte_functions::{Entry, Network, ReplayRefused, Wire, read_transcript, replay};
 use net_core::{NetState, RunRefused};
 use std::alloc::Global;
-use std::process::Abort;
-use std::test::Fail;
 use sync_rounds::{Best, Greatest};
 
 pub const WHOLE: &[u8] =
@@ -63,27 +62,38 @@ static REFUSALS: [((u32, Entry<Best>), ReplayRefused); 7] = [
     ),
 ];
 
-// Whether the rows of a transcript are replayed to the end.
-fn ends(alloc: Global, net: &Network, rows: &[(u32, Entry<Best>)]) -> Result<bool, Fail> {
-    if net.nodes() != 2 {
-        return Ok(false);
+// Whether rows are replayed to the end.
+fn ends(alloc: Global, net: &Network, rows: &[(u32, Entry<Best>)]) -> bool
+    requires two { count_of net.now ≡ 2 }
+{
+    match replay::<Greatest<0>>(alloc, net, rows) {
+        Ok(state) => drained(&state) == (true, true),
+        Err(_) => false,
     }
-    let state = replay::<Greatest<0>>(alloc, net, rows)?;
-    Ok(drained(&state) == (true, true))
 }
 
-fn are_refused(rt: &impl Abort, alloc: Global, net: &Network) {
-    for (row, refused) in &REFUSALS {
-        assert!(rt; refusal(alloc, net, *row) == Some(*refused));
+// Whether the transcript is read, and its rows are replayed to the end.
+fn whole_ends(alloc: Global, net: &Network) -> bool
+    requires two { count_of net.now ≡ 2 }
+{
+    match read_transcript::<Best>(alloc, WHOLE) {
+        Ok((nodes, rows)) => nodes == 2 && ends(alloc, net, rows.as_slice()),
+        Err(_) => false,
     }
+}
+
+fn are_refused(alloc: Global, net: &Network) -> bool {
+    for (row, refused) in &REFUSALS {
+        if refusal(alloc, net, *row) != Some(*refused) {
+            return false;
+        }
+    }
+    true
 }
 
 #[test]
-fn entries_are_replayed_or_refused_by_the_first_that_fails(rt: HostRuntime) -> Result<(), Fail> {
-    let alloc = rt.alloc();
-    let net = Network::try_new(alloc, &[1, 2], &[(1, 2)], &[])?;
-    let (nodes, rows) = read_transcript::<Best>(alloc, WHOLE)?;
-    assert!(rt; nodes == 2 && ends(alloc, &net, &rows)?);
-    are_refused(&rt, alloc, &net);
-    Ok(())
+fn entries_are_replayed_or_refused_by_the_first_that_fails(rt: HostRuntime) {
+    let net = pair(rt.alloc()).expect(&rt, "network");
+    assert!(rt; net.nodes() == 2 && whole_ends(rt.alloc(), &net));
+    assert!(rt; are_refused(rt.alloc(), &net));
 }

@@ -1,29 +1,41 @@
 //! Networks to run, and what is read off a run.
 
-ghost use Rattle.std.specs.Prelude.{◌≡◌, length};
+ghost use Rattle.std.specs.Prelude.{◌≡◌, ◌<◌, ◌≤◌, length};
 ghost use Rattle.byte_functions.specs.interference.Net.{IsVertex, degree_of, vertices};
 ghost use Rattle.byte_functions.specs.gather_laws.Outcome.{row_in};
 
 use byte_functions::{
-    Colouring, Network, OpenGate, Options, Outcome, Payload, Stamped, run_workers,
+    Colouring, Network, OpenGate, Options, Outcome, Payload, PoolFault, Stamped, run_workers,
 };
 use std::alloc::Global;
 use std::sync::Wait;
-use std::test::Fail;
 use std::thread::Threads;
 use sync_rounds::Greatest;
 
-pub fn path(alloc: Global) -> Result<Network, Fail> {
-    Ok(Network::try_new(alloc, &[1, 2, 3], &[(1, 2), (2, 3)], &[])?)
+/// More looks than a run of two workers needs that gets on at all.
+pub const BY_TWO: Options = Options {
+    workers: 2,
+    capacity: 4,
+    turns: 1_000_000_000,
+    transcript: false,
+};
+
+pub fn path(alloc: Global) -> Option<Network> {
+    Network::try_new(alloc, &[1, 2, 3], &[(1, 2), (2, 3)], &[]).ok()
+}
+
+/// Two nodes with identifiers 1 and 2 and an edge.
+pub fn pair(alloc: Global) -> Option<Network> {
+    Network::try_new(alloc, &[1, 2], &[(1, 2)], &[]).ok()
 }
 
 /// Three nodes without edges.
-pub fn apart(alloc: Global) -> Result<Network, Fail> {
-    Ok(Network::try_new(alloc, &[1, 2, 3], &[], &[])?)
+pub fn apart(alloc: Global) -> Option<Network> {
+    Network::try_new(alloc, &[1, 2, 3], &[], &[]).ok()
 }
 
-pub fn triangle(alloc: Global) -> Result<Network, Fail> {
-    Ok(Network::try_new(alloc, &[1, 2, 3], &[(1, 2), (1, 3), (2, 3)], &[])?)
+pub fn triangle(alloc: Global) -> Option<Network> {
+    Network::try_new(alloc, &[1, 2, 3], &[(1, 2), (1, 3), (2, 3)], &[]).ok()
 }
 
 // Whether two vertices of a small network are neighbours: any bit that depends on all three numbers.
@@ -35,45 +47,88 @@ fn are_joined(number: u32, v: u32, w: u32) -> bool {
     (mixed ^ (mixed >> 15)) % 2 == 0
 }
 
-/// One of many small networks, of at most six vertices, with identifiers in no order.
-pub fn small(alloc: Global, number: u32) -> Result<Network, Fail> {
-    let count = number % 7;
+// The identifiers of so many vertices, in no order.
+fn ids_of(alloc: Global, number: u32, count: u32) -> Option<Vec<u128>>
+    requires few { count < 7 }
+{
     let mut ids = Vec::new(alloc);
-    let mut edges = Vec::new(alloc);
     for v in 1..count + 1 {
-        ids.push(u128::from((v * 37 + number % 101) % 101))?;
-        for w in v + 1..count + 1 {
-            if are_joined(number, v, w) {
-                edges.push((v, w))?;
-            }
+        if ids.push(u128::from((v * 37 + number % 101) % 101)).is_err() {
+            return None;
         }
     }
-    Ok(Network::try_new(alloc, ids.as_slice(), edges.as_slice(), &[])?)
+    Some(ids)
 }
 
-/// The greatest identifiers that nodes know at the end of a run, which has to be whole.
-pub fn greatest<const D: u32, R: Threads + Wait + Sync>(
+// Adds the edges from a vertex to those behind it. Whether memory was enough.
+fn add_edges(edges: &mut Vec<(u32, u32)>, number: u32, v: u32, count: u32) -> bool
+    requires few { count < 7 }
+    requires vertex { v ≤ count }
+{
+    for w in v + 1..count + 1 {
+        if are_joined(number, v, w) && edges.push((v, w)).is_err() {
+            return false;
+        }
+    }
+    true
+}
+
+fn edges_of(alloc: Global, number: u32, count: u32) -> Option<Vec<(u32, u32)>>
+    requires few { count < 7 }
+{
+    let mut edges = Vec::new(alloc);
+    for v in 1..count + 1 {
+        if !add_edges(&mut edges, number, v, count) {
+            return None;
+        }
+    }
+    Some(edges)
+}
+
+fn network_of(alloc: Global, ids: &[u128], number: u32) -> Option<Network> {
+    match edges_of(alloc, number, number % 7) {
+        Some(edges) => Network::try_new(alloc, ids, edges.as_slice(), &[]).ok(),
+        None => None,
+    }
+}
+
+/// One of many small networks, of at most six vertices, with identifiers in no order.
+pub fn small(alloc: Global, number: u32) -> Option<Network> {
+    match ids_of(alloc, number, number % 7) {
+        Some(ids) => network_of(alloc, ids.as_slice(), number),
+        None => None,
+    }
+}
+
+// Whether a run is whole, and its nodes know these greatest identifiers, by vertex.
+fn know<const D: u32>(outcome: &Outcome<Greatest<D>>, bests: &[u128]) -> bool {
+    for (actor, best) in outcome.actors().iter().zip(bests.iter()) {
+        if actor.alpha().program().best() != *best {
+            return false;
+        }
+    }
+    outcome.is_whole() && outcome.actors().len() == bests.len()
+}
+
+/// Whether a run is whole, and its nodes know these greatest identifiers at the end, by vertex.
+pub fn ends_with<const D: u32, R: Threads + Wait + Sync>(
     rt: &R,
     alloc: Global,
     net: &Network,
     workers: u32,
     capacity: u32,
-) -> Result<Option<Vec<u128>>, Fail> {
+    bests: &[u128],
+) -> bool {
     let options = Options {
         workers,
         capacity,
         turns: 100_000_000,
         transcript: false,
     };
-    let outcome = run_workers::<Greatest<D>, OpenGate, R>(rt, alloc, net, options, &OpenGate)?;
-    if !outcome.is_whole() {
-        return Ok(None);
+    match run_workers::<Greatest<D>, OpenGate, R>(rt, alloc, net, options, &OpenGate) {
+        Ok(outcome) => know(&outcome, bests),
+        Err(_) => false,
     }
-    let mut bests = Vec::new(alloc);
-    for actor in outcome.actors() {
-        bests.push(actor.alpha().program().best())?;
-    }
-    Ok(Some(bests))
 }
 
 /// Whether the links out of a vertex hold just these wires after a run of the colouring, by port, each with its stamp.
@@ -99,6 +154,16 @@ pub fn holds(
     true
 }
 
+/// One worker with a transcript, and so many looks.
+pub fn of_one(capacity: u32, turns: u64) -> Options {
+    Options {
+        workers: 1,
+        capacity,
+        turns,
+        transcript: true,
+    }
+}
+
 /// The run of one worker with a transcript, after so many looks.
 pub fn run_of_one<R: Threads + Wait + Sync>(
     rt: &R,
@@ -106,12 +171,6 @@ pub fn run_of_one<R: Threads + Wait + Sync>(
     net: &Network,
     capacity: u32,
     turns: u64,
-) -> Result<Outcome<Colouring>, Fail> {
-    let options = Options {
-        workers: 1,
-        capacity,
-        turns,
-        transcript: true,
-    };
-    Ok(run_workers::<Colouring, OpenGate, R>(rt, alloc, net, options, &OpenGate)?)
+) -> Result<Outcome<Colouring>, PoolFault> {
+    run_workers::<Colouring, OpenGate, R>(rt, alloc, net, of_one(capacity, turns), &OpenGate)
 }

@@ -2,46 +2,43 @@
 //! of workers on small networks, and a counter at its end.
 
 use crate::replay_checks::MERGED;
-use crate::runs::small;
+use crate::runs::{pair, small};
 use byte_functions::{
-    Counter, Entry, Network, OpenGate, Options, Outcome, ReplayRefused, StampFull, WholeRefused,
-    Wire, order, replay_whole, rising, run_workers, stamped_text,
+    Counter, Entries, Entry, Network, OpenGate, Options, Outcome, ReplayRefused, StampFull,
+    WholeRefused, Wire, order, replay_whole, rising, run_workers, stamped_text,
 };
 use net_core::RunRefused;
 use std::alloc::Global;
 use std::sync::Wait;
-use std::test::Fail;
 use std::thread::Threads;
 use sync_rounds::{Best, Greatest};
 
 type Row = (u64, u32, Entry<Best>);
 
 // Both nodes put a close, and both take one.
-fn put(stamp: u64, v: u32, w: u32) -> Row {
-    (stamp, v, Entry::Put(w, Wire::Close))
-}
+const TO_1: Entry<Best> = Entry::Put(1, Wire::Close);
 
-fn take(stamp: u64, v: u32, w: u32) -> Row {
-    (stamp, v, Entry::Take(w, Wire::Close))
-}
+const TO_2: Entry<Best> = Entry::Put(2, Wire::Close);
 
-fn whole() -> [Row; 4] {
-    [put(1, 1, 2), take(2, 2, 1), put(3, 2, 1), take(4, 1, 2)]
-}
+const FROM_1: Entry<Best> = Entry::Take(1, Wire::Close);
 
-fn pair(alloc: Global) -> Result<Network, Fail> {
-    Ok(Network::try_new(alloc, &[1, 2], &[(1, 2)], &[])?)
-}
+const FROM_2: Entry<Best> = Entry::Take(2, Wire::Close);
+
+const A: Row = (1, 1, TO_2);
+
+const B: Row = (2, 2, FROM_1);
+
+const C: Row = (3, 2, TO_1);
+
+const D: Row = (4, 1, FROM_2);
+
+static WHOLE: [Row; 4] = [A, B, C, D];
 
 fn refusal<const D: u32>(alloc: Global, net: &Network, rows: &[Row]) -> Option<WholeRefused> {
     match replay_whole::<Greatest<D>>(alloc, net, rows) {
         Ok(_) => None,
         Err(refused) => Some(refused),
     }
-}
-
-fn refusal_of_four(alloc: Global, net: &Network, rows: [Row; 4]) -> Option<WholeRefused> {
-    refusal::<0>(alloc, net, &rows)
 }
 
 const NOTHING_TO_PUT: WholeRefused = WholeRefused::Replay(ReplayRefused::Run(
@@ -54,124 +51,205 @@ const WRONG_PUT: Entry<Best> = Entry::Put(1, Wire::Safe(0));
 
 const WRONG_WIRE: WholeRefused = WholeRefused::Replay(ReplayRefused::WrongWire(2));
 
-fn wrong_stamp(index: usize) -> Option<WholeRefused> {
-    Some(WholeRefused::WrongStamp(index))
+const WRONG_AT_0: Option<WholeRefused> = Some(WholeRefused::WrongStamp(0));
+
+const WRONG_AT_1: Option<WholeRefused> = Some(WholeRefused::WrongStamp(1));
+
+const WRONG_AT_2: Option<WholeRefused> = Some(WholeRefused::WrongStamp(2));
+
+const WRONG_AT_3: Option<WholeRefused> = Some(WholeRefused::WrongStamp(3));
+
+// Each node puts first, and the two puts come by vertex.
+const FIRST: Row = (1, 1, TO_2);
+
+const SECOND: Row = (1, 2, TO_1);
+
+const LAST: Row = (2, 1, FROM_2);
+
+const OTHER: Row = (2, 2, FROM_1);
+
+// Four rows, and why they are refused.
+static CASES: [(Row, Row, Row, Row, Option<WholeRefused>); 12] = [
+    (A, B, C, D, None),
+    (FIRST, SECOND, LAST, OTHER, None),
+    (SECOND, FIRST, LAST, OTHER, WRONG_AT_1),
+    (FIRST, SECOND, OTHER, LAST, WRONG_AT_3),
+    (A, B, (2, 2, TO_1), D, WRONG_AT_2),
+    (A, B, (4, 2, TO_1), D, WRONG_AT_2),
+    (A, B, (u64::MAX, 2, TO_1), D, WRONG_AT_2),
+    ((0, 1, TO_2), B, C, D, WRONG_AT_0),
+    // By the counter of the node alone.
+    (A, (1, 2, FROM_1), (2, 2, TO_1), D, WRONG_AT_1),
+    (A, B, C, (2, 1, FROM_2), WRONG_AT_3),
+    (A, A, B, C, Some(NOTHING_TO_PUT)),
+    (A, B, (9, 2, WRONG_PUT), D, Some(WRONG_WIRE)),
+];
+
+fn fours_are_refused(alloc: Global, net: &Network) -> bool {
+    for (a, b, c, d, refused) in &CASES {
+        if refusal::<0>(alloc, net, &[*a, *b, *c, *d]) != *refused {
+            return false;
+        }
+    }
+    true
+}
+
+fn fewer_are_refused(alloc: Global, net: &Network) -> bool {
+    refusal::<0>(alloc, net, &[B, C, D]) == Some(LINK_EMPTY)
+        && refusal::<0>(alloc, net, &[A, B, C]) == Some(WholeRefused::NotWhole)
+        && refusal::<0>(alloc, net, &[]) == Some(WholeRefused::NotWhole)
 }
 
 #[test]
-fn a_merged_run_is_replayed_or_refused_by_the_first_row_out_of_place(
-    rt: HostRuntime,
-) -> Result<(), Fail> {
-    let alloc = rt.alloc();
-    let net = pair(alloc)?;
-    let [a, b, c, d] = whole();
-    // Each node puts first, and the two puts come by vertex.
-    let (first, second) = (put(1, 1, 2), put(1, 2, 1));
-    let (last, other) = (take(2, 1, 2), take(2, 2, 1));
-    for (rows, refused) in [
-        ([a, b, c, d], None),
-        ([first, second, last, other], None),
-        ([second, first, last, other], wrong_stamp(1)),
-        ([first, second, other, last], wrong_stamp(3)),
-        ([a, b, put(2, 2, 1), d], wrong_stamp(2)),
-        ([a, b, put(4, 2, 1), d], wrong_stamp(2)),
-        ([a, b, put(u64::MAX, 2, 1), d], wrong_stamp(2)),
-        ([put(0, 1, 2), b, c, d], wrong_stamp(0)),
-        // By the counter of the node alone.
-        ([a, take(1, 2, 1), put(2, 2, 1), d], wrong_stamp(1)),
-        ([a, b, c, take(2, 1, 2)], wrong_stamp(3)),
-        ([a, a, b, c], Some(NOTHING_TO_PUT)),
-        ([a, b, (9, 2, WRONG_PUT), d], Some(WRONG_WIRE)),
-    ] {
-        assert!(rt; refusal_of_four(alloc, &net, rows) == refused);
-    }
-    assert!(rt; refusal::<0>(alloc, &net, &[b, c, d]) == Some(LINK_EMPTY));
-    assert!(rt; refusal::<0>(alloc, &net, &[a, b, c]) == Some(WholeRefused::NotWhole));
-    assert!(rt; refusal::<0>(alloc, &net, &[]) == Some(WholeRefused::NotWhole));
-    Ok(())
+fn a_merged_run_is_replayed_or_refused_by_the_first_row_out_of_place(rt: HostRuntime) {
+    let net = pair(rt.alloc()).expect(&rt, "network");
+    assert!(rt; fours_are_refused(rt.alloc(), &net));
+    assert!(rt; fewer_are_refused(rt.alloc(), &net));
 }
 
-// The entries of each node with their stamps.
-fn lists_of<const D: u32>(
+type List = Vec<(u64, Entry<Best>)>;
+
+// The entries of a node with their stamps.
+fn list_of(alloc: Global, entries: &Entries<Best>) -> Option<List> {
+    let mut list = Vec::new(alloc);
+    for item in entries.stamped() {
+        if list.push(item).is_err() {
+            return None;
+        }
+    }
+    Some(list)
+}
+
+// Adds the entries of each node. Whether memory was enough.
+fn add_lists<const D: u32>(
     alloc: Global,
     outcome: &Outcome<Greatest<D>>,
-) -> Result<Vec<Vec<(u64, Entry<Best>)>>, Fail> {
-    let mut lists = Vec::new(alloc);
+    lists: &mut Vec<List>,
+) -> bool {
     for actor in outcome.actors() {
-        let mut list = Vec::new(alloc);
-        for item in actor.entries().stamped() {
-            list.push(item)?;
+        match list_of(alloc, actor.entries()) {
+            Some(list) => {
+                if lists.push(list).is_err() {
+                    return false;
+                }
+            }
+            None => return false,
         }
-        lists.push(list)?;
     }
-    Ok(lists)
+    true
 }
 
-// The merged entries of a run by so many workers; none if the stamps of a node don't rise.
-fn merged<const D: u32, R: Threads + Wait + Sync>(
+fn lists_of<const D: u32, R: Threads + Wait + Sync>(
     rt: &R,
     alloc: Global,
     net: &Network,
     workers: u32,
-) -> Result<Vec<Row>, Fail> {
+    lists: &mut Vec<List>,
+) -> bool {
     let options = Options {
         workers,
         capacity: 4,
         turns: 100_000_000,
         transcript: true,
     };
-    let outcome = run_workers::<Greatest<D>, OpenGate, R>(rt, alloc, net, options, &OpenGate)?;
-    let lists = lists_of(alloc, &outcome)?;
-    if lists.len() > 6 || !rising(&lists) {
-        return Ok(Vec::new(alloc));
+    match run_workers::<Greatest<D>, OpenGate, R>(rt, alloc, net, options, &OpenGate) {
+        Ok(outcome) => add_lists(alloc, &outcome, lists),
+        Err(_) => false,
     }
-    Ok(order(alloc, &lists)?)
+}
+
+// The rows of the lists; none if the stamps of a node don't rise.
+fn rows_of(alloc: Global, lists: &[List]) -> Option<Vec<Row>> {
+    if lists.len() > 6 || !rising(lists) {
+        return None;
+    }
+    order(alloc, lists).ok()
+}
+
+// The merged entries of a run by so many workers.
+fn merged<const D: u32, R: Threads + Wait + Sync>(
+    rt: &R,
+    alloc: Global,
+    net: &Network,
+    workers: u32,
+) -> Option<Vec<Row>> {
+    let mut lists = Vec::new(alloc);
+    if lists_of::<D, R>(rt, alloc, net, workers, &mut lists) {
+        rows_of(alloc, lists.as_slice())
+    } else {
+        None
+    }
+}
+
+fn has_text(alloc: Global, rows: &[Row]) -> bool {
+    match stamped_text(alloc, 2, rows) {
+        Ok(text) => text.as_slice() == MERGED,
+        Err(_) => false,
+    }
 }
 
 // One worker looks at node 1, at node 2, and at node 1 again.
-fn is_the_worked_run<R: Threads + Wait + Sync>(rt: &R, alloc: Global) -> Result<bool, Fail> {
-    let net = pair(alloc)?;
-    let rows = merged::<0, R>(rt, alloc, &net, 1)?;
-    let text = stamped_text(alloc, 2, &rows)?;
-    Ok(rows.as_slice() == whole().as_slice() && text.as_slice() == MERGED)
+fn is_the_worked_run<R: Threads + Wait + Sync>(rt: &R, alloc: Global, net: &Network) -> bool {
+    match merged::<0, R>(rt, alloc, net, 1) {
+        Some(rows) => rows.as_slice() == WHOLE.as_slice() && has_text(alloc, rows.as_slice()),
+        None => false,
+    }
 }
 
-// Whether the merged run of so many workers on a small network is replayed whole.
+// Whether the merged run of so many workers is replayed whole.
 fn is_replayed<R: Threads + Wait + Sync>(
     rt: &R,
     alloc: Global,
-    number: u32,
+    net: &Network,
     workers: u32,
-) -> Result<bool, Fail> {
-    let net = small(alloc, number)?;
-    let rows = merged::<3, R>(rt, alloc, &net, workers)?;
-    Ok(refusal::<3>(alloc, &net, &rows) == None)
-}
-
-#[test]
-fn merged_runs_of_workers_are_replayed_whole(rt: HostRuntime) -> Result<(), Fail> {
-    let alloc = rt.alloc();
-    assert!(rt; is_the_worked_run(&rt, alloc)?);
-    for number in 0..50 {
-        for workers in [1, 2, 4] {
-            assert!(rt;
-                is_replayed(&rt, alloc, number, workers)?,
-                "{number} {workers}"
-            );
-        }
+) -> bool {
+    match merged::<3, R>(rt, alloc, net, workers) {
+        Some(rows) => refusal::<3>(alloc, net, rows.as_slice()) == None,
+        None => false,
     }
-    Ok(())
+}
+
+// Whether those of 1, 2 and 4 workers on a small network are.
+fn are_replayed<R: Threads + Wait + Sync>(rt: &R, alloc: Global, number: u32) -> bool {
+    match small(alloc, number) {
+        Some(net) => {
+            is_replayed(rt, alloc, &net, 1)
+                && is_replayed(rt, alloc, &net, 2)
+                && is_replayed(rt, alloc, &net, 4)
+        }
+        None => false,
+    }
 }
 
 #[test]
-fn a_counter_stops_at_the_greatest_number(rt: HostRuntime) -> Result<(), Fail> {
+fn merged_runs_of_workers_are_replayed_whole(rt: HostRuntime) {
+    let net = pair(rt.alloc()).expect(&rt, "network");
+    assert!(rt; is_the_worked_run(&rt, rt.alloc(), &net));
+    for number in 0..50 {
+        assert!(rt; are_replayed(&rt, rt.alloc(), number), "{number}");
+    }
+}
+
+fn counts(counter: &mut Counter) -> bool {
+    counter.value() == 0
+        && counter.peek() == Ok(1)
+        && counter.next() == Ok(1)
+        && counter.past(u64::MAX) == Err(StampFull)
+        && counter.past(0) == Ok(2)
+        && counter.past(7) == Ok(8)
+}
+
+fn stops(counter: &mut Counter) -> bool {
+    counter.past(u64::MAX - 1) == Ok(u64::MAX)
+        && counter.peek() == Err(StampFull)
+        && counter.next() == Err(StampFull)
+        && counter.past(0) == Err(StampFull)
+        && counter.value() == u64::MAX
+}
+
+#[test]
+fn a_counter_stops_at_the_greatest_number(rt: HostRuntime) {
     let mut counter = Counter::new();
-    assert!(rt; counter.value() == 0 && counter.peek() == Ok(1));
-    assert!(rt; counter.next() == Ok(1));
-    assert!(rt; counter.past(u64::MAX) == Err(StampFull));
-    assert!(rt; counter.past(0) == Ok(2) && counter.past(7) == Ok(8));
-    assert!(rt; counter.past(u64::MAX - 1) == Ok(u64::MAX));
-    assert!(rt; counter.peek() == Err(StampFull) && counter.next() == Err(StampFull));
-    assert!(rt; counter.past(0) == Err(StampFull) && counter.value() == u64::MAX);
-    Ok(())
+    assert!(rt; counts(&mut counter));
+    assert!(rt; stops(&mut counter));
 }

@@ -5,14 +5,13 @@ ghost use Rattle.std.specs.Prelude.{◌≡◌, ℕ, length};
 ghost use Rattle.byte_functions.specs.interference.Net.{IsVertex, degree_of, vertices};
 ghost use Rattle.byte_functions.specs.gather_laws.Outcome.{row_in};
 
-use crate::runs::{holds, run_of_one, triangle};
+use crate::runs::{holds, of_one, run_of_one, triangle};
 use byte_functions::{
     Colouring, Entries, Entry, Network, OpenGate, Options, Outcome, Payload, Stamped, Wire,
     run_workers,
 };
 use std::alloc::Global;
 use std::sync::Wait;
-use std::test::Fail;
 use std::thread::Threads;
 
 const FROM_1: Wire<Payload> = Wire::Payload(0, Payload::Hello(1));
@@ -112,45 +111,68 @@ fn leaves<R: Threads + Wait + Sync>(
     options: Options,
     entries: &[&[StampedEntry]],
     links: &[[&[Stamped<Payload>]; 2]],
-) -> Result<bool, Fail> {
-    let outcome = run_workers::<Colouring, OpenGate, R>(rt, alloc, net, options, &OpenGate)?;
-    Ok(!outcome.is_whole() && have_entries(&outcome, entries) && hold(net, &outcome, links))
+) -> bool {
+    match run_workers::<Colouring, OpenGate, R>(rt, alloc, net, options, &OpenGate) {
+        Ok(outcome) => {
+            !outcome.is_whole() && have_entries(&outcome, entries) && hold(net, &outcome, links)
+        }
+        Err(_) => false,
+    }
+}
+
+fn no_look_leaves<R: Threads + Wait + Sync>(
+    rt: &R,
+    alloc: Global,
+    net: &Network,
+    capacity: u32,
+) -> bool {
+    let idle: &[StampedEntry] = &[];
+    let empty: &[Stamped<Payload>] = &[];
+    let links = [[empty, empty], [empty, empty], [empty, empty]];
+    let options = of_one(capacity, 0);
+    leaves(rt, alloc, net, options, &[idle, idle, idle], &links)
+}
+
+fn one_look_leaves<R: Threads + Wait + Sync>(
+    rt: &R,
+    alloc: Global,
+    net: &Network,
+    capacity: u32,
+) -> bool {
+    let (first, idle): (&[StampedEntry], &[StampedEntry]) = (&FIRST, &[]);
+    let (to_2, to_3): (&[Stamped<Payload>], &[Stamped<Payload>]) = (&[PUT_1], &[PUT_2]);
+    let empty: &[Stamped<Payload>] = &[];
+    let links = [[to_2, to_3], [empty, empty], [empty, empty]];
+    let options = of_one(capacity, 1);
+    leaves(rt, alloc, net, options, &[first, idle, idle], &links)
+}
+
+// What node 2 did, and put into its links to nodes 1 and 3.
+fn two_looks_leave<R: Threads + Wait + Sync>(
+    rt: &R,
+    alloc: Global,
+    net: &Network,
+    capacity: u32,
+    second: &[StampedEntry],
+    from_2: [&[Stamped<Payload>]; 2],
+) -> bool {
+    let (first, idle): (&[StampedEntry], &[StampedEntry]) = (&FIRST, &[]);
+    let (to_3, empty): (&[Stamped<Payload>], &[Stamped<Payload>]) = (&[PUT_2], &[]);
+    let links = [[empty, to_3], from_2, [empty, empty]];
+    let options = of_one(capacity, 2);
+    leaves(rt, alloc, net, options, &[first, second, idle], &links)
 }
 
 // The worker looks at nodes 1, 2, 3 in turn. A node at which it looks takes what its links hold, and puts what it has
 // to put, port by port, as far as the links hold it. So node 3 has done nothing.
 #[test]
-fn the_first_looks_leave_a_run_that_is_not_whole(rt: HostRuntime) -> Result<(), Fail> {
+fn the_first_looks_leave_a_run_that_is_not_whole(rt: HostRuntime) {
     let alloc: Global = rt.alloc();
-    let net = triangle(alloc)?;
-    let (first, second): (&[StampedEntry], &[StampedEntry]) = (&FIRST, &SECOND);
-    let (second_of_one, idle): (&[StampedEntry], &[StampedEntry]) = (&SECOND_OF_ONE, &[]);
-    let (to_2, to_3): (&[Stamped<Payload>], &[Stamped<Payload>]) = (&[PUT_1], &[PUT_2]);
-    let (both, hello): (&[Stamped<Payload>], &[Stamped<Payload>]) = (&[PUT_3, ACK_4], &[PUT_3]);
-    let (fourth, fifth): (&[Stamped<Payload>], &[Stamped<Payload>]) = (&[PUT_4], &[PUT_5]);
-    let empty: &[Stamped<Payload>] = &[];
-    for (turns, capacity, of_1, of_2, from_1, from_2) in [
-        (0, 4, idle, idle, [empty, empty], [empty, empty]),
-        (0, 1, idle, idle, [empty, empty], [empty, empty]),
-        (1, 4, first, idle, [to_2, to_3], [empty, empty]),
-        (1, 1, first, idle, [to_2, to_3], [empty, empty]),
-        (2, 4, first, second, [empty, to_3], [both, fifth]),
-        (2, 1, first, second_of_one, [empty, to_3], [hello, fourth]),
-    ] {
-        let options = Options {
-            workers: 1,
-            capacity,
-            turns,
-            transcript: true,
-        };
-        let entries = [of_1, of_2, idle];
-        let links = [from_1, from_2, [empty, empty]];
-        assert!(rt;
-            leaves(&rt, alloc, &net, options, &entries, &links)?,
-            "{turns} {capacity}"
-        );
-    }
-    Ok(())
+    let net = triangle(alloc).expect(&rt, "network");
+    assert!(rt; no_look_leaves(&rt, alloc, &net, 4) && no_look_leaves(&rt, alloc, &net, 1));
+    assert!(rt; one_look_leaves(&rt, alloc, &net, 4) && one_look_leaves(&rt, alloc, &net, 1));
+    assert!(rt; two_looks_leave(&rt, alloc, &net, 4, &SECOND, [&[PUT_3, ACK_4], &[PUT_5]]));
+    assert!(rt; two_looks_leave(&rt, alloc, &net, 1, &SECOND_OF_ONE, [&[PUT_3], &[PUT_4]]));
 }
 
 // Whether the entries of a node begin those of another run.
@@ -172,16 +194,48 @@ fn adds_to(after: &Outcome<Colouring>, before: &Outcome<Colouring>) -> bool {
     !before.is_whole() || after.is_whole()
 }
 
-#[test]
-fn each_look_adds_to_the_entries(rt: HostRuntime) -> Result<(), Fail> {
-    let alloc: Global = rt.alloc();
-    let net = triangle(alloc)?;
-    let mut before = run_of_one(&rt, alloc, &net, 1, 0)?;
-    for turns in 1..201 {
-        let after = run_of_one(&rt, alloc, &net, 1, turns)?;
-        assert!(rt; adds_to(&after, &before), "{turns}");
-        before = after;
+// Whether a run of so many looks did what the one before did, which it replaces.
+fn adds<R: Threads + Wait + Sync>(
+    rt: &R,
+    alloc: Global,
+    net: &Network,
+    turns: u64,
+    before: &mut Outcome<Colouring>,
+) -> bool {
+    match run_of_one(rt, alloc, net, 1, turns) {
+        Ok(after) => {
+            let is_more = adds_to(&after, before);
+            *before = after;
+            is_more
+        }
+        Err(_) => false,
     }
-    assert!(rt; before.is_whole());
-    Ok(())
+}
+
+// Whether the runs of 1 to 200 looks do so, each behind the one before, and the last is whole.
+fn all_add<R: Threads + Wait + Sync>(
+    rt: &R,
+    alloc: Global,
+    net: &Network,
+    before: &mut Outcome<Colouring>,
+) -> bool {
+    for turns in 1..201 {
+        if !adds(rt, alloc, net, turns, before) {
+            return false;
+        }
+    }
+    before.is_whole()
+}
+
+fn all_add_to_none<R: Threads + Wait + Sync>(rt: &R, alloc: Global, net: &Network) -> bool {
+    match run_of_one(rt, alloc, net, 1, 0) {
+        Ok(mut before) => all_add(rt, alloc, net, &mut before),
+        Err(_) => false,
+    }
+}
+
+#[test]
+fn each_look_adds_to_the_entries(rt: HostRuntime) {
+    let net = triangle(rt.alloc()).expect(&rt, "network");
+    assert!(rt; all_add_to_none(&rt, rt.alloc(), &net));
 }
