@@ -12,22 +12,21 @@ use sync_rounds::{Greatest, run_rounds};
 // How many pulses a node of the triangle makes at least; a turn makes one at most.
 pub const PULSES: u64 = 30;
 
-// Whether a run of two workers through a gate is whole.
-fn is_whole_by_two<G: Gate + Sync, R: Threads + Wait + Sync>(
+// Whether a run through a gate is whole, or why there is no outcome.
+fn is_whole<G: Gate + Sync, R: Threads + Wait + Sync>(
     rt: &R,
     alloc: Global,
     net: &Network,
+    options: Options,
     gate: &G,
-) -> bool {
-    match run_workers::<Colouring, G, R>(rt, alloc, net, BY_TWO, gate) {
-        Ok(outcome) => outcome.is_whole(),
-        Err(_) => false,
-    }
+) -> Result<bool, PoolFault> {
+    let outcome = run_workers::<Colouring, G, R>(rt, alloc, net, options, gate)?;
+    Ok(outcome.is_whole())
 }
 
 fn two_meet<R: Threads + Wait + Sync>(rt: &R, alloc: Global, net: &Network) -> bool {
     let gate = Meeting::new();
-    is_whole_by_two(rt, alloc, net, &gate) && gate.saw_two_at_once(PULSES)
+    is_whole(rt, alloc, net, BY_TWO, &gate) == Ok(true) && gate.saw_two_at_once(PULSES)
 }
 
 #[test]
@@ -40,7 +39,7 @@ fn two_workers_are_in_turns_at_once(rt: HostRuntime) {
 // have stolen node 1.
 fn one_steals<R: Threads + Wait + Sync>(rt: &R, alloc: Global, net: &Network) -> bool {
     let gate = Stealing::new();
-    is_whole_by_two(rt, alloc, net, &gate) && gate.saw_a_steal()
+    is_whole(rt, alloc, net, BY_TWO, &gate) == Ok(true) && gate.saw_a_steal()
 }
 
 #[test]
@@ -117,43 +116,13 @@ fn workers_end_as_the_rounds_do(rt: HostRuntime) {
     assert!(rt; end_as_the_rounds_do(&rt, rt.alloc(), 4));
 }
 
-// What a run with this many workers over links of this capacity returns, if it isn't an outcome.
-fn refusal<R: Threads + Wait + Sync>(
-    rt: &R,
-    alloc: Global,
-    net: &Network,
-    workers: u32,
-    capacity: u32,
-) -> Option<PoolFault> {
-    let options = Options {
-        workers,
-        capacity,
-        turns: 1,
-        transcript: false,
-    };
-    match run_workers::<Greatest<1>, OpenGate, R>(rt, alloc, net, options, &OpenGate) {
-        Ok(_) => None,
-        Err(fault) => Some(fault),
-    }
-}
-
-// Whether a run with the greatest options and no look is whole; nothing if there is no outcome.
-fn is_whole_without_a_look<R: Threads + Wait + Sync>(
-    rt: &R,
-    alloc: Global,
-    net: &Network,
-) -> Option<bool> {
-    let options = Options {
-        workers: 64,
-        capacity: 64,
-        turns: 0,
-        transcript: false,
-    };
-    match run_workers::<Greatest<1>, OpenGate, R>(rt, alloc, net, options, &OpenGate) {
-        Ok(outcome) => Some(outcome.is_whole()),
-        Err(_) => None,
-    }
-}
+// The greatest options, and no look.
+const NO_LOOK: Options = Options {
+    workers: 64,
+    capacity: 64,
+    turns: 0,
+    transcript: false,
+};
 
 // Workers and capacities of which one is out of range, or both are.
 static OUT_OF_RANGE: [(u32, u32); 6] = [
@@ -167,7 +136,13 @@ static OUT_OF_RANGE: [(u32, u32); 6] = [
 
 fn are_refused<R: Threads + Wait + Sync>(rt: &R, alloc: Global, net: &Network) -> bool {
     for (workers, capacity) in &OUT_OF_RANGE {
-        if refusal(rt, alloc, net, *workers, *capacity) != Some(PoolFault::BadOptions) {
+        let options = Options {
+            workers: *workers,
+            capacity: *capacity,
+            turns: 1,
+            transcript: false,
+        };
+        if is_whole(rt, alloc, net, options, &OpenGate) != Err(PoolFault::BadOptions) {
             return false;
         }
     }
@@ -177,15 +152,20 @@ fn are_refused<R: Threads + Wait + Sync>(rt: &R, alloc: Global, net: &Network) -
 // Whether a run on no nodes is whole without a look.
 fn none_is_whole<R: Threads + Wait + Sync>(rt: &R, alloc: Global) -> bool {
     match Network::try_new(alloc, &[], &[], &[]) {
-        Ok(none) => is_whole_without_a_look(rt, alloc, &none) == Some(true),
+        Ok(none) => is_whole(rt, alloc, &none, NO_LOOK, &OpenGate) == Ok(true),
         Err(_) => false,
     }
+}
+
+// Whether options out of range are refused, and others aren't.
+fn are_refused_alone<R: Threads + Wait + Sync>(rt: &R, alloc: Global, net: &Network) -> bool {
+    are_refused(rt, alloc, net)
+        && is_whole(rt, alloc, net, NO_LOOK, &OpenGate) == Ok(false)
+        && none_is_whole(rt, alloc)
 }
 
 #[test]
 fn options_out_of_range_are_refused_first(rt: HostRuntime) {
     let net = path(rt.alloc()).expect(&rt, "network");
-    assert!(rt; are_refused(&rt, rt.alloc(), &net));
-    assert!(rt; is_whole_without_a_look(&rt, rt.alloc(), &net) == Some(false));
-    assert!(rt; none_is_whole(&rt, rt.alloc()));
+    assert!(rt; are_refused_alone(&rt, rt.alloc(), &net));
 }
