@@ -17,16 +17,19 @@ pub const WHOLE: &[u8] =
 pub const MERGED: &[u8] = b"transcript 2 2\n\
 1 1 put 2 close\n2 2 take 1 close\n3 2 put 1 close\n4 1 take 2 close\n";
 
-fn drained(state: &NetState<Greatest<0>>) -> (bool, bool)
+fn are_drained(state: &NetState<Greatest<0>>) -> bool
     requires two { count_of state.now.net ≡ 2 }
 {
-    (state.node(1).drained(), state.node(2).drained())
+    state.node(1).drained() && state.node(2).drained()
 }
 
-fn refusal(alloc: Global, net: &Network, row: (u32, Entry<Best>)) -> Option<ReplayRefused> {
-    match replay::<Greatest<0>>(alloc, net, &[row]) {
-        Ok(_) => None,
-        Err(refused) => Some(refused),
+// Whether rows are replayed to the end, or why they are refused.
+fn ends(alloc: Global, net: &Network, rows: &[(u32, Entry<Best>)]) -> Result<bool, ReplayRefused>
+    requires two { count_of net.now ≡ 2 }
+{
+    match replay::<Greatest<0>>(alloc, net, rows) {
+        Ok(state) => Ok(are_drained(&state)),
+        Err(refused) => Err(refused),
     }
 }
 
@@ -62,38 +65,35 @@ static REFUSALS: [((u32, Entry<Best>), ReplayRefused); 7] = [
     ),
 ];
 
-// Whether rows are replayed to the end.
-fn ends(alloc: Global, net: &Network, rows: &[(u32, Entry<Best>)]) -> bool
-    requires two { count_of net.now ≡ 2 }
-{
-    match replay::<Greatest<0>>(alloc, net, rows) {
-        Ok(state) => drained(&state) == (true, true),
-        Err(_) => false,
-    }
-}
-
 // Whether the transcript is read, and its rows are replayed to the end.
 fn whole_ends(alloc: Global, net: &Network) -> bool
     requires two { count_of net.now ≡ 2 }
 {
     match read_transcript::<Best>(alloc, WHOLE) {
-        Ok((nodes, rows)) => nodes == 2 && ends(alloc, net, rows.as_slice()),
+        Ok((nodes, rows)) => nodes == 2 && ends(alloc, net, rows.as_slice()) == Ok(true),
         Err(_) => false,
     }
 }
 
-fn are_refused(alloc: Global, net: &Network) -> bool {
+fn are_refused(alloc: Global, net: &Network) -> bool
+    requires two { count_of net.now ≡ 2 }
+{
     for (row, refused) in &REFUSALS {
-        if refusal(alloc, net, *row) != Some(*refused) {
+        if ends(alloc, net, &[*row]) != Err(*refused) {
             return false;
         }
     }
     true
 }
 
+fn are_replayed_or_refused(alloc: Global, net: &Network) -> bool
+    requires two { count_of net.now ≡ 2 }
+{
+    whole_ends(alloc, net) && are_refused(alloc, net)
+}
+
 #[test]
 fn entries_are_replayed_or_refused_by_the_first_that_fails(rt: HostRuntime) {
     let net = pair(rt.alloc()).expect(&rt, "network");
-    assert!(rt; net.nodes() == 2 && whole_ends(rt.alloc(), &net));
-    assert!(rt; are_refused(rt.alloc(), &net));
+    assert!(rt; net.nodes() == 2 && are_replayed_or_refused(rt.alloc(), &net));
 }
