@@ -102,8 +102,8 @@ pub fn small(alloc: Global, number: u32) -> Option<Network> {
 
 // Whether a run is whole, and its nodes know these greatest identifiers, by vertex.
 fn know<const D: u32>(outcome: &Outcome<Greatest<D>>, bests: &[u128]) -> bool {
-    for (actor, best) in outcome.actors().iter().zip(bests.iter()) {
-        if actor.alpha().program().best() != *best {
+    for (index, actor) in outcome.actors().iter().enumerate() {
+        if bests.get(index) != Some(&actor.alpha().program().best()) {
             return false;
         }
     }
@@ -144,10 +144,7 @@ pub fn holds(
 {
     for port in 0..net.degree(vertex) {
         let held = outcome.link(vertex, port).held();
-        if by_port
-            .get(port as usize)
-            .is_none_or(|wires| held != *wires)
-        {
+        if by_port.get(port as usize) != Some(&held) {
             return false;
         }
     }
