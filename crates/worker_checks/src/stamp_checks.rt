@@ -111,13 +111,7 @@ type List = Vec<(u64, Entry<Best>)>;
 
 // The entries of a node with their stamps.
 fn list_of(alloc: Global, entries: &Entries<Best>) -> Option<List> {
-    let mut list = Vec::new(alloc);
-    for item in entries.stamped() {
-        if list.push(item).is_err() {
-            return None;
-        }
-    }
-    Some(list)
+    entries.stamped().collect(alloc).ok()
 }
 
 // Adds the entries of each node. Whether memory was enough.
@@ -221,13 +215,20 @@ fn are_replayed<R: Threads + Wait + Sync>(rt: &R, alloc: Global, number: u32) ->
     }
 }
 
+fn all_are_replayed<R: Threads + Wait + Sync>(rt: &R, alloc: Global) -> bool {
+    for number in 0..50 {
+        if !are_replayed(rt, alloc, number) {
+            return false;
+        }
+    }
+    true
+}
+
 #[test]
 fn merged_runs_of_workers_are_replayed_whole(rt: HostRuntime) {
     let net = pair(rt.alloc()).expect(&rt, "network");
     assert!(rt; is_the_worked_run(&rt, rt.alloc(), &net));
-    for number in 0..50 {
-        assert!(rt; are_replayed(&rt, rt.alloc(), number), "{number}");
-    }
+    assert!(rt; all_are_replayed(&rt, rt.alloc()));
 }
 
 fn counts(counter: &mut Counter) -> bool {
