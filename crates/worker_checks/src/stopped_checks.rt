@@ -21,16 +21,16 @@ const FROM_2: Wire<Payload> = Wire::Payload(0, Payload::Hello(2));
 type StampedEntry = (u64, Entry<Payload>);
 
 // What nodes 1 and 2 of the triangle did by the first and by the second look, and node 2 over links that hold one wire.
-static FIRST: [StampedEntry; 2] = [(1, Entry::Put(2, FROM_1)), (2, Entry::Put(3, FROM_1))];
+const FIRST: &[StampedEntry] = &[(1, Entry::Put(2, FROM_1)), (2, Entry::Put(3, FROM_1))];
 
-static SECOND: [StampedEntry; 4] = [
+const SECOND: &[StampedEntry] = &[
     (2, Entry::Take(1, FROM_1)),
     (3, Entry::Put(1, FROM_2)),
     (4, Entry::Put(1, Wire::Ack(0))),
     (5, Entry::Put(3, FROM_2)),
 ];
 
-static SECOND_OF_ONE: [StampedEntry; 3] = [
+const SECOND_OF_ONE: &[StampedEntry] = &[
     (2, Entry::Take(1, FROM_1)),
     (3, Entry::Put(1, FROM_2)),
     (4, Entry::Put(3, FROM_2)),
@@ -69,20 +69,25 @@ const PUT_5: Stamped<Payload> = Stamped {
 
 // Whether these are the entries of a node.
 fn are(entries: &Entries<Payload>, wanted: &[StampedEntry]) -> bool {
-    entries.len() == wanted.len()
-        && entries
-            .stamped()
-            .zip(wanted.iter())
-            .all(|(entry, other)| entry == *other)
+    entries.stamped().eq(wanted.iter().copied())
+}
+
+// Whether the node with this index is at its start, with these entries.
+fn has_entries(outcome: &Outcome<Colouring>, index: usize, wanted: &[StampedEntry]) -> bool {
+    match outcome.actors().get(index) {
+        Some(actor) => {
+            actor.node() as usize == index.wrapping_add(1)
+                && actor.alpha().pulse_number() == 0
+                && are(actor.entries(), wanted)
+        }
+        None => false,
+    }
 }
 
 // Whether nodes are at their start, with these entries.
 fn have_entries(outcome: &Outcome<Colouring>, entries: &[&[StampedEntry]]) -> bool {
-    let mut vertex = 0u32;
-    for (actor, wanted) in outcome.actors().iter().zip(entries.iter()) {
-        vertex = vertex.wrapping_add(1);
-        let is_at_start = actor.node() == vertex && actor.alpha().pulse_number() == 0;
-        if !is_at_start || !are(actor.entries(), *wanted) {
+    for (index, wanted) in entries.iter().enumerate() {
+        if !has_entries(outcome, index, *wanted) {
             return false;
         }
     }
@@ -103,85 +108,89 @@ fn hold(net: &Network, outcome: &Outcome<Colouring>, links: &[[&[Stamped<Payload
     true
 }
 
-// Whether a run of so many looks isn't whole and leaves these entries by node, and these wires in the links.
-fn leaves<R: Threads + Wait + Sync>(
-    rt: &R,
-    alloc: Global,
-    net: &Network,
-    options: Options,
-    entries: &[&[StampedEntry]],
-    links: &[[&[Stamped<Payload>]; 2]],
-) -> bool {
+// What a run of one worker leaves.
+struct Left {
+    capacity: u32,
+    looks: u64,
+    // By node.
+    entries: &'static [&'static [StampedEntry]],
+    // By node and port.
+    links: &'static [[&'static [Stamped<Payload>]; 2]],
+}
+
+// What the first looks leave, over links that hold four wires and over links that hold one. The worker looks at nodes
+// 1, 2, 3 in turn. A node at which it looks takes what its links hold, and puts what it has to put, port by port, as
+// far as the links hold it. So node 3 has done nothing.
+static LEFT: [Left; 6] = [
+    Left {
+        capacity: 4,
+        looks: 0,
+        entries: &[&[], &[], &[]],
+        links: &[[&[], &[]], [&[], &[]], [&[], &[]]],
+    },
+    Left {
+        capacity: 1,
+        looks: 0,
+        entries: &[&[], &[], &[]],
+        links: &[[&[], &[]], [&[], &[]], [&[], &[]]],
+    },
+    Left {
+        capacity: 4,
+        looks: 1,
+        entries: &[FIRST, &[], &[]],
+        links: &[[&[PUT_1], &[PUT_2]], [&[], &[]], [&[], &[]]],
+    },
+    Left {
+        capacity: 1,
+        looks: 1,
+        entries: &[FIRST, &[], &[]],
+        links: &[[&[PUT_1], &[PUT_2]], [&[], &[]], [&[], &[]]],
+    },
+    Left {
+        capacity: 4,
+        looks: 2,
+        entries: &[FIRST, SECOND, &[]],
+        links: &[[&[], &[PUT_2]], [&[PUT_3, ACK_4], &[PUT_5]], [&[], &[]]],
+    },
+    Left {
+        capacity: 1,
+        looks: 2,
+        entries: &[FIRST, SECOND_OF_ONE, &[]],
+        links: &[[&[], &[PUT_2]], [&[PUT_3], &[PUT_4]], [&[], &[]]],
+    },
+];
+
+// Whether a run isn't whole and leaves what it should.
+fn leaves<R: Threads + Wait + Sync>(rt: &R, alloc: Global, net: &Network, left: &Left) -> bool {
+    let options = of_one(left.capacity, left.looks);
     match run_workers::<Colouring, OpenGate, R>(rt, alloc, net, options, &OpenGate) {
         Ok(outcome) => {
-            !outcome.is_whole() && have_entries(&outcome, entries) && hold(net, &outcome, links)
+            !outcome.is_whole()
+                && have_entries(&outcome, left.entries)
+                && hold(net, &outcome, left.links)
         }
         Err(_) => false,
     }
 }
 
-fn no_look_leaves<R: Threads + Wait + Sync>(
-    rt: &R,
-    alloc: Global,
-    net: &Network,
-    capacity: u32,
-) -> bool {
-    let idle: &[StampedEntry] = &[];
-    let empty: &[Stamped<Payload>] = &[];
-    let links = [[empty, empty], [empty, empty], [empty, empty]];
-    let options = of_one(capacity, 0);
-    leaves(rt, alloc, net, options, &[idle, idle, idle], &links)
+fn all_leave<R: Threads + Wait + Sync>(rt: &R, alloc: Global, net: &Network) -> bool {
+    for left in &LEFT {
+        if !leaves(rt, alloc, net, left) {
+            return false;
+        }
+    }
+    true
 }
 
-fn one_look_leaves<R: Threads + Wait + Sync>(
-    rt: &R,
-    alloc: Global,
-    net: &Network,
-    capacity: u32,
-) -> bool {
-    let (first, idle): (&[StampedEntry], &[StampedEntry]) = (&FIRST, &[]);
-    let (to_2, to_3): (&[Stamped<Payload>], &[Stamped<Payload>]) = (&[PUT_1], &[PUT_2]);
-    let empty: &[Stamped<Payload>] = &[];
-    let links = [[to_2, to_3], [empty, empty], [empty, empty]];
-    let options = of_one(capacity, 1);
-    leaves(rt, alloc, net, options, &[first, idle, idle], &links)
-}
-
-// What node 2 did, and put into its links to nodes 1 and 3.
-fn two_looks_leave<R: Threads + Wait + Sync>(
-    rt: &R,
-    alloc: Global,
-    net: &Network,
-    capacity: u32,
-    second: &[StampedEntry],
-    from_2: [&[Stamped<Payload>]; 2],
-) -> bool {
-    let (first, idle): (&[StampedEntry], &[StampedEntry]) = (&FIRST, &[]);
-    let (to_3, empty): (&[Stamped<Payload>], &[Stamped<Payload>]) = (&[PUT_2], &[]);
-    let links = [[empty, to_3], from_2, [empty, empty]];
-    let options = of_one(capacity, 2);
-    leaves(rt, alloc, net, options, &[first, second, idle], &links)
-}
-
-// The worker looks at nodes 1, 2, 3 in turn. A node at which it looks takes what its links hold, and puts what it has
-// to put, port by port, as far as the links hold it. So node 3 has done nothing.
 #[test]
 fn the_first_looks_leave_a_run_that_is_not_whole(rt: HostRuntime) {
-    let alloc: Global = rt.alloc();
-    let net = triangle(alloc).expect(&rt, "network");
-    assert!(rt; no_look_leaves(&rt, alloc, &net, 4) && no_look_leaves(&rt, alloc, &net, 1));
-    assert!(rt; one_look_leaves(&rt, alloc, &net, 4) && one_look_leaves(&rt, alloc, &net, 1));
-    assert!(rt; two_looks_leave(&rt, alloc, &net, 4, &SECOND, [&[PUT_3, ACK_4], &[PUT_5]]));
-    assert!(rt; two_looks_leave(&rt, alloc, &net, 1, &SECOND_OF_ONE, [&[PUT_3], &[PUT_4]]));
+    let net = triangle(rt.alloc()).expect(&rt, "network");
+    assert!(rt; all_leave(&rt, rt.alloc(), &net));
 }
 
 // Whether the entries of a node begin those of another run.
 fn begin(entries: &Entries<Payload>, others: &Entries<Payload>) -> bool {
-    entries.len() <= others.len()
-        && entries
-            .stamped()
-            .zip(others.stamped())
-            .all(|(entry, other)| entry == other)
+    entries.stamped().eq(others.stamped().take(entries.len()))
 }
 
 // Whether a run did what another one did, and maybe more.
