@@ -33,11 +33,13 @@ fn no_links(alloc: Global) -> Result<Links<Alone, Greatest<2>>, Memory> {
     }
 }
 
-fn lone_node(alloc: Global, network: &Network) -> Result<Node<Alone, Greatest<2>>, Memory>
+// The one node, in a box: to own a box costs less proof than to own what is in it.
+fn lone_node(alloc: Global, network: &Network) -> Result<Box<Node<Alone, Greatest<2>>>, Memory>
     requires network { network.now ≡ lone_net }
-    ensures vertex { IfOk result (λ node. node.vertex ≡ 1) }
+    ensures vertex { IfOk result (λ node. node.value.vertex ≡ 1) }
 {
-    Node::start(alloc, network, 1, Vec::new(alloc), Vec::new(alloc), false)
+    let node = Node::start(alloc, network, 1, Vec::new(alloc), Vec::new(alloc), false)?;
+    Ok(Box::new(alloc, node)?)
 }
 
 // The pulse and the counter of the one node.
@@ -89,16 +91,13 @@ fn run_past<R: Threads + Wait + Sync>(
     rt: &R,
     alloc: Global,
     links: &Links<Alone, Greatest<2>>,
-    mut node: Node<Alone, Greatest<2>>,
+    mut node: Box<Node<Alone, Greatest<2>>>,
     stamp: u64,
 ) -> Result<(u32, u64), PoolFault>
-    requires vertex { node.vertex ≡ 1 }
+    requires vertex { node.value.vertex ≡ 1 }
 {
     let is_past = moves_past(&mut node, stamp);
-    let end = match Box::new(alloc, node) {
-        Ok(node) => run_boxed(rt, alloc, links, node),
-        Err(_) => Err(PoolFault::Memory),
-    };
+    let end = run_boxed(rt, alloc, links, node);
     if is_past { end } else { Err(PoolFault::Memory) }
 }
 

@@ -15,13 +15,17 @@ pub enum Act<T> {
     Pulse,
 }
 
-/// The node of a vertex that has one neighbour.
-pub fn leaf<P: NodeProgram>(alloc: Global, net: &Network, v: u32) -> Result<AlphaNode<P>, Memory>
+/// The node of a vertex that has one neighbour, in a box: to own a box costs less proof than to own what is in it.
+pub fn leaf<P: NodeProgram>(
+    alloc: Global,
+    net: &Network,
+    v: u32,
+) -> Result<Box<AlphaNode<P>>, Memory>
     requires vertex { IsVertex net.now v }
     requires one { degree_of net.now v ≡ 1 }
-    ensures one { IfOk result (λ node. length node.node.view.ports ≡ 1) }
+    ensures one { IfOk result (λ node. length node.value.node.view.ports ≡ 1) }
 {
-    AlphaNode::start(alloc, net, v)
+    Ok(Box::new(alloc, AlphaNode::start(alloc, net, v)?)?)
 }
 
 /// What the node returns, or nothing if it isn't to be asked now.
