@@ -1,5 +1,6 @@
 //! Ports that are numbered, and networks that are decomposed.
 
+use crate::networks::network;
 use alpha_core::Network;
 use forests::Role::{Down, Unknown, Up};
 use forests::{decompose, number_up};
@@ -19,7 +20,7 @@ fn decomposes(
     edges: &[(u32, u32)],
     triples: &[(u16, u32, u32)],
 ) -> bool {
-    match Network::try_new(alloc, ids, edges, &[]) {
+    match network(alloc, ids, edges) {
         Ok(net) => has_triples(alloc, &net, triples),
         Err(_) => false,
     }

@@ -11,7 +11,6 @@ use run_options::MAX_CAPACITY;
 use std::alloc::Global;
 use std::process::Abort;
 use std::sync::Wait;
-use std::test::*;
 use std::thread::Threads;
 use sync_rounds::Best;
 
@@ -23,6 +22,16 @@ fn pair(rt: &impl Abort, alloc: Global) -> Result<Network, NetFault>
     assert!(rt; edges_fit(2, &edges));
     assert!(rt; bars_fit(2, &[]));
     Network::new(alloc, 2, &ids, &edges, &[])
+}
+
+// The same in a box: to own a box costs less proof than to own a network.
+fn boxed_pair(rt: &impl Abort, alloc: Global) -> Result<Box<Network>, Memory>
+    ensures { IfOk result (λ net. net.value ≡ pair_net) }
+{
+    match pair(rt, alloc) {
+        Ok(net) => Ok(Box::new(alloc, net)?),
+        Err(_) => Err(Memory),
+    }
 }
 
 // A wire with its stamp.
@@ -68,35 +77,49 @@ fn passes_what_is_due(check: &mut StreamCheck) -> bool {
     true
 }
 
-fn takes_its_steps<R: Abort + Wait>(rt: &R, alloc: Global) -> Result<(), Fail> {
-    let network = pair(rt, alloc)?;
-    let (steps, held) = one_after_another(rt, alloc, &network)?;
-    assert!(rt; are_due(steps) && held == 0);
-    Ok(())
+// Whether a new link takes its steps, and holds nothing then.
+fn takes_its_steps<R: Wait>(rt: &R, alloc: Global, network: &Network) -> bool
+    requires network { network.now ≡ pair_net }
+{
+    match one_after_another(rt, alloc, network) {
+        Ok((steps, held)) => are_due(steps) && held == 0,
+        Err(_) => false,
+    }
 }
 
 #[test]
-fn one_thread_puts_and_takes(rt: HostRuntime) -> Result<(), Fail> {
-    takes_its_steps(&rt, rt.alloc())?;
+fn one_thread_puts_and_takes(rt: HostRuntime) {
+    let network = boxed_pair(&rt, rt.alloc()).expect(&rt, "network");
+    assert!(rt; takes_its_steps(&rt, rt.alloc(), &network));
     assert!(rt; passes_what_is_due(&mut StreamCheck::new(1)));
-    Ok(())
+}
+
+// Whether a link holds the last wire when its ends meet. If memory is refused, it is tried again.
+fn holds_the_last<R: Wait>(rt: &R, alloc: Global, network: &Network) -> bool
+    requires network { network.now ≡ pair_net }
+{
+    let held = match met_again(rt, alloc, network) {
+        Ok(held) => Ok(held),
+        Err(_) => met_again(rt, alloc, network),
+    };
+    held == Ok(Some(item(3, Wire::Safe(0))))
+}
+
+fn pair_again(rt: &impl Abort, alloc: Global) -> Result<Box<Network>, Memory>
+    ensures { IfOk result (λ net. net.value ≡ pair_net) }
+{
+    match boxed_pair(rt, alloc) {
+        Ok(net) => Ok(net),
+        Err(_) => boxed_pair(rt, alloc),
+    }
 }
 
 // tests/refused_memory.py runs this test with each allocation refused in turn. What memory was refused to is tried
 // again.
 #[test]
-fn a_link_meets_again_after_a_refused_growth(rt: HostRuntime) -> Result<(), Fail> {
-    let alloc: Global = rt.alloc();
-    let network = match pair(&rt, alloc) {
-        Ok(network) => network,
-        Err(_) => pair(&rt, alloc)?,
-    };
-    let held = match met_again(&rt, alloc, &network) {
-        Ok(held) => held,
-        Err(_) => met_again(&rt, alloc, &network)?,
-    };
-    assert!(rt; held == Some(item(3, Wire::Safe(0))));
-    Ok(())
+fn a_link_meets_again_after_a_refused_growth(rt: HostRuntime) {
+    let network = pair_again(&rt, rt.alloc()).expect(&rt, "network");
+    assert!(rt; holds_the_last(&rt, rt.alloc(), &network));
 }
 
 // Whether these are the four wires of a node that makes one pulse.
@@ -108,24 +131,17 @@ fn are_four(got: &[Option<Stamped<Best>>; 4]) -> bool {
 }
 
 // Whether two threads hand over these four wires, and the link holds none then.
-fn hand_over_four<R: Threads + Wait + Sync>(
-    rt: &R,
-    alloc: Global,
-    network: &Network,
-) -> Result<bool, Memory>
+fn hand_over_four<R: Threads + Wait + Sync>(rt: &R, alloc: Global, network: &Network) -> bool
     requires network { network.now ≡ pair_net }
 {
     let mut got = [None; 4];
-    let (done, held) = hand_over::<1, _>(rt, alloc, network, 1, 1, 1, &mut got)?;
-    Ok(done && held == 0 && are_four(&got))
+    hand_over::<1, _>(rt, alloc, network, 1, 1, 1, &mut got) == Ok((true, 0)) && are_four(&got)
 }
 
 #[test]
-fn two_threads_hand_over_four_wires(rt: HostRuntime) -> Result<(), Fail> {
-    let alloc: Global = rt.alloc();
-    let network = pair(&rt, alloc)?;
-    assert!(rt; hand_over_four(&rt, alloc, &network)?);
-    Ok(())
+fn two_threads_hand_over_four_wires(rt: HostRuntime) {
+    let network = boxed_pair(&rt, rt.alloc()).expect(&rt, "network");
+    assert!(rt; hand_over_four(&rt, rt.alloc(), &network));
 }
 
 // The wire at a place of the list that `hand_over` puts for 33,333 pulses.
@@ -159,43 +175,41 @@ fn hand_over_all<R: Threads + Wait + Sync>(
     alloc: Global,
     network: &Network,
     capacity: usize,
-) -> Result<bool, Memory>
+    got: &mut [Option<Stamped<Best>>],
+) -> bool
     requires capacity { (0 < capacity) × (capacity ≤ MAX_CAPACITY) }
     requires network { network.now ≡ pair_net }
 {
-    let mut got = vec![in alloc; None; 100_000]?;
-    let (done, held) = hand_over::<33_333, _>(
-        rt,
-        alloc,
-        network,
-        2,
-        2,
-        capacity,
-        got.as_mut_slice(),
-    )?;
-    Ok(done && held == 0 && are_all(got.as_slice()))
+    hand_over::<33_333, _>(rt, alloc, network, 2, 2, capacity, got) == Ok((true, 0)) && are_all(got)
 }
 
-// The same at four capacities.
-fn hand_over_at_each<R: Threads + Wait + Sync>(
+fn hand_over_at<R: Threads + Wait + Sync>(
     rt: &R,
     alloc: Global,
     network: &Network,
-) -> Result<bool, Memory>
+    capacity: usize,
+) -> bool
+    requires capacity { (0 < capacity) × (capacity ≤ MAX_CAPACITY) }
     requires network { network.now ≡ pair_net }
 {
-    Ok(
-        hand_over_all(rt, alloc, network, 1)?
-            && hand_over_all(rt, alloc, network, 2)?
-            && hand_over_all(rt, alloc, network, 4)?
-            && hand_over_all(rt, alloc, network, 64)?,
-    )
+    match vec![in alloc; None; 100_000] {
+        Ok(mut got) => hand_over_all(rt, alloc, network, capacity, got.as_mut_slice()),
+        Err(_) => false,
+    }
+}
+
+// The same at four capacities.
+fn hand_over_at_each<R: Threads + Wait + Sync>(rt: &R, alloc: Global, network: &Network) -> bool
+    requires network { network.now ≡ pair_net }
+{
+    hand_over_at(rt, alloc, network, 1)
+        && hand_over_at(rt, alloc, network, 2)
+        && hand_over_at(rt, alloc, network, 4)
+        && hand_over_at(rt, alloc, network, 64)
 }
 
 #[test]
-fn two_threads_hand_over_a_hundred_thousand_wires(rt: HostRuntime) -> Result<(), Fail> {
-    let alloc: Global = rt.alloc();
-    let network = pair(&rt, alloc)?;
-    assert!(rt; hand_over_at_each(&rt, alloc, &network)?);
-    Ok(())
+fn two_threads_hand_over_a_hundred_thousand_wires(rt: HostRuntime) {
+    let network = boxed_pair(&rt, rt.alloc()).expect(&rt, "network");
+    assert!(rt; hand_over_at_each(&rt, rt.alloc(), &network));
 }

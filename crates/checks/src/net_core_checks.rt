@@ -4,7 +4,8 @@
 ghost use Rattle.std.specs.Prelude.{◌≡◌, IfOk};
 ghost use Rattle.alpha_core.specs.interference.Net.{count_of, degree_of};
 
-use alpha_core::Network;
+use crate::networks::edge;
+use alpha_core::{Memory, Network};
 use net_core::{Event, NetState, RunRefused, StepRefused};
 use replay::run;
 use std::alloc::Global;
@@ -35,13 +36,10 @@ static EVENTS: [Event; 18] = [
 
 type Pair = NetState<Greatest<1>>;
 
-fn edge(alloc: Global) -> Option<Network> {
-    match Network::try_new(alloc, &[1, 2], &[(1, 2)], &[]) {
-        Ok(net) => Some(net),
-        Err(_) => match Network::try_new(alloc, &[1, 2], &[(1, 2)], &[]) {
-            Ok(net) => Some(net),
-            Err(_) => None,
-        },
+fn edge_again(alloc: Global) -> Result<Box<Network>, Memory> {
+    match edge(alloc) {
+        Ok(net) => Ok(net),
+        Err(_) => edge(alloc),
     }
 }
 
@@ -113,7 +111,7 @@ fn plays_anew(alloc: Global, net: &Network) -> Option<bool>
 
 #[test]
 fn a_state_goes_on_after_a_refused_growth(rt: HostRuntime) {
-    let net = edge(rt.alloc()).expect(&rt, "network");
+    let net = edge_again(rt.alloc()).expect(&rt, "network");
     assert!(rt; net.nodes() == 2 && net.degree(1) == 1 && net.degree(2) == 1);
     let played = plays_anew(rt.alloc(), &net);
     assert!(rt;
@@ -142,7 +140,7 @@ fn runs(alloc: Global, net: &Network) -> Option<bool>
 
 #[test]
 fn a_list_runs_again_after_a_refused_growth(rt: HostRuntime) {
-    let net = edge(rt.alloc()).expect(&rt, "network");
+    let net = edge_again(rt.alloc()).expect(&rt, "network");
     assert!(rt; net.nodes() == 2);
     let ran = runs(rt.alloc(), &net);
     assert!(rt; ran == Some(true) || ran.is_none() && runs(rt.alloc(), &net) == Some(true));

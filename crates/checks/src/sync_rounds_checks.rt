@@ -1,6 +1,7 @@
 //! Worked runs of `Greatest`, and the order in which the engine calls a program.
 
 use crate::counted::Counted;
+use crate::networks::network;
 use alpha_core::{Network, PayloadText};
 use std::alloc::Global;
 use sync_rounds::{Best, Greatest, run_rounds};
@@ -28,7 +29,7 @@ fn end_with<const D: u32>(alloc: Global, net: &Network, wanted: &[u128]) -> bool
 static PATH: [(u32, u32); 2] = [(1, 2), (2, 3)];
 
 fn path_ends_with<const D: u32>(alloc: Global, wanted: &[u128]) -> bool {
-    match Network::try_new(alloc, &[1, 2, 3], &PATH, &[]) {
+    match network(alloc, &[1, 2, 3], &PATH) {
         Ok(net) => end_with::<D>(alloc, &net, wanted),
         Err(_) => false,
     }
@@ -59,7 +60,7 @@ fn stays_in_its_part(alloc: Global, net: &Network) -> bool {
 
 #[test]
 fn greatest_stays_in_its_part_of_the_network(rt: HostRuntime) {
-    let net = Network::try_new(rt.alloc(), &IDS, &EDGES, &[]).expect(&rt, "network");
+    let net = network(rt.alloc(), &IDS, &EDGES).expect(&rt, "network");
     assert!(rt; stays_in_its_part(rt.alloc(), &net));
 }
 
@@ -70,7 +71,7 @@ fn has_the_word_best() -> bool {
 
 #[test]
 fn the_word_of_greatest_is_best(rt: HostRuntime) {
-    let none = Network::try_new(rt.alloc(), &[], &[], &[]).expect(&rt, "network");
+    let none = network(rt.alloc(), &[], &[]).expect(&rt, "network");
     assert!(rt; end_with::<1>(rt.alloc(), &none, &[]));
     assert!(rt; has_the_word_best());
 }
@@ -95,7 +96,7 @@ fn make_calls<const D: u32>(alloc: Global, net: &Network, calls: u32) -> bool {
 
 #[test]
 fn every_pulse_makes_its_three_calls_in_order(rt: HostRuntime) {
-    let net = Network::try_new(rt.alloc(), &[1, 2, 3], &PATH, &[]).expect(&rt, "network");
+    let net = network(rt.alloc(), &[1, 2, 3], &PATH).expect(&rt, "network");
     assert!(rt; make_calls::<0>(rt.alloc(), &net, 0));
     assert!(rt; make_calls::<1>(rt.alloc(), &net, 3));
     assert!(rt; make_calls::<7>(rt.alloc(), &net, 21));

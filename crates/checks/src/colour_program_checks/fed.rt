@@ -9,12 +9,12 @@ use alpha_core::{Inbox, MAX_DEGREE, Memory, Network, NodeProgram, Outbox, Refuse
 use colour_program::{ColourNode, Colouring, Payload};
 use std::alloc::Global;
 
-/// The node of a vertex, which knows no port.
-pub fn made(alloc: Global, net: &Network, v: u32) -> Result<Colouring, Memory>
+/// The node of a vertex, which knows no port, in a box: to own a box costs less proof than to own what is in it.
+pub fn made(alloc: Global, net: &Network, v: u32) -> Result<Box<Colouring>, Memory>
     requires vertex { IsVertex net.now v }
-    ensures ports { IfOk result (λ node. ports node ≡ degree_of net.now v) }
+    ensures ports { IfOk result (λ node. ports node.value ≡ degree_of net.now v) }
 {
-    Colouring::make(alloc, net, v)
+    Ok(Box::new(alloc, Colouring::make(alloc, net, v)?)?)
 }
 
 /// What a node shows of a pulse.

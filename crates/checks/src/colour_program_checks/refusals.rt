@@ -5,6 +5,7 @@ ghost use Rattle.colour_program.specs.colour_rules.Node.{ports};
 
 use crate::colour_program_checks::asked::{Asked, holds_at};
 use crate::colour_program_checks::fed::{show, show_alike, takes};
+use crate::networks::network;
 use alpha_core::{Network, Refused};
 use colour_program::Payload::{Chosen, Colour, Hello, Label};
 use colour_program::rules::{
@@ -241,7 +242,7 @@ static HIGHER: Refusal = (
 );
 
 fn is_refused_on_a_path(alloc: Global) -> bool {
-    match Network::try_new(alloc, &[1, 2, 3], &[(1, 2), (2, 3)], &[]) {
+    match network(alloc, &[1, 2, 3], &[(1, 2), (2, 3)]) {
         Ok(net) => is_refused(alloc, &net, &HIGHER),
         Err(_) => false,
     }
@@ -249,7 +250,7 @@ fn is_refused_on_a_path(alloc: Global) -> bool {
 
 #[test]
 fn a_refusal_has_its_rule_and_its_port(rt: HostRuntime) {
-    let net = Network::try_new(rt.alloc(), &IDS, &EDGES, &[]).expect(&rt, "network");
+    let net = network(rt.alloc(), &IDS, &EDGES).expect(&rt, "network");
     are_refused(&rt, rt.alloc(), &net, &REFUSALS);
     are_bounds(&rt, rt.alloc(), &net);
     assert!(rt; is_refused_on_a_path(rt.alloc()));
