@@ -22,14 +22,18 @@ fn has_text(payload: Payload, word: &str, number: u128) -> bool {
     payload.words() == (word, number) && Payload::from_words(word, number) == Some(payload)
 }
 
+fn refuses_one_beyond() -> bool {
+    Payload::from_words("label", 65536).is_none()
+        && Payload::from_words("chosen", 65536).is_none()
+        && Payload::from_words("best", 1).is_none()
+}
+
 #[test]
 fn payloads_have_their_text(rt: HostRuntime) {
     for (payload, word, number) in &TEXTS {
         assert!(rt; has_text(*payload, *word, *number), "{word}");
     }
-    assert!(rt; Payload::from_words("label", 65536).is_none());
-    assert!(rt; Payload::from_words("chosen", 65536).is_none());
-    assert!(rt; Payload::from_words("best", 1).is_none());
+    assert!(rt; refuses_one_beyond());
 }
 
 // The phases of a node of the edge below, by pulse.

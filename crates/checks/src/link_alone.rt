@@ -13,24 +13,34 @@ use std::alloc::Global;
 use std::sync::Wait;
 use sync_rounds::{Best, Greatest};
 
-/// What each step behind the first put returned.
-#[derive(Clone, Copy)]
-pub struct Steps {
-    pub full: Stamped<Best>,
-    pub taken: Option<Stamped<Best>>,
-    pub none: Option<Stamped<Best>>,
-    pub put_again: bool,
-    pub taken_again: Option<Stamped<Best>>,
+// Whether the takes behind a full link return what is due: the first wire, nothing, and the second wire.
+fn are_due(
+    taken: Option<Stamped<Best>>,
+    none: Option<Stamped<Best>>,
+    taken_again: Option<Stamped<Best>>,
+) -> bool {
+    let (payload, safe) = (Wire::Payload(0, Best(1)), Wire::Safe(0));
+    taken
+        == Some(Stamped {
+            stamp: 1,
+            wire: payload,
+        })
+        && none.is_none()
+        && taken_again
+            == Some(Stamped {
+                stamp: u64::MAX,
+                wire: safe,
+            })
 }
 
-// A put, a put that finds the link full, a take, a take that finds it empty, a put, a take. Nothing is returned if the
-// first put finds the link full, or the second doesn't.
+// A put, a put that finds the link full, a take, a take that finds it empty, a put, a take; whether each returns what
+// is due.
 fn steps_of<R: Wait>(
     rt: &R,
     link: &Link<Greatest<1>>,
     put_end: &mut PutEnd<Greatest<1>>,
     take_end: &mut TakeEnd<Greatest<1>>,
-) -> Option<Steps>
+) -> bool
     requires put_end { IsNewPutEnd link.now put_end.old (name_of pair_net 1 0) }
     requires take_end { IsTakeEndOf link.now take_end.old }
     ensures put_end { StaysPutEnd link.now put_end.old put_end.new }
@@ -39,43 +49,53 @@ fn steps_of<R: Wait>(
     let (stamp, wire) = (1, Wire::Payload(0, Best(1)));
     match link.put(rt, put_end, Stamped { stamp, wire }) {
         Ok(()) => (),
-        Err(_) => return None,
+        Err(_) => return false,
     }
     let safe = Stamped {
         stamp: u64::MAX,
         wire: Wire::Safe(0),
     };
     let full = match link.put(rt, put_end, safe) {
-        Ok(()) => return None,
+        Ok(()) => return false,
         Err(Full(item)) => item,
     };
     let taken = link.take(rt, take_end);
     let none = link.take(rt, take_end);
     let put_again = link.put(rt, put_end, safe).is_ok();
     let taken_again = link.take(rt, take_end);
-    Some(Steps {
-        full,
-        taken,
-        none,
-        put_again,
-        taken_again,
-    })
+    full == safe && put_again && are_due(taken, none, taken_again)
 }
 
-/// The steps of a new link; then the ends meet, and how many wires the link holds.
+/// How many wires a link holds when its ends meet.
+pub fn held_at_the_end<const D: u32, R: Wait>(
+    rt: &R,
+    alloc: Global,
+    link: Link<Greatest<D>>,
+    put_end: PutEnd<Greatest<D>>,
+    take_end: TakeEnd<Greatest<D>>,
+) -> Result<usize, Memory>
+    requires put_end { IsPutEndOf link put_end }
+    requires take_end { IsTakeEndOf link take_end }
+    requires name { put_name put_end ≡ take_name take_end }
+{
+    match link.meet(rt, alloc, put_end, take_end) {
+        Ok(met) => Ok(met.held().len()),
+        Err(_) => Err(Memory),
+    }
+}
+
+/// Whether the steps of a new link return what is due; then the ends meet, and how many wires the link holds.
 pub fn one_after_another<R: Wait>(
     rt: &R,
     alloc: Global,
     network: &Network,
-) -> Result<(Option<Steps>, usize), Memory>
+) -> Result<(bool, usize), Memory>
     requires network { network.now ≡ pair_net }
 {
     let (link, mut put_end, mut take_end) = Link::<Greatest<1>>::new(alloc, network, 1, 0, 1)?;
-    let steps = steps_of(rt, &link, &mut put_end, &mut take_end);
-    match link.meet(rt, alloc, put_end, take_end) {
-        Ok(met) => Ok((steps, met.held().len())),
-        Err(_) => Err(Memory),
-    }
+    let are_due = steps_of(rt, &link, &mut put_end, &mut take_end);
+    let held = held_at_the_end(rt, alloc, link, put_end, take_end)?;
+    Ok((are_due, held))
 }
 
 // A put, a take and a put; whether the link had room for both and a wire for the take.

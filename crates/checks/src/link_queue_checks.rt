@@ -3,9 +3,9 @@
 ghost use Rattle.std.specs.Prelude.{◌≡◌, ◌<◌, ◌≤◌, IfOk};
 ghost use Rattle.checks.specs.LinkRows.{pair_net};
 
-use crate::link_alone::{Steps, met_again, one_after_another};
+use crate::link_alone::{met_again, one_after_another};
 use crate::link_threads::hand_over;
-use alpha_core::{Memory, NetFault, Network, Stamped, Wire, bars_fit, edges_fit};
+use alpha_core::{NetFault, Network, Stamped, Wire, bars_fit, edges_fit};
 use link_rule::StreamCheck;
 use run_options::MAX_CAPACITY;
 use std::alloc::Global;
@@ -24,35 +24,9 @@ fn pair(rt: &impl Abort, alloc: Global) -> Result<Network, NetFault>
     Network::new(alloc, 2, &ids, &edges, &[])
 }
 
-// The same in a box: to own a box costs less proof than to own a network.
-fn boxed_pair(rt: &impl Abort, alloc: Global) -> Result<Box<Network>, Memory>
-    ensures { IfOk result (λ net. net.value ≡ pair_net) }
-{
-    match pair(rt, alloc) {
-        Ok(net) => Ok(Box::new(alloc, net)?),
-        Err(_) => Err(Memory),
-    }
-}
-
 // A wire with its stamp.
 fn item<T>(stamp: u64, wire: Wire<T>) -> Stamped<T> {
     Stamped { stamp, wire }
-}
-
-// Whether the steps of a new link return what is due.
-fn are_due(steps: Option<Steps>) -> bool {
-    let payload = item(1, Wire::Payload(0, Best(1)));
-    let safe = item(u64::MAX, Wire::Safe(0));
-    match steps {
-        Some(steps) => {
-            steps.full == safe
-                && steps.taken == Some(payload)
-                && steps.none == None
-                && steps.put_again
-                && steps.taken_again == Some(safe)
-        }
-        None => false,
-    }
 }
 
 // Stamps, wires, and whether a check passes them. It refuses a wire out of order or a stamp that doesn't rise, and then
@@ -77,20 +51,10 @@ fn passes_what_is_due(check: &mut StreamCheck) -> bool {
     true
 }
 
-// Whether a new link takes its steps, and holds nothing then.
-fn takes_its_steps<R: Wait>(rt: &R, alloc: Global, network: &Network) -> bool
-    requires network { network.now ≡ pair_net }
-{
-    match one_after_another(rt, alloc, network) {
-        Ok((steps, held)) => are_due(steps) && held == 0,
-        Err(_) => false,
-    }
-}
-
 #[test]
 fn one_thread_puts_and_takes(rt: HostRuntime) {
-    let network = boxed_pair(&rt, rt.alloc()).expect(&rt, "network");
-    assert!(rt; takes_its_steps(&rt, rt.alloc(), &network));
+    let network = pair(&rt, rt.alloc()).expect(&rt, "network");
+    assert!(rt; one_after_another(&rt, rt.alloc(), &network) == Ok((true, 0)));
     assert!(rt; passes_what_is_due(&mut StreamCheck::new(1)));
 }
 
@@ -105,12 +69,12 @@ fn holds_the_last<R: Wait>(rt: &R, alloc: Global, network: &Network) -> bool
     held == Ok(Some(item(3, Wire::Safe(0))))
 }
 
-fn pair_again(rt: &impl Abort, alloc: Global) -> Result<Box<Network>, Memory>
-    ensures { IfOk result (λ net. net.value ≡ pair_net) }
+fn pair_again(rt: &impl Abort, alloc: Global) -> Result<Network, NetFault>
+    ensures { IfOk result (λ net. net ≡ pair_net) }
 {
-    match boxed_pair(rt, alloc) {
+    match pair(rt, alloc) {
         Ok(net) => Ok(net),
-        Err(_) => boxed_pair(rt, alloc),
+        Err(_) => pair(rt, alloc),
     }
 }
 
@@ -140,7 +104,7 @@ fn hand_over_four<R: Threads + Wait + Sync>(rt: &R, alloc: Global, network: &Net
 
 #[test]
 fn two_threads_hand_over_four_wires(rt: HostRuntime) {
-    let network = boxed_pair(&rt, rt.alloc()).expect(&rt, "network");
+    let network = pair(&rt, rt.alloc()).expect(&rt, "network");
     assert!(rt; hand_over_four(&rt, rt.alloc(), &network));
 }
 
@@ -210,6 +174,6 @@ fn hand_over_at_each<R: Threads + Wait + Sync>(rt: &R, alloc: Global, network: &
 
 #[test]
 fn two_threads_hand_over_a_hundred_thousand_wires(rt: HostRuntime) {
-    let network = boxed_pair(&rt, rt.alloc()).expect(&rt, "network");
+    let network = pair(&rt, rt.alloc()).expect(&rt, "network");
     assert!(rt; hand_over_at_each(&rt, rt.alloc(), &network));
 }

@@ -11,6 +11,7 @@ ghost use Rattle.link_queue.specs.Ends.{IsPutEndOf, IsTakeEndOf, StaysPutEnd, St
 ghost use Rattle.link_queue.specs.Ends.{put_stamped, take_name};
 ghost use Rattle.checks.specs.LinkRows.{echoes};
 
+use crate::link_alone::held_at_the_end;
 use alpha_core::{Memory, Network, Stamped, Wire};
 use link_queue::{Link, PutEnd, TakeEnd};
 use run_options::MAX_CAPACITY;
@@ -159,8 +160,6 @@ pub fn hand_over<const D: u32, R: Threads + Wait + Sync>(
             ensures { StaysTakeEnd link.entry.now take_end result }
         { take_all(rt, link, take_end, got) },
     );
-    match queue.meet(rt, alloc, put_end, take_end) {
-        Ok(met) => Ok((done, met.held().len())),
-        Err(_) => Err(Memory),
-    }
+    let held = held_at_the_end(rt, alloc, queue, put_end, take_end)?;
+    Ok((done, held))
 }
