@@ -32,6 +32,8 @@ TALLY = {"passed": 0, "failed": 0}
 TRIANGLE = "p edge 3 3|e 1 2|e 1 3|e 2 3|"
 TRIANGLE_FORESTS = "forests 3 2|0 1 2|0 2 3|1 1 3|"
 STREAM_LINE = b"forestplan: stream\n"
+# Networks on which `plan` takes seconds: it is run of another star with as great a span, and of that with as great a degree.
+LONG = ("the greatest star", "the greatest span")
 
 
 def text(lines):
@@ -107,7 +109,7 @@ def plain_rows():
     ] + barred_plans()
     for name, network, channels in rows:
         wanted = "plan|" + "".join(f"{v} {channel}|" for v, channel in enumerate(channels, 1))
-        for command in ("plain", "plan"):
+        for command in ("plain", "plan") if name not in LONG else ("plain",):
             expect(f"{command} of {name}", run([command], text(network)), 0, text(wanted), b"")
     faults = [
         ("", "F1"), ("e 1 2|p edge 2 1|", "F3 line 1"), ("p edge 2 1|e 1 1|", "F6 line 2"),
