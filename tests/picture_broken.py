@@ -5,7 +5,7 @@ import re
 import subprocess
 import sys
 
-from picture_base import LIMIT, TOP, call, note
+from picture_base import LIMIT, TOP, note
 from picture_marks import SVG, centre, ends, marks, nearest, number, numbered, parsed, texts
 from plain_definition import bit, drop, merge, network_of, shift, three
 
@@ -115,8 +115,8 @@ def edge_row(name, root):
     note(f"{name}: within its edges", not cut, cut)
 
 
-def broken_row(name, words, rounds):
-    status, picture, fault = call(["broken", *words], cwd=TOP)
+def broken_row(painter, name, words, rounds):
+    status, picture, fault = painter(["broken", *words])
     note(f"{name}: it is drawn", (status, fault) == (0, b""), fault)
     root = parsed(picture.decode())
     (forest_row if rounds.clash.pulse else merge_row)(name, root, rounds)
@@ -124,14 +124,14 @@ def broken_row(name, words, rounds):
     edge_row(name, root)
 
 
-def broken_rows(all_of):
+def broken_rows(painter, all_of):
     for rule in rules.OF_ROUNDS:
-        broken_row(f"broken without {rule}", ["--without", rule], smallest([rule], MOST[rule])[0])
+        broken_row(painter, f"broken without {rule}", ["--without", rule], smallest([rule], MOST[rule])[0])
     for name, rule in (("petersen", "pair"), ("drops", "parent"), ("disk100", "children"), ("queen5_5", "earlier")):
         rounds = RuledRounds(network_of(all_of[name]), [rule])
-        broken_row(f"broken {name} without {rule}", [f"examples/{name}.col", "--without", rule], rounds)
+        broken_row(painter, f"broken {name} without {rule}", [f"examples/{name}.col", "--without", rule], rounds)
     for name, rule, said in (("disk100", "pair", b"at most 40 nodes of a merge"), ("chain6", "shift", b"not broken: the rounds of chain6 go")):
-        status, picture, fault = call(["broken", f"examples/{name}.col", "--without", rule], cwd=TOP)
+        status, picture, fault = painter(["broken", f"examples/{name}.col", "--without", rule])
         note(f"refused: {name} without {rule}", (status, picture) == (1, b"") and said in fault, fault)
-    both = call(["broken", "--without", "pair,earlier"])
+    both = painter(["broken", "--without", "pair,earlier"])
     note("broken without two rules", both[0] == 0 and "pair’ and ‘earlier" in both[1].decode(), both[2])

@@ -14,12 +14,14 @@ TOP = os.path.dirname(os.path.dirname(os.path.abspath(__file__)))
 
 
 class Painter:
-    """`painter(words)` is the status, standard output and standard error of `./picture` with these words and no standard input."""
+    """`painter(words, data)` is the status, standard output and standard error of `./picture` with these words and this standard input,
+    in the folder at the top."""
 
     def __init__(self, folder, limit):
         self.limit = limit
-        self.output, self.errors = os.path.join(folder, "painted"), os.path.join(folder, "said")
-        self.process = subprocess.Popen([sys.executable, os.path.abspath(__file__)], stdin=subprocess.PIPE, stdout=subprocess.PIPE, text=True)
+        self.input, self.output, self.errors = (os.path.join(folder, name) for name in ("given", "painted", "said"))
+        self.process = subprocess.Popen([sys.executable, "-S", os.path.abspath(__file__)], stdin=subprocess.PIPE, stdout=subprocess.PIPE, text=True,
+                                        cwd=TOP)
 
     def __enter__(self):
         return self
@@ -29,8 +31,10 @@ class Painter:
         self.process.wait()
         self.process.stdout.close()
 
-    def __call__(self, words):
-        request = {"words": words, "output": self.output, "errors": self.errors, "limit": self.limit}
+    def __call__(self, words, data=b""):
+        with open(self.input, "wb") as file:
+            file.write(data)
+        request = {"words": words, "input": self.input, "output": self.output, "errors": self.errors, "limit": self.limit}
         print(json.dumps(request), file=self.process.stdin, flush=True)
         status = int(self.process.stdout.readline())
         with open(self.output, "rb") as output, open(self.errors, "rb") as errors:
@@ -40,7 +44,7 @@ class Painter:
 def paint(main, request):
     """What a child does: it has the streams of a command, and ends as a command does."""
     signal.alarm(request["limit"])
-    os.dup2(os.open(os.devnull, os.O_RDONLY), 0)
+    os.dup2(os.open(request["input"], os.O_RDONLY), 0)
     for stream, path in ((1, request["output"]), (2, request["errors"])):
         os.dup2(os.open(path, os.O_WRONLY | os.O_CREAT | os.O_TRUNC), stream)
     status = 1

@@ -9,7 +9,7 @@ import sys
 from collections import Counter
 
 from alpha_definition import NetState, last_pulse, wire_words
-from picture_base import DOOR, LIMIT, SEED, TOP, note
+from picture_base import LIMIT, SEED, TOP, note
 from picture_marks import centre, ends, marks, parsed, texts, title, titles
 from plain_definition import colours, network_of
 
@@ -22,15 +22,11 @@ ALL_OF_FOUR, FIVE = b"p edge 4 6\ne 1 2\ne 1 3\ne 1 4\ne 2 3\ne 2 4\ne 3 4\n", b
 WALKS = 100
 
 
-def door(kind, network, *options):
-    return subprocess.run([DOOR, kind, "-", *options], input=network, capture_output=True, timeout=4 * LIMIT)
-
-
-def drawn(kind, network, *options):
-    done = door(kind, network, *options)
-    if done.returncode:
-        raise AssertionError(f"{kind} is refused: {done.stderr.decode()}")
-    return done.stdout.decode()
+def drawn(painter, kind, network, *options):
+    status, picture, fault = painter([kind, "-", *options], network)
+    if status:
+        raise AssertionError(f"{kind} is refused: {fault.decode()}")
+    return picture.decode()
 
 
 class Table:
@@ -81,17 +77,17 @@ class Table:
         return depth
 
 
-def table_of(network, *options):
-    return Table(json.loads(drawn("adversary", network, "--text", *options)))
+def table_of(painter, network, *options):
+    return Table(json.loads(drawn(painter, "adversary", network, "--text", *options)))
 
 
 def plain(words):
     return words.replace("`", "").replace("‘", "").replace("’", "")
 
 
-def table_rows(name, network, without=()):
+def table_rows(painter, name, network, without=()):
     """The table against the explorer's space, state by state and step by step."""
-    table = table_of(network, *(["--without", ",".join(without)] if without else []))
+    table = table_of(painter, network, *(["--without", ",".join(without)] if without else []))
     net = network_of(network)
     space = Space(net, without, beyond=bool(without))
     wrong = [s for s in range(space.count) if [row[0] for row in table.nodes(s)] != [node.pulse for node in space.nodes(s).values()]
@@ -186,10 +182,10 @@ def net_port_to(net, v, w):
     return sorted(net.neighbours[v]).index(w)
 
 
-def page_rows(name, network):
+def page_rows(painter, name, network):
     """The page has the table that --text writes, and needs nothing from elsewhere."""
-    page = drawn("adversary", network)
-    note(f"page of {name}: its table", f"var T = {drawn('adversary', network, '--text').strip()};" in page)
+    page = drawn(painter, "adversary", network)
+    note(f"page of {name}: its table", f"var T = {drawn(painter, 'adversary', network, '--text').strip()};" in page)
     note(f"page of {name}: nothing from elsewhere", not re.search(r"(src|href)=|@import|url\(|fetch\(|XMLHttp", page)
          and set(re.findall(r"https?://[^\"' ]+", page)) == {"http://www.w3.org/2000/svg"})
     return json.loads(re.search(r"^var P = (.*);$", page, re.M).group(1))
@@ -222,10 +218,10 @@ def columns_of(root):
     return [counts[x] for x in sorted(counts)]
 
 
-def lattice_rows(name, network, table, low, high, *options):
+def lattice_rows(painter, name, network, table, low, high, *options):
     """The picture of a whole space: its columns, its steps, and a bold run from column to column."""
     window = [] if high is None else ["--events", f"{low}..{high}"]
-    root = parsed(drawn("schedules", network, *window, *options))
+    root = parsed(drawn(painter, "schedules", network, *window, *options))
     depth = table.depths()
     counts = Counter(depth.values())
     shown = columns_of(root)
@@ -250,10 +246,10 @@ def lattice_rows(name, network, table, low, high, *options):
     return root
 
 
-def broken_rows(name, network, without):
+def broken_rows(painter, name, network, without):
     """The picture up to the first events that go wrong: as many red marks, and a bold run that ends in one."""
     space = Space(network_of(network), without)
-    root = parsed(drawn("schedules", network, "--without", ",".join(without)))
+    root = parsed(drawn(painter, "schedules", network, "--without", ",".join(without)))
     (s, e), said = next(iter(space.faults.items()))
     last = space.depth[s] + (e is not None)
     red = len(marks(root, "state wrong"))
@@ -268,10 +264,10 @@ def broken_rows(name, network, without):
     note(f"{name} without {without}: its words", good, words[:400])
 
 
-def beyond_rows(network, without, low, high):
+def beyond_rows(painter, network, without, low, high):
     """With --events, what comes behind the first event that goes wrong is there too: a node that has made a wrong pulse is red."""
     space = Space(network_of(network), without, beyond=True)
-    root = parsed(drawn("schedules", network, "--without", ",".join(without), "--events", f"{low}..{high}"))
+    root = parsed(drawn(painter, "schedules", network, "--without", ",".join(without), "--events", f"{low}..{high}"))
     wrong = sum(low <= space.depth[s] <= high and any(node.wrong for node in space.nodes(s).values()) for s in range(space.count))
     refused = sum(e is not None and low <= space.depth[s] < high and space.steps(s)[e][1] is None for s, e in space.faults)
     red = len(marks(root, "state wrong"))
@@ -281,7 +277,7 @@ def beyond_rows(network, without, low, high):
     note(f"two without {without}, {low} to {high} events: other marks", shown == right, (shown, right))
 
 
-def given_run_rows(folder, table):
+def given_run_rows(painter, folder, table):
     """The run of a list of events, as the page writes it, is the bold one."""
     source, net, state, s, lines, takes = random.Random(SEED), network_of(TWO), NetState(network_of(TWO)), 0, [], []
     put_all(net, state, lines)
@@ -294,48 +290,48 @@ def given_run_rows(folder, table):
     path = os.path.join(folder, "run.events")
     with open(path, "w", encoding="utf-8") as file:
         file.write("\n".join(lines) + "\n")
-    root = parsed(drawn("schedules", TWO, "--events", "0..40", "--run", path))
+    root = parsed(drawn(painter, "schedules", TWO, "--events", "0..40", "--run", path))
     bold = sorted((ends(list(group)[1])[0][0], title(group).split(":")[0]) for group in marks(root, "bold"))
     note("the run that is given is bold", [words for _, words in bold] == takes[:40], bold[:5])
     with open(path, "w", encoding="utf-8") as file:
         file.write("c a run\nput 1 0\ntake 2 0\ntake 2 0\n")
-    refused("a run that is none", "schedules", TWO, "--run", path, words=b"line 4: `take 2 0` is not possible there")
+    refused(painter, "a run that is none", "schedules", TWO, "--run", path, words=b"line 4: `take 2 0` is not possible there")
 
 
-def refused(name, kind, network, *options, words=b"", status=1):
-    done = door(kind, network, *options)
-    good = (done.returncode, done.stdout) == (status, b"") and words in done.stderr
-    note(f"refused: {name}", good and (status == 2 or re.fullmatch(rb"picture: [^\n]+\n", done.stderr)), done)
+def refused(painter, name, kind, network, *options, words=b"", status=1):
+    done = painter([kind, "-", *options], network)
+    good = done[:2] == (status, b"") and words in done[2]
+    note(f"refused: {name}", good and (status == 2 or re.fullmatch(rb"picture: [^\n]+\n", done[2])), done)
 
 
-def refused_rows():
+def refused_rows(painter):
     for kind in ("schedules", "adversary"):
-        refused(f"{kind} of five nodes", kind, FIVE, words=b"at most 4 nodes")
-        refused(f"{kind} without nonsense", kind, TWO, "--without", "safe", words=b"safes", status=2)
-    refused("schedules of all of four", "schedules", ALL_OF_FOUR, words=b"at most 200,000 states")
+        refused(painter, f"{kind} of five nodes", kind, FIVE, words=b"at most 4 nodes")
+        refused(painter, f"{kind} without nonsense", kind, TWO, "--without", "safe", words=b"safes", status=2)
+    refused(painter, "schedules of all of four", "schedules", ALL_OF_FOUR, words=b"at most 200,000 states")
     for window, words in (("0..105", b"0 to 104"), ("3..2", b"0 to 104"), ("0..9,", b"two numbers")):
-        refused(f"schedules of events {window}", "schedules", TWO, "--events", window, words=words, status=2 if "," in window else 1)
-    refused("schedules of 109 events", "schedules", STAR, "--events", "0..109", words=b"at most 108 events")
-    refused("schedules of too many steps", "schedules", STAR, "--events", "0..108", words=b"draw fewer events")
+        refused(painter, f"schedules of events {window}", "schedules", TWO, "--events", window, words=words, status=2 if "," in window else 1)
+    refused(painter, "schedules of 109 events", "schedules", STAR, "--events", "0..109", words=b"at most 108 events")
+    refused(painter, "schedules of too many steps", "schedules", STAR, "--events", "0..108", words=b"draw fewer events")
 
 
-def schedule_rows(folder, examples, play):
+def schedule_rows(painter, folder, examples, play):
     path, triangle = examples["path"], examples["triangle"]
-    tables = {name: table_rows(name, network) for name, network in (("two", TWO), ("path", path), ("triangle", triangle))}
+    tables = {name: table_rows(painter, name, network) for name, network in (("two", TWO), ("path", path), ("triangle", triangle))}
     for without in (("safes",), ("acks",), ("early",), ("fifo",)):
-        table_rows(f"two without {without[0]}", TWO, without)
+        table_rows(painter, f"two without {without[0]}", TWO, without)
     for name, walks in (("two", WALKS // 4), ("path", WALKS // 4), ("triangle", WALKS // 2)):
         walk_rows(name, examples.get(name, TWO), tables[name], play, walks)
-    dare_rows("two", TWO, tables["two"], page_rows("two", TWO), [["281"], ["281"], ["281"], ["6"]])
-    dare_rows("path", path, tables["path"], page_rows("path", path), [["3,551"], ["3,551"], ["3,551"], ["2", "17"], ["11"]])
-    lattice_rows("two", TWO, tables["two"], 0, 104)
-    lattice_rows("two, its first columns", TWO, tables["two"], 0, None)
-    lattice_rows("path", path, tables["path"], 0, 20)
-    lattice_rows("triangle, its end", triangle, tables["triangle"], 364, 374)
+    dare_rows("two", TWO, tables["two"], page_rows(painter, "two", TWO), [["281"], ["281"], ["281"], ["6"]])
+    dare_rows("path", path, tables["path"], page_rows(painter, "path", path), [["3,551"], ["3,551"], ["3,551"], ["2", "17"], ["11"]])
+    lattice_rows(painter, "two", TWO, tables["two"], 0, 104)
+    lattice_rows(painter, "two, its first columns", TWO, tables["two"], 0, None)
+    lattice_rows(painter, "path", path, tables["path"], 0, 20)
+    lattice_rows(painter, "triangle, its end", triangle, tables["triangle"], 364, 374)
     for without in (("safes",), ("early",), ("fifo",), ("acks", "fifo")):
-        broken_rows("two", TWO, without)
-    broken_rows("triangle", triangle, ("safes",))
+        broken_rows(painter, "two", TWO, without)
+    broken_rows(painter, "triangle", triangle, ("safes",))
     for without, low, high in ((("safes",), 0, 24), (("safes",), 72, 84), (("early",), 0, 30)):
-        beyond_rows(TWO, without, low, high)
-    given_run_rows(folder, tables["two"])
-    refused_rows()
+        beyond_rows(painter, TWO, without, low, high)
+    given_run_rows(painter, folder, tables["two"])
+    refused_rows(painter)

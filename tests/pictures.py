@@ -193,7 +193,7 @@ def word_rows(draw):
     for words in ([], ["plan"], ["map", "x"], ["plan", "x", "y"], ["run", "x", "--pulses", "3"], ["overview", "x", "--pulses", "3,5"],
                   ["run", "x", "--only", "hello"], ["bits", "x", "--vertex", "y"], ["forests", "x", "--forests", "2"], ["broken"],
                   ["broken", "x", "--without", "safes"]):
-        status, picture, fault = call(words)
+        status, picture, fault = draw.painter(words)
         prog = b"picture " + words[0].encode() if words and words[0] != "map" else b"picture"
         note(f"the words {words}", (status, picture) == (2, b"") and fault.split(b"\n")[-2].startswith(prog + b": error: "), fault)
     status, told, fault = call(["--help"])
@@ -201,7 +201,7 @@ def word_rows(draw):
     note("help names standard input", b"./picture plan - <" in told)
     note("help", (status, fault, len(kinds)) == (0, b"", 13), kinds)
     for kind in kinds:
-        status, told, fault = call([kind, "--help"])
+        status, told, fault = draw.painter([kind, "--help"])
         note(f"help of {kind}", (status, fault) == (0, b"") and f"  ./picture {kind} examples/".encode() in told, told)
     refused("a file that isn't there", call(["plan", os.path.join(draw.folder, "nowhere.col")]))
     network = example("petersen.col")
@@ -223,7 +223,7 @@ def word_rows(draw):
         note(f"places: {name}", once == again and once[0] == 0 and said in once[2] and bool(said) == bool(once[2]), once[2])
 
 
-def stored_rows(play):
+def stored_rows(painter, play):
     """Each stored picture is what the command of docs/pictures/README.md draws today."""
     folder = os.path.join(TOP, "docs", "pictures")
     with open(os.path.join(folder, "README.md"), encoding="utf-8") as file:
@@ -233,7 +233,7 @@ def stored_rows(play):
     for words, name in commands:
         words = words.split()
         option, text = stored_text(words, play)
-        status, picture, fault = call(words + option, text, cwd=TOP)
+        status, picture, fault = painter(words + option, text)
         with open(os.path.join(folder, name), "rb") as file:
             note(f"stored: {name}", (status, picture) == (0, file.read()), fault or "drawn anew it differs")
 
@@ -269,7 +269,7 @@ def main():
     words.add_argument("--play", metavar="PLAY")
     given = words.parse_args()
     program, play = (path and os.path.abspath(path) for path in (given.program, given.play))
-    with tempfile.TemporaryDirectory() as folder, Painter(folder, LIMIT) as painter:
+    with tempfile.TemporaryDirectory() as folder, Painter(folder, 4 * LIMIT) as painter:
         draw, all_of = Drawing(folder, painter), examples()
         barred = all_of["petersen"] + BARS
         for name, network in (all_of | {"two": EDGE, "a row": ROW, "one apart": APART, "barred petersen": barred}).items():
@@ -319,10 +319,10 @@ def main():
         size_rows(draw)
         pulses_rows(draw)
         word_rows(draw)
-        schedule_rows(folder, all_of, play)
-        broken_rows(all_of)
+        schedule_rows(painter, folder, all_of, play)
+        broken_rows(painter, all_of)
+        stored_rows(painter, play)
     place_rows()
-    stored_rows(play)
     print(f"{TALLY['passed']} passed, {TALLY['failed']} failed")
     return 1 if TALLY["failed"] else 0
 
