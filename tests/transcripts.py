@@ -380,7 +380,7 @@ def script(folder, words, data):
 
 
 def command(words, data):
-    done = subprocess.run([sys.executable, CHECKER, *words], input=data, capture_output=True, timeout=LIMIT)
+    done = subprocess.run([sys.executable, "-S", CHECKER, *words], input=data, capture_output=True, timeout=LIMIT)
     return done.returncode, done.stdout, done.stderr
 
 
