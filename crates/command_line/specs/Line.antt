@@ -25,10 +25,14 @@ with_network_commands program =
     with_subcommand with_forests (new_app (codes "plain")).top
 
 -- the commands that run workers, which have options
+abbrev pub plan_command : App
+plan_command = with_run_options (new_app (codes "plan"))
+
+abbrev pub transcript_command : App
+transcript_command = with_edition (with_run_options (new_app (codes "transcript")))
+
 abbrev pub with_worker_commands : App → App
-with_worker_commands program =
-    let with_plan : App = with_subcommand program (with_run_options (new_app (codes "plan"))).top in
-    with_subcommand with_plan (with_edition (with_run_options (new_app (codes "transcript")))).top
+with_worker_commands program = with_subcommand (with_subcommand program plan_command.top) transcript_command.top
 
 -- all of these, and the one that checks a plan
 abbrev pub with_plan_commands : App → App

@@ -3,8 +3,8 @@
 ghost use Rattle.std.specs.Prelude.{◌≡◌, IfOk, false};
 ghost use Rattle.clap.specs.Words.{app_of, new_app, with_subcommand};
 ghost use Rattle.clap.specs.declared.builder.command.Command.TheViews.{out-Command};
-ghost use Rattle.command_line.specs.Line.{line, with_network_commands, with_plan_commands, with_play_commands};
-ghost use Rattle.command_line.specs.Line.{with_worker_commands, without_commands};
+ghost use Rattle.command_line.specs.Line.{line, plan_command, transcript_command, with_network_commands};
+ghost use Rattle.command_line.specs.Line.{with_plan_commands, with_play_commands, with_worker_commands, without_commands};
 ghost use Rattle.command_line.specs.RunOptions.{with_edition, with_run_options};
 
 use crate::help;
@@ -77,16 +77,46 @@ fn worker_command<'a>(alloc: Global, name: &'a str, help: Help) -> Result<Comman
     with_run_options(alloc, command(alloc, name, help))
 }
 
+// The command that runs workers and can write down in two editions what they did.
+fn transcript_command<'a>(alloc: Global) -> Result<Command<'a>, AllocError>
+    ensures shape { IfOk result (λ c. app_of c ≡ transcript_command) }
+    ensures local { IfOk result (λ c. (out-Command c).has_globals ≡ false) }
+{
+    let transcript = worker_command(alloc, "transcript", help::TRANSCRIPT)?;
+    with_edition(alloc, transcript)
+}
+
+// A program with the command that finds a plan.
+fn with_plan_command<'a>(alloc: Global, program: Command<'a>) -> Result<Command<'a>, AllocError>
+    requires { (out-Command program).has_globals ≡ false }
+    ensures shape { IfOk result (λ c. app_of c ≡ with_subcommand (app_of program.entry) plan_command.top) }
+    ensures local { IfOk result (λ c. (out-Command c).has_globals ≡ false) }
+{
+    let plan = worker_command(alloc, "plan", help::PLAN)?;
+    with_command(program, plan)
+}
+
+// A program with the command that writes a transcript.
+fn with_transcript_command<'a>(
+    alloc: Global,
+    program: Command<'a>,
+) -> Result<Command<'a>, AllocError>
+    requires { (out-Command program).has_globals ≡ false }
+    ensures shape { IfOk result (λ c. app_of c ≡ with_subcommand (app_of program.entry) transcript_command.top) }
+    ensures local { IfOk result (λ c. (out-Command c).has_globals ≡ false) }
+{
+    let transcript = transcript_command(alloc)?;
+    with_command(program, transcript)
+}
+
 // The commands that run workers.
 fn with_worker_commands<'a>(alloc: Global, program: Command<'a>) -> Result<Command<'a>, AllocError>
     requires { (out-Command program).has_globals ≡ false }
     ensures shape { IfOk result (λ c. app_of c ≡ with_worker_commands (app_of program.entry)) }
     ensures local { IfOk result (λ c. (out-Command c).has_globals ≡ false) }
 {
-    let plan = worker_command(alloc, "plan", help::PLAN)?;
-    let program = with_command(program, plan)?;
-    let transcript = worker_command(alloc, "transcript", help::TRANSCRIPT)?;
-    with_command(program, with_edition(alloc, transcript)?)
+    let program = with_plan_command(alloc, program)?;
+    with_transcript_command(alloc, program)
 }
 
 // All of these, and the command that checks a plan.

@@ -1,11 +1,13 @@
 //! Lists of stamped entries.
 
-ghost use Rattle.std.specs.Prelude.{◌≡◌, ◌≢◌, IfErr, IfOk};
+ghost use Rattle.std.specs.Prelude.{◌≡◌, ◌≢◌, ◌<◌, ◌+◌, IfErr, IfOk, length, take};
 ghost use Rattle.net_core.specs.declared.refused.RunRefused.TheVariants.{Memory};
 ghost use Rattle.net_core.specs.Simulation.{IsSimulation};
+ghost use Rattle.net_core.specs.State.{start};
 ghost use Rattle.replay.specs.declared.refused.ReplayRefused.TheVariants.{Run};
 ghost use Rattle.replay.specs.declared.refused.WholeRefused.TheVariants.{Replay};
-ghost use Rattle.replay.specs.Whole.{IsWholeReplay, WhyNotWhole};
+ghost use Rattle.replay.specs.Whole.{IsStampedReplay, IsWholeReplay, WhyNotWhole};
+ghost use Rattle.stamps.specs.Table.{IsTableOf};
 
 use crate::entry_event::make_entry;
 use crate::refused::WholeRefused;
@@ -14,6 +16,55 @@ use alpha_laws::{Network, NodeProgram};
 use net_core::NetState;
 use stamps::{Entry, StampTable};
 use std::alloc::Global;
+
+// Plays the row of an index. Those before it led to the state, and the table is theirs.
+fn replay_row<P: NodeProgram>(
+    alloc: Global,
+    state: &mut NetState<P>,
+    table: &mut StampTable,
+    rows: &[(u64, u32, Entry<P::Payload>)],
+    index: usize,
+) -> Result<(), WholeRefused>
+    requires row { index < length rows.now }
+    requires replay { IsStampedReplay P.program state.now.net (take index rows.now) state.now.state }
+    requires table { IsTableOf (take index rows.now) table.now }
+    ensures net { IfOk result (λ _. state.new.net ≡ state.old.net) }
+    ensures replay { IfOk result
+        (λ _. IsStampedReplay P.program state.old.net (take (index + 1) rows.now) state.new.state) }
+    ensures table { IfOk result (λ _. IsTableOf (take (index + 1) rows.now) table.new) }
+    ensures refuses { IfErr result
+        (λ refused. refused ≢ Replay (Run Memory) → WhyNotWhole P.program state.old.net rows.now refused) }
+{
+    let row = &rows[index];
+    match make_entry(state, &(row.1, row.2)) {
+        Ok(()) => {}
+        Err(refused) => return Err(WholeRefused::Replay(refused.at(index))),
+    }
+    if !table.is_in_place(row) {
+        return Err(WholeRefused::WrongStamp(index));
+    }
+    table.add(alloc, row)?;
+    Ok(())
+}
+
+// Plays all rows, from the start.
+fn replay_rows<P: NodeProgram>(
+    alloc: Global,
+    state: &mut NetState<P>,
+    rows: &[(u64, u32, Entry<P::Payload>)],
+) -> Result<(), WholeRefused>
+    requires start { state.now.state ≡ start P.program state.now.net }
+    ensures net { IfOk result (λ _. state.new.net ≡ state.old.net) }
+    ensures replay { IfOk result (λ _. IsStampedReplay P.program state.old.net rows.now state.new.state) }
+    ensures refuses { IfErr result
+        (λ refused. refused ≢ Replay (Run Memory) → WhyNotWhole P.program state.old.net rows.now refused) }
+{
+    let mut table = StampTable::new(alloc);
+    for index in 0..rows.len() {
+        replay_row(alloc, state, &mut table, rows, index)?;
+    }
+    Ok(())
+}
 
 /// Plays stamped entries, each behind the vertex of its node, from the start, and returns the state that they lead to.
 /// They have to end whole: every node drained, and every link empty.
@@ -35,17 +86,7 @@ pub fn replay_whole<P: NodeProgram>(
     ensures simulates { IfOk result (λ view. IsSimulation P.program view.net view.state) }
 {
     let mut state = NetState::start(alloc, net)?;
-    let mut table = StampTable::new(alloc);
-    for (index, row) in rows.iter().enumerate() {
-        match make_entry(&mut state, &(row.1, row.2)) {
-            Ok(()) => {}
-            Err(refused) => return Err(WholeRefused::Replay(refused.at(index))),
-        }
-        if !table.is_in_place(row) {
-            return Err(WholeRefused::WrongStamp(index));
-        }
-        table.add(alloc, row)?;
-    }
+    replay_rows(alloc, &mut state, rows)?;
     if !is_whole(&state) {
         return Err(WholeRefused::NotWhole);
     }
