@@ -12,7 +12,8 @@ returns-in-Err-clause-refuses g c =
     let program = g.P.NodeProgram.program in
     let old = c.args.state.now in
     let i = c.args.index in
-    λ never. stops-entry program old.net c.args.rows.now i c.index-rows-index.result old.state c.requires.row c.index-rows-index.is c.requires.replay c.in-Err.refused c.at.result
+    λ never. stops-entry program old.net c.args.rows.now i c.index-rows-index.result old.state c.requires.row c.index-rows-index.is c.requires.replay
+    c.in-Err.refused c.at.result
     (c.in-Err.ensures.refused (λ e. never (ap Replay (c.at.ensures.index ∙ ap (λ r. at_entry i r) e))))
     c.at.ensures.index
 
@@ -31,8 +32,8 @@ returns-clause-replay g c =
     let old = c.args.state.now in
     let i = c.args.index in
     let made = c.in-Ok.ensures.made in
-    stamped-next program old.net c.args.rows.now i c.index-rows-index.result old.state c.make_entry.new.state.state c.requires.row c.index-rows-index.is c.requires.replay
-    made.leads made.writes (c.if-not-is_in_place.ensures.place (take i c.args.rows.now) c.requires.table)
+    stamped-next program old.net c.args.rows.now i c.index-rows-index.result old.state c.make_entry.new.state.state c.requires.row
+    c.index-rows-index.is c.requires.replay made.leads made.writes (c.if-not-is_in_place.ensures.place (take i c.args.rows.now) c.requires.table)
 
 pub returns-clause-table : goal.returns-clause-table
 returns-clause-table g c =
