@@ -215,20 +215,13 @@ fn are_replayed<R: Threads + Wait + Sync>(rt: &R, alloc: Global, number: u32) ->
     }
 }
 
-fn all_are_replayed<R: Threads + Wait + Sync>(rt: &R, alloc: Global) -> bool {
-    for number in 0..50 {
-        if !are_replayed(rt, alloc, number) {
-            return false;
-        }
-    }
-    true
-}
-
 #[test]
 fn merged_runs_of_workers_are_replayed_whole(rt: HostRuntime) {
     let net = pair(rt.alloc()).expect(&rt, "network");
     assert!(rt; is_the_worked_run(&rt, rt.alloc(), &net));
-    assert!(rt; all_are_replayed(&rt, rt.alloc()));
+    for number in 0..50 {
+        assert!(rt; are_replayed(&rt, rt.alloc(), number), "{number}");
+    }
 }
 
 fn counts(counter: &mut Counter) -> bool {
