@@ -87,9 +87,9 @@ def growths_of_one_worker(program, growths):
 
 def growths_of_workers(counted, command):
     """With several workers a growth of one number is another one in each run. Each is refused, up to twenty more than there
-    were in a run without refusals."""
+    were in a run without refusals, and that twice for each number of workers."""
     wrong, late, whole = [], 0, 0
-    for workers in (2, 4, 16):
+    for workers in (2, 4, 16) * 2:
         words = [command, "--workers", str(workers)]
         _, ample, *_ = counted.run(words, TRIANGLE)
         for growth in range(1, ample + 20):
