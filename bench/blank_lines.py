@@ -12,7 +12,7 @@
 The lines come through a pipe. They stand inside the network, behind it (before the last row, event or entry), or before a line
 that is faulty. Prints for each run the seconds, those of the processor, the nanoseconds of the processor for a byte, and the peak
 memory as a multiple of the input. The whole input is in memory at once, and one run is made at a time. Ends with status 1 if an answer isn't
-the one that docs/FORMATS.md gives, by the slow reader of tests/ on the input without these lines; a run that needs more address
+the one that docs/claim/FORMATS.md gives, by the slow reader of tests/ on the input without these lines; a run that needs more address
 space has the line `memory`, and counts as another answer. It needs a C compiler, cc.
 """
 import argparse
@@ -27,9 +27,9 @@ import time
 
 from by_turns import TOP, build_peak
 
-sys.path.insert(1, os.path.join(TOP, "tests"))
+sys.path.insert(1, TOP)
 
-from slow_reader import PROGRAM_OF, answer_to
+from tests.programs.slow_reader import PROGRAM_OF, answer_to
 
 MEBIBYTE = 2**20
 LINES = {"blank": b"\n", "return": b"\r\n", "comment": b"c\n", "long": b"c" * (MEBIBYTE - 1) + b" "}

@@ -14,7 +14,7 @@ of entries.
 
 Nothing forces two runs to be in the same order, so the bytes differ. But every whole run of a network has the same
 number of entries and puts the same payloads on each link: these lines, sorted, have to be the same in all runs of both
-programs. Of a network with at most SMALL entries tests/check_transcript.py checks the first transcript of each program
+programs. Of a network with at most SMALL entries lab/transcripts/check.py checks the first transcript of each program
 as well. Ends with status 1 if the payloads or the numbers of entries differ, a transcript isn't that of a whole run, or
 a program failed or took longer than the limit.
 """
@@ -29,7 +29,7 @@ sys.path.insert(0, os.path.dirname(os.path.dirname(os.path.abspath(__file__))))
 import graphs
 from by_turns import TOP, agree, build_peak, mark, networks, programs_of, run_once, timed, times, words_of_command
 
-CHECK = os.path.join(TOP, "tests", "check_transcript.py")
+CHECK = os.path.join(TOP, "bin", "check-transcript")
 SMALL = 1_500_000
 
 
@@ -48,7 +48,7 @@ def payloads(transcript):
 
 
 def is_whole_run(path, transcript):
-    return subprocess.run([sys.executable, CHECK, path, transcript], stdout=subprocess.DEVNULL).returncode == 0
+    return subprocess.run([CHECK, path, transcript], stdout=subprocess.DEVNULL).returncode == 0
 
 
 class Case:

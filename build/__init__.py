@@ -1,0 +1,1 @@
+"""What proves, builds and installs the programs."""

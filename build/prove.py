@@ -1,0 +1,303 @@
+#!/usr/bin/env python3
+"""Proves crates, each as soon as those below it are proved, several side by side, builds the programs, and shows how far that is.
+
+  prove.py [--kept] [--jobs N] [CRATE ..]      default: every crate of crates.txt
+
+Those below a crate are proved with it, each from nothing, as the gate does it (what is left to the gate: docs/work/DECISIONS.md,
+93 and 99). What is proved is kept for all checkouts of this user (in ~/.cache/forestplan), so a call that was interrupted goes
+on where it was, and nothing is proved twice. A program goes into its crate's out/.
+
+With --kept the crates are built in their out/ instead, over what earlier checks kept there, and keep their work for `rt check`.
+
+Standard error shows how far it is; the log of a crate is out/build/CRATE.log. Two calls at once wait for each other. What has to be
+proved is decided by what the sources say, not by the times of files. The status is 0 if all is proved, 1 if a crate isn't, 2 if
+nothing could be tried, and 130 after Ctrl-C.
+
+From nothing to the program `forestplan` it took 16 min 8 s and 54 processor minutes on four processors with nothing beside. Earlier
+proofs, which on four took 17 min 50 s and 59, took 35 min 25 s and 69 on two of four, and 66 min 46 s and 64 on one of four while other
+checks kept the others busy (docs/work/DECISIONS.md, 99, 100, 103 and 105).
+"""
+import argparse
+import contextlib
+import fcntl
+import os
+import shutil
+import signal
+import subprocess
+import sys
+import time
+
+from build import kit
+from build.paths import TOP, listed
+
+LOGS = os.path.join(TOP, "out", "build")
+# Memory that a crate takes at most, in the mean.
+ROOM = 4 << 30
+# A crate lowers its priority by WAY steps if the chain behind it is shorter than NEAR of the longest.
+WAY, NEAR = 19, 0.8
+# To prove these is mostly to read the crates below, and to compile, which more processes don't shorten.
+PROGRAMS = ("forestplan", "forestplay")
+# A crate of fewer seconds isn't worth a second process.
+SMALL = 40
+
+
+def with_below(crates, below):
+    """The given crates and all below them, lower ones first."""
+    found = {}
+
+    def visit(crate):
+        if crate not in found:
+            for lower in below[crate]:
+                visit(lower)
+            found[crate] = True
+
+    for crate in crates:
+        visit(crate)
+    return list(found)
+
+
+def processors():
+    return len(os.sched_getaffinity(0))
+
+
+def jobs_with_room():
+    with open("/proc/meminfo", encoding="ascii") as text:
+        free = next(int(line.split()[1]) << 10 for line in text if line.startswith("MemAvailable"))
+    return max(1, min(processors(), free // ROOM))
+
+
+def measured_seconds():
+    """What proof_seconds.txt says of each crate."""
+    with open(os.path.join(TOP, "build", "proof_seconds.txt"), encoding="utf-8") as text:
+        rows = [line.split() for line in text if line.strip() and not line.startswith("#")]
+    return {crate: int(seconds) for crate, seconds in rows}
+
+
+def seconds_of(crate, measured):
+    """About how many seconds one processor takes for a crate: as measured, or else a start and its lines of code."""
+    if crate in measured:
+        return measured[crate]
+    files = kit.files_of(os.path.join(TOP, "crates", crate))
+    return 15 + 0.2 * sum(text.count(b"\n") for path, text in files if path.endswith(".rt"))
+
+
+class Shown:
+    """The progress on standard error: on a terminal one line that is rewritten, else a line a crate."""
+
+    def __init__(self, name, total):
+        self.name, self.total, self.start = name, total, time.monotonic()
+        self.is_terminal = sys.stderr.isatty()
+
+    def time(self):
+        seconds = int(time.monotonic() - self.start)
+        return f"{seconds // 60} min {seconds % 60} s" if seconds >= 60 else f"{seconds} s"
+
+    def line(self, done, running):
+        now = f"now {', '.join(running)}" if running else "nothing to do"
+        return f"{self.name}: {done} of {self.total} crates proved, {self.time()}: {now}"
+
+    def tick(self, done, running):
+        """Called about five times a second; only a terminal sees it."""
+        if self.is_terminal:
+            width = shutil.get_terminal_size().columns
+            print(f"\r\033[K{self.line(done, running)[: width - 1]}", end="", file=sys.stderr, flush=True)
+
+    def step(self, done, running):
+        """Called after each crate that was begun or proved."""
+        if not self.is_terminal:
+            print(self.line(done, running), file=sys.stderr, flush=True)
+        else:
+            self.tick(done, running)
+
+    def end(self, text):
+        print(("\r\033[K" if self.is_terminal else "") + f"{self.name}: {text}", file=sys.stderr, flush=True)
+
+
+class Proving:
+    """Crates that are being proved: what is left, what runs, and what is done."""
+
+    def __init__(self, crates, below, jobs, shown, words):
+        self.below, self.jobs, self.shown, self.words = below, jobs, shown, words
+        self.left, self.done, self.running = list(crates), set(), {}
+        measured = measured_seconds()
+        self.seconds = {crate: seconds_of(crate, measured) for crate in crates}
+        self.behind = self.seconds_behind(crates)
+
+    def seconds_behind(self, crates):
+        """For each crate the longest chain that waits for it: the longest is begun first."""
+        behind = dict.fromkeys(crates, 0)
+        for crate in reversed(crates):
+            behind[crate] += self.seconds[crate]
+            for lower in self.below[crate]:
+                behind[lower] = max(behind[lower], behind[crate])
+        return behind
+
+    def pass_over(self, is_done):
+        """Takes what needs no proof off the list of what is left."""
+        self.done = {crate for crate in self.left if is_done(crate)}
+        self.left = [crate for crate in self.left if crate not in self.done]
+
+    def begin_what_can(self):
+        ready = [crate for crate in self.left if all(lower in self.done for lower in self.below[crate])]
+        ready.sort(key=lambda crate: -self.behind[crate])
+        for crate in ready[: self.jobs - len(self.running)]:
+            self.begin(crate)
+
+    def share_behind(self, crate):
+        """The length of the chain behind a crate, as a share of the longest."""
+        return self.behind[crate] / max(self.behind[other] for other in [*self.left, *self.running])
+
+    def processes_for(self, crate):
+        """How many processes prove a crate. Each one loads what lies below anew, so one more costs 12 to 40 seconds. The crate with the longest
+        chain behind it gets three, and one that begins while at most one other runs two. Small crates and programs get one."""
+        if self.seconds[crate] < SMALL or crate in PROGRAMS:
+            return 1
+        most = 3 if self.share_behind(crate) == 1 else 2 if len(self.running) < 2 else 1
+        return min(processors(), most)
+
+    def begin(self, crate):
+        """Begins a crate, which gives way to others if the chain behind it is much shorter than the longest."""
+        way = [] if self.share_behind(crate) >= NEAR else ["nice", "-n", str(WAY)]
+        words = [sys.executable, os.path.join(TOP, "build"), "prove-crate", *self.words(crate, self.processes_for(crate))]
+        with open(os.path.join(LOGS, f"{crate}.log"), "w", encoding="utf-8") as log:
+            # In a group of its own Ctrl-C doesn't reach it; in a session of its own its priority would count for nothing.
+            self.running[crate] = subprocess.Popen([*way, *words], stdin=subprocess.PIPE, stdout=log, stderr=subprocess.STDOUT,
+                                                   preexec_fn=os.setpgrp)
+        self.left.remove(crate)
+
+    def failed(self):
+        """Takes what has ended off the list of what runs; returns a crate that isn't proved, if there is one."""
+        for crate, process in list(self.running.items()):
+            if process.poll() is None:
+                continue
+            del self.running[crate]
+            if process.returncode:
+                return crate
+            self.done.add(crate)
+            self.begin_what_can()
+            self.shown.step(len(self.done), self.running)
+        return None
+
+    def run(self):
+        """Proves all, or returns the first crate that isn't proved."""
+        try:
+            self.begin_what_can()
+            self.shown.step(len(self.done), self.running)
+            while self.running:
+                time.sleep(0.2)
+                crate = self.failed()
+                if crate:
+                    return crate
+                self.shown.tick(len(self.done), self.running)
+            return None
+        finally:
+            self.end()
+
+    def end(self):
+        """Ends what still runs, and all that it has started."""
+        for process in self.running.values():
+            process.stdin.close()
+            process.kill()
+        for process in self.running.values():
+            process.wait()
+
+
+def tell_failure(shown, crate):
+    log = os.path.join(LOGS, f"{crate}.log")
+    shown.end(f"the crate {crate} isn't proved; the last lines of {os.path.relpath(log, TOP)} are:")
+    with open(log, encoding="utf-8", errors="replace") as text:
+        print("".join(f"  {line}" for line in text.readlines()[-12:]), end="", file=sys.stderr)
+
+
+def wait_for_turn(name, folder):
+    """Holds the lock of a folder until this process ends."""
+    os.makedirs(LOGS, exist_ok=True)
+    lock = open(os.path.join(folder, "lock"), "w", encoding="ascii")
+    try:
+        fcntl.flock(lock, fcntl.LOCK_EX | fcntl.LOCK_NB)
+    except BlockingIOError:
+        print(f"{name}: another call is proving already; waiting for its end", file=sys.stderr, flush=True)
+        fcntl.flock(lock, fcntl.LOCK_EX)
+    return lock
+
+
+def put_program(name, made, start):
+    """Puts a program into its crate's out/. A source that was changed since `start` is newer."""
+    to = os.path.join(TOP, "crates", name, "out", name)
+    os.makedirs(os.path.dirname(to), exist_ok=True)
+    new = f"{to}.new"
+    shutil.copy(made, new)
+    os.utime(new, (start, start))
+    os.replace(new, to)
+
+
+def prove_anew(crates, below, jobs, shown):
+    """Proves crates into the store, and puts the programs among them in place; returns a crate that isn't proved, if there is one."""
+    start, keys = time.time(), kit.keys()
+
+    def is_proved(crate):
+        with contextlib.suppress(FileNotFoundError):
+            os.utime(kit.place(crate, keys[crate]))
+            return True
+        return False
+
+    def words(crate, processes):
+        return [crate, str(processes), *(f"{name}={key}" for name, key in keys.items())]
+
+    for name in os.listdir(kit.store()):
+        if name.startswith("room-"):
+            shutil.rmtree(os.path.join(kit.store(), name), ignore_errors=True)
+    proving = Proving(crates, below, jobs, shown, words)
+    proving.pass_over(is_proved)
+    failed = proving.run()
+    if not failed:
+        for crate in crates:
+            made = os.path.join(kit.place(crate, keys[crate]), crate)
+            if os.path.isfile(made):
+                put_program(crate, made, start)
+    return failed
+
+
+def proved(crates, jobs, is_kept=False, name="prove"):
+    """Proves what isn't proved yet, and returns the status."""
+    below = listed()
+    unknown = [crate for crate in crates if crate not in below]
+    if unknown:
+        print(f"{name}: crates.txt names no crate {unknown[0]}", file=sys.stderr)
+        return 2
+    wanted = with_below(crates or below, below)
+    shown = Shown(name, len(wanted))
+    try:
+        if is_kept:
+            _lock = wait_for_turn(name, LOGS)
+            failed = Proving(wanted, below, jobs, shown, lambda crate, processes: ["--kept", crate, str(processes)]).run()
+        else:
+            _lock = wait_for_turn(name, kit.store())
+            failed = prove_anew(wanted, below, jobs, shown)
+    except KeyboardInterrupt:
+        shown.end(f"interrupted after {shown.time()}; what is proved is kept, so the next call goes on from here")
+        return 130
+    if failed:
+        tell_failure(shown, failed)
+        return 1
+    shown.end(f"{len(wanted)} crates proved and built in {shown.time()}")
+    return 0
+
+
+def main():
+    summary, _, more = __doc__.partition("\n")
+    words = argparse.ArgumentParser(description=summary, epilog=more, formatter_class=argparse.RawDescriptionHelpFormatter)
+    words.add_argument("-j", "--jobs", type=int, default=jobs_with_room(), help="how many crates are proved side by side")
+    words.add_argument("--kept", action="store_true", help="build in out/, over kept work, for `rt check`")
+    words.add_argument("--name", default="prove", help="the name at the head of each line of progress")
+    words.add_argument("crates", nargs="*", metavar="CRATE")
+    asked = words.parse_args()
+    if not kit.command():
+        print(f"{asked.name}: the toolchain's command rt is not on the PATH", file=sys.stderr)
+        return 2
+    signal.signal(signal.SIGTERM, signal.default_int_handler)
+    return proved(asked.crates, max(1, asked.jobs), asked.kept, asked.name)
+
+
+if __name__ == "__main__":
+    sys.exit(main())

@@ -1,0 +1,139 @@
+"""The forests and the colours of a good network text by their definitions (docs/claim/DEFINITIONS.md), slow and plain: what
+the tests compare the program with. A list over the vertices is a dictionary, and is made for all of them at once."""
+
+
+class Network:
+    """The identifier of each vertex, the set of edges, and the barred colours of some vertices; and what the definitions read off
+    these."""
+
+    def __init__(self, identifiers, edges, barred=None):
+        self.identifiers = identifiers
+        self.barred = {v: frozenset((barred or {}).get(v, ())) for v in identifiers}
+        self.neighbours = {v: set() for v in identifiers}
+        for v, w in edges:
+            self.neighbours[v].add(w)
+            self.neighbours[w].add(v)
+        self.higher = {v: sorted((w for w in ws if identifiers[w] > identifiers[v]), key=identifiers.get)
+                       for v, ws in self.neighbours.items()}
+        self.number = {frozenset((v, w)): f for v, ws in self.higher.items() for f, w in enumerate(ws)}
+        self.greatest_degree = max((len(ws) for ws in self.neighbours.values()), default=0)
+        self.forest_count = max((len(ws) for ws in self.higher.values()), default=0)
+        self.greatest_bars = max(map(len, self.barred.values()), default=0)
+        self.span = self.greatest_degree + self.greatest_bars
+
+    def parent(self, f, v):
+        return self.higher[v][f] if f < len(self.higher[v]) else None
+
+
+def fields_of(line):
+    """The fields of a line: blanks and tabs part them, and a carriage return at the end is dropped."""
+    return [field for field in line.removesuffix(b"\r").replace(b"\t", b" ").split(b" ") if field]
+
+
+def network_of(text):
+    """The network of a text without a fault; a vertex has the identifier that a line gives it, and else its number. A colour is a
+    channel less one."""
+    nodes, given, edges, barred = 0, {}, set(), {}
+    for line in text.split(b"\n"):
+        fields = fields_of(line)
+        if fields and fields[0] == b"p":
+            nodes = int(fields[2])
+        elif fields and fields[0] == b"e":
+            edges.add((int(fields[1]), int(fields[2])))
+        elif fields and fields[0] == b"i":
+            given[int(fields[1])] = int(fields[2])
+        elif fields and fields[0] == b"b":
+            barred.setdefault(int(fields[1]), set()).add(int(fields[2]) - 1)
+    return Network({v: given.get(v, v) for v in range(1, nodes + 1)}, edges, barred)
+
+
+def text_of(lines):
+    return "".join(line + "\n" for line in lines).encode()
+
+
+def forests_text(text):
+    """The forests text: entry F of a vertex's higher neighbours, by ascending identifier, is its parent in forest F."""
+    net = network_of(text)
+    triples = sorted((f, v, w) for v, ws in net.higher.items() for f, w in enumerate(ws))
+    return text_of([f"forests {len(net.neighbours)} {net.forest_count}"] + [f"{f} {v} {w}" for f, v, w in triples])
+
+
+def plan_text(text):
+    """The plan text: the channel of a vertex is its colour plus one."""
+    return text_of(["plan"] + [f"{v} {c + 1}" for v, c in sorted(colours(network_of(text)).items())])
+
+
+def at_parent(net, f, c, v):
+    """The parent's entry, or None at a root."""
+    return c.get(net.parent(f, v))
+
+
+def digit(i, number):
+    return number >> i & 1
+
+
+def bit(net, f, c):
+    """The bit step: twice the least place in which a vertex differs from its parent, plus its own digit there. A root's
+    place is 0."""
+    def step(own, parent):
+        if parent is None:
+            return digit(0, own)
+        i = min(i for i in range((own ^ parent).bit_length()) if digit(i, own) != digit(i, parent))
+        return 2 * i + digit(i, own)
+    return {v: step(c[v], at_parent(net, f, c, v)) for v in c}
+
+
+def other_than(*taken):
+    return min({0, 1, 2} - set(taken))
+
+
+def shift(net, f, c):
+    """Each vertex has its parent's colour, and a root the least of 0, 1, 2 other than its own."""
+    return {v: other_than(c[v]) if net.parent(f, v) is None else at_parent(net, f, c, v) for v in c}
+
+
+def drop(x, net, f, c, before):
+    """Each vertex of colour x has the least of 0, 1, 2 other than its colour before, and other than its parent's."""
+    return {v: other_than(before[v], at_parent(net, f, c, v)) if c[v] == x else c[v] for v in c}
+
+
+def three(net, f):
+    """Four bit steps from the identifiers; then shift, and drop 5; shift, and drop 4; shift, and drop 3."""
+    c = net.identifiers
+    for _ in range(4):
+        c = bit(net, f, c)
+    for x in (5, 4, 3):
+        c = drop(x, net, f, shift(net, f, c), c)
+    return c
+
+
+def merge(net, f, old):
+    return merged(net, f, old, three(net, f))
+
+
+def merged(net, f, old, colour_in_f):
+    """The list that its own equation gives back: each vertex has the least colour of 0 to the span that is not barred at it and
+    not among those of the neighbours that it looks at. There is one such list, since these have lower pairs; the equation is
+    applied until it holds."""
+    pair = {v: (colour_in_f[v], old[v]) for v in old}
+    looked_at = {v: [w for w in ws if net.number[frozenset((v, w))] <= f and pair[w] < pair[v]]
+                 for v, ws in net.neighbours.items()}
+    palette = {v: set(range(net.span + 1)) - net.barred[v] for v in old}
+    new, made = None, dict.fromkeys(old, 0)
+    while new != made:
+        new = made
+        made = {v: min(palette[v] - {new[w] for w in ws}) for v, ws in looked_at.items()}
+    return new
+
+
+def first_colours(net):
+    """The least colour of each vertex that is not barred at it."""
+    return {v: min(set(range(net.span + 1)) - net.barred[v]) for v in net.neighbours}
+
+
+def colours(net):
+    """The first colours, merged for each forest in turn."""
+    c = first_colours(net)
+    for f in range(net.forest_count):
+        c = merge(net, f, c)
+    return c

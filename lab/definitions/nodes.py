@@ -1,0 +1,292 @@
+"""The rounds of the colouring at one node, a node under synchroniser alpha, and a network of such nodes event by event, by
+their definitions (docs/claim/DEFINITIONS.md), slow and plain. What a caller may only do wrong (a wire that is refused, an event
+that isn't possible) raises `Refused`.
+
+A wire is a tuple: ("Payload", pulse, (kind, number)), ("Ack", pulse), ("Safe", pulse) or ("Close",)."""
+from lab.definitions.colours import other_than
+
+
+class Refused(Exception):
+    pass
+
+
+def ports_of(net, v):
+    return sorted(net.neighbours[v])
+
+
+def last_pulse(net):
+    return 12 + 3 * net.forest_count * (net.span + 1)
+
+
+class Colouring:
+    """A node of the colouring; on a synchronous run nothing is refused, so refusals are left out."""
+
+    def __init__(self, net, v):
+        self.id, self.degree = net.identifiers[v], len(net.neighbours[v])
+        self.span, self.forests, self.barred = net.span, net.forest_count, net.barred[v]
+        self.roles = [None] * self.degree
+        self.colours, self.before = [0] * self.forests, [0] * self.forests
+        self.old, self.merged, self.chosen = 0, self.least_free(()), set()
+
+    def least_free(self, chosen):
+        return min(set(range(self.span + 1)) - self.barred - set(chosen))
+
+    def greet(self):
+        return [("Hello", self.id)] * self.degree
+
+    def next(self, pulse, inbox):
+        """What it sends at a pulse, by port, on what came."""
+        if pulse == 1:
+            return self.orient(inbox)
+        if pulse == 2:
+            return self.seed(inbox)
+        if pulse <= 12:
+            return self.work(pulse, inbox)
+        return self.merge(pulse - 13, inbox)
+
+    def orient(self, inbox):
+        higher = sorted(number for _, number in inbox if number > self.id)
+        self.roles = [("Up", higher.index(number)) if number in higher else None for _, number in inbox]
+        return [("Label", role[1]) if role else None for role in self.roles]
+
+    def seed(self, inbox):
+        self.roles = [role or ("Down", slot[1]) for role, slot in zip(self.roles, inbox)]
+        self.colours = [self.id] * self.forests
+        return self.colours_sent()
+
+    def colours_sent(self):
+        return [("Colour", self.colours[f]) if way == "Down" else None for way, f in self.roles]
+
+    def work(self, pulse, inbox):
+        parents = {f: slot[1] for (way, f), slot in zip(self.roles, inbox) if way == "Up"}
+        for f, own in enumerate(self.colours):
+            parent = parents.get(f)
+            if pulse <= 6:
+                self.colours[f] = bit_step(own, parent)
+            elif pulse % 2 == 1:
+                self.before[f] = own
+                self.colours[f] = other_than(own) if parent is None else parent
+            elif own == {8: 5, 10: 4, 12: 3}[pulse]:
+                self.colours[f] = other_than(self.before[f], parent)
+        return [None] * self.degree if pulse == 12 else self.colours_sent()
+
+    def merge(self, t, inbox):
+        width = self.span + 1
+        forest, step = divmod(t, 3 * width)
+        if step == 0:
+            self.old, self.chosen = self.merged, set()
+        self.chosen |= {slot[1] for slot in inbox if slot}
+        if (self.colours[forest], self.old) != divmod(step, width):
+            return [None] * self.degree
+        self.merged = self.least_free(self.chosen)
+        is_last = step == 3 * width - 1
+        return [("Chosen", self.merged) if f <= forest and not is_last else None for _, f in self.roles]
+
+
+def bit_step(own, parent):
+    i = 0 if parent is None else next(i for i in range(128) if (own ^ parent) >> i & 1)
+    return 2 * i + (own >> i & 1)
+
+
+def synchronous_run(net):
+    """The nodes after the last pulse, all pulses being made at once."""
+    nodes = {v: Colouring(net, v) for v in net.neighbours}
+    sent = {v: nodes[v].greet() for v in nodes}
+    for pulse in range(1, last_pulse(net) + 1):
+        inboxes = {v: [sent[w][ports_of(net, w).index(v)] for w in ports_of(net, v)] for v in nodes}
+        sent = {v: nodes[v].next(pulse, inboxes[v]) for v in nodes}
+    return nodes
+
+
+class Port:
+    def __init__(self):
+        self.waits = self.safe = self.early_safe = self.closed = False
+        self.present = self.early = None
+        self.out = []
+
+
+class AlphaNode:
+    def __init__(self, net, v):
+        self.program, self.last = Colouring(net, v), last_pulse(net)
+        self.ports = [Port() for _ in net.neighbours[v]]
+        self.pulse_number, self.said = 0, False
+        self.enter(self.program.greet())
+
+    def enter(self, sent):
+        for port, payload in zip(self.ports, sent):
+            if self.pulse_number == self.last:
+                port.out.append(("Close",))
+            elif payload is not None:
+                port.out.append(("Payload", self.pulse_number, payload))
+                port.waits = True
+        self.settle()
+
+    def settle(self):
+        if self.pulse_number < self.last and not any(port.waits for port in self.ports):
+            self.said = True
+            for port in self.ports:
+                port.out.append(("Safe", self.pulse_number))
+
+    def can_take(self):
+        return all(len(port.out) <= 3 for port in self.ports)
+
+    def can_pulse(self):
+        return (self.pulse_number != self.last and self.said and all(port.safe for port in self.ports) and self.can_take())
+
+    def drained(self):
+        return self.pulse_number == self.last and all(port.closed and not port.out for port in self.ports)
+
+    def pulse(self):
+        if not self.can_pulse():
+            raise Refused("NotReady")
+        sent = self.program.next(self.pulse_number + 1, [port.present for port in self.ports])
+        self.pulse_number, self.said = self.pulse_number + 1, False
+        for port in self.ports:
+            port.present, port.early = port.early, None
+            port.safe, port.early_safe = port.early_safe, False
+        self.enter(sent)
+
+    def on_wire(self, at, wire):
+        """The 36 cells, as one condition for each kind of wire; which refusal it is isn't said."""
+        port, p = self.ports[at], self.pulse_number
+        expected = p + port.safe + port.early_safe
+        paid = port.present is not None and expected == p or port.early is not None and expected == p + 1
+        horizon = p + 1 if self.said and p < self.last else p
+        kind, q = wire[0], wire[1] if len(wire) > 1 else self.last
+        is_due = {
+            "Payload": q == expected and q <= horizon and q < self.last and not paid,
+            "Ack": q == p and port.waits,
+            "Safe": q == expected and q <= horizon and q < self.last,
+            "Close": expected == self.last and (p == self.last or p == self.last - 1 and self.said),
+        }[kind]
+        if port.closed or not is_due:
+            raise Refused(f"{wire} at port {at}")
+        if kind == "Payload":
+            if q == p:
+                port.present = wire[2]
+            else:
+                port.early = wire[2]
+            port.out.append(("Ack", q))
+        elif kind == "Ack":
+            port.waits = False
+            self.settle()
+        elif kind == "Safe":
+            port.safe, port.early_safe = (True, port.early_safe) if q == p else (port.safe, True)
+        else:
+            port.closed = True
+
+
+class NetState:
+    """Every node at its start; `link[v, port]` holds what was put on the link out of v by that port and not taken."""
+
+    def __init__(self, net):
+        self.neighbours = {v: ports_of(net, v) for v in net.neighbours}
+        self.port_to = {(v, w): port for v, ws in self.neighbours.items() for port, w in enumerate(ws)}
+        self.nodes = {v: AlphaNode(net, v) for v in net.neighbours}
+        self.link = {(v, port): [] for (v, _), port in self.port_to.items()}
+
+    def link_to(self, v, port):
+        """What the link holds that comes to v by that port."""
+        w = self.neighbours[v][port]
+        return self.link[w, self.port_to[w, v]]
+
+    def carried(self, kind, v, port=None):
+        """What an event carries that is possible now: the number of the pulse, or the wire that is put or taken."""
+        if v not in self.nodes or port is not None and port >= len(self.nodes[v].ports):
+            raise Refused("NoSuch")
+        node = self.nodes[v]
+        if kind == "Pulse":
+            if not node.can_pulse():
+                raise Refused("NotReady")
+            return node.pulse_number + 1
+        wires = node.ports[port].out if kind == "Put" else self.link_to(v, port)
+        if not wires:
+            raise Refused("NothingToPut" if kind == "Put" else "LinkEmpty")
+        return wires[0]
+
+    def step(self, kind, v, port=None):
+        """An event; returns the wire that was put or taken."""
+        wire = self.carried(kind, v, port)
+        if kind == "Pulse":
+            return self.nodes[v].pulse()
+        if kind == "Put":
+            self.link[v, port].append(self.nodes[v].ports[port].out.pop(0))
+        else:
+            self.nodes[v].on_wire(port, wire)
+            self.link_to(v, port).pop(0)
+        return wire
+
+    def possible(self):
+        """All events that are possible now."""
+        for v in self.nodes:
+            yield from self.possible_at(v)
+
+    def possible_at(self, v):
+        if self.nodes[v].can_pulse():
+            yield "Pulse", v, None
+        for port, other in enumerate(self.nodes[v].ports):
+            if other.out:
+                yield "Put", v, port
+            if self.link_to(v, port):
+                yield "Take", v, port
+
+
+def named(names):
+    """`2`, `2 and 3`, `2, 3 and 5`."""
+    return ", ".join(map(str, names[:-1])) + " and " * (len(names) > 1) + str(names[-1])
+
+
+def missing_words(state, kind, v, port=None):
+    """What stands behind the line of an event that isn't possible: the wires of the pulse that are still to come, or the out-list
+    or the link that is empty."""
+    if v not in state.nodes or port is not None and port >= len(state.nodes[v].ports):
+        return ""
+    node, neighbours = state.nodes[v], state.neighbours[v]
+    if kind != "Pulse":
+        return f": list of {v} for {neighbours[port]}" if kind == "Put" else f": link from {neighbours[port]} to {v}"
+    if node.pulse_number == node.last:
+        return f": pulse {node.last} is the last"
+    lacks = [("ack", [w for w, port in zip(neighbours, node.ports) if port.waits]),
+             ("safe", [w for w, port in zip(neighbours, node.ports) if not port.safe])]
+    return ": " + "; ".join(f"{word} {node.pulse_number} of {named(names)}" for word, names in lacks if names)
+
+
+def event_of(state, entry):
+    """The event of an entry of a transcript."""
+    if entry.kind == "Pulse":
+        return entry.kind, entry.vertex
+    if (entry.vertex, entry.neighbour) not in state.port_to:
+        raise Refused("NoSuch")
+    return entry.kind, entry.vertex, state.port_to[entry.vertex, entry.neighbour]
+
+
+def entry_words(state, entry, refused):
+    """What stands behind the line of a refused entry: what its event lacks, or the pulse or wire to which its event comes."""
+    if str(refused) == "NoSuch":
+        return ""
+    event = event_of(state, entry)
+    if str(refused) != "WrongWire":
+        return missing_words(state, *event)
+    due = state.carried(*event)
+    return f": expected pulse {due}" if entry.kind == "Pulse" else f": expected {wire_words(due)}"
+
+
+def make(state, entry):
+    """The event of an entry of a transcript, if it is possible with what the entry says; otherwise nothing is changed."""
+    event = event_of(state, entry)
+    if state.carried(*event) != entry.what:
+        raise Refused("WrongWire")
+    state.step(*event)
+
+
+def wire_words(wire):
+    """A wire as the texts of states and transcripts have it."""
+    if wire[0] == "Payload":
+        return f"payload {wire[1]} {wire[2][0].lower()} {wire[2][1]}"
+    return " ".join(map(str, wire)).lower()
+
+
+def text_of_wire(wire):
+    if wire[0] == "Payload":
+        return f"Payload({wire[1]}, {wire[2][0]}({wire[2][1]}))"
+    return f"{wire[0]}({wire[1]})" if len(wire) > 1 else wire[0]

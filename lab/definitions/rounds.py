@@ -1,0 +1,127 @@
+"""The text of `forestplay rounds` by the definitions (docs/claim/DEFINITIONS.md, docs/claim/FORMATS.md), slow and plain: from lists over
+the vertices, as lab/definitions/colours.py has them, and without a node that keeps anything. `made_text` is the same text from the
+nodes of lab/definitions/nodes.py."""
+from lab.definitions.colours import bit, drop, first_colours, merge, shift, text_of
+from lab.definitions.nodes import Colouring, last_pulse, ports_of
+
+FIRST_MERGE = 13
+WORK_NAMES = ["step"] * 4 + ["shift", "drop"] * 3
+
+
+def rounds_text(net):
+    """The text of a network; its identifiers may be any numbers that differ."""
+    return text_of(head_of(net) + [line for p in range(last_pulse(net) + 1) for line in pulse_lines(net, p)])
+
+
+def head_of(net):
+    """Edition 1, and edition 2 if a channel is barred."""
+    sizes = [1, len(net.neighbours), net.greatest_degree, net.forest_count, last_pulse(net)]
+    if net.greatest_bars:
+        sizes[:3] = [2, *sizes[1:3], net.greatest_bars]
+    return ["rounds " + " ".join(map(str, sizes))]
+
+
+def phase_words(net, p):
+    if p < FIRST_MERGE:
+        return (["greet", "orient", "seed"] + WORK_NAMES)[p]
+    return "merge {} {} {}".format(*merge_step(net, p))
+
+
+def merge_step(net, p):
+    """Forest, three-colour and old colour of a merge pulse."""
+    forest, step = divmod(p - FIRST_MERGE, 3 * (net.span + 1))
+    return forest, *divmod(step, net.span + 1)
+
+
+def pulse_lines(net, p):
+    facts = Facts.of(net)
+    lines = [f"pulse {p} {phase_words(net, p)}"]
+    for v in sorted(net.neighbours):
+        lines += facts.own_lines(p, v)
+        lines += [f"{v} put {w} payload {p} {word} {number}" for w, word, number in facts.sent(p, v)]
+    return lines
+
+
+class Facts:
+    """Of each forest the colours after each pulse, and before and after each merge the merged colours."""
+
+    def __init__(self, net):
+        self.net = net
+        self.colours = [self.colours_of(f) for f in range(net.forest_count)]
+        self.merged = [first_colours(net)]
+        for f in range(net.forest_count):
+            self.merged.append(merge(net, f, self.merged[f]))
+
+    @staticmethod
+    def of(net):
+        if not hasattr(net, "facts"):
+            net.facts = Facts(net)
+        return net.facts
+
+    def colours_of(self, f):
+        """By pulse, from 2: the identifiers, four bit steps, then a shift and a drop for 5, 4 and 3."""
+        lists = [self.net.identifiers]
+        for _ in range(4):
+            lists.append(bit(self.net, f, lists[-1]))
+        for x in (5, 4, 3):
+            lists.append(shift(self.net, f, lists[-1]))
+            lists.append(drop(x, self.net, f, lists[-1], lists[-2]))
+        return dict(enumerate(lists, 2))
+
+    def chooses(self, p, v):
+        """Whether v chooses at a pulse: its three-colour and its old colour are the pair of the merge step."""
+        if p < FIRST_MERGE:
+            return False
+        f, three, old = merge_step(self.net, p)
+        return (self.colours[f][12][v], self.merged[f][v]) == (three, old)
+
+    def choice(self, p, v):
+        return self.merged[merge_step(self.net, p)[0] + 1][v]
+
+    def own_lines(self, p, v):
+        if 2 <= p < FIRST_MERGE:
+            return [f"{v} colour {f} {self.colours[f][p][v]}" for f in range(self.net.forest_count)]
+        return [f"{v} chose {self.choice(p, v)}"] if self.chooses(p, v) else []
+
+    def sent(self, p, v):
+        """(neighbour, word, number): all hear the identifier; parents the forest; children the colour; and who is a neighbour in
+        the forests merged so far the choice, but at the last step of a forest."""
+        for w in sorted(self.net.neighbours[v]):
+            f, is_parent = self.net.number[frozenset((v, w))], self.net.identifiers[w] > self.net.identifiers[v]
+            if p == 0:
+                yield w, "hello", self.net.identifiers[v]
+            elif p == 1 and is_parent:
+                yield w, "label", f
+            elif 2 <= p < 12 and not is_parent:
+                yield w, "colour", self.colours[f][p][v]
+            elif self.chooses(p, v) and f <= merge_step(self.net, p)[0] and not self.is_last_step(p):
+                yield w, "chosen", self.choice(p, v)
+
+    def is_last_step(self, p):
+        return merge_step(self.net, p)[1:] == (2, self.net.span)
+
+
+def made_text(net):
+    """The same text from nodes that hear and send, pulse by pulse."""
+    nodes = {v: Colouring(net, v) for v in net.neighbours}
+    sent = {v: nodes[v].greet() for v in nodes}
+    lines = head_of(net)
+    for p in range(last_pulse(net) + 1):
+        if p > 0:
+            inboxes = {v: [sent[w][ports_of(net, w).index(v)] for w in ports_of(net, v)] for v in nodes}
+            sent = {v: nodes[v].next(p, inboxes[v]) for v in nodes}
+        lines.append(f"pulse {p} {phase_words(net, p)}")
+        for v in sorted(nodes):
+            lines += state_lines(net, p, v, nodes[v])
+            lines += [f"{v} put {w} payload {p} {payload[0].lower()} {payload[1]}"
+                      for w, payload in zip(ports_of(net, v), sent[v]) if payload]
+    return text_of(lines)
+
+
+def state_lines(net, p, v, node):
+    if p < 2:
+        return []
+    if p < FIRST_MERGE:
+        return [f"{v} colour {f} {colour}" for f, colour in enumerate(node.colours)]
+    f, three, old = merge_step(net, p)
+    return [f"{v} chose {node.merged}"] if (node.colours[f], node.old) == (three, old) else []

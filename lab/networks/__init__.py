@@ -1,0 +1,1 @@
+"""Networks: made, read in other forms, numbered, and described."""

@@ -1,0 +1,117 @@
+"""`bin/network read`: a network in one of the forms, as a text that the programs read, and what was guessed and left out."""
+from lab.networks.forms import decoded, listed
+from lab.networks.network_text import MAX_DEGREE, MAX_EDGES, MAX_NODES, shown, two_alike, whole
+from lab.networks.texts import Made
+from lab.wrong import Wrong
+
+
+def read(data, name, form=None, heading=None):
+    """The network, and the lines that say what was read, guessed and left out."""
+    text, mended = decoded(data, name)
+    found = listed(text, name, form, heading)
+    order, by = numbered_by_text(found, name) if found.nodes is not None else numbered(found)
+    number = {node: v for v, node in order.items()}
+    edges, left_out = kept(found, number)
+    names = {v: node for v, node in order.items() if node != str(v)} | found.names
+    made = Made(max(order, default=0), edges, names, found.places, identifiers=given(found.identifiers, number, name, "an identifier"),
+                bars=given(found.bars, number, name, "a barred channel"))
+    check(made, name)
+    return made, [summary(made, found, by)] + mended + found.notes + left_out
+
+
+def numbered(found):
+    """{vertex: name}. Whole numbers without a gap from 0 or 1 on stay in their order; other names count as they come."""
+    names = {}
+    for line, *ends in sorted(found.edges + found.alone, key=lambda row: row[0]):
+        for end in ends:
+            names.setdefault(clean(end))
+    numbers = {whole(name) for name in names}
+    if None not in numbers and len(numbers) == len(names):
+        ordered = sorted(names, key=whole)
+        if numbers == set(range(1, len(names) + 1)):
+            return dict(enumerate(ordered, 1)), "numbers as in the text"
+        if numbers == set(range(len(names))):
+            return dict(enumerate(ordered, 1)), "it counts from 0, so each number is one more"
+        return dict(enumerate(ordered, 1)), "some numbers are missing, so the nodes are numbered anew, in their order"
+    return dict(enumerate(names, 1)), "numbers by first appearance"
+
+
+def numbered_by_text(found, name):
+    """{vertex: name} if the text says how many nodes it has; shifted if it counts from 0."""
+    used = {whole(end): line for line, *ends in reversed(found.edges) for end in ends}
+    shift = 1 if 0 in used and found.nodes not in used else 0
+    for number in sorted(used):
+        if not 1 <= number + shift <= found.nodes:
+            raise Wrong(f"{name} line {used[number]}: vertex {shown(str(number))}, and the `p` line has {found.nodes} nodes")
+    if found.nodes > MAX_NODES:
+        raise Wrong(f"{name}: {found.nodes} nodes, and a network has at most {MAX_NODES}")
+    if shift:
+        found.names = {v + 1: text for v, text in found.names.items()} if 0 in found.names else found.names
+        found.places = {v + 1: place for v, place in found.places.items()} if 0 in found.places else found.places
+    return ({v: str(v - shift) for v in range(1, found.nodes + 1)},
+            "it counts from 0, so each number is one more" if shift else "numbers as in the text")
+
+
+def given(found, number, name, what):
+    """What lines say of a vertex, by its number."""
+    unknown = [node for node in found if node not in number]
+    if unknown:
+        raise Wrong(f"{name}: {what} of {shown(unknown[0])}, which is no vertex")
+    return {number[node]: said for node, said in found.items()}
+
+
+def clean(name):
+    """A name as one line has it."""
+    return " ".join(name.split())
+
+
+def kept(found, number):
+    """The edges by number, each once and none from a node to itself; and lines that count what is left out."""
+    edges, both, again, loops = set(), 0, 0, []
+    for line, one, other in found.edges:
+        v, w = number[clean(one)], number[clean(other)]
+        if v == w:
+            loops.append((line, clean(one)))
+        elif (v, w) in edges:
+            again += 1
+        else:
+            both += (w, v) in edges
+            edges.add((v, w))
+    notes = []
+    if loops:
+        notes.append(f"{counted(len(loops), 'edge')} from a node to itself left out, first at line {loops[0][0]}: {loops[0][1]}")
+    if both:
+        notes.append(f"{counted(both, 'edge')} there in both directions, counted once")
+    if again:
+        notes.append(f"{counted(again, 'line')} with an edge that was there before, counted once")
+    return edges, notes
+
+
+def counted(count, what):
+    return f"{count} {what}" if count == 1 else f"{count:,} {what}s"
+
+
+def check(made, name):
+    """Refuses what the programs would refuse."""
+    degrees = {}
+    for edge in made.edges:
+        for v in edge:
+            degrees[v] = degrees.get(v, 0) + 1
+    if made.nodes > MAX_NODES:
+        raise Wrong(f"{name}: {made.nodes} nodes, and a network has at most {MAX_NODES}")
+    if len(made.edges) > MAX_EDGES:
+        raise Wrong(f"{name}: {len(made.edges)} edges, and a network has at most {MAX_EDGES}")
+    most = max(degrees, key=degrees.get, default=None)
+    if most and degrees[most] > MAX_DEGREE:
+        raise Wrong(f"{name}: node {made.names.get(most, most)} has {degrees[most]} neighbours, and may have {MAX_DEGREE}")
+    same = two_alike({v: v for v in range(1, made.nodes + 1)} | made.identifiers)
+    if same:
+        raise Wrong(f"{name}: nodes {same[0]} and {same[1]} have one identifier")
+    made.degree = degrees.get(most, 0)
+
+
+def summary(made, found, by):
+    alone = made.nodes - len({v for edge in made.edges for v in edge})
+    lone = f", {alone} of them without a neighbour" if alone else ""
+    return (f"{found.form}; {counted(made.nodes, 'node')}{lone}, {counted(len(made.edges), 'edge')}, "
+            f"at most {counted(made.degree, 'neighbour')}; {by}")

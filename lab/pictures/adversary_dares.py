@@ -1,0 +1,102 @@
+"""The dares of the adversary's page, and what the table says of each: whether it can be won, and with how few events.
+
+A dare is {"kind", "words", "answer"} and what the page needs to see that it is won: `apart` has `pairs` and `least`, `plan`
+the round's `plan`, `few` a `node` and the fewest events `best`, `wrong` nothing. Events are takes and pulses; a put is made by
+itself, and isn't counted."""
+from lab.pictures.schedules_space import fault_words
+
+
+def dares_of(space):
+    seen, dares = Seen(space), []
+    if space.links:
+        dares = [wrong_dare(seen), apart_dare(seen)]
+    dares.append(plan_dare(seen))
+    ends, distance = far_ends(space)
+    if distance > 1:
+        dares.append(ends_dare(seen, ends, distance))
+    if space.links:
+        dares.append(few_dare(seen, space.vertices[1]))
+    return dares
+
+
+class Seen:
+    """A space, with the pulses of its states at hand."""
+
+    def __init__(self, space):
+        self.space, self.is_all = space, space.expanded == space.count
+        self.pulses = [[value.pulse_number for value in values] for values in space.locals]
+        self.place = {v: a for a, v in enumerate(space.vertices)}
+
+    def pulse(self, state, v):
+        return self.pulses[self.place[v]][state[self.place[v]]]
+
+    def apart(self, state, pairs):
+        return max(abs(self.pulse(state, v) - self.pulse(state, w)) for v, w in pairs)
+
+    def fewest(self, holds):
+        """The fewest events after which something holds of the state, or None."""
+        return next((depth for state, depth in zip(self.space.states, self.space.depth) if holds(state)), None)
+
+    def none(self, what):
+        """That no state is so; of a table that ends early, only that it has none."""
+        if self.is_all:
+            return f"No: in none of the {self.space.count:,} states {what}."
+        return f"Not in this table, which goes as far as {events(self.space.depth[self.space.expanded - 1])}."
+
+
+def events(count):
+    return f"{count} event" + ("" if count == 1 else "s")
+
+
+def wrong_dare(seen):
+    faults = seen.space.faults
+    answer = seen.none("can a node do so")
+    if faults:
+        s, e = next(iter(faults))
+        answer = f"Yes, with {events(seen.space.depth[s] + (e is not None))}: {fault_words(seen.space)}."
+    return {"kind": "wrong", "words": "Have a node make a pulse without its round’s messages, or refuse a message.", "answer": answer}
+
+
+def apart_dare(seen):
+    pairs = [link for link in seen.space.links if link[0] < link[1]]
+    fewest = seen.fewest(lambda state: seen.apart(state, pairs) >= 2)
+    answer = seen.none("are neighbours more than one pulse apart") if fewest is None else f"Yes, with {events(fewest)}."
+    return {"kind": "apart", "pairs": pairs, "least": 2, "words": "Bring two neighbours two pulses apart.", "answer": answer}
+
+
+def plan_dare(seen):
+    space = seen.space
+    plan = [space.rounds.colours[v] + 1 for v in space.vertices]
+    other = [space.depth[s] for s in space.ends if space.is_whole(space.states[s])
+             and [node.colour + 1 for node in space.nodes(s).values()] != plan]
+    answer = f"Yes, with {events(min(other))}." if other else seen.none("have all halted with other channels")
+    return {"kind": "plan", "plan": plan, "words": f"Have them all halt with other channels than {', '.join(map(str, plan))}.",
+            "answer": answer}
+
+
+def ends_dare(seen, ends, distance):
+    most = max(seen.apart(state, [ends]) for state in seen.space.states)
+    fewest = seen.fewest(lambda state: seen.apart(state, [ends]) == most)
+    answer = f"{most} pulses, with {events(fewest)}" + ("." if seen.is_all else ", as far as this table goes.")
+    return {"kind": "apart", "pairs": [ends], "least": most, "answer": answer,
+            "words": f"Bring {ends[0]} and {ends[1]}, {distance} links apart, as many pulses apart as can be."}
+
+
+def few_dare(seen, v):
+    best = seen.fewest(lambda state: seen.pulse(state, v) >= 1)
+    return {"kind": "few", "node": v, "best": best, "words": f"Use as few events as you can until node {v} has made pulse 1.",
+            "answer": f"{events(best).capitalize()}; puts aren’t counted."}
+
+
+def far_ends(space):
+    """(the first pair of nodes that are farthest apart, how many links that is)."""
+    best = None, 0
+    for v in space.vertices:
+        reached = layer = {v}
+        distance = 0
+        while layer:
+            if distance > best[1]:
+                best = (v, min(layer)), distance
+            layer = {w for u in layer for w in space.ports[u]} - reached
+            reached, distance = reached | layer, distance + 1
+    return best

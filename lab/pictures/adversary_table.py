@@ -1,0 +1,89 @@
+"""The table that the adversary's page follows: every state and step of a space as numbers, with the words of each number.
+
+  phases    what a node does at each pulse, from 0
+  nodes     for each node, ascending: `values`, a row each of [pulse, words, channel or 0, 1 if it made a pulse with a wrong
+            inbox], and `column`, which of them it has in each state
+  links     for each link: `from`, `to`, `put` and `take`, the ports of the two, `contents`, lists of numbers of `wires`, the
+            one that comes next first, and `column`, which of them it holds in each state
+  wires     the wires in words
+  events    [kind, node, port, wires overtaken]: 0 is a pulse, 1 a take
+  counts    how many steps each state has; `chosen` and `targets` their events and where they lead, state by state
+  least     what is added to a target, which is counted from its state; 0 after that is a step that is refused
+  faults    {state: {step: number of `sentences`}}: what goes wrong; step -1 is a state in which nothing is possible
+  states    how many states there are; those from `followed` on have no steps here, as the table ends
+
+A column is [width, text]: numbers of this width in `digits` of base 64, the highest first."""
+from lab.pictures.schedules_space import quoted
+
+DIGITS = "0123456789ABCDEFGHIJKLMNOPQRSTUVWXYZabcdefghijklmnopqrstuvwxyz-_"
+
+
+def column(numbers):
+    """(width, text) of numbers from 0."""
+    numbers = list(numbers)
+    width, most = 1, max(numbers, default=0)
+    while most >= 64 ** width:
+        width += 1
+    places = range(6 * (width - 1), -1, -6)
+    return [width, "".join(DIGITS[number >> place & 63] for number in numbers for place in places)]
+
+
+def numbered(values):
+    """The different values in their first order, and for each value which of them it is."""
+    known = {}
+    return list(dict.fromkeys(values)), [known.setdefault(value, len(known)) for value in values]
+
+
+def waiting(waits):
+    """`safe 4 of 3`, `safe 4 of 2 and 3`, `safe 4 of 1, 2 and 3`."""
+    of = {}
+    for wire, w in waits:
+        of.setdefault(wire, []).append(str(w))
+    return " and ".join(f"{wire} of {' and '.join(filter(None, [', '.join(ws[:-1]), ws[-1]]))}" for wire, ws in of.items())
+
+
+def node_words(node):
+    """What a node waits for, or what it can do."""
+    if node.waits:
+        return f"waits for {waiting(node.waits)}"
+    return {"ready": f"can make pulse {node.pulse + 1}", "whole": "has halted", "last": "has only to put its close"}.get(
+        node.stage, "waits for nothing")
+
+
+def node_row(node, last):
+    return [node.pulse, node_words(node), node.colour + 1 if node.pulse == last else 0, int(node.wrong)]
+
+
+def nodes_of(space):
+    for a, v in enumerate(space.vertices):
+        rows, row_of = numbered([tuple(node_row(space.node_words(v, value), space.last)) for value in space.locals[a]])
+        yield {"values": rows, "column": column(row_of[state[a]] for state in space.states)}
+
+
+def links_of(space, wires):
+    for v, w in space.links:
+        contents, which = numbered([state[space.slot[v, w]] for state in space.states])
+        held = [[wires.setdefault(wire, len(wires)) for wire in space.contents[c]] for c in contents]
+        yield {"from": v, "to": w, "put": space.ports[v].index(w), "take": space.ports[w].index(v), "contents": held,
+               "column": column(which)}
+
+
+def table_of(space, words):
+    """The table; `words` writes a wire of the space in words."""
+    wires = {}
+    nodes, links = list(nodes_of(space)), list(links_of(space, wires))
+    events, steps = {}, []
+    for s in range(space.expanded):
+        steps.append([(events.setdefault((int(event.kind == "take"), event.v, event.port or 0, event.place), len(events)),
+                       0 if target is None else target - s) for event, target in space.steps(s)])
+    flat = [step for row in steps for step in row]
+    least = min((by for _, by in flat), default=0)
+    sentences, faults = {}, {}
+    for (s, e), sentence in space.faults.items():
+        faults.setdefault(s, {})[-1 if e is None else e] = sentences.setdefault(sentence, len(sentences))
+    return {"digits": DIGITS, "phases": [space.phase(p) for p in range(space.last + 1)], "last": space.last, "states": space.count,
+            "followed": space.expanded, "nodes": nodes, "links": links, "wires": [words(wire) for wire in wires],
+            "events": [list(event) for event in events], "counts": column(len(row) for row in steps),
+            "chosen": column(e for e, _ in flat),
+            "targets": column(by - least for _, by in flat), "least": least, "faults": faults,
+            "sentences": [quoted(sentence) for sentence in sentences]}

@@ -1,0 +1,264 @@
+"""What goes wrong without a rule of the rounds, and beside it the same rounds with all rules: in a forest, the colours of a node
+and of those above it, pulse by pulse; in a merge, the network with what each node has. The pair that goes wrong is red."""
+from lab.networks.network_text import read_network
+from lab.pictures.marks import channel_circle, colour_square, draw_edge, number_square
+from lab.pictures.palette import FOREST_COLOURS, INK, PAPER, SOFT, WRONG
+from lab.pictures.places import OF_SQUARES, bends, box_height, label_places, moved, places_of, spaced
+from lab.pictures.rounds_picture import GROUPS
+from lab.pictures.schedules_picture import wrapped
+from lab.pictures.schedules_space import broken_rounds, left_out_words
+from lab.pictures.svg import Svg, counted, text_width
+from lab.schedules.ruled_rounds import RuledRounds
+from lab.wrong import at_most
+
+LEFT, ROW, COLUMN, HALF, HEAD, GAP, RIGHT = 100, 38, 34, 12, 62, 40, 24
+PANEL, LARGE_PANEL, MARGIN, OVER, MOST_MERGED = 200, 300, 34, 48, 40
+OTHER, BEFORE = "#E6E6E6", "#9A9A9A"
+LEAST_WIDTH, START = 620, 2
+
+
+def draw(network, without):
+    """Of a network, or of a smallest one on which the rounds go wrong."""
+    rounds, smaller = broken_rounds(network, without)
+    drawn = network or network_of_rounds(rounds)
+    picture = OfForest(rounds, without) if rounds.clash.pulse else OfMerge(rounds, without, drawn)
+    width = max(picture.width(), LEAST_WIDTH)
+    lines = [line for words in told(rounds, without, network, smaller) for line in in_lines(words, width)]
+    legend = in_lines(picture.legend(), width)
+    top = 48 + 16 * len(lines)
+    bottom = top + picture.height()
+    svg = Svg(width, bottom + 16 * len(legend) + 10, f"Broken without {' and '.join(without)}")
+    svg.heading(title(rounds, without, network), *lines)
+    picture.draw(svg, top)
+    for number, line in enumerate(legend, 1):
+        svg.text(20, bottom + 16 * number, line, 11.5, SOFT)
+    return svg.document()
+
+
+def in_lines(words, width):
+    """A text over as many lines as it needs; letters are a little narrower than they are reckoned."""
+    return wrapped(words, 11.5, (width - 40) * 1.1)
+
+
+def network_of_rounds(rounds):
+    """The network that was found, as one that was read."""
+    edges = sorted(tuple(sorted(edge)) for edge in rounds.net.number)
+    return read_network("".join([f"p edge {len(rounds.net.neighbours)} {len(edges)}\n", *(f"e {v} {w}\n" for v, w in edges)]), "found")
+
+
+def left_out(without):
+    return " and ".join(f"‘{rule}’" for rule in without)
+
+
+def title(rounds, without, network):
+    clash = rounds.clash
+    name = "W" if network is None else f"{network.name} w"
+    return f"{name}ithout {left_out(without)}: nodes {clash.v} and {clash.w} get one colour"
+
+
+def told(rounds, without, network, smaller):
+    """The rule, the network, and what comes of it."""
+    nodes, edges = len(rounds.net.neighbours), sorted(map(sorted, rounds.net.number))
+    said = [left_out_words(without)]
+    if network is None:
+        joined = {v for edge in edges for v in edge}
+        others = [str(v) for v in rounds.net.neighbours if v not in joined]
+        apart = f" ({' and '.join([', '.join(others[:-1])] * bool(others[1:]) + others[-1:])} {'has' if len(others) == 1 else 'have'} none)"
+        said.append(f"A smallest network that goes wrong: {counted(nodes, 'node')} with the edges "
+                    f"{', '.join(f'{v}-{w}' for v, w in edges)}{apart * bool(others)}"
+                    + (f"; {smaller} smaller ones go right." if smaller else "."))
+    said += [f"{words[0].upper()}{words[1:]}." for words in rounds.words().split("\n")]
+    return [words.replace("'", "’") for words in said]
+
+
+class OfForest:
+    """A row for the node that goes wrong and for each one above it, the highest on top; a column for each pulse."""
+
+    def __init__(self, rounds, without):
+        clash, net = rounds.clash, rounds.net
+        self.clash, self.last = clash, clash.pulse
+        self.blocks = [(f"without {left_out(without)}", rounds), ("with all rules", RuledRounds(net, ()))]
+        self.row, v = [clash.v], clash.v
+        # A colour after pulse P hangs on P - 2 nodes above it.
+        while len(self.row) < self.last - 1 and net.parent(clash.forest, v) is not None:
+            v = net.parent(clash.forest, v)
+            self.row.append(v)
+        self.row.reverse()
+        self.is_cut = net.parent(clash.forest, v) is not None
+
+    def width(self):
+        return LEFT + 2 * self.block() + GAP + RIGHT
+
+    def block(self):
+        """The width of the columns of one block."""
+        return max((self.last - START + 1) * COLUMN, 150)
+
+    def height(self):
+        return HEAD + len(self.row) * ROW + 12
+
+    def draw(self, svg, top):
+        left = LEFT + max(0, (svg.width - self.width()) / 2)
+        self.nodes(svg, left - 44, top)
+        for number, (words, rounds) in enumerate(self.blocks):
+            x = left + number * (self.block() + GAP)
+            with svg.group("without" if number == 0 else "with", words):
+                self.head(svg, x, top, words, WRONG if number == 0 else INK)
+                for at, v in enumerate(self.row):
+                    self.colours(svg, x, self.y(top, at), v, rounds)
+                if number == 0:
+                    self.wrong(svg, x, top)
+
+    def y(self, top, at):
+        """The middle of a row."""
+        return top + HEAD + at * ROW + ROW / 2
+
+    def x(self, left, pulse):
+        return left + (pulse - START + 0.5) * COLUMN
+
+    def nodes(self, svg, x, top):
+        """The nodes, each with an arrow to its parent."""
+        for at, v in enumerate(self.row):
+            y = self.y(top, at)
+            if at or self.is_cut:
+                is_wrong = v == self.clash.v
+                tip = y - ROW + HALF + 2 if at else y - 0.7 * ROW
+                svg.line(x, y, x, tip + 5, WRONG if is_wrong else INK, 2.4 if is_wrong else 1.8, mark="arrow")
+                svg.head(x, tip, 0, -1, 8, WRONG if is_wrong else INK)
+            hue = WRONG if v in (self.clash.v, self.clash.w) else INK
+            svg.circle(x, y, HALF, PAPER, hue, 1.8, mark="node")
+            svg.text(x, y + 4, v, 11.5 if v < 100 else 9, hue, "middle", bold=True)
+        if not self.is_cut:
+            svg.text(x, top + HEAD - 8, "node", 9, SOFT, "middle")
+            svg.text(x - HALF - 6, self.y(top, 0) + 3.5, "root", 10, SOFT, "end")
+
+    def head(self, svg, left, top, words, hue):
+        svg.text(left + 2, top + 18, words, 12.5, hue, bold=True)
+        for first, last, group in GROUPS:
+            last = min(last, self.last)
+            if first <= last:
+                x1, x2 = self.x(left, first) - COLUMN / 2 + 2, self.x(left, last) + COLUMN / 2 - 2
+                svg.text((x1 + x2) / 2, top + HEAD - 24, group if last > first else group.removesuffix(" steps") + " step" * (first == 3),
+                         10 if last > first else 8.5, INK, "middle", mark="group")
+                svg.line(x1, top + HEAD - 19, x2, top + HEAD - 19, "#9A9A9A", 1)
+        for pulse in range(START, self.last + 1):
+            svg.text(self.x(left, pulse), top + HEAD - 8, pulse, 9, SOFT, "middle")
+
+    def colours(self, svg, left, y, v, rounds):
+        for pulse in range(START, self.last + 1):
+            colour, x = rounds.colours[self.clash.forest][pulse - START][v], self.x(left, pulse)
+            if pulse == START or colour >= len(FOREST_COLOURS):
+                number_square(svg, x, y, HALF, colour)
+            else:
+                colour_square(svg, x, y, HALF, colour)
+
+    def wrong(self, svg, left, top):
+        """A red frame around the two squares with one colour."""
+        y, x = self.y(top, len(self.row) - 2), self.x(left, self.last)
+        svg.rect(x - HALF - 4, y - HALF - 4, 2 * HALF + 8, ROW + 2 * HALF + 8, "none", WRONG, 2.4, 4, mark="wrong")
+
+    def legend(self):
+        return (f"Square: the node’s colour in forest {self.clash.forest} after the pulse; grey: still a name. "
+                "An arrow leads to the parent.")
+
+
+class OfMerge:
+    """Three panels in a row: the channels before the merge, the colours in the forest, the channels after it."""
+
+    def __init__(self, rounds, without, network):
+        at_most("broken", network.nodes, "nodes of a merge", MOST_MERGED, "`bin/explore NETWORK --without RULES`, which says it in words")
+        self.clash, self.network, self.without = rounds.clash, network, without
+        self.blocks = [(f"without {left_out(without)}", rounds, set(without)), ("with all rules", RuledRounds(rounds.net, ()), set())]
+        places = places_of(network)
+        radius, least = (13, 9) if network.nodes <= 12 else (9, 6)
+        self.panel = PANEL if network.nodes <= 12 else LARGE_PANEL
+        self.box = box_height(places, self.panel, MARGIN, 120)
+        self.places, self.radius = spaced(places, self.panel, self.box, MARGIN, radius, least, OF_SQUARES)
+        self.bend = bends(self.places, network.edges, self.radius + 1)
+        self.labels = label_places(self.places, network.edges, self.bend, self.radius * 1.25 + 11)
+
+    def width(self):
+        return 40 + 3 * self.panel + max(map(self.words_width, self.blocks))
+
+    def words_width(self, block):
+        return max(text_width(line, 11) for line in self.chooses(block)) * 0.95 + 10
+
+    def height(self):
+        return 2 * (self.box + OVER)
+
+    def draw(self, svg, top):
+        for number, block in enumerate(self.blocks):
+            y = top + number * (self.box + OVER)
+            with svg.group("without" if number == 0 else "with", block[0]):
+                svg.text(20, y + 16, block[0], 12.5, WRONG if number == 0 else INK, bold=True)
+                self.draw_block(svg, y + OVER, block, number == 0)
+
+    def legend(self):
+        return ("Circle: the channel so far; square: the colour in this forest, with arrows to the parents. Nodes choose in the order of their "
+                "turns: the colour in this forest, and with all rules the colour so far, too, which is the channel less 1.")
+
+    def draw_block(self, svg, top, block, is_wrong):
+        f, (_, rounds, _) = self.clash.forest, block
+        before = "before any merge" if f == 0 else "merged: forest 0" if f == 1 else f"merged: forests 0 to {f - 1}"
+        self.channels(svg, 20, top, before, rounds.merged[f], f - 1, False)
+        self.colours(svg, 20 + self.panel, top, rounds)
+        after = "merged: forest 0" if f == 0 else f"merged: forests 0 to {f}"
+        self.channels(svg, 20 + 2 * self.panel, top, after, rounds.merged[f + 1], f, is_wrong)
+        for at, line in enumerate(self.chooses(block)):
+            svg.text(20 + 3 * self.panel, top + self.box / 2 - 20 + 17 * at, line, 11, INK if at % 2 == 0 else SOFT, mark="chooses")
+
+    def forest_of(self, v, w, rounds):
+        return rounds.net.number[frozenset((v, w))]
+
+    def panel_title(self, svg, left, top, words):
+        svg.text(left + self.panel / 2, top - 8, words, 11, INK, "middle", mark="group")
+
+    def numbers(self, svg, left, top):
+        for v, (x, y) in moved(self.labels, left, top).items():
+            svg.text(x, y + 3.5, v, 10, SOFT, "middle", halo=2.5, mark="number")
+
+    def channels(self, svg, left, top, words, merged, upto, is_wrong):
+        """The channels after the forests up to a number, whose edges are grey; those of the last in ink."""
+        self.panel_title(svg, left, top, words)
+        places, rounds = moved(self.places, left, top), self.blocks[0][1]
+        for v, w in self.network.edges:
+            f = self.forest_of(v, w, rounds)
+            hue = OTHER if f > upto else INK if f == self.clash.forest else BEFORE
+            if is_wrong and f <= upto and merged[v] == merged[w]:
+                hue = WRONG
+            draw_edge(svg, places, self.bend, v, w, hue, 3.4 if hue == WRONG else 1.8 if hue == INK else 1.3,
+                      mark="wrong" if hue == WRONG else "edge")
+        self.numbers(svg, left, top)
+        for v, (x, y) in sorted(places.items()):
+            is_red = is_wrong and any(merged[v] == merged[w] and self.forest_of(v, w, rounds) <= upto for w in self.network.neighbours[v])
+            svg.circle(x, y, self.radius + (3.6 if is_red else 1.4), PAPER, WRONG if is_red else None, 2.2 if is_red else None)
+            channel_circle(svg, x, y, self.radius, merged[v] + 1)
+
+    def colours(self, svg, left, top, rounds):
+        """The colours in the forest that is merged."""
+        f, places = self.clash.forest, moved(self.places, left, top)
+        self.panel_title(svg, left, top, f"forest {f}, its colours")
+        for v, w in self.network.edges:
+            if self.forest_of(v, w, rounds) != f:
+                draw_edge(svg, places, self.bend, v, w, OTHER, 1.3)
+        for v in self.network.vertices:
+            parent = rounds.net.parent(f, v)
+            if parent is not None:
+                draw_edge(svg, places, self.bend, v, parent, INK, 1.8, 8, self.radius + 3, mark="arrow")
+        self.numbers(svg, left, top)
+        for v, (x, y) in sorted(places.items()):
+            colour_square(svg, x, y, self.radius, rounds.colours[f][-1][v])
+
+    def chooses(self, block):
+        """How the two nodes that go wrong choose: in words, two lines for each."""
+        _, rounds, without = block
+        f = self.clash.forest
+        three, old, new = rounds.colours[f][-1], rounds.merged[f], rounds.merged[f + 1]
+        turn = {v: (three[v],) if "pair" in without else (three[v], old[v]) for v in three}
+        lines = []
+        for v in sorted((self.clash.v, self.clash.w), key=lambda v: (turn[v], v)):
+            said = [f"{new[w] + 1} of {w}" for w in self.network.neighbours[v] if turn[w] < turn[v]
+                    and (self.forest_of(v, w, rounds) == f if "earlier" in without else self.forest_of(v, w, rounds) <= f)]
+            heard = " and ".join([", ".join(said[:-1])] * bool(said[1:]) + said[-1:]) or "nothing"
+            lines.append(f"node {v}, turn {', '.join(map(str, turn[v]))}: takes channel {new[v] + 1}")
+            lines.append(f"(it has heard {heard})")
+        return lines

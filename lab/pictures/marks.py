@@ -1,0 +1,144 @@
+"""The marks that the pictures share: vertices by their channel or colour, edges and arrows between them, legends."""
+from math import sqrt
+
+from lab.pictures.palette import (
+    ALONE, FOREST_COLOURS, INK, PAPER, SOFT, WIRES, WRONG, channel_hue, grey, is_ring, short, text_on,
+)
+from lab.pictures.places import middle
+from lab.pictures.svg import text_width
+
+
+def channel_circle(svg, x, y, radius, channel, number=True, mark="channel"):
+    """A channel: its hue, full or as a ring on white, and its number."""
+    hue = channel_hue(channel)
+    if is_ring(channel):
+        width = max(2, radius * 0.25)
+        svg.circle(x, y, radius - width / 2, PAPER, hue, round(width, 1), mark=mark)
+    else:
+        svg.circle(x, y, radius, hue, PAPER, 1, mark=mark)
+    if number:
+        fill = INK if is_ring(channel) else text_on(hue)
+        size = radius * (1.12 if channel < 10 else 0.92) * (0.85 if is_ring(channel) else 1)
+        svg.text(x, y + size * 0.36, channel, round(size, 1), fill, "middle", bold=True)
+
+
+# Of a vertex's barred channels so many are drawn, and behind them how many more there are.
+MOST_BARS = 4
+
+
+def bar_mark(svg, x, y, radius, channel, mark="bar"):
+    """A channel that is barred at a vertex: its number, crossed out."""
+    svg.circle(x, y, radius, PAPER, channel_hue(channel), 1, mark=mark)
+    size = round(radius * (1.2, 1.0, 0.8, 0.62)[len(str(channel)) - 1], 1)
+    svg.text(x, y + size * 0.36, channel, size, INK, "middle", bold=True)
+    svg.line(x - 0.9 * radius, y + 0.9 * radius, x + 0.9 * radius, y - 0.9 * radius, WRONG, 0.9, opacity="0.8")
+
+
+def more_bars(channels):
+    return f"+{len(channels) - MOST_BARS}" if len(channels) > MOST_BARS else ""
+
+
+def bars_width(channels, radius):
+    """How much room a row of barred channels takes."""
+    return min(len(channels), MOST_BARS) * (2 * radius + 2) + text_width(more_bars(channels), 1.5 * radius)
+
+
+def bar_row(svg, x, y, channels, radius):
+    """The barred channels of a vertex, lowest first, to the right of a place."""
+    for at, channel in enumerate(channels[:MOST_BARS]):
+        bar_mark(svg, x + radius + at * (2 * radius + 2), y, radius, channel)
+    if more_bars(channels):
+        svg.text(x + MOST_BARS * (2 * radius + 2), y + 0.55 * radius, more_bars(channels), 1.5 * radius, SOFT, halo=2, mark="more")
+
+
+def colour_square(svg, x, y, half, colour, number=True, mark="colour"):
+    """A colour of 0 to 5 in one forest."""
+    fill = FOREST_COLOURS[colour]
+    svg.rect(x - half, y - half, 2 * half, 2 * half, fill, PAPER, 1, half * 0.25, mark=mark)
+    if number:
+        svg.text(x, y + half * 0.38, colour, round(half * 1.12, 1), text_on(fill), "middle", bold=True)
+
+
+def number_square(svg, x, y, half, number, mark="colour"):
+    """A number that is no colour of 0 to 5 yet: grey, darker the longer it is."""
+    fill, ink = grey(number)
+    text = short(number)
+    svg.rect(x - half, y - half, 2 * half, 2 * half, fill, PAPER, 1, half * 0.25, mark=mark)
+    svg.text(x, y + half * 0.33, text, round(half * (1.0 if len(text) < 3 else 0.8), 1), ink, "middle", bold=True)
+
+
+def alone_chip(svg, x, y, half):
+    """A vertex at which no edge of the forest ends."""
+    svg.rect(x - half, y - half, 2 * half, 2 * half, ALONE, PAPER, 1, 2, mark="alone")
+
+
+def draw_edge(svg, places, bend, a, b, colour, width, head=0, distance=0, dash=None, mark="edge"):
+    """An edge from a to b; with a head, an arrow whose tip is at this distance of b."""
+    (x1, y1), (x2, y2), (mx, my) = places[a], places[b], middle(places, bend, a, b)
+    ex, ey = x2 - mx, y2 - my
+    length = sqrt(ex * ex + ey * ey) or 1
+    ex, ey = ex / length, ey / length
+    tip_x, tip_y = x2 - ex * distance, y2 - ey * distance
+    end_x, end_y = tip_x - ex * head * 0.8, tip_y - ey * head * 0.8
+    if bend.get((min(a, b), max(a, b)), 0):
+        svg.path(["M", x1, y1, "Q", mx, my, end_x, end_y], colour, width, stroke_dasharray=dash, mark=mark)
+    else:
+        svg.line(x1, y1, end_x, end_y, colour, width, dash, mark=mark)
+    if head:
+        svg.head(tip_x, tip_y, ex, ey, head, colour)
+
+
+def wire_arrow(svg, x1, y1, x2, y2, kind):
+    """A wire from where it was put to where it was taken."""
+    dx, dy = x2 - x1, y2 - y1
+    length = sqrt(dx * dx + dy * dy) or 1
+    size, width = (9, 2.1) if kind == "payload" else (6, 1.1)
+    svg.line(x1, y1, x2 - dx / length * size * 0.8, y2 - dy / length * size * 0.8, WIRES[kind], width, dash_of(kind))
+    svg.head(x2, y2, dx, dy, size, WIRES[kind], hollow=kind == "ack")
+    svg.circle(x1, y1, 2.2 if kind == "payload" else 1.6, WIRES[kind])
+
+
+# Of a vertex's name so many letters are written beside its number, the last one an ellipsis if there are more.
+LONGEST_NAME = 12
+
+
+def short_name(network, v, longest=LONGEST_NAME):
+    """The name that the network's text gives a vertex, as there is room for it; `` if it gives none."""
+    name = "".join(letter if letter.isprintable() else "\ufffd" for letter in network.names.get(v, ""))
+    return name if len(name) <= longest else name[:longest - 1].rstrip() + "…"
+
+
+def label_of(network, v):
+    """A vertex's number, and its name if it has one."""
+    return f"{v} {short_name(network, v)}".rstrip()
+
+
+def label_boxes(network, size):
+    """Half the width and half the height of each vertex's label."""
+    return {v: (text_width(label_of(network, v), size) / 2, 0.45 * size) for v in network.vertices}
+
+
+def label_margin(network, size):
+    """How much more room than numbers the widest label needs beside a vertex at the edge."""
+    widest = max((text_width(label_of(network, v), size) for v in network.vertices if v in network.names), default=0)
+    return max(0, widest - 16)
+
+
+def dash_of(kind):
+    return "4 2.5" if kind == "ack" else None
+
+
+def channel_legend(svg, x, y, used, most, width):
+    """The channels used, over as many lines as they need; returns how many pixels they take."""
+    svg.text(x, y + 4, "channels", 11.5, SOFT)
+    at_x, at_y = x + 72, y
+    for channel in used:
+        if at_x > width - 30:
+            at_x, at_y = x + 72, at_y + 24
+        channel_circle(svg, at_x, at_y, 9, channel, mark="legend")
+        at_x += 25
+    words = f"{len(used)} of the {most} allowed"
+    if at_x + text_width(words, 11.5) > width:
+        at_x, at_y = x + 72, at_y + 22
+    svg.text(at_x, at_y + 4, words, 11.5, SOFT)
+    return at_y - y + 20

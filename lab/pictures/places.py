@@ -1,0 +1,193 @@
+"""Where the vertices of a network are drawn: at given places, on a circle, or laid out by the edges (layout.py)."""
+import sys
+from math import sqrt
+
+from lab.pictures.layout import laid_out
+
+LARGEST_CIRCLE = 6
+# How far apart two vertices are at least, in radii: circles don't touch then; and neither do squares of twice that width.
+OF_CIRCLES, OF_SQUARES = 2.3, 2.95
+PUSHES, REFITS = 200, 12
+# A text of about this half width stands as near to its vertex at the side as above it; a wider one is moved aside.
+SHORT, LITTLE = 5, 1.5
+FULL_TURN = 6.283185307179586
+
+
+def places_of(network):
+    """{vertex: (x, y)}: the comment lines `c at V X Y` if they name every vertex; else a circle for up to six; else a layout."""
+    named = [v for v in network.vertices if v in network.given]
+    if len(named) == network.nodes:
+        return {v: network.given[v] for v in network.vertices}
+    if named:
+        note(f"{network.name}: places are given for {len(named)} of {network.nodes} vertices, so they aren't used")
+    return circle(network.nodes) if network.nodes <= LARGEST_CIRCLE else laid_out(network)
+
+
+def note(what):
+    print(f"picture: {what}", file=sys.stderr)
+
+
+def turned(turn):
+    """The unit vector turned from the top clockwise. A power series, since `sin` may differ from machine to machine."""
+    angle = FULL_TURN * (turn - 1 if turn > 0.5 else turn)
+    point = term = 1 + 0j
+    for k in range(1, 40):
+        term = term * 1j * angle / k
+        point += term
+    return point.imag, -point.real
+
+
+def circle(nodes):
+    """Vertex 1 on top, then clockwise."""
+    return {v: turned((v - 1) / nodes) for v in range(1, nodes + 1)}
+
+
+def extent(places):
+    """Width and height of the places, at least a little."""
+    xs, ys = [x for x, _ in places.values()], [y for _, y in places.values()]
+    return max(xs) - min(xs) or 1e-9, max(ys) - min(ys) or 1e-9
+
+
+def fit(places, width, height, margin, left=0, top=0):
+    """The places, scaled evenly and put in the middle of a box."""
+    wide, high = extent(places)
+    scale = min((width - 2 * margin) / wide, (height - 2 * margin) / high)
+    least_x, least_y = min(x for x, _ in places.values()), min(y for _, y in places.values())
+    off_x, off_y = (width - scale * wide) / 2 + left, (height - scale * high) / 2 + top
+    return {v: (off_x + scale * (x - least_x), off_y + scale * (y - least_y)) for v, (x, y) in places.items()}
+
+
+def spaced(places, width, height, margin, radius, least, apart=OF_CIRCLES):
+    """The places fitted into a box, and the radius that they leave: at most `radius`. Vertices too near for `least` are pushed
+    apart, as far as the box allows; no two of the radius overlap in any case."""
+    places = fit(places, width, height, margin)
+    for _ in range(REFITS):
+        if least_gap(places) >= apart * least:
+            break
+        places = fit(pushed_apart(places, 1.02 * apart * least), width, height, margin)
+    return places, max(0.1, min(radius, least_gap(places) / apart))
+
+
+def moved(places, left, top):
+    return {v: (x + left, y + top) for v, (x, y) in places.items()}
+
+
+def near_pairs(places, least):
+    """The pairs less than `least` apart, both one after the other."""
+    order = sorted(places, key=lambda v: (places[v][0], v))
+    for at, v in enumerate(order):
+        for w in order[at + 1:]:
+            if places[w][0] - places[v][0] >= least:
+                break
+            if gap(places[v], places[w]) < least:
+                yield v, w
+
+
+def least_gap(places):
+    """The distance of the two vertices that are nearest to each other."""
+    wide, high = extent(places)
+    guess = (wide + high) / len(places) + 1e-6
+    while len(places) > 1:
+        found = [gap(places[v], places[w]) for v, w in near_pairs(places, guess)]
+        if found:
+            return min(found)
+        guess *= 2
+    return 1e9
+
+
+def pushed_apart(places, least):
+    """Moves each pair that is too near apart, along its line, again and again; a pair on one point in a direction of its own."""
+    places = dict(places)
+    for _ in range(PUSHES):
+        near = list(near_pairs(places, least))
+        for v, w in near:
+            (x1, y1), (x2, y2) = places[v], places[w]
+            far = gap(places[v], places[w])
+            dx, dy = ((x2 - x1) / far, (y2 - y1) / far) if far > 1e-6 else turned((5 * v + 3 * w) % 16 / 16)
+            push = max(0, (least - far) / 2 + 0.01)
+            places[v], places[w] = (x1 - dx * push, y1 - dy * push), (x2 + dx * push, y2 + dy * push)
+        if not near:
+            break
+    return places
+
+
+def box_height(places, width, margin, least):
+    """The height of a box of this width that the places fill: from `least` to the width itself."""
+    wide, high = extent(places)
+    return max(least, min(width, 2 * margin + (width - 2 * margin) * high / wide))
+
+
+def bends(places, edges, radius):
+    """How far each edge is bent, to the left seen from its lower vertex: one that passes a third vertex too near."""
+    found = {}
+    for a, b in edges:
+        (x1, y1), (x2, y2) = places[a], places[b]
+        dx, dy = x2 - x1, y2 - y1
+        length = sqrt(dx * dx + dy * dy) or 1
+        is_near = any(0 < (x - x1) * dx + (y - y1) * dy < length * length
+                      and abs((x - x1) * dy - (y - y1) * dx) / length < radius
+                      for v, (x, y) in places.items() if v not in (a, b))
+        found[a, b] = 0.75 * radius + 0.045 * length if is_near else 0
+    return found
+
+
+def middle(places, bend, a, b):
+    """The point towards which the edge from a to b is drawn: on it if it is straight."""
+    by = bend.get((min(a, b), max(a, b)), 0) * (1 if a < b else -1)
+    (x1, y1), (x2, y2) = places[a], places[b]
+    dx, dy = x2 - x1, y2 - y1
+    length = sqrt(dx * dx + dy * dy) or 1
+    return (x1 + x2) / 2 + dy / length * by * 2, (y1 + y2) / 2 - dx / length * by * 2
+
+
+def points_along(places, bend, a, b, count=12):
+    """Points of the drawn edge."""
+    (x1, y1), (x2, y2), (mx, my) = places[a], places[b], middle(places, bend, a, b)
+    for k in range(count + 1):
+        t = k / count
+        yield ((1 - t) * (1 - t) * x1 + 2 * t * (1 - t) * mx + t * t * x2,
+               (1 - t) * (1 - t) * y1 + 2 * t * (1 - t) * my + t * t * y2)
+
+
+def label_places(places, edges, bend, distance, boxes=None, radius=0):
+    """Where each vertex's number is written: of 16 directions the one with most room, upper ones first. `boxes[v]` is half the width
+    and half the height of what is written: then a direction in which it covers less of circles of `radius` and of other texts is
+    better, and only among those alike the one with more room."""
+    drawn = {e: list(points_along(places, bend, *e)) for e in edges}
+    taken, found = [], {}
+    near = 5 * distance
+    for v, (x, y) in sorted(places.items()):
+        half_wide, half_high = boxes[v] if boxes else (0, 0)
+        aside = half_wide - SHORT if half_wide > SHORT + LITTLE else 0
+        reach = near + half_wide
+        others = [p for w, p in places.items() if w != v and abs(p[0] - x) < reach and abs(p[1] - y) < reach]
+        points = [p for e in edges for p in drawn[e] if abs(p[0] - x) < reach and abs(p[1] - y) < reach]
+        best = None
+        for k in (2, 14, 1, 15, 3, 13, 0, 4, 12, 6, 10, 5, 11, 7, 9, 8):
+            dx, dy = turned(k / 16)
+            spot = x + dx * distance + aside * max(-1, min(1, 2 * dx)), y + dy * distance
+            room = min([gap(spot, p) for p in points] + [gap(spot, p) - 0.45 * distance for p in others + [at for at, _ in taken]] + [near])
+            circles = [*others, (x, y)] if aside else others
+            covered = covers((spot, (half_wide, half_high)), circles, radius, taken) if boxes else 0
+            if best is None or covered < best[0] - 0.5 or covered <= best[0] + 0.5 and room > best[1] + 1:
+                best = covered, room, spot
+        found[v] = best[2]
+        taken.append((best[2], (half_wide, half_high)))
+    return found
+
+
+def covers(box, circles, radius, boxes):
+    """How much of circles and of other boxes a box covers, in pixels of depth; a box is its middle and half its sides."""
+    (x, y), (half_wide, half_high) = box
+    depth = 0.0
+    for other_x, other_y in circles:
+        nearest = max(x - half_wide, min(other_x, x + half_wide)), max(y - half_high, min(other_y, y + half_high))
+        depth += max(0.0, radius - gap(nearest, (other_x, other_y)))
+    for (other_x, other_y), (other_wide, other_high) in boxes:
+        wide, high = half_wide + other_wide - abs(x - other_x), half_high + other_high - abs(y - other_y)
+        depth += max(0.0, min(wide, high))
+    return depth
+
+
+def gap(p, q):
+    return sqrt((p[0] - q[0]) * (p[0] - q[0]) + (p[1] - q[1]) * (p[1] - q[1]))

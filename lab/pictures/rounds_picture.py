@@ -1,0 +1,170 @@
+"""The rounds strip: a block for each forest, a row for each node, a column for each pulse; squares while it is coloured,
+circles where channels are chosen."""
+from lab.pictures.colouring import LAST_COLOUR
+from lab.pictures.marks import alone_chip, bar_mark, bar_row, bars_width, channel_circle, colour_square, number_square
+from lab.pictures.palette import FOREST_COLOURS, INK, SOFT, channel_hue
+from lab.pictures.svg import Svg, text_width
+from lab.wrong import at_most
+
+MOST_ROWS, USUAL_ROWS = 400, 40
+COLUMN, ROW, LEFT, TOP = 27, 27, 112, 100
+FULL_STEPS = 40
+HEAD, FOOT = 68, 30
+BAR = 8
+GROUPS = [(2, 2, "start"), (3, 6, "bit steps"), (7, 7, "shift"), (8, 8, "drop 5"), (9, 9, "shift"), (10, 10, "drop 4"),
+          (11, 11, "shift"), (12, 12, "drop 3")]
+MERGES = LEFT + 11 * COLUMN + 34
+
+
+def draw(rounds, asked=None):
+    """The forests A to B that are asked for; else the first ones, as many as a slide has room for."""
+    network, asked = rounds.network, rounds.asked_forests(asked)
+    forests = list(asked or range(min(rounds.forests, max(1, USUAL_ROWS // network.nodes))))
+    at_most("rounds", len(forests) * network.nodes, "rows", MOST_ROWS, "rounds --forest F, one forest at a time")
+    steps = columns_of(rounds, forests)
+    is_full = all(len(steps[f]) == 3 * rounds.width for f in forests)
+    most = max(map(len, steps.values()))
+    column = 21 if is_full or most > 12 else COLUMN
+    width = max(MERGES + most * column + 90 + bars_room(network), 980)
+    block = network.nodes * ROW + HEAD + FOOT
+    left_out = left_out_of(rounds, forests)
+    top = TOP + 18 * len(left_out)
+    svg = Svg(width, top + len(forests) * block - FOOT + 18, f"Rounds of {network.name}")
+    svg.heading(f"{network.name}: six colours at pulse 6, three at pulse 12, the plan at pulse {rounds.last}", *left_out)
+    legend(svg, 50 + 18 * len(left_out), network.bars)
+    for number, forest in enumerate(forests):
+        strip = Strip(svg, rounds, forest, top + number * block, steps[forest], column)
+        strip.colours()
+        strip.merge(is_full)
+    return svg.document()
+
+
+def left_out_of(rounds, forests):
+    """A line that says which forests are drawn, if not all are."""
+    if len(forests) == rounds.forests:
+        return []
+    shown = f"forest {forests[0]}" if len(forests) == 1 else f"forests {forests[0]} to {forests[-1]}"
+    return [f"Here {shown} of 0 to {rounds.forests - 1}; draw others with --forests A..B."]
+
+
+def columns_of(rounds, forests):
+    """The merge steps shown of each forest: all of them, or, if that are many, those at which some node chooses."""
+    steps = {f: [pulse for pulse in rounds.pulses if pulse.step and pulse.step[0] == f] for f in forests}
+    if sum(map(len, steps.values())) > FULL_STEPS:
+        return {f: [pulse for pulse in pulses if pulse.chosen] for f, pulses in steps.items()}
+    return steps
+
+
+def bars_room(network):
+    """How much room the longest row of barred channels takes, behind the circles of the channels after a merge."""
+    return max((20 + bars_width(bars, BAR) for bars in network.bars.values()), default=0)
+
+
+def legend(svg, y, has_bars):
+    for colour in range(6):
+        colour_square(svg, 28 + 17 * colour, y, 7.5, colour, mark="legend")
+    svg.text(130, y + 4, "square: colour in the forest; 3, 4, 5 are dropped", 11.5, SOFT)
+    svg.rect(452, y - 7.5, 15, 15, "#D6D6D6", round_by=2)
+    svg.text(474, y + 4, "still a name", 11.5, SOFT)
+    alone_chip(svg, 574, y, COLUMN / 2 - 8)
+    svg.text(588, y + 4, "no edge in this forest", 11.5, SOFT)
+    if has_bars:
+        bar_mark(svg, 752, y, BAR, 1, mark="legend")
+        svg.text(766, y + 4, "barred at the node", 11.5, SOFT)
+    y += 22
+    channel_circle(svg, 28, y, 8, 1, mark="legend")
+    svg.text(42, y + 4, "circle: the node chooses this channel", 11.5, SOFT)
+    svg.line(276, y, 300, y, channel_hue(1), 3, opacity="0.35")
+    svg.text(308, y + 4, "its channel meanwhile", 11.5, SOFT)
+    svg.text(452, y + 4, "K and J say whose turn it is: colour in the forest, colour so far (channel J + 1).", 11.5, SOFT)
+
+
+class Strip:
+    """The block of one forest, with its upper edge at `top`."""
+
+    def __init__(self, svg, rounds, forest, top, steps, column):
+        self.svg, self.rounds, self.forest, self.top = svg, rounds, forest, top
+        self.steps, self.column, self.nodes = steps, column, rounds.network.nodes
+
+    def row(self, v):
+        """The middle of v's row."""
+        return self.top + HEAD + (v - 1) * ROW + ROW / 2
+
+    def colours(self):
+        """Left: the colour of each node after each of the pulses 2 to 12."""
+        svg = self.svg
+        svg.text(20, self.top + 20, f"forest {self.forest}", 13.5, INK, bold=True)
+        for first, last, words in GROUPS:
+            x1, x2 = LEFT + (first - 2) * COLUMN + 2, LEFT + (last - 1) * COLUMN - 2
+            svg.text((x1 + x2) / 2, self.top + 45, words, 10 if last > first else 7.5, INK, "middle", mark="group")
+            svg.line(x1, self.top + 50, x2, self.top + 50, "#9A9A9A", 1)
+        svg.text(LEFT - 4, self.top + 63, "pulse", 9, SOFT, "end")
+        for pulse in range(2, LAST_COLOUR + 1):
+            svg.text(LEFT + (pulse - 1.5) * COLUMN, self.top + 63, pulse, 9, SOFT, "middle")
+        for v in self.rounds.network.vertices:
+            y, parent = self.row(v), self.rounds.parents.get((v, self.forest))
+            if v % 2 == 1:
+                svg.rect(16, y - ROW / 2, svg.width - 32, ROW, "#FAF8F2")
+            svg.text(46, y + 4.5, v, 12, INK, "end", bold=True)
+            svg.text(54, y + 4.5, f"→ {parent}" if parent else "root", 10, SOFT)
+        with svg.group("colours", f"forest {self.forest}"):
+            for v in self.rounds.network.vertices:
+                self.colours_of(v)
+
+    def colours_of(self, v):
+        is_alone = not self.rounds.in_forest(v, self.forest)
+        for number in range(2, LAST_COLOUR + 1):
+            colour = self.rounds.pulses[number].colours[v, self.forest]
+            x, y = LEFT + (number - 1.5) * COLUMN, self.row(v)
+            if number > 2 and is_alone:
+                alone_chip(self.svg, x, y, COLUMN / 2 - 8)
+            elif number > 2 and colour < len(FOREST_COLOURS):
+                colour_square(self.svg, x, y, COLUMN / 2 - 2.5, colour)
+            else:
+                number_square(self.svg, x, y, COLUMN / 2 - 2.5, colour)
+
+    def merge(self, is_full):
+        """Right: who chooses at which step, with a pale line of the channel that each node has before and after."""
+        svg, top = self.svg, self.top
+        words = f"merge of forest {self.forest}"
+        svg.text(MERGES, top + 20, words, 13.5, INK, bold=True)
+        if not is_full:
+            svg.text(MERGES + text_width(words, 13.5) + 22, top + 20, "(steps at which some node chooses)", 10, SOFT)
+        self.step_heads()
+        end = MERGES + len(self.steps) * self.column
+        svg.text(end + 24, top + 63, "after", 9, SOFT, "middle")
+        if self.rounds.network.bars:
+            svg.text(end + 44, top + 63, "barred", 9, SOFT)
+        before = self.rounds.merged_after(self.forest - 1)
+        with svg.group("choices", f"forest {self.forest}"):
+            for v in self.rounds.network.vertices:
+                self.choices_of(v, before.get(v), end)
+
+    def step_heads(self):
+        """Pulse numbers, and the pair (colour in this forest, colour so far) whose turn it is."""
+        svg, before = self.svg, None
+        svg.text(MERGES - 6, self.top + 36, "K", 9.5, SOFT, "end")
+        svg.text(MERGES - 6, self.top + 50, "J", 9.5, SOFT, "end")
+        for index, pulse in enumerate(self.steps):
+            x, (_, colour, old) = MERGES + index * self.column, pulse.step
+            if colour != before:
+                if index:
+                    svg.line(x, self.top + 26, x, self.top + HEAD + self.nodes * ROW, "#C4C4C4", 1)
+                svg.rect(x + self.column / 2 - 6, self.top + 27, 12, 12, FOREST_COLOURS[colour], round_by=2)
+                svg.text(x + self.column / 2, self.top + 36.5, colour, 9.5, "#FFFFFF", "middle", bold=True, mark="turn")
+            before = colour
+            svg.text(x + self.column / 2, self.top + 50, old, 9, INK, "middle", mark="old")
+            svg.text(x + self.column / 2, self.top + 63, pulse.number, 8 if pulse.number < 100 else 7, SOFT, "middle")
+
+    def choices_of(self, v, channel, end):
+        svg, y, x0 = self.svg, self.row(v), MERGES
+        chosen = [(MERGES + (index + 0.5) * self.column, pulse) for index, pulse in enumerate(self.steps) if v in pulse.chosen]
+        for x, pulse in chosen:
+            if channel is not None:
+                svg.line(x0, y, x, y, channel_hue(channel + 1), 3, opacity="0.35")
+            channel, x0 = pulse.chosen[v], x
+        svg.line(x0, y, end + 12, y, channel_hue(channel + 1), 3, opacity="0.35")
+        for x, pulse in chosen:
+            channel_circle(svg, x, y, min(self.column, ROW) / 2 - 1, pulse.chosen[v] + 1, mark="choice")
+        channel_circle(svg, end + 24, y, 11, channel + 1, mark="after")
+        bar_row(svg, end + 44, y, self.rounds.network.barred(v), BAR)

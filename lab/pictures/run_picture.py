@@ -1,0 +1,258 @@
+"""Space and time: above, what happened in a run; below, the same payloads with each pulse made equally long.
+
+What is drawn is what is true. No cut through all ticks of one pulse is consistent in general, so none is shaded as one: a
+band goes from tick p to tick p + 1 of each node, and wires may cross its border backwards; they are counted in words. A pale
+bar goes from where a payload is taken to the tick at which it is read, and that tick is p + 1's."""
+from math import sqrt
+
+from lab.pictures.marks import dash_of, short_name, wire_arrow
+from lab.pictures.palette import BAND, BORDER, INK, PAPER, PULSE, SOFT, WIRES
+from lab.pictures.svg import Svg, counted, text_width
+from lab.wrong import at_most
+
+LEFT, TOP, WIDTH = 64, 136, 1214
+KINDS = ("payload", "ack", "safe", "close")
+NAMES = {"payload": "payload", "ack": "acknowledgement", "safe": "safe", "close": "close"}
+MOST_STEPS = 400
+# How much wider a text is in bold.
+BOLD = 1.15
+MOST_NODES_OF_ALL_KINDS = 6
+
+
+class Window:
+    """Pulses `first` to `last` of a run: the ticks of each node, and where a place in time is drawn."""
+
+    def __init__(self, run, first, last):
+        nodes = run.network.vertices
+        self.run, self.first, self.last = run, first, last
+        self.ticks = {v: run.ticks(v) for v in nodes}
+        self.ends = {v: self.ticks[v].get(last + 1, run.entries[v][-1].x + 1 if run.entries[v] else 1) for v in nodes}
+        self.start = min(self.ticks[v].get(first, self.ends[v]) for v in nodes) - 1
+        self.stop = max(self.ends.values()) + 1
+        self.scale = max(9.0, min(19.0, 1180 / (self.stop - self.start)))
+        self.row_height = 88 if len(nodes) <= 3 else 74 if len(nodes) <= 5 else 50
+
+    def x(self, time):
+        return LEFT + (time - self.start) * self.scale
+
+    def y(self, v):
+        return TOP + (v - 1) * self.row_height
+
+    def read_at(self, put):
+        """Where the payload of a put is read: at its taker's tick p + 1."""
+        return self.ticks[put.neighbour].get(put.wire[1] + 1, self.ends[put.neighbour])
+
+    def arrows(self, kinds):
+        """The puts whose arrows are seen, payloads last, on top."""
+        for kind in ("ack", "safe", "close", "payload"):
+            if kind in kinds:
+                for put in self.run.puts(kind):
+                    if put.mate and put.mate.x >= self.start and put.x <= self.stop:
+                        yield put
+
+
+def usual(network, last):
+    """The pulses that are drawn if none are asked for."""
+    return 0 if network.nodes <= 3 else 1, min(3, last)
+
+
+def draw(run, pulses=None, kinds=None):
+    kinds = kinds or (KINDS if run.network.nodes <= MOST_NODES_OF_ALL_KINDS else ("payload",))
+    first, last = run.window(pulses, usual(run.network, run.last))
+    window = Window(run, first, last)
+    at_most("run", window.stop - window.start, "steps of time side by side", MOST_STEPS, "fewer pulses (--pulses A..B), or overview")
+    nodes = run.network.nodes
+    upper = (nodes - 1) * window.row_height
+    lower_row = 46 if nodes <= 5 else 30
+    width = max(window.x(window.stop) + 28, WIDTH)
+    lower_top = TOP + upper + 136
+    svg = Svg(width, lower_top + (nodes - 1) * lower_row + 66, f"Space and time of {run.name}")
+    shown = "what each node put, took and did" if set(kinds) == set(KINDS) else " and ".join(f"{NAMES[kind]}s" for kind in kinds)
+    svg.heading(f"{run.name}: {shown}, pulses {first} to {last} of {run.last}",
+                time_words(run, ", so every arrow points right"))
+    legend(svg, kinds)
+    svg.clip("window", LEFT - 8, 0, width - LEFT - 8, lower_top - 74)
+    draw_bands(svg, window)
+    for v in run.network.vertices:
+        svg.line(LEFT - 6, window.y(v), width - 16, window.y(v), "#8A8A8A", 1)
+        svg.text(LEFT - 18, window.y(v) + 5, v, 15, INK, "end", bold=True)
+        name_below(svg, run.network, v, window.y(v))
+    with svg.group("upper", clip_path="url(#window)"):
+        draw_wires(svg, window, kinds)
+        draw_ticks(svg, window)
+    svg.text(20, TOP + upper + extra(window, nodes) + 20, early_words(window, kinds), 11.5, SOFT)
+    draw_rounds(svg, run, first, last, lower_top, lower_row)
+    return svg.document()
+
+
+def time_words(run, behind=""):
+    """What the place of an event from left to right is; `behind` ends the sentence."""
+    if run.edition == 2:
+        return ("Time is the transcript's stamps, by Lamport's clock: one more than the node's last, and of a take also than the put's"
+                f"{behind}. It is not real time.")
+    return f"No clock was kept. An event stands as far right as the longest chain of events that lead to it (found by replaying){behind}."
+
+
+def name_below(svg, network, v, y):
+    """A vertex's name below its number, if it has one, left of its line."""
+    name = short_name(network, v, 8)
+    if name:
+        svg.text(LEFT - 10, y + 16, name, 9, SOFT, "end", mark="vertex-name")
+
+
+def extra(window, nodes):
+    """How far a band reaches above the first row and below the last."""
+    return window.row_height * 0.36 if nodes > 3 else 30
+
+
+def legend(svg, kinds):
+    x, y = 20, 72
+    for kind in (kind for kind in KINDS if kind in kinds):
+        svg.line(x, y, x + 24, y, WIRES[kind], 2.2 if kind == "payload" else 1.2, dash_of(kind))
+        svg.head(x + 30, y, 1, 0, 8 if kind == "payload" else 6, WIRES[kind], kind == "ack")
+        svg.text(x + 38, y + 4, NAMES[kind], 11.5)
+        x += 62 + text_width(NAMES[kind], 11.5)
+    svg.line(x + 6, y - 9, x + 6, y + 9, INK, 3.4)
+    svg.text(x + 15, y + 4, "a pulse begins", 11.5)
+    svg.line(x + 124, y, x + 148, y, WIRES["payload"], 5, opacity="0.35")
+    svg.text(x + 155, y + 4, "kept till the next pulse", 11.5)
+
+
+def draw_bands(svg, window):
+    """A band for each pulse, from tick p of every node to its tick p + 1."""
+    nodes = window.run.network.vertices
+    over = extra(window, len(nodes))
+
+    def border(pulse):
+        points = [(window.x(window.ticks[v].get(pulse, window.ends[v])), window.y(v)) for v in nodes]
+        return [(points[0][0], points[0][1] - over)] + points + [(points[-1][0], points[-1][1] + over)]
+
+    pulses = range(window.first, window.last + 1)
+    for pulse in pulses:
+        left, right = border(pulse), border(pulse + 1)
+        svg.path(polygon(left + right[::-1]) + ["Z"], None, None, BAND if (pulse - window.first) % 2 == 0 else PAPER, mark="band")
+        svg.path(polygon(left), BORDER, 1.2)
+        if pulse == window.last:
+            svg.path(polygon(right), BORDER, 1.2)
+    name_pulses(svg, {pulse: max(border(pulse)[0][0] + 5, LEFT) for pulse in pulses}, TOP - over - 6)
+
+
+def name_pulses(svg, places, y):
+    """A name over each band, or a number alone where names have no room; a band that is narrower than that has none."""
+    starts = sorted(places.values())
+    least = min((b - a for a, b in zip(starts, starts[1:])), default=1e9)
+    has_room = least > text_width(f"pulse {max(places)}", 11.5) * BOLD
+    if not has_room:
+        svg.text(20, y, "pulse", 11.5, PULSE, bold=True)
+    free = 0
+    for pulse, x in sorted(places.items()):
+        words = f"pulse {pulse}" if has_room else pulse
+        if x >= free:
+            svg.text(x, y, words, 11.5, PULSE, bold=True, mark="name")
+            free = x + text_width(words, 11.5) * BOLD + 3
+
+
+def polygon(points):
+    steps = []
+    for x, y in points:
+        steps += ["L" if steps else "M", x, y]
+    return steps
+
+
+def draw_wires(svg, window, kinds):
+    """One arrow for each wire that is taken, with its words under the mouse; a bar for each payload."""
+    words = []
+    for put in window.arrows(kinds):
+        take, kind = put.mate, put.wire[0]
+        x1, y1, x2, y2 = window.x(put.x), window.y(put.vertex), window.x(take.x), window.y(take.vertex)
+        if kind == "payload":
+            svg.line(x2, y2, window.x(window.read_at(put)), y2, WIRES[kind], 5, opacity="0.35", mark="bar")
+            if window.run.network.nodes <= 3 and x1 > LEFT:
+                words.append((x1, y1, x2 - x1, y2 - y1, f"{put.wire[2][0]} {put.wire[2][1]}"))
+        with svg.group(kind, put.title()):
+            wire_arrow(svg, x1, y1, x2, y2, kind)
+    write_words(svg, window, words)
+
+
+def write_words(svg, window, words):
+    """The payloads' words along their arrows, left out where they would collide."""
+    used = []
+    for x1, y1, dx, dy, text in words:
+        half = text_width(text, 9.5) * BOLD / 2 + 2
+        for part in (0.5, 0.32, 0.68, 0.2, 0.8):
+            x, y = x1 + dx * part, y1 + dy * part + 3
+            off = (y - 3 - TOP) % window.row_height
+            is_inside = LEFT + half < x < window.x(window.stop) - half
+            if is_inside and min(off, window.row_height - off) > 11 and all(abs(x - a) > half + b or abs(y - c) > 13 for a, c, b in used):
+                used.append((x, y, half))
+                svg.text(x, y, text, 9.5, WIRES["payload"], "middle", bold=True, halo=3, mark="words")
+                break
+
+
+def draw_ticks(svg, window):
+    """Each node's pulses; those outside the window are grey."""
+    for v, ticks in window.ticks.items():
+        for pulse, time in sorted(ticks.items()):
+            x, y = window.x(time), window.y(v)
+            if window.first <= pulse <= window.last + 1:
+                svg.line(x, y - 10, x, y + 10, INK, 3.4, mark="tick")
+            elif pulse and window.start < time < window.stop:
+                svg.line(x, y - 8, x, y + 8, "#9A9A9A", 2.4, mark="outside")
+
+
+def early_words(window, kinds):
+    """How many wires came before their pulse had begun at the taker."""
+    seen = [put for put in window.arrows(kinds) if window.first <= put.during <= window.last]
+    early = [put for put in seen if put.wire[0] in ("payload", "safe") and put.wire[1] > put.mate.during]
+    payloads = sum(put.wire[0] == "payload" for put in early)
+    if not seen:
+        return "No clock is shared, and nothing is put in these pulses."
+    named = "payload" if list(kinds) == ["payload"] else "wire"
+    of_them = "" if named == "payload" or not early else f" ({payloads} of them {'a payload' if payloads == 1 else 'payloads'})"
+    come = "none comes early, before its" if not early else "1 comes early, before its" if len(early) == 1 else \
+        f"{len(early)} come early, before their"
+    kept = " They are kept:" if len(early) > 1 else " It is kept:" if early else ""
+    return (f"No clock is shared: of {counted(len(seen), named)} put here {come} pulse has begun at the taker"
+            f"{of_them}.{kept} {'a' if early else 'A'} payload of pulse p is read when pulse p + 1 begins, never before.")
+
+
+def draw_rounds(svg, run, first, last, top, row_height):
+    """The lower half: each payload from its pulse p to pulse p + 1, the same for every run of the network."""
+    nodes, column = run.network.vertices, 1120 / (last - first + 1)
+    height = (len(nodes) - 1) * row_height
+
+    def x_of(pulse):
+        return LEFT + (pulse - first) * column
+
+    def y_of(v):
+        return 14 + (v - 1) * row_height
+
+    puts = sorted((put for put in run.puts("payload") if first <= put.wire[1] <= last),
+                  key=lambda put: (put.wire[1], put.vertex, put.neighbour))
+    with svg.group("lower", transform=f"translate(0 {top:.0f})"):
+        svg.text(20, -40, "The same payloads, each from its own pulse to the one in which it is read: the synchronous rounds",
+                 13.5, INK, bold=True)
+        for pulse in range(first, last + 2):
+            if pulse <= last:
+                svg.rect(x_of(pulse), -8, column, height + 44, BAND if (pulse - first) % 2 == 0 else PAPER)
+                svg.text(x_of(pulse) + 5, -13, f"pulse {pulse}", 11.5, PULSE, bold=True)
+            svg.line(x_of(pulse), -8, x_of(pulse), height + 36, BORDER, 1.2)
+        for v in nodes:
+            svg.line(LEFT - 6, y_of(v), LEFT + 1132, y_of(v), "#8A8A8A", 1)
+            svg.text(LEFT - 18, y_of(v) + 5, v, 14, INK, "end", bold=True)
+            name_below(svg, run.network, v, y_of(v))
+        for put in puts:
+            with svg.group("round", put.title()):
+                round_arrow(svg, x_of(put.wire[1]), y_of(put.vertex), x_of(put.wire[1] + 1), y_of(put.neighbour))
+        for v in nodes:
+            for pulse in range(first, last + 2):
+                svg.line(x_of(pulse), y_of(v) - 8, x_of(pulse), y_of(v) + 8, INK, 3, mark="slot")
+        svg.text(20, height + 56, f"{counted(len(puts), 'payload')}, all that {'is' if len(puts) == 1 else 'are'} put in these pulses. Draw "
+                 "another run, with other workers: the upper half changes, this half does not.", 11.5, SOFT)
+
+
+def round_arrow(svg, x1, y1, x2, y2):
+    dx, dy = x2 - x1, y2 - y1
+    length = sqrt(dx * dx + dy * dy)
+    svg.line(x1, y1, x2 - dx / length * 7, y2 - dy / length * 7, WIRES["payload"], 1.7)
+    svg.head(x2, y2, dx, dy, 8, WIRES["payload"])

@@ -1,0 +1,276 @@
+"""Every schedule of a tiny network as a lattice: a mark is a state, a line a step, a column an event. One run is bold, and
+what goes wrong is red."""
+from lab.pictures.palette import BAND, BORDER, INK, PAPER, PULSE, SOFT, WIRES, WRONG
+from lab.pictures.schedules_space import fault_words, left_out_words, title_of
+from lab.pictures.svg import Svg, text_width
+from lab.schedules.explore import rounded
+from lab.wrong import Wrong
+
+COLUMNS, MOST_COLUMNS, STEPS, MOST_STEPS = 36, 108, 6_000, 12_000
+LEFT, HIGH, WIDE, LEAST_WIDTH = 44, 560, 1150, 780
+SWEEPS = 6
+APART = [BAND, "#CFE3F1", "#8FBBDD", "#56B4E9"]
+
+
+def draw(network, space, window, run_text):
+    """The states after `window` events, or after the first ones; bold is the run of a list of events, or one of ours."""
+    last = last_column(space)
+    low, high = window or first_window(space, last)
+    if not 0 <= low <= high <= last:
+        raise Wrong(f"{network.name} has states after 0 to {last} events: --events takes two of these numbers, the lower one first")
+    steps = steps_between(space)[low:high]
+    if high - low > MOST_COLUMNS:
+        raise Wrong(f"schedules draws at most {MOST_COLUMNS} events at a time, and {low}..{high} are {high - low}")
+    if sum(steps) > MOST_STEPS:
+        raise Wrong(f"schedules draws at most {MOST_STEPS:,} steps, and {low}..{high} have {sum(steps):,}: draw fewer events")
+    bold = run_of(space, run_text) if run_text is not None else first_fault(space) if space.faults else in_step(space)
+    what = "the run that was given" if run_text is not None else None
+    return Lattice(network, space, low, high, last, bold, what).drawn().document()
+
+
+def last_column(space):
+    """The most events after which all states are known, one that is refused being a state of its own."""
+    if space.expanded < space.count:
+        return space.depth[space.expanded]
+    return max(space.depth[space.count - 1], max((space.depth[s] + (e is not None) for s, e in space.faults), default=0))
+
+
+def steps_between(space):
+    """How many steps there are from each column to the next."""
+    counts = [0] * (space.depth[space.count - 1] + 1)
+    for s in range(space.expanded):
+        counts[space.depth[s]] += space.first[s + 1] - space.first[s]
+    return counts
+
+
+def first_window(space, last):
+    """The first columns, as many as a picture has room for."""
+    steps, high = 0, 0
+    for count in steps_between(space)[:min(last, COLUMNS)]:
+        steps += count
+        if steps > STEPS and high:
+            break
+        high += 1
+    return 0, high
+
+
+# The run that is bold: its steps as (state, number of the step in it).
+
+def first_fault(space):
+    """A shortest list of events that goes wrong."""
+    s, e = next(iter(space.faults))
+    return states_to(space, s) + ([] if e is None else [(s, e)])
+
+
+def states_to(space, s):
+    found = []
+    while s:
+        before = space.from_state[s]
+        found.append((before, next(k for k, (_, t) in enumerate(space.steps(before)) if t == s)))
+        s = before
+    return found[::-1]
+
+
+def in_step(space):
+    """All messages come before a node makes a pulse."""
+    s, found = 0, []
+    while steps := space.steps(s):
+        takes = [k for k, (event, _) in enumerate(steps) if event.kind == "take"]
+        pulses = space.nodes(s)
+        e = takes[0] if takes else min(range(len(steps)), key=lambda k: (pulses[steps[k][0].v].pulse, k))
+        found.append((s, e))
+        s = steps[e][1]
+    return found
+
+
+def run_of(space, text):
+    """The run of a list of events; puts are made by themselves, so their lines are passed over."""
+    s, found = 0, []
+    for line, raw in enumerate(text.split("\n"), 1):
+        fields = raw.split()
+        if not fields or fields[0].startswith("c") or fields[0] == "put":
+            continue
+        steps = space.steps(s) if s is not None else []
+        e = next((k for k, (event, _) in enumerate(steps) if str(event).split() == fields), None)
+        if e is None:
+            raise Wrong(f"the run's line {line}: `{raw.strip()}` is not possible there")
+        found.append((s, e))
+        s = steps[e][1]
+    return found
+
+
+class Lattice:
+    """`bold` are the steps of one run, and `what` says which it is, if it isn't one of ours."""
+
+    def __init__(self, network, space, low, high, last, bold, what):
+        self.network, self.space, self.low, self.high, self.last, self.what = network, space, low, high, last, what
+        self.bold, self.passed = set(bold), {s for s, _ in bold} | {space.steps(s)[e][1] for s, e in bold} | {0}
+        self.columns = [[] for _ in range(low, high + 1)]
+        for s in range(space.count):
+            if low <= space.depth[s] <= high:
+                self.columns[space.depth[s] - low].append(s)
+        self.steps = [(s, e, event, t) for column in self.columns for s in column for e, (event, t) in enumerate(space.steps(s))
+                      if space.depth[s] < high]
+        for s, e, event, t in self.steps:
+            if t is None:
+                self.columns[space.depth[s] + 1 - low].append((s, e))
+        self.columns = self.columns[:max(k for k, column in enumerate(self.columns) if column) + 1]
+        self.place()
+
+    def end_of(self, s, e, t):
+        """The mark at which a step ends; one that is refused has a mark of its own."""
+        return (s, e) if t is None else t
+
+    def place(self):
+        """Rows by the mean of a mark's neighbours, first to the left and then to the right, so that lines cross little."""
+        before, after = {}, {}
+        for s, e, _, t in self.steps:
+            before.setdefault(self.end_of(s, e, t), []).append(s)
+            after.setdefault(s, []).append(self.end_of(s, e, t))
+        self.row = {}
+        for column in self.columns:
+            self.spread(column)
+        for sweep in range(SWEEPS):
+            columns, beside = (self.columns, before) if sweep % 2 == 0 else (self.columns[::-1], after)
+            for column in columns:
+                mean = {s: sum(self.row[t] for t in beside[s]) / len(beside[s]) if s in beside else self.row[s] for s in column}
+                column.sort(key=lambda s: (self.lead(s), mean[s], self.row[s]))
+                self.spread(column)
+        self.widest = max(map(len, self.columns))
+        self.gap = min(40, max(4, HIGH / self.widest))
+        self.step = min(64, max(10, WIDE / max(1, len(self.columns) - 1)))
+        self.radius = min(11, 0.42 * self.gap, 0.36 * self.step)
+
+    def lead(self, s):
+        """Of two nodes, above: node 1 is ahead; below: node 2 is."""
+        pulses = [node.pulse for node in self.space.nodes(s[0] if isinstance(s, tuple) else s).values()]
+        return pulses[1] - pulses[0] if len(pulses) == 2 else 0
+
+    def spread(self, column):
+        for place, s in enumerate(column):
+            self.row[s] = place - (len(column) - 1) / 2
+
+    def x(self, s):
+        depth = self.space.depth[s[0]] + 1 if isinstance(s, tuple) else self.space.depth[s]
+        return LEFT + (depth - self.low) * self.step
+
+    def y(self, s):
+        return self.middle + self.row[s] * self.gap
+
+    def is_wrong(self, s):
+        """A state in which a node has made a pulse without its inbox, or in which nothing is possible though some node waits."""
+        return isinstance(s, tuple) or (s, None) in self.space.faults or any(node.wrong for node in self.space.nodes(s).values())
+
+    def drawn(self):
+        width = max(LEAST_WIDTH, LEFT + (len(self.columns) - 1) * self.step + 44)
+        lines = self.lines(width)
+        top = 48 + 16 * len(lines)
+        self.middle = top + self.radius + self.gap * (self.widest - 1) / 2
+        bottom = top + 2 * self.radius + self.gap * (self.widest - 1) + 20
+        svg = Svg(width, bottom + 46, f"every schedule of {self.network.name}")
+        svg.heading(self.fact(), *lines)
+        for k in range(0, len(self.columns), 1 if len(self.columns) <= 12 else 5 if len(self.columns) <= 60 else 10):
+            svg.text(LEFT + k * self.step, bottom, self.low + k, 9, SOFT, "middle")
+        svg.text(20, bottom + 16, "events so far: takes and pulses; a put is made as soon as it can be, and isn’t counted", 11.5, SOFT)
+        self.draw_steps(svg)
+        for column in self.columns:
+            for s in column:
+                self.draw_state(svg, s)
+        self.most_apart = max(self.apart(s) for column in self.columns for s in column if not isinstance(s, tuple))
+        self.legend(svg, bottom + 36)
+        return svg
+
+    def fact(self):
+        space, title = self.space, title_of(self.network, self.space)
+        if space.faults:
+            s, e = next(iter(space.faults))
+            return f"{title}: {space.depth[s] + (e is not None)} events are enough to go wrong"
+        return f"{title}: every schedule ends in " + ("one state" if len(space.ends) == 1 else f"one of {len(space.ends)} states")
+
+    def lines(self, width):
+        space = self.space
+        said = [left_out_words(space.without)] if space.without else []
+        inside = ", and inside are the nodes’ pulses" if self.number_size() >= 5 else ""
+        said.append(f"A mark is a state of the whole network{inside}; a line is one event. "
+                    f"{space.count:,} states, {len(space.target):,} steps" + ("." if space.schedules is None
+                                                                             else f", {rounded(space.schedules)} schedules."))
+        if (self.low, self.high) != (0, self.last):
+            said.append(f"Here are those after {self.low} to {self.high} of {self.last} events.")
+        if not any(self.low <= space.depth[s] < self.high for s, _ in self.bold):
+            pass
+        elif self.what:
+            said.append(f"Bold: {self.what}.")
+        elif space.faults:
+            said.append(f"Bold: a shortest schedule that goes wrong: {fault_words(space)}.")
+        else:
+            said.append("Bold: the run in which all that is sent comes before a node makes its pulse.")
+        return wrapped(" ".join(said), 11.5, width - 40)
+
+    def number_size(self):
+        """How large the pulses inside a mark are: all as large as the longest ones may be."""
+        longest = max(len(self.pulses_words(s)) for s in self.columns[-1])
+        return min(8, self.radius * 3.1 / longest)
+
+    def pulses_words(self, s):
+        return ",".join(str(node.pulse) for node in self.space.nodes(s[0] if isinstance(s, tuple) else s).values())
+
+    def draw_steps(self, svg):
+        for s, e, event, t in sorted(self.steps, key=lambda step: step[:2] in self.bold):
+            x1, y1, end = self.x(s), self.y(s), self.end_of(s, e, t)
+            x2, y2 = self.x(end), self.y(end)
+            is_bold, is_wrong = (s, e) in self.bold, (s, e) in self.space.faults
+            kind = "pulse" if event.kind == "pulse" else event.wire.split()[0]
+            title = f"{event}" + ("" if event.wire is None else f": {event.wire} from {event.w}")
+            with svg.group("bold" if is_bold else "step", title):
+                if is_bold:
+                    svg.line(x1, y1, x2, y2, INK, round(max(3.2, self.radius * 0.6), 1))
+                svg.line(x1, y1, x2, y2, WRONG if is_wrong else PULSE if kind == "pulse" else WIRES[kind],
+                         round(max(1.2, self.radius * 0.3), 1) if is_bold else 0.8 if self.radius < 4 else 1.4)
+
+    def apart(self, s):
+        """The most pulses that two neighbours are apart, three for all above."""
+        pulses = [node.pulse for node in self.space.nodes(s).values()]
+        return min(3, max((abs(pulses[v - 1] - pulses[w - 1]) for v, w in self.space.links), default=0))
+
+    def draw_state(self, svg, s):
+        x, y, is_wrong = self.x(s), self.y(s), self.is_wrong(s)
+        if isinstance(s, tuple):
+            with svg.group("state wrong", fault_words(self.space, s)):
+                svg.circle(x, y, self.radius, WRONG, INK, 1)
+                svg.text(x, y + self.radius * 0.42, "×", round(1.5 * self.radius, 1), PAPER, "middle", bold=True)
+            return
+        apart = self.apart(s)
+        words = ", ".join(f"node {v} at pulse {node.pulse} {'has halted' if node.stage == 'whole' else node.stage}"
+                          for v, node in self.space.nodes(s).items())
+        is_bold = s in self.passed
+        with svg.group("state wrong" if is_wrong else "state", words):
+            svg.circle(x, y, self.radius, WRONG if is_wrong else APART[apart], INK if is_bold else BORDER,
+                       (1.8 if is_bold else 0.8) if self.radius > 4 else 0.5)
+            size = self.number_size()
+            if size >= 5:
+                svg.text(x, y + size * 0.36, self.pulses_words(s), round(size, 1), PAPER if is_wrong else INK, "middle")
+
+    def legend(self, svg, y):
+        svg.text(20, y, "takes of", 11.5, SOFT)
+        x = 80
+        for name, hue in [*WIRES.items(), ("pulse", PULSE)]:
+            svg.line(x, y - 4, x + 22, y - 4, hue, 2)
+            svg.text(x + 27, y, name, 11.5, SOFT)
+            x += 27 + text_width(name, 11.5) + 14
+        meant = ["all at one pulse", "neighbours a pulse apart", "two", "more"]
+        for fill, words in list(zip(APART, meant))[:max(2, self.most_apart + 1)]:
+            svg.circle(x + 6, y - 4, 6, fill, BORDER, 0.8)
+            svg.text(x + 18, y, words, 11.5, SOFT)
+            x += 24 + text_width(words, 11.5) * 0.95
+
+
+def wrapped(text, size, width):
+    """The text in lines that are no wider."""
+    lines = [""]
+    for word in text.split(" "):
+        longer = f"{lines[-1]} {word}".strip()
+        if text_width(longer, size) > width:
+            lines.append(word)
+        else:
+            lines[-1] = longer
+    return lines

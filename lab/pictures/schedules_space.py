@@ -1,0 +1,96 @@
+"""All states of a tiny network and the steps between them, as lab/schedules/space.py finds them, for the kinds that draw
+every schedule; and the rounds without a rule, as ruled_rounds.py there has them. What is too large for a picture is refused here,
+in a sentence."""
+import re
+import sys
+
+from lab.schedules.explore import MOST_MERGED, MOST_ROW
+from lab.schedules.reading import network_of
+from lab.schedules.ruled_rounds import RuledRounds, smallest
+from lab.schedules.rules import ALL, OF_FORESTS
+from lab.schedules.space import Space, TooMany
+from lab.wrong import Wrong
+
+MAX_STATES = 200_000
+BROKEN_STATES = 20_000, 60_000, MAX_STATES
+
+
+class CutSpace(Space):
+    """A search that ends at its limit: states beyond `expanded` have no steps, and `is_cut` says that there are some."""
+
+    is_cut = False
+
+    def search(self, progress):
+        try:
+            super().search(progress)
+        except TooMany:
+            self.is_cut = True
+            self.expanded = len(self.first) - 1
+            del self.target[self.first[-1]:], self.event_of[self.first[-1]:]
+            for key in [key for key in self.faults if key[0] >= self.expanded]:
+                del self.faults[key]
+
+
+def space_of(network, kind, without=(), beyond=False):
+    """The space of a network that was read. With a rule left out it goes on behind what goes wrong if `beyond`, up to the first
+    of the numbers of `BROKEN_STATES` within which something does."""
+    if without and beyond:
+        for limit in BROKEN_STATES:
+            space = CutSpace(network_of(network), without, limit, beyond=True, progress=progress)
+            if space.faults or not space.is_cut:
+                break
+        return space
+    try:
+        return Space(network_of(network), without, MAX_STATES + 1, progress=progress)
+    except TooMany:
+        raise Wrong(f"{kind} draws at most {MAX_STATES:,} states, and {network.name} has more: leave out an edge or a node") from None
+
+
+def progress(states, events):
+    """A line for whoever waits at a terminal."""
+    if sys.stderr.isatty():
+        print(f"picture: {states:,} states, up to {events} events", file=sys.stderr)
+
+
+def broken_rounds(network, without):
+    """(rounds, how many networks go right that are smaller) of a network that was read, or of a smallest one, on which the rounds
+    go wrong without these rules. Networks that go right are refused."""
+    said = " and ".join(f"`{rule}`" for rule in without)
+    if network is not None:
+        rounds = RuledRounds(network_of(network), without)
+        if rounds.clash is None:
+            raise Wrong(f"not broken: the rounds of {network.name} go right without {said}; without NETWORK, broken draws a smallest one "
+                        "that goes wrong")
+        return rounds, 0
+    most, what = (MOST_ROW, "rows") if set(without) <= set(OF_FORESTS) else (MOST_MERGED, "networks")
+    rounds, tried = smallest(without, most)
+    if rounds is None:
+        raise Wrong(f"not broken: {tried:,} {what} of up to {most} nodes go right without {said}")
+    return rounds, tried - 1
+
+
+def rules_of(text, among):
+    """The rules of an option `--without RULE,RULE`, or None if one of them isn't among those that can be left out."""
+    rules = tuple(text.split(","))
+    return rules if set(rules) <= set(among) and len(set(rules)) == len(rules) else None
+
+
+def fault_words(space, key=None):
+    """What goes wrong, of all that does the first by default."""
+    return quoted(space.faults[key] if key else next(iter(space.faults.values())))
+
+
+def quoted(words):
+    """The quotes of a picture for those of a terminal."""
+    return re.sub("`([^`]*)`", "‘\\1’", words)
+
+
+def left_out_words(without):
+    """The rules that are left out, as a sentence."""
+    said = [f"that {ALL[rule].says}" for rule in without]
+    return f"Left out {'is the rule' if len(said) == 1 else 'are the rules'} {'; '.join(said)}."
+
+
+def title_of(network, space):
+    """The network, and the rules that it has to do without."""
+    return network.name + (f" without {' and '.join(space.without)}" if space.without else "")

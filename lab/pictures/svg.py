@@ -1,0 +1,103 @@
+"""One drawing as SVG text. The same calls give the same bytes on every machine: numbers come from +, -, *, / and sqrt,
+and are written with one decimal place."""
+from contextlib import contextmanager
+from math import sqrt
+
+from lab.pictures.palette import FONT, INK, PAPER, SOFT
+
+
+def shown(number):
+    """A number with at most one decimal place."""
+    if isinstance(number, str):
+        return number
+    text = f"{number:.1f}"
+    text = text.removesuffix(".0")
+    return "0" if text == "-0" else text
+
+
+def escaped(text):
+    return str(text).replace("&", "&amp;").replace("<", "&lt;").replace(">", "&gt;")
+
+
+def counted(count, what):
+    """A number of things in words: `1 node`, `2 nodes`."""
+    return f"{count} {what}{'' if count == 1 else 's'}"
+
+
+def text_width(text, size):
+    """About how wide a text is: DejaVu Sans takes six tenths of its size for a letter, or a little less."""
+    return 0.6 * size * len(str(text))
+
+
+class Svg:
+    """Elements in the order in which they are drawn; what comes later lies on top."""
+
+    def __init__(self, width, height, title):
+        self.width, self.height, self.title = width, height, title
+        self.parts = []
+
+    def element(self, name, text=None, **attributes):
+        """Adds an element; `mark` is its class, by which tests count it, and `_` in a name stands for `-`."""
+        words = [name]
+        for key, value in attributes.items():
+            if value is not None:
+                key = "class" if key == "mark" else key.replace("_", "-")
+                words.append(f'{key}="{escaped(shown(value))}"')
+        head = " ".join(words)
+        self.parts.append(f"<{head}/>" if text is None else f"<{head}>{escaped(text)}</{name}>")
+
+    @contextmanager
+    def group(self, mark, title=None, **attributes):
+        """Elements that are one mark; a browser shows the title under the mouse."""
+        words = "".join(f' {key.replace("_", "-")}="{escaped(shown(value))}"' for key, value in attributes.items())
+        self.parts.append(f'<g class="{mark}"{words}>' + (f"<title>{escaped(title)}</title>" if title else ""))
+        yield
+        self.parts.append("</g>")
+
+    def clip(self, name, x, y, width, height):
+        """A box out of which nothing is drawn of the groups that name it."""
+        self.parts.append(f'<clipPath id="{name}"><rect x="{shown(x)}" y="{shown(y)}" width="{shown(width)}" '
+                          f'height="{shown(height)}"/></clipPath>')
+
+    def line(self, x1, y1, x2, y2, colour=INK, width=1, dash=None, **more):
+        self.element("line", x1=x1, y1=y1, x2=x2, y2=y2, stroke=colour, stroke_width=width, stroke_dasharray=dash, **more)
+
+    def path(self, steps, colour=INK, width=1, fill="none", **more):
+        """Steps are letters and numbers, as ["M", 0, 0, "L", 5, 5]."""
+        self.element("path", d=" ".join(map(shown, steps)), stroke=colour, stroke_width=width, fill=fill, **more)
+
+    def rect(self, x, y, width, height, fill, stroke=None, stroke_width=None, round_by=None, **more):
+        self.element("rect", x=x, y=y, width=width, height=height, rx=round_by, fill=fill, stroke=stroke,
+                     stroke_width=stroke_width, **more)
+
+    def circle(self, x, y, radius, fill, stroke=None, stroke_width=None, **more):
+        self.element("circle", cx=x, cy=y, r=radius, fill=fill, stroke=stroke, stroke_width=stroke_width, **more)
+
+    def text(self, x, y, text, size=11, fill=INK, anchor=None, bold=False, halo=None, **more):
+        if halo:
+            more.update(paint_order="stroke", stroke=PAPER, stroke_width=halo)
+        self.element("text", text, x=x, y=y, font_size=size, fill=fill, text_anchor=anchor,
+                     font_weight="bold" if bold else None, **more)
+
+    def head(self, x, y, dx, dy, size, colour, hollow=False):
+        """An arrow's head with its tip at x, y, pointing along dx, dy."""
+        length = sqrt(dx * dx + dy * dy) or 1
+        dx, dy = dx / length, dy / length
+        back_x, back_y, half = x - dx * size, y - dy * size, size * 0.42
+        self.path(["M", x, y, "L", back_x - dy * half, back_y + dx * half, "L", back_x + dy * half, back_y - dx * half, "Z"],
+                  colour, 1, PAPER if hollow else colour)
+
+    def heading(self, title, *lines):
+        """The fact that the picture shows, and what helps to read it, from the upper left corner."""
+        self.text(20, 28, title, 17, INK, bold=True)
+        for number, line in enumerate(lines):
+            self.text(20, 48 + 16 * number, line, 11.5, SOFT)
+
+    def inner(self):
+        return "\n".join(self.parts)
+
+    def document(self):
+        width, height = shown(self.width), shown(self.height)
+        return (f'<svg xmlns="http://www.w3.org/2000/svg" viewBox="0 0 {width} {height}" width="{width}" height="{height}" '
+                f'font-family="{FONT}"><title>{escaped(self.title)}</title>\n'
+                f'<rect width="100%" height="100%" fill="{PAPER}"/>\n{self.inner()}\n</svg>\n')

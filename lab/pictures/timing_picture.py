@@ -1,0 +1,119 @@
+"""A logic analyser at one node: its own entries from left to right, a lane for what it awaits, a staircase for each port."""
+from lab.pictures.palette import INK, PAPER, SOFT, WIRES
+from lab.pictures.svg import Svg, text_width
+from lab.pictures.synchroniser import moments_of
+from lab.wrong import Wrong, at_most
+
+LEFT, TOP, LANE, UNIT = 150, 132, 62, 17
+LIMIT = 14
+MOST_ENTRIES = 300
+
+
+def usual(last):
+    """The pulses that are drawn if none are asked for."""
+    return 0, min(4, last)
+
+
+def draw(run, vertex, pulses=None):
+    if vertex not in run.network.vertices:
+        raise Wrong(f"{run.network.name} has no node {vertex}")
+    neighbours = run.network.neighbours[vertex]
+    at_most("node", len(neighbours), "ports of a node", LIMIT, "automaton: leave --vertex out")
+    first, last = run.window(pulses, usual(run.last))
+    moments = [moment for moment in moments_of(run, vertex) if first <= moment.pulse <= last]
+    if not moments:
+        raise Wrong(f"{run.name}: node {vertex} did nothing in pulses {first} to {last}")
+    at_most("node", len(moments), "entries side by side", MOST_ENTRIES, "fewer pulses: --pulses A..B")
+    step = max(7, min(15, 1080 / len(moments)))
+    said = ("One step to the right is one entry of this node. A lane rises by half with a payload taken, to the next line with a safe; "
+            "each pulse lowers all by one.")
+    width = max(LEFT + len(moments) * step + 24, 40 + text_width(said, 11.5) * 0.95)
+    svg = Svg(width, TOP + 58 + len(neighbours) * LANE + 26, f"Node {vertex} of {run.name}")
+    svg.heading(f"{run.name}, node {vertex}: pulses {first} to {last} as it lived them", said)
+    legend(svg)
+    timing = Timing(svg, moments, step)
+    timing.pulses(svg.height - 22)
+    timing.own_lanes()
+    for number, neighbour in enumerate(neighbours):
+        timing.port(neighbour, TOP + 58 + (number + 1) * LANE - 20)
+    return svg.document()
+
+
+def legend(svg):
+    x = 20
+    for kind in ("payload", "ack", "safe", "close"):
+        svg.circle(x + 6, 72, 4, WIRES[kind])
+        svg.text(x + 15, 76, f"{kind} taken", 11)
+        x += 34 + text_width(f"{kind} taken", 11)
+        svg.circle(x, 72, 3.4, PAPER, WIRES[kind], 1.6)
+        svg.text(x + 8, 76, "put", 11)
+        x += 56
+
+
+class Timing:
+    def __init__(self, svg, moments, step):
+        self.svg, self.moments, self.step = svg, moments, step
+        self.end = LEFT + len(moments) * step
+
+    def x(self, index):
+        """The middle of an entry's column, where what it changes begins."""
+        return LEFT + (index + 0.5) * self.step
+
+    def to_next(self, index):
+        return min(self.x(index) + self.step, self.end)
+
+    def pulses(self, bottom):
+        for index, moment in enumerate(self.moments):
+            if moment.entry.kind == "pulse":
+                self.svg.line(self.x(index), 98, self.x(index), bottom, INK, 1.6, mark="tick")
+                self.svg.text(self.x(index), 94, f"pulse {moment.pulse}", 10.5, INK, "middle", bold=True)
+
+    def own_lanes(self):
+        """How many acknowledgements it awaits, and whether it has said safe."""
+        svg = self.svg
+        svg.text(LEFT - 12, TOP + 2, "awaits ack", 11, SOFT, "end")
+        svg.text(LEFT - 12, TOP + 27, "said safe", 11, SOFT, "end")
+        for (_, awaits), first, end in self.stretches(lambda moment: (moment.pulse, moment.awaits)):
+            if awaits:
+                high = min(4.5, 24 / len(self.moments[0].heights)) * awaits
+                svg.rect(self.x(first), TOP - 2 - high, self.x(end) - self.x(first), high + 4, "#BDBDBD", mark="awaits")
+        for (_, said), first, end in self.stretches(lambda moment: (moment.pulse, moment.said)):
+            if said:
+                begin = self.x(first) + (2.5 if self.moments[first].entry.kind == "pulse" else 0)
+                svg.rect(begin, TOP + 16, min(self.x(end), self.end) - begin, 12, WIRES["safe"], mark="said")
+
+    def stretches(self, what):
+        """(value, first, end) of each stretch of entries after which `what` is the same."""
+        values = list(map(what, self.moments))
+        first = 0
+        for end in range(1, len(values) + 1):
+            if end == len(values) or values[end] != values[first]:
+                yield values[first], first, end
+                first = end
+
+    def port(self, neighbour, base):
+        """The staircase of a port, and its wires under it."""
+        svg, steps, before = self.svg, [], None
+        svg.text(LEFT - 12, base - 6, f"port to {neighbour}", 12, INK, "end", bold=True)
+        for line in range(3):
+            svg.line(LEFT, base - line * UNIT, self.end, base - line * UNIT, "#E2E2E2", 1)
+        for index, moment in enumerate(self.moments):
+            high = moment.heights[neighbour]
+            if high:
+                svg.rect(self.x(index), base - high * UNIT, self.to_next(index) - self.x(index) + 0.3, high * UNIT, "#FBEFE4")
+            if before is None:
+                steps += ["M", self.x(index), base - high * UNIT]
+            elif high != before:
+                steps += ["V", base - high * UNIT]
+            steps += ["H", self.to_next(index)]
+            before = high
+        svg.path(steps, INK, 1.5, mark="lane")
+        for index, moment in enumerate(self.moments):
+            entry = moment.entry
+            if entry.neighbour == neighbour:
+                colour = WIRES[entry.wire[0]]
+                with svg.group(entry.kind, f"{entry.kind} {entry.wire[0]}"):
+                    if entry.kind == "take":
+                        svg.circle(self.x(index), base + 9, 3.8, colour)
+                    else:
+                        svg.circle(self.x(index), base + 9, 3, PAPER, colour, 1.6)

@@ -1,0 +1,1 @@
+"""Every schedule of a tiny network, with rules left out if wanted."""

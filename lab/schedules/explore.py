@@ -1,0 +1,207 @@
+"""The door: `bin/explore NETWORK [options]`. Plays every schedule of a tiny network, with rules left out if some are named, and
+writes what it found, or one line on standard error."""
+import argparse
+import sys
+from collections import Counter
+
+from lab.schedules import ruled_rounds
+from lab.schedules.reading import network_at
+from lab.schedules.rules import ALL, OF_FORESTS, OF_ROUNDS, OF_SCHEDULES, table
+from lab.schedules.space import Space, TooMany
+from lab.wrong import Wrong
+
+MOST_NODES, LIMIT, BYTES_A_STATE = 4, 1_000_000, 420
+MOST_ROW, MOST_MERGED = 12, 5
+
+HELP = f"""\
+Plays every schedule of a network of up to {MOST_NODES} nodes: all lists of events that
+the synchroniser and its links allow, a put being made as soon as it can be. In
+every state it checks that each pulse had the round's inbox, and that something is
+possible unless all nodes are at the end and all links are empty.
+
+With --without it leaves rules out, and writes a list of events that goes wrong, with
+as few takes and pulses as there can be (and puts, with --puts), or `not broken`. For
+a rule of the rounds it looks at the rounds of NETWORK; without NETWORK, for a
+smallest network on which they go wrong.
+"""
+
+MORE_HELP = f"""\
+Rules of the synchroniser and of its links, and then of the rounds:
+{table()}
+NETWORK is a file in the DIMACS format, or - for standard input. A state takes some
+{BYTES_A_STATE} bytes of memory, so {LIMIT:,} states some {LIMIT * BYTES_A_STATE // 10 ** 6} MB; most networks of four nodes
+have fewer.
+
+This is Python over slow definitions, written from the project's pages. It is tested,
+and not proved.
+
+Examples:
+  bin/explore examples/triangle.col
+  bin/explore examples/two.col --without safes
+  (cat examples/two.col; bin/explore examples/two.col --without early --events) |
+      bin/forestplay events
+  bin/explore --without digit
+
+Status: 0 searched to the end, broken or not; 1 not searched (one line on standard
+error says why); 2 the command line is refused.
+"""
+
+
+def rules_of(text):
+    words = text.split(",")
+    for word in words:
+        if word not in ALL:
+            raise argparse.ArgumentTypeError(f"`{word}` is no rule: use some of {','.join(ALL)}")
+    if not set(words) <= set(OF_SCHEDULES) and not set(words) <= set(OF_ROUNDS):
+        raise argparse.ArgumentTypeError("rules of the synchroniser and rules of the rounds can't be left out together")
+    return list(dict.fromkeys(words))
+
+
+def positive(text):
+    if not text.isascii() or not text.isdigit() or not 1 <= int(text) < 2 ** 31:
+        raise argparse.ArgumentTypeError("a number from 1 up")
+    return int(text)
+
+
+def command_line():
+    words = argparse.ArgumentParser(prog="explore", usage="explore [NETWORK] [options]", description=HELP, epilog=MORE_HELP,
+                                    formatter_class=argparse.RawDescriptionHelpFormatter)
+    words.add_argument("network", metavar="NETWORK", nargs="?", help="the network's file")
+    words.add_argument("--without", type=rules_of, default=[], metavar="RULES", help="the rules to leave out, with commas between")
+    words.add_argument("--limit", type=positive, default=LIMIT, metavar="STATES", help=f"give up beyond so many states ({LIMIT})")
+    words.add_argument("--events", action="store_true", help="write one list of events alone, as `forestplay events` reads it")
+    words.add_argument("--puts", action="store_true", help="count puts as events of their own, made at any time")
+    return words
+
+
+def main(words):
+    line = command_line()
+    given = line.parse_args(words)
+    of_rounds = bool(given.without) and set(given.without) <= set(OF_ROUNDS)
+    if given.network is None and not of_rounds:
+        line.error("NETWORK is missing")
+    if of_rounds and (given.events or given.puts):
+        line.error("the rounds have no events: --events and --puts are for the rules " + ",".join(OF_SCHEDULES))
+    try:
+        text = rounds_text(given) if of_rounds else schedules_text(given)
+        sys.stdout.buffer.write(text.encode())
+    except Wrong as why:
+        return failed(why)
+    return 0
+
+
+def failed(why):
+    print(f"explore: {why}", file=sys.stderr)
+    return 1
+
+
+# The rounds.
+
+def rounds_text(given):
+    """What the rounds of the network do without the rules, or a smallest network on which they go wrong."""
+    if given.network is not None:
+        name, net = network_at(given.network)
+        rounds = ruled_rounds.RuledRounds(net, given.without)
+        return said_of_rounds(given, rounds if rounds.clash else None, f"on {name}", f"the rounds of {name}")
+    is_of_forests = set(given.without) <= set(OF_FORESTS)
+    most, what = (MOST_ROW, "rows") if is_of_forests else (MOST_MERGED, "networks")
+    rounds, tried = ruled_rounds.smallest(given.without, most)
+    if rounds is None:
+        return f"not broken: {tried:,} {what} of up to {most} nodes go right\n"
+    edges = ", ".join(f"{v}-{w}" for v, w in sorted(map(sorted, rounds.net.number)))
+    smaller = f"; {tried - 1} smaller {what} go right" if tried > 1 else ""
+    return said_of_rounds(given, rounds, f"on {len(rounds.net.neighbours)} nodes with the edges {edges}{smaller}", "")
+
+
+def said_of_rounds(given, rounds, where, what):
+    if rounds is None:
+        return f"not broken: {what} go right\n{refused_words(given.without)}"
+    return f"broken {where}\n{rounds.words()}\n{refused_words(given.without)}"
+
+
+def refused_words(without):
+    """The wrong bodies that take these rules away."""
+    return "".join(f"wrong body of `{ALL[word].crate}`, which the prover refuses: {ALL[word].edit}\n" for word in without)
+
+
+# The schedules.
+
+def schedules_text(given):
+    name, net = network_at(given.network)
+    if len(net.neighbours) > MOST_NODES:
+        raise Wrong(f"{name} has {len(net.neighbours)} nodes, and every schedule is played of at most {MOST_NODES}")
+    space = searched(given, net)
+    if given.events:
+        events = space.path_to_fault() if space.faults else space.path(space.ends[0])
+        return "".join(f"{event}\n" for event in space.with_puts(events))
+    return broken_text(given, space) if space.faults else whole_text(given, name, space)
+
+
+def searched(given, net):
+    """The search, with a line of progress if somebody looks on."""
+    show = sys.stderr.isatty()
+    if show:
+        sys.stderr.write(f"explore: at most {given.limit:,} states, {given.limit * BYTES_A_STATE // 10 ** 6:,} MB")
+
+    def progress(states, depth):
+        sys.stderr.write(f"\r\033[Kexplore: {states:,} states of at most {given.limit:,}, {depth} events far")
+        sys.stderr.flush()
+
+    try:
+        return Space(net, given.without, given.limit, given.puts, progress=progress if show else None)
+    except TooMany:
+        raise Wrong(f"there are more than {given.limit:,} states: use --limit for more, "
+                    f"at some {BYTES_A_STATE} bytes each") from None
+    finally:
+        if show:
+            sys.stderr.write("\r\033[K")
+
+
+def whole_text(given, name, space):
+    """All went right."""
+    what = f"not broken without {','.join(given.without)}" if given.without else f"every schedule of {name}"
+    schedules = "" if space.schedules is None else f", {rounded(space.schedules)} schedules"
+    pulses = sum(node.pulse for node in space.nodes(space.ends[0]).values())
+    rest = space.depth[space.ends[0]] - pulses
+    kinds = f"{rest // 2:,} puts, {rest // 2:,} takes" if space.puts else f"{rest:,} takes"
+    channels = [" ".join(str(node.colour + 1) for node in space.nodes(s).values()) for s in space.ends]
+    return "".join(f"{line}\n" for line in [
+        f"{what}: {space.count:,} states, {len(space.target):,} steps{schedules}",
+        f"each has {rest + pulses:,} events: {kinds} and {pulses:,} pulses",
+        "each pulse had the round's inbox, and something was possible until all was done",
+        f"neighbours at most {space.farthest} pulse{'s' * (space.farthest != 1)} apart, "
+        f"at most {space.most_wires} wires of a link under way",
+        f"{'one end' if len(channels) == 1 else f'{len(channels)} ends'}: channels {' or '.join(dict.fromkeys(channels))}",
+    ]) + refused_words(given.without)
+
+
+def rounded(number):
+    """Two digits of a large number, as 2.3e188."""
+    text = str(number)
+    if len(text) <= 6:
+        return f"{number:,}"
+    two = (int(text[:3]) + 5) // 10
+    return f"{two // 10}.{two % 10}e{len(text) - 1}" if two < 100 else f"1.0e{len(text)}"
+
+
+def broken_text(given, space):
+    what = space.faults[space.first_fault()]
+    listed = space.with_puts(space.path_to_fault())
+    return "".join([f"broken after {len(listed)} events: {what}\n", *event_lines(listed), refused_words(given.without)])
+
+
+def event_lines(listed):
+    """The events with the wires that they put or take, or the pulse that is made."""
+    made = Counter()
+    for event in listed:
+        if event.kind == "pulse":
+            made[event.v] += 1
+            yield f"{event}: node {event.v} makes pulse {made[event.v]}\n"
+        elif event.kind == "put":
+            yield f"{event}: {event.wire} for {event.w}\n"
+        else:
+            yield f"{event}: {event.wire} from {event.w}{', out of turn' if event.place else ''}\n"
+
+
+if __name__ == "__main__":
+    sys.exit(main(sys.argv[1:]))

@@ -1,0 +1,128 @@
+"""A node under the synchroniser with rules left out, and the rounds that it should simulate. The rules are those of
+rules.OF_SCHEDULES; `fifo` is one of the links, so it is in space.py.
+
+What a pulse does with an inbox that no round has is the program's own matter: it refuses a payload that isn't due, and a
+missing one that is (docs/claim/DEFINITIONS.md, refusals of the colouring), and goes on otherwise."""
+import copy
+
+from lab.definitions.nodes import AlphaNode, Colouring, Refused, last_pulse, ports_of
+
+
+class RuledNode(AlphaNode):
+    """`wrong` says that it has made a pulse with another inbox than the round's."""
+
+    def __init__(self, net, v, without):
+        self.without, self.wrong = frozenset(without), False
+        super().__init__(net, v)
+
+    def settle(self):
+        if "acks" in self.without:
+            for port in self.ports:
+                port.waits = False
+        super().settle()
+
+    def can_pulse(self):
+        if "safes" in self.without:
+            return self.pulse_number != self.last and self.said and self.can_take()
+        return super().can_pulse()
+
+    def is_whole(self):
+        return self.drained()
+
+    def on_wire(self, at, wire):
+        kind, port = wire[0], self.ports[at]
+        if kind == "Ack" and "acks" in self.without:
+            return
+        if kind == "Payload" and self.without & {"safes", "early"}:
+            self.take_payload(port, wire)
+        elif "safes" in self.without and kind == "Safe":
+            return
+        elif "safes" in self.without and kind == "Close":
+            port.closed = True
+        else:
+            super().on_wire(at, wire)
+
+    def take_payload(self, port, wire):
+        """Without safes a payload may come a pulse too late, and is thrown away, or too early for its place."""
+        ahead = wire[1] - self.pulse_number
+        if ahead > 1 or ahead < 0 and "safes" not in self.without:
+            raise Refused(f"{wire}: no place for it")
+        if ahead == 0 or ahead == 1 and "early" in self.without:
+            port.present = wire[2]
+        elif ahead == 1:
+            port.early = wire[2]
+        port.out.append(("Ack", wire[1]))
+
+    def copied(self):
+        node = copy.copy(self)
+        node.ports = [copy.copy(port) for port in self.ports]
+        for port in node.ports:
+            port.out = list(port.out)
+        node.program = copy.copy(self.program)
+        for name in ("roles", "colours", "before", "chosen"):
+            setattr(node.program, name, copy.copy(getattr(self.program, name)))
+        return node
+
+    def key(self):
+        """Equal for equal nodes of one vertex."""
+        program = self.program
+        return (self.pulse_number, self.said, self.wrong, tuple(program.roles), tuple(program.colours), tuple(program.before),
+                program.old, program.merged, frozenset(program.chosen),
+                tuple((port.waits, port.safe, port.early_safe, port.closed, port.present, port.early, tuple(port.out))
+                      for port in self.ports))
+
+
+class Rounds:
+    """The synchronous run: `inbox[v, p]` of each vertex and pulse from 1, and the last pulse."""
+
+    def __init__(self, net):
+        self.net, self.last = net, last_pulse(net)
+        self.ports = {v: ports_of(net, v) for v in net.neighbours}
+        nodes = {v: Colouring(net, v) for v in net.neighbours}
+        sent, self.inbox = {v: nodes[v].greet() for v in nodes}, {}
+        for p in range(1, self.last + 1):
+            for v in nodes:
+                self.inbox[v, p] = [sent[w][self.ports[w].index(v)] for w in self.ports[v]]
+            sent = {v: nodes[v].next(p, self.inbox[v, p]) for v in nodes}
+        self.colours = {v: node.merged for v, node in nodes.items()}
+
+    def fault(self, v, p, inbox):
+        """How an inbox differs from the round's, at the first port at which it does; None if it doesn't."""
+        for w, got, due in zip(self.ports[v], inbox, self.inbox[v, p]):
+            if got is None and due is not None:
+                return f"node {v} makes pulse {p} without `{payload_words(due)}` from {w}"
+            if got != due:
+                instead = f", not with `{payload_words(due)}`" if due else ", which is of another round"
+                return f"node {v} makes pulse {p} with `{payload_words(got)}` from {w}{instead}"
+        return None
+
+
+def payload_words(payload):
+    return f"{payload[0].lower()} {payload[1]}"
+
+
+def program_refuses(program, pulse, inbox):
+    """Whether the colouring refuses an inbox: what is due and missing, or not due, or a value that can't be. (A role is None
+    before pulse 2, or the way and the forest.)"""
+    kinds = {None if slot is None else slot[0] for slot in inbox}
+    if pulse == 1:
+        numbers = [slot[1] for slot in inbox if slot]
+        higher = [number for number in numbers if number > program.id]
+        return bool(kinds - {"Hello"}) or len({*numbers, program.id}) <= len(numbers) or len(higher) > program.forests
+    if pulse == 2:
+        return any(slot is not None if role else slot is None or slot[0] != "Label" or slot[1] >= program.forests
+                   for role, slot in zip(program.roles, inbox))
+    if pulse <= 12:
+        bound = {3: 2 ** 128, 4: 255, 5: 15, 6: 7, 7: 5, 8: 5, 9: 4, 10: 4, 11: 3, 12: 3}[pulse]
+        return any(slot is None or slot[0] != "Colour" or slot[1] > bound or slot[1] == program.colours[role[1]]
+                   if role[0] == "Up" else slot is not None for role, slot in zip(program.roles, inbox)) or (
+            pulse >= 7 and max(program.colours, default=0) > bound)
+    width = program.span + 1
+    forest, step = divmod(pulse - 13, 3 * width)
+    chosen = {slot[1] for slot in inbox if slot}
+    if kinds - {"Chosen", None} or max(chosen, default=0) > program.span or chosen and step == 0:
+        return True
+    if any(slot and role[1] > forest for role, slot in zip(program.roles, inbox)):
+        return True
+    old, taken = (program.merged, chosen) if step == 0 else (program.old, program.chosen | chosen)
+    return (program.colours[forest], old) == divmod(step, width) and set(range(width)) <= taken | program.barred

@@ -1,0 +1,46 @@
+"""The rules that can be left out, and the wrong body that takes each one away from the proved program.
+
+`crate` and `edit` name that body: it is the file EDIT.edit in crates/CRATE/must-fail/ or in crates/CRATE/wrong-bodies/."""
+from collections import namedtuple
+
+Rule = namedtuple("Rule", "says without crate edit")
+
+# Of the synchroniser and its links: what breaks is looked for in the schedules of a network.
+OF_SCHEDULES = {
+    "safes": Rule("a node makes a pulse only when its neighbours are safe", "it doesn't wait for their safes",
+                  "alpha_core", "can_pulse_without_the_neighbours_safes"),
+    "acks": Rule("a node says safe only when its payloads are acknowledged", "it says safe at once",
+                 "alpha_core", "settle_says_safe_before_the_last_acknowledgement"),
+    "early": Rule("a payload of the next pulse is kept apart", "it is put in the place of this pulse's payload",
+                  "alpha_core", "take_payload_puts_an_early_one_among_the_present"),
+    "fifo": Rule("a link hands wires over in the order in which they were put", "a wire may overtake those before it",
+                 "net_core", "next_gives_the_newest_wire"),
+}
+
+# Of the rounds of the colouring: of a forest's colours, and of the merging.
+OF_FORESTS = {
+    "digit": Rule("a bit step is the place and the node's own digit there", "it is the place alone",
+                  "cole_vishkin", "bit_step_leaves_the_digit_out"),
+    "shift": Rule("before a drop all nodes take their parents' colours", "they keep their own",
+                  "shift_down", "shift_leaves_every_colour"),
+    "root": Rule("in a shift a root takes another colour than its own", "it keeps its own",
+                 "shift_down", "shift_of_a_root_keeps_its_colour"),
+    "children": Rule("a node that drops its colour takes another than its children have", "it doesn't look at them",
+                     "shift_down", "drop_class_avoids_the_parent_alone"),
+    "parent": Rule("a node that drops its colour takes another than its parent has", "it doesn't look at it",
+                   "shift_down", "drop_class_forgets_the_parent"),
+}
+OF_MERGING = {
+    "pair": Rule("nodes choose in the order of pairs: colour in the forest, old colour",
+                 "the order is by the colour in the forest alone",
+                 "colour_rules", "chooses_by_the_colour_in_the_forest_alone"),
+    "earlier": Rule("a node tells its choice to its neighbours in this forest and in earlier ones", "to those in this forest alone",
+                    "colour_rules", "is_merged_takes_the_merged_forest_alone"),
+}
+OF_ROUNDS = OF_FORESTS | OF_MERGING
+ALL = OF_SCHEDULES | OF_ROUNDS
+
+
+def table():
+    """The rules as lines of help."""
+    return "".join(f"  {word:9} {rule.says};\n            left out: {rule.without}\n" for word, rule in ALL.items())

@@ -1,0 +1,384 @@
+"""Every schedule of a tiny network: all states that lists of events lead to, and the steps between them.
+
+    from space import Space, TooMany
+    space = Space(net, without=("safes",), limit=200_000)
+
+`net` is a network of the definitions (definitions.network_of makes one of what the pictures read). A put is made as soon as it
+can be, so that a state has no wires that wait to be put; `puts=True` counts puts apart, as events of their own. `without`
+has rules of rules.OF_SCHEDULES. With a rule left out the search ends at the first event that goes wrong, which a shortest list
+of events leads to; `beyond=True` goes on, from wherever the program doesn't refuse. More than `limit` states raise `TooMany`.
+
+    space.vertices        [1, 2, 3]; space.ports[v] are v's neighbours, ascending (port 0 first)
+    space.links           [(v, w), ..]: what v puts for w
+    space.last            the last pulse of each node
+    space.count           how many states there are; they are numbered from 0, the start, by width
+    space.depth[s]        the least number of events that lead to state s
+    space.steps(s)        [(event, target)], the events possible in state s; target is None if the event is refused
+    space.event(e)        an Event: kind (take, pulse, put), v, port, w (the neighbour there), wire (in words), place (how
+                          many wires of the link it overtakes); str(event) is its line for `forestplay events`
+    space.nodes(s)        {v: Node}: pulse, stage (asks, safe, ready, last, whole), waits (what it waits for, as (wire, w)),
+                          wrong (it has made a pulse with another inbox than the round's), colour (merged so far), phase
+    space.wires(s)        {(v, w): [wire, ..]}, what each link holds, in words, the one that comes next first
+    space.ends            the states in which nothing is possible
+    space.faults          {(s, e): what goes wrong in words}, e being the event's number in steps(s); and {(s, None): words} for
+                          a state in which nothing is possible though some node waits
+    space.first_fault()   the key of a fault that the fewest events lead to
+    space.path(s)         a shortest list of events from the start to state s; space.path_to_fault() one that ends with the
+                          event of the first fault
+    space.lines(events, eager)
+                          the events as lines for `forestplay events`, with puts: as soon as they can be made (eager), so that
+                          the state is s, or only those that are needed
+    space.schedules       how many lists of events lead from the start to an end; None if events are possible in different
+                          numbers, which they are not if no rule is left out
+    space.farthest        the most pulses that two neighbours are apart in any state
+    space.most_wires      the most wires that any link holds in any state
+"""
+import time
+from array import array
+from collections import namedtuple
+
+from lab.definitions.nodes import Refused, wire_words
+from lab.schedules.ruled_node import Rounds, RuledNode, program_refuses
+
+PHASES = ["greet", "orient", "seed"] + ["step"] * 4 + ["shift", "drop"] * 3
+REFUSED = 2 ** 32 - 1
+
+Node = namedtuple("Node", "pulse stage waits wrong colour phase")
+
+
+class Event(namedtuple("Event", "kind v port w wire place")):
+    def __str__(self):
+        return f"pulse {self.v}" if self.kind == "pulse" else f"{self.kind} {self.v} {self.port}"
+
+
+class TooMany(Exception):
+    """There are more states than the limit allows."""
+
+
+class Space:
+    def __init__(self, net, without=(), limit=1_000_000, puts=False, beyond=False, progress=None):
+        self.net, self.without, self.limit, self.puts, self.beyond = net, tuple(without), limit, puts, beyond
+        self.rounds = Rounds(net)
+        self.vertices, self.ports, self.last = sorted(net.neighbours), self.rounds.ports, self.rounds.last
+        self.links = [(v, w) for v in self.vertices for w in self.ports[v]]
+        self.slot = {link: k for k, link in enumerate(self.links, len(self.vertices))}
+        self.locals = [[] for _ in self.vertices]
+        self.known = [{} for _ in self.vertices]
+        self.made = {}
+        self.contents, self.content_number, self.popped, self.added = [()], {(): 0}, {}, {}
+        self.events, self.event_number = [], {}
+        self.moves = [{} for _ in self.vertices]
+        self.faults, self.ends = {}, []
+        self.first, self.event_of, self.target = array("I", [0]), array("I"), array("I")
+        self.search(progress)
+
+    # The parts of a state, each kept once and known by its number.
+
+    def local(self, a, node):
+        """The number of a node's value."""
+        key = node.key()
+        if key not in self.known[a]:
+            self.known[a][key] = len(self.locals[a])
+            self.locals[a].append(node)
+        return self.known[a][key]
+
+    def content(self, wires):
+        """The number of what a link holds."""
+        if wires not in self.content_number:
+            self.content_number[wires] = len(self.contents)
+            self.contents.append(wires)
+        return self.content_number[wires]
+
+    def without_wire(self, c, place):
+        wires = self.contents[c]
+        return self.content(wires[:place] + wires[place + 1:])
+
+    def with_wires(self, c, more):
+        key = (c, more)
+        if key not in self.added:
+            self.added[key] = self.content(self.contents[c] + more)
+        return self.added[key]
+
+    def number_of_event(self, *parts):
+        event = Event(*parts)
+        if event not in self.event_number:
+            self.event_number[event] = len(self.events)
+            self.events.append(event)
+        return self.event_number[event]
+
+    # What a node can do.
+
+    def after(self, a, node):
+        """(number of the node's value, wires that go on its links by slot), its out-lists being put unless puts are apart."""
+        gone = []
+        if not self.puts:
+            for w, port in zip(self.ports[self.vertices[a]], node.ports):
+                if port.out:
+                    gone.append((self.slot[self.vertices[a], w], tuple(port.out)))
+                    port.out = []
+        return self.local(a, node), tuple(gone)
+
+    def pulse(self, a, i):
+        """(value after or None, wires, fault) of a pulse of the node with this value."""
+        v, node = self.vertices[a], self.locals[a][i].copied()
+        inbox = [port.present for port in node.ports]
+        fault = self.rounds.fault(v, node.pulse_number + 1, inbox)
+        if (fault or node.wrong) and program_refuses(node.program, node.pulse_number + 1, inbox):
+            return None, (), fault or f"the program of node {v} refuses the inbox of pulse {node.pulse_number + 1}"
+        node.wrong = node.wrong or fault is not None
+        node.pulse()
+        return *self.after(a, node), fault
+
+    def take(self, a, i, port, wire):
+        node = self.locals[a][i].copied()
+        try:
+            node.on_wire(port, wire)
+        except Refused:
+            v = self.vertices[a]
+            return None, (), f"node {v} refuses `{wire_words(wire)}` from {self.ports[v][port]}"
+        return *self.after(a, node), None
+
+    def moves_of(self, a, i, arriving):
+        """The events possible at a node with this value and these contents of the links to it: (event, value after or None,
+        link that it takes from or None, what that holds then, wires by slot, fault)."""
+        v, node, moves = self.vertices[a], self.locals[a][i], []
+        if node.can_pulse():
+            j, gone, fault = self.pulse(a, i)
+            moves.append((self.number_of_event("pulse", v, None, None, None, 0), j, None, 0, gone, fault))
+        for p, (w, c) in enumerate(zip(self.ports[v], arriving)):
+            if node.ports[p].out:
+                moves.append(self.put_move(a, i, p))
+            wires = self.contents[c]
+            for place in range(len(wires) if "fifo" in self.without else min(1, len(wires))):
+                key = (a, i, p, wires[place])
+                if key not in self.made:
+                    self.made[key] = self.take(a, i, p, wires[place])
+                j, gone, fault = self.made[key]
+                e = self.number_of_event("take", v, p, w, wire_words(wires[place]), place)
+                moves.append((e, j, self.slot[w, v], self.without_wire(c, place), gone, fault))
+        return moves
+
+    def put_move(self, a, i, p):
+        v, node = self.vertices[a], self.locals[a][i].copied()
+        w, wire = self.ports[v][p], node.ports[p].out.pop(0)
+        e = self.number_of_event("put", v, p, w, wire_words(wire), 0)
+        return e, self.local(a, node), None, 0, ((self.slot[v, w], (wire,)),), None
+
+    # The search.
+
+    def start(self):
+        state = [0] * (len(self.vertices) + len(self.links))
+        for a, v in enumerate(self.vertices):
+            state[a], gone = self.after(a, RuledNode(self.net, v, self.without))
+            for slot, wires in gone:
+                state[slot] = self.with_wires(0, wires)
+        return tuple(state)
+
+    def search(self, progress):
+        start = self.start()
+        self.states, self.number = [start], {start: 0}
+        self.depth, self.from_state, self.from_event = array("I", [0]), array("I", [0]), array("I", [0])
+        arrive = [tuple(self.slot[w, v] for w in self.ports[v]) for v in self.vertices]
+        said, s = time.monotonic(), 0
+        while s < len(self.states):
+            if self.faults and not self.beyond and self.depth[s] > self.depth[next(iter(self.faults))[0]]:
+                break
+            self.expand(s, arrive)
+            s += 1
+            if progress and s % 1024 == 0 and time.monotonic() - said > 0.5:
+                said = time.monotonic()
+                progress(len(self.states), self.depth[s - 1])
+        self.expanded = s
+
+    def expand(self, s, arrive):
+        """Notes the steps of a state, and the new states that they lead to."""
+        state, some = self.states[s], False
+        for a, slots in enumerate(arrive):
+            key = (state[a], *[state[k] for k in slots])
+            moves = self.moves[a].get(key)
+            if moves is None:
+                moves = self.moves[a][key] = self.moves_of(a, key[0], key[1:])
+            for e, j, link, rest, gone, fault in moves:
+                some = True
+                if fault:
+                    self.faults[s, len(self.target) - self.first[s]] = fault
+                self.event_of.append(e)
+                if j is None:
+                    self.target.append(REFUSED)
+                    continue
+                after = list(state)
+                after[a] = j
+                if link is not None:
+                    after[link] = rest
+                for k, wires in gone:
+                    after[k] = self.with_wires(after[k], wires)
+                self.target.append(self.reached(tuple(after), s, e))
+        self.first.append(len(self.target))
+        if not some:
+            self.ends.append(s)
+            if not self.is_whole(state):
+                self.faults[s, None] = self.stuck_words(s)
+
+    def reached(self, state, s, e):
+        t = self.number.get(state)
+        if t is None:
+            t = self.number[state] = len(self.states)
+            if t >= self.limit:
+                raise TooMany(t)
+            self.states.append(state)
+            self.depth.append(self.depth[s] + 1)
+            self.from_state.append(s)
+            self.from_event.append(e)
+        return t
+
+    # What is read off.
+
+    @property
+    def count(self):
+        return len(self.states)
+
+    def event(self, e):
+        return self.events[e]
+
+    def steps(self, s):
+        return [(self.events[self.event_of[k]], None if self.target[k] == REFUSED else self.target[k])
+                for k in range(self.first[s], self.first[s + 1])] if s < self.expanded else []
+
+    def is_whole(self, state):
+        return all(self.locals[a][state[a]].drained() for a in range(len(self.vertices))) and not any(state[len(self.vertices):])
+
+    def stuck_words(self, s):
+        waiting = [f"node {v} waits for {' and '.join(f'{wire} from {w}' for wire, w in node.waits)}"
+                   for v, node in self.nodes(s).items() if node.waits]
+        return ", and ".join(["nothing is possible before the end", *[", ".join(waiting)] * bool(waiting)])
+
+    def nodes(self, s):
+        return {v: self.node_words(v, self.locals[a][self.states[s][a]]) for a, v in enumerate(self.vertices)}
+
+    def node_words(self, v, node):
+        p, ports = node.pulse_number, list(zip(self.ports[v], node.ports))
+        if p == self.last:
+            waits = [("close", w) for w, port in ports if not port.closed]
+            stage = "last" if waits else "whole"
+        elif not node.said:
+            stage, waits = "asks", [(f"ack {p}", w) for w, port in ports if port.waits]
+        else:
+            waits = [] if "safes" in self.without else [(f"safe {p}", w) for w, port in ports if not port.safe]
+            stage = "safe" if waits else "ready"
+        return Node(p, stage, waits, node.wrong, node.program.merged, self.phase(p))
+
+    def phase(self, p):
+        if p < 13:
+            return PHASES[p]
+        forest, step = divmod(p - 13, 3 * (self.net.span + 1))
+        return "merge {} {} {}".format(forest, *divmod(step, self.net.span + 1))
+
+    def wires(self, s):
+        return {link: [wire_words(wire) for wire in self.contents[self.states[s][k]]] for link, k in self.slot.items()}
+
+    @property
+    def farthest(self):
+        places = [(self.vertices.index(v), self.vertices.index(w)) for v, w in self.links if v < w]
+        pulses = [[node.pulse_number for node in nodes] for nodes in self.locals]
+        return max((abs(pulses[a][state[a]] - pulses[b][state[b]]) for state in self.states for a, b in places), default=0)
+
+    @property
+    def most_wires(self):
+        return max(map(len, self.contents))
+
+    @property
+    def schedules(self):
+        if self.expanded < self.count:
+            return None
+        ways, found = [0] * self.count, 0
+        ways[0] = 1
+        for s in range(self.count):
+            targets = self.target[self.first[s]:self.first[s + 1]]
+            for t in targets:
+                if t == REFUSED or self.depth[t] != self.depth[s] + 1:
+                    return None
+                ways[t] += ways[s]
+            found += 0 if targets else ways[s]
+            ways[s] = 0
+        return found
+
+    # Lists of events.
+
+    def path(self, s):
+        events = []
+        while s:
+            events.append(self.events[self.from_event[s]])
+            s = self.from_state[s]
+        return events[::-1]
+
+    def first_fault(self):
+        """The key of a fault that the fewest events lead to."""
+        return min(self.faults, key=lambda fault: self.depth[fault[0]] + (fault[1] is not None))
+
+    def path_to_fault(self):
+        s, e = self.first_fault()
+        return self.path(s) + ([] if e is None else [self.events[self.event_of[self.first[s] + e]]])
+
+    def lines(self, events, eager=False):
+        return [str(event) for event in self.with_puts(events, eager)]
+
+    def with_puts(self, events, eager=False):
+        """The events with the puts between them: each one as soon as it can be made, or only as a take needs its wire."""
+        if self.puts:
+            return list(events)
+        sent, put, held, state, listed = {}, {}, {}, list(self.start_unput()), []
+        for link in self.links:
+            sent[link], put[link], held[link] = [], 0, []
+
+        def emit(a):
+            node = state[a]
+            for w, port in zip(self.ports[node.v], node.ports):
+                for wire in port.out:
+                    held[node.v, w].append(len(sent[node.v, w]))
+                    sent[node.v, w].append(wire)
+                port.out = []
+
+        def put_until(link, count):
+            while put[link] < count:
+                v, w = link
+                listed.append(Event("put", v, self.ports[v].index(w), w, wire_words(sent[link][put[link]]), 0))
+                put[link] += 1
+
+        for a in range(len(self.vertices)):
+            emit(a)
+        for event in events:
+            if eager:
+                for link in self.links:
+                    put_until(link, len(sent[link]))
+            a = self.vertices.index(event.v)
+            if event.kind == "take":
+                link = (event.w, event.v)
+                number = held[link].pop(event.place)
+                put_until(link, number + 1)
+                self.take_or_refuse(state[a], event.port, sent[link][number])
+            elif event.kind == "pulse":
+                self.pulse_or_refuse(state[a])
+            listed.append(event)
+            emit(a)
+        if eager:
+            for link in self.links:
+                put_until(link, len(sent[link]))
+        return listed
+
+    def start_unput(self):
+        for v in self.vertices:
+            node = RuledNode(self.net, v, self.without)
+            node.v = v
+            yield node
+
+    @staticmethod
+    def take_or_refuse(node, port, wire):
+        try:
+            node.on_wire(port, wire)
+        except Refused:
+            pass
+
+    @staticmethod
+    def pulse_or_refuse(node):
+        if not program_refuses(node.program, node.pulse_number + 1, [port.present for port in node.ports]):
+            node.pulse()

@@ -1,0 +1,1 @@
+"""Transcripts: read, checked, put in an order that is a run."""

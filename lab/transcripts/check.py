@@ -1,0 +1,291 @@
+#!/usr/bin/env python3
+"""Checks a transcript of nodes without a common clock. It is written from the pages in docs/ alone.
+
+A transcript of edition 1 has the entries of each node in that node's own order, and says nothing of the order between nodes.
+This program looks for an order of all entries that is a run, and demands that the run is whole. One of edition 2 has an order
+and stamps: stamps.py checks it. `--help` says how to call it."""
+import argparse
+import gc
+import sys
+from collections import namedtuple
+
+from lab.definitions.colours import fields_of, network_of
+from lab.networks.network_text import read_network
+from lab.transcripts.reading import Wrong, read, words
+from lab.transcripts.search import Search
+from lab.transcripts.stamps import check_stamped, stamped_as_it_stands
+from lab.wrong import Wrong as WrongNetwork
+
+HELP = """\
+Checks a transcript of a run of nodes without a common clock.
+
+The nodes of a network find channels by sending each other wires: payloads,
+acknowledgements, safes and a closing mark. A transcript lists, for each node and
+in its own order, the pulses (rounds) that it made and the wires that it put on
+a link to a neighbour or took from one. One of edition 1 does not say which of two
+nodes came first. It is right if there is an order of all entries in which each of
+them was possible when it came, with just the wire that it names, and if the run is
+whole: all nodes have made their last pulse, nothing is left to be put, and no
+link holds a wire. One of edition 2 is right if the order of its lines is such an
+order, and each stamp is the one that Lamport's clock gives: one more than the last
+one of that node, and of a take also than that of the put.
+"""
+
+MORE_HELP = """\
+Of a transcript that is right it prints one line, as
+  whole run of 3 nodes, 658 entries, 49 payloads, 284 wires
+Of any other it prints on standard error one line with the line of the transcript
+and what is wrong there, as
+  line 6: LinkEmpty: node 1 takes payload 0 hello 3 from 3, which never puts it
+
+  X1            neither `transcript 1 N` or `transcript 2 N` (the first line) nor an entry
+  NoSuch        no such node, or it has no such neighbour
+  NotReady      a pulse that the node cannot make there
+  NothingToPut  the node has nothing for that neighbour
+  LinkEmpty     the neighbour has put no wire that is left to be taken
+  WrongWire     possible, but with another wire or the number of another pulse
+  WrongStamp    another stamp than the clock of the node gives, or out of order
+  NotWhole      all entries are a run, but it does not reach the end
+  Nodes         the first line names another number of nodes than the network has
+
+Status: 0 right, 1 not right, 2 the command line is refused, or a file can't be read
+or is no network.
+
+Example:
+  bin/forestplan transcript < examples/triangle.col > triangle.transcript
+  bin/check-transcript examples/triangle.col triangle.transcript
+"""
+
+# What a search finds: the entries made, in this order; the nodes after them; and of each node that isn't through, the entries
+# that are left, the next one last, and the code of that one's refusal.
+Found = namedtuple("Found", "made nodes left refusals")
+
+
+def find_order(net, entries):
+    """Makes the next entry of any node as long as one is possible.
+
+    If any order of all entries is a run, this finds one. The entries of a node come in a given order, so what the node does
+    and puts follows from how many of them were made. Whether its next entry is possible depends on the node alone, and for a
+    take also on the wire that is next on the link: it is there once the neighbour has put it, and nobody else takes it. So an
+    entry that is possible stays so, with the same wire, whatever the other nodes do first. Suppose that an order is a run, and
+    that this search stops earlier. The first entry of that order that the search hasn't made has all those before it made:
+    so it is possible, and the search wouldn't have stopped. The entries that are left, and why, are the same in every search.
+
+    A node is looked at again only if a neighbour has put the wire that it waits for; so the time is linear."""
+    own, strays = {v: [] for v in net.neighbours}, {}
+    for entry in entries:
+        (own[entry.vertex] if entry.vertex in own else strays.setdefault(entry.vertex, [])).append(entry)
+    search = Search(net, {v: [entry.text for entry in own[v]] for v in own})
+    left = {v: own[v][node.at:][::-1] for v, node in search.nodes.items()} | {v: lost[::-1] for v, lost in strays.items()}
+    refusals = {v: node.refusal for v, node in search.nodes.items()} | dict.fromkeys(strays, "NoSuch")
+    return Found(search.made(own), search.nodes, {v: lost for v, lost in left.items() if lost}, refusals)
+
+
+def first_refused(found):
+    """Of the entries that are next and not possible: the first that its own node can't make, whatever the others do; and if
+    they all wait for a neighbour, the first that waits for one which is through; and if there is none, the first."""
+    def rank(entry):
+        waits = found.refusals[entry.vertex] == "LinkEmpty"
+        return waits, waits and entry.neighbour in found.left, entry.line
+    return min((left[-1] for left in found.left.values()), key=rank)
+
+
+def refusal_of(found, entry):
+    code = found.refusals[entry.vertex]
+    return Wrong(entry.line, code, words(entry) + ", " + WHY[code](found, entry))
+
+
+def why_no_such(found, entry):
+    if entry.vertex not in found.nodes:
+        return f"but the nodes are 1 to {len(found.nodes)}"
+    return f"which is no neighbour of {entry.vertex}"
+
+
+def why_not_ready(found, entry):
+    node = found.nodes[entry.vertex]
+    p = node.pulse
+    if p == node.last:
+        return f"but {p} is the last"
+    if not node.said:
+        return f"but it hasn't taken ack {p} from {next(port.neighbour for port in node.all_ports if port.waits)}"
+    for port in node.all_ports:
+        if port.known == p:
+            return f"but it hasn't taken safe {p} from {port.neighbour}"
+        if len(port.out) > 3:
+            return f"but has too many wires left for {port.neighbour}"
+    raise AssertionError
+
+
+def why_link_empty(found, entry):
+    if entry.neighbour in found.left:
+        return f"which hasn't put it and waits itself, at line {found.left[entry.neighbour][-1].line}"
+    node = found.nodes[entry.neighbour]
+    if not node.own:
+        return f"which never puts it; {without_entries(found.nodes)} (is the text cut?)"
+    if node.pulse < node.last:
+        return f"which never puts it; the entries of node {node.vertex} end at pulse {node.pulse} of {node.last} (is the text cut?)"
+    return "which never puts it"
+
+
+def why_not_whole(nodes, node):
+    if not node.own:
+        return f"; {without_entries(nodes)} (is the text cut?)"
+    return " (is the text cut?)" if node.pulse < node.last else ""
+
+
+def without_entries(nodes):
+    """Which nodes have no entry, in words."""
+    found = [v for v, node in nodes.items() if not node.own]
+    if len(found) == 1:
+        return f"node {found[0]} has no entry"
+    if len(found) > 2 and found[-1] - found[0] == len(found) - 1:
+        return f"nodes {found[0]} to {found[-1]} have no entry"
+    more = f"and {len(found) - 6} more" if len(found) > 7 else f"and {found[-1]}"
+    return f"nodes {', '.join(map(str, found[:6] if len(found) > 7 else found[:-1]))} {more} have no entry"
+
+
+def why_wrong_wire(found, entry):
+    node = found.nodes[entry.vertex]
+    if entry.kind == "Pulse":
+        return f"but the next one there is {node.pulse + 1}"
+    port = node.ports[b"%d" % entry.neighbour]
+    return f"but the next one there is {(port.out if entry.kind == 'Put' else port.link)[0].decode()}"
+
+
+WHY = {"NoSuch": why_no_such, "NotReady": why_not_ready, "LinkEmpty": why_link_empty, "WrongWire": why_wrong_wire,
+       "NothingToPut": lambda found, entry: "for which it has nothing"}
+
+
+def unfinished(nodes):
+    """What keeps nodes from being those of a whole run: a node, and what it hasn't done."""
+    ends = [(v, port) for v, node in nodes.items() for port in node.all_ports]
+    for v, node in nodes.items():
+        if node.pulse != node.last:
+            yield v, f"node {v} is at pulse {node.pulse} of {node.last}"
+    for v, port in ends:
+        if port.out:
+            yield v, f"node {v} hasn't put {port.out[0].decode()} for {port.neighbour}"
+    for v, port in ends:
+        if port.link:
+            yield v, f"node {v} hasn't taken {port.link[0].decode()} from {port.neighbour}"
+    for v, node in nodes.items():
+        if not node.is_drained():
+            yield v, f"node {v} isn't drained"
+
+
+def check_nodes(net, line, nodes):
+    if nodes != len(net.neighbours):
+        raise Wrong(line, "Nodes", f"the transcript has {nodes} nodes, the network {len(net.neighbours)}")
+
+
+def whole_run(net, text):
+    """The lines of the entries in the order found, and the verdict on a transcript of a network; or `Wrong`."""
+    return run_as_it_stands(net, text) or run_read_with_care(net, text)
+
+
+def run_as_it_stands(net, text):
+    """The same for most transcripts of runs: lines are compared with what the nodes do, as they stand in the text. None if they
+    aren't a whole run so; then they have to be read with care."""
+    head, *lines = text.split(b"\n")
+    if lines[-1:] != [b""]:
+        return None
+    if head == b"transcript 2 %d" % len(net.neighbours):
+        nodes = stamped_as_it_stands(net, lines[:-1])
+        return None if nodes is None else (range(2, len(lines) + 1), verdict(nodes))
+    if head != b"transcript 1 %d" % len(net.neighbours):
+        return None
+    own = {b"%d" % v: ([], []) for v in net.neighbours}
+    vertex = None
+    for line, entry in enumerate(lines[:-1], 2):
+        if vertex is None or not entry.startswith(vertex):
+            vertex = entry[:entry.find(b" ") + 1]
+            if vertex[:-1] not in own:
+                return None
+            its_entries, its_lines = own[vertex[:-1]]
+        its_entries.append(entry)
+        its_lines.append(line)
+    try:
+        search = Search(net, {int(v): entries for v, (entries, _) in own.items()})
+    except (IndexError, ValueError):
+        return None
+    if not search.is_whole():
+        return None
+    return search.made({int(v): numbers for v, (_, numbers) in own.items()}), verdict(search.nodes)
+
+
+def run_read_with_care(net, text):
+    head, entries = read(text)
+    check_nodes(net, head.line, head.nodes)
+    if head.edition == 2:
+        check_stamped(net, head, entries)
+    found = find_order(net, entries)
+    if found.left:
+        raise refusal_of(found, first_refused(found))
+    for v, what in unfinished(found.nodes):
+        last_line = max((entry.line for entry in entries if entry.vertex == v), default=head.line)
+        raise Wrong(last_line, "NotWhole", f"after its last entry {what}{why_not_whole(found.nodes, found.nodes[v])}")
+    made = entries if head.edition == 2 else found.made
+    return [entry.line for entry in made], verdict(found.nodes)
+
+
+def verdict(nodes):
+    """Of a whole run: of the entries the pulses aren't wires, and each wire has two."""
+    entries = sum(len(node.own) for node in nodes.values())
+    wires = (entries - sum(node.last for node in nodes.values())) // 2
+    payloads = sum(node.payloads for node in nodes.values())
+    return f"whole run of {len(nodes)} nodes, {entries} entries, {payloads} payloads, {wires} wires"
+
+
+def in_order(made, text):
+    """The transcript with the entries of these lines in this order, as bytes."""
+    lines = text.split(b"\n")
+    head = next(line for line in lines if fields_of(line))
+    return b"".join(line + b"\n" for line in [head] + [lines[line - 1] for line in made])
+
+
+def network_in(data, name):
+    """The network of a text, or its fault in words."""
+    read_network(data.decode("utf-8", "replace"), name)
+    return network_of(data)
+
+
+def bytes_of(name):
+    """The bytes of a file, or of standard input."""
+    try:
+        with open(name or 0, "rb") as file:
+            return file.read()
+    except OSError as failed:
+        raise OSError(f"{name or 'standard input'}: {failed.strerror}") from None
+
+
+def words_of_command():
+    words = argparse.ArgumentParser(prog="check-transcript", description=HELP, epilog=MORE_HELP,
+                                    formatter_class=argparse.RawDescriptionHelpFormatter)
+    words.add_argument("--order", action="store_true",
+                       help="instead of that line print the transcript in the order found, in which it is a run line by line; of edition 2 as it is")
+    words.add_argument("network", metavar="NETWORK.col", help="a network that `forestplan` reads without a fault")
+    words.add_argument("transcript", nargs="?", metavar="TRANSCRIPT", help="default: standard input")
+    return words
+
+
+def main(words):
+    given = words_of_command().parse_args(words)
+    # Nothing that is made here goes round in a circle that would have to be collected before the end.
+    gc.disable()
+    try:
+        net = network_in(bytes_of(given.network), given.network)
+        text = bytes_of(given.transcript)
+    except (OSError, WrongNetwork) as failed:
+        print(f"check-transcript: {failed}", file=sys.stderr)
+        return 2
+    try:
+        made, said = whole_run(net, text)
+    except Wrong as wrong:
+        print(wrong, file=sys.stderr)
+        return 1
+    sys.stdout.buffer.write(in_order(made, text) if given.order else said.encode() + b"\n")
+    return 0
+
+
+if __name__ == "__main__":
+    sys.exit(main(sys.argv[1:]))

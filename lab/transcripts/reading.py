@@ -1,0 +1,104 @@
+"""The reading of transcripts of both editions. It is written from the pages in docs/ alone."""
+import functools
+from collections import namedtuple
+
+from lab.definitions.colours import fields_of
+from lab.definitions.nodes import wire_words
+
+# The word of each payload of the colouring, and the bound of its number.
+PAYLOADS = {b"hello": 2**128, b"label": 2**16, b"colour": 2**128, b"chosen": 2**16}
+
+# `kind` is Pulse, Put or Take; `what` is the number of the pulse, or the wire, as lab/definitions/nodes.py has it. A pulse has no
+# neighbour. `text` is the line as the search takes it, without the stamp; `stamp` is that of edition 2.
+Entry = namedtuple("Entry", "line vertex kind neighbour what text stamp", defaults=[None])
+
+# The first line: where it is, and what it says.
+Head = namedtuple("Head", "line edition nodes")
+
+
+class Wrong(Exception):
+    """Why a text isn't the transcript of a whole run: (line, code, what is wrong)."""
+
+    def __str__(self):
+        line, code, what = self.args
+        return f"line {line}: {code}: {what}"
+
+
+@functools.lru_cache(maxsize=2**16)
+def number(field, bound=2**32):
+    digits = field.lstrip(b"0") or field[-1:]
+    if not digits.isdigit() or len(digits) > len(str(bound)) or int(digits) >= bound:
+        raise ValueError
+    return int(digits)
+
+
+@functools.lru_cache(maxsize=2**16)
+def wire_of(*fields):
+    match fields:
+        case [b"payload", pulse, word, of_word] if word in PAYLOADS:
+            return "Payload", number(pulse), (word.decode().title(), number(of_word, PAYLOADS[word]))
+        case [b"ack", pulse]:
+            return "Ack", number(pulse)
+        case [b"safe", pulse]:
+            return "Safe", number(pulse)
+        case [b"close"]:
+            return ("Close",)
+    raise ValueError
+
+
+@functools.lru_cache(maxsize=2**16)
+def words_of_wire(wire):
+    return wire_words(wire).encode()
+
+
+def entry_of(line, fields):
+    match fields:
+        case [vertex, b"pulse", pulse]:
+            v, p = number(vertex), number(pulse)
+            return Entry(line, v, "Pulse", None, p, b"%d pulse %d" % (v, p))
+        case [vertex, b"put" | b"take" as kind, neighbour, *of_wire]:
+            v, w, wire = number(vertex), number(neighbour), wire_of(*of_wire)
+            return Entry(line, v, kind.decode().title(), w, wire, b"%d %s %d %s" % (v, kind, w, words_of_wire(wire)))
+    raise ValueError
+
+
+def stamped_entry_of(line, fields):
+    return entry_of(line, fields[1:])._replace(stamp=number(fields[0], 2**64))
+
+
+READERS = {1: entry_of, 2: stamped_entry_of}
+
+
+def read(text):
+    """The first line, and the entries in the order of the text."""
+    lines, entries = text.split(b"\n"), []
+    head = head_of(lines)
+    for line, raw in enumerate(lines[head.line:], head.line + 1):
+        try:
+            if fields := fields_of(raw):
+                entries.append(READERS[head.edition](line, fields))
+        except ValueError:
+            is_cut = line == len(lines)
+            raise Wrong(line, "X1", "not an entry" + (", and no line feed behind it (is the text cut?)" if is_cut else "")) from None
+    return head, entries
+
+
+def head_of(lines):
+    """The first line that has a field."""
+    for line, fields in enumerate(map(fields_of, lines), 1):
+        if fields:
+            try:
+                if len(fields) == 3 and fields[0] == b"transcript" and fields[1] in (b"1", b"2"):
+                    return Head(line, int(fields[1]), number(fields[2]))
+            except ValueError:
+                pass
+            raise Wrong(line, "X1", "neither `transcript 1 N` nor `transcript 2 N`")
+    raise Wrong(1, "X1", "there is no line `transcript 1 N` or `transcript 2 N`")
+
+
+def words(entry):
+    """An entry in words."""
+    if entry.kind == "Pulse":
+        return f"node {entry.vertex} makes pulse {entry.what}"
+    way = "for" if entry.kind == "Put" else "from"
+    return f"node {entry.vertex} {entry.kind.lower()}s {wire_words(entry.what)} {way} {entry.neighbour}"

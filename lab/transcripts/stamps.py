@@ -1,0 +1,87 @@
+"""Transcripts of edition 2: their lines are a run in the order in which they stand, with the stamps of Lamport's clock. It is
+written from the pages in docs/ alone."""
+from collections import deque
+
+from lab.definitions.nodes import NetState, Refused, entry_words, make, wire_words
+from lab.transcripts.reading import Wrong, words
+from lab.transcripts.search import Search
+
+
+class Clock:
+    """The counter of each node, and of each link the stamps of the wires that were put and not taken."""
+
+    def __init__(self, vertices):
+        self.counters, self.links = dict.fromkeys(vertices, 0), {}
+
+    def next(self, kind, v, neighbour):
+        """The stamp of the next entry of v: one more than the counter, and of a take also than the stamp of the put."""
+        stamp = self.counters[v]
+        if kind == "Take":
+            stamp = max(stamp, self.links[neighbour, v].popleft())
+        self.counters[v] = stamp + 1
+        if kind == "Put":
+            self.links.setdefault((v, neighbour), deque()).append(stamp + 1)
+        return stamp + 1
+
+
+def check_stamped(net, head, entries):
+    """Makes the entries one by one as they stand; raises the first fault. Each entry has to be possible with what it says, its
+    stamp has to be the one that the clock gives, and it has to be behind the entry before it by stamp and then by vertex. At the
+    end every node has to be through, and every link empty."""
+    state, clock, last = NetState(net), Clock(net.neighbours), None
+    for entry in entries:
+        try:
+            make(state, entry)
+        except Refused as refused:
+            raise Wrong(entry.line, str(refused), words(entry) + entry_words(state, entry, refused)) from None
+        due = clock.next(entry.kind, entry.vertex, entry.neighbour)
+        if entry.stamp != due:
+            raise Wrong(entry.line, "WrongStamp", f"{words(entry)} with stamp {entry.stamp}, but the clock there gives {due}")
+        if last and (last.stamp, last.vertex) > (entry.stamp, entry.vertex):
+            before = f"line {last.line}, which has stamp {last.stamp} of node {last.vertex}"
+            raise Wrong(entry.line, "WrongStamp", f"{words(entry)} with stamp {entry.stamp}, but comes behind {before}")
+        last = entry
+    for what in unfinished(state):
+        raise Wrong((last or head).line, "NotWhole", f"after the last entry {what} (is the text cut?)")
+
+
+def unfinished(state):
+    """What keeps a state from being that of a whole run."""
+    for v, node in state.nodes.items():
+        if node.pulse_number != node.last:
+            yield f"node {v} is at pulse {node.pulse_number} of {node.last}"
+    for (v, w), port in state.port_to.items():
+        for wire in state.nodes[v].ports[port].out:
+            yield f"node {v} hasn't put {wire_words(wire)} for {w}"
+        for wire in state.link[v, port]:
+            yield f"node {w} hasn't taken {wire_words(wire)} from {v}"
+
+
+KINDS = {b"pulse": "Pulse", b"put": "Put", b"take": "Take"}
+
+
+def stamped_as_it_stands(net, lines):
+    """The nodes after the lines of a whole run with right stamps; None if they aren't one as they stand, byte for byte; then they
+    have to be read with care.
+
+    The entries of each node are led to the end by a search, in some order. What a node does follows from how many of its
+    entries were made, and a take needs nothing but that its wire was put. In the order of these lines it was: the clock has a
+    stamp for it. So the lines are a run as they stand."""
+    clock, own, last = Clock(net.neighbours), {v: [] for v in net.neighbours}, (0, 0)
+    for line in lines:
+        stamp, _, entry = line.partition(b" ")
+        try:
+            vertex, kind, other, *_ = entry.split(b" ", 3)
+            v, w = int(vertex), int(other)
+            due = clock.next(KINDS[kind], v, w)
+        except (IndexError, KeyError, ValueError):
+            return None
+        if stamp != b"%d" % due or vertex != b"%d" % v or last >= (due, v):
+            return None
+        own[v].append(entry)
+        last = due, v
+    try:
+        search = Search(net, own)
+    except (IndexError, ValueError):
+        return None
+    return search.nodes if search.is_whole() else None

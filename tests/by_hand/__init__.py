@@ -1,0 +1,1 @@
+"""Tests that take long or need a browser; no gate runs them."""

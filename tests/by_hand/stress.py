@@ -1,0 +1,170 @@
+#!/usr/bin/env python3
+"""Runs `forestplan transcript` over and over on small networks while processors are taken away from its threads, and checks each
+transcript. It is no part of the gate. The last line is 'N passed, M failed', over the runs.
+
+  stress.py [--runs N] [--first K] [--minutes M] [--limit S] [--seed SEED] [--jobs J] [--program PROGRAM] [--play PLAY]
+      N         how many runs; default 1000
+      K         the number of the first run; default 1. What is printed on the way says how to go on after an interruption
+      M         stop after so many minutes, if N runs take longer
+      S         how many seconds a run may take; default 300. A run that takes longer is killed, and has failed
+      SEED      of networks and options, with the number of the run; default 2026. Which thread does what, and when, is another
+                thing in each run
+      J         how many runs there are side by side; default: the number of processors
+      PROGRAM   default: the built forestplan
+      PLAY      default: the built forestplay
+
+Each run is of a network of 2 to 40 nodes, with 1 to 64 workers and a capacity of 1 to 64. Meanwhile its threads are moved to other
+processors, some of the time all to one, every millisecond or so, and in some runs a busy loop beside takes processors too. A
+transcript has to be accepted by lab/transcripts/check.py, and in the order that it finds by `forestplay replay`."""
+import argparse
+import contextlib
+import functools
+import multiprocessing
+import os
+import random
+import subprocess
+import sys
+import threading
+import time
+from collections import Counter
+
+from lab.definitions.colours import network_of
+from lab.transcripts.check import Wrong, in_order, whole_run
+from tests import TOP
+from tests.programs.plain_networks import cycle, path, some_bars, star, text_of, tree
+from tests.programs.transcripts import is_counted, replayed_by
+
+BATCH = 100
+PROCESSORS = sorted(os.sched_getaffinity(0))
+# As long as the process is there that started it.
+BUSY = 'while kill -0 "$0" 2>/dev/null; do :; done'
+
+
+def network(source):
+    """Any density up to six nodes; beyond, a shape with a few edges more, since runs grow with the degrees. Some have bars."""
+    nodes = source.randint(2, 40)
+    names = source.sample(range(1, nodes + 1), nodes)
+    if nodes <= 6:
+        density = source.random()
+        pairs = [(v, w) for v in names for w in names if v < w and source.random() < density]
+    else:
+        shape = source.choice((path, cycle, tree, tree, star if nodes < 20 else tree))
+        pairs = list(shape(source, names)) + [source.sample(names, 2) for _ in range(source.choice((0, 0, 1, 3)))]
+    bars = some_bars(source, nodes, 3) if source.random() < 0.2 else {}
+    return text_of(source, nodes, {(min(pair), max(pair)) for pair in pairs}, bars=bars)
+
+
+def number_up_to_64(source):
+    return source.choice((1, 2, 3, 4, source.randint(1, 64), 64))
+
+
+def disturbed(source, words, data, limit):
+    """The answer to a text, and how often threads were moved."""
+    with contextlib.ExitStack() as beside:
+        for _ in range(source.choice((0, 0, 0, 1, len(PROCESSORS)))):
+            busy = beside.enter_context(subprocess.Popen(["bash", "-c", BUSY, str(os.getpid())]))
+            beside.callback(busy.kill)
+        started = subprocess.Popen(words, stdin=subprocess.PIPE, stdout=subprocess.PIPE, stderr=subprocess.PIPE,
+                                   preexec_fn=lambda: os.nice(source.choice((0, 0, 5))))
+        mover = beside.enter_context(Mover(source, started.pid))
+        try:
+            output, errors = started.communicate(data, timeout=limit)
+        except subprocess.TimeoutExpired:
+            started.kill()
+            output, errors = started.communicate()
+        return (started.returncode, output, errors), mover.moves
+
+
+class Mover:
+    """Moves the threads of a process between processors while it runs."""
+
+    def __init__(self, source, pid):
+        self.source, self.pid, self.moves = random.Random(source.random()), pid, 0
+
+    def __enter__(self):
+        self.is_over = threading.Event()
+        self.thread = threading.Thread(target=self.move_on)
+        self.thread.start()
+        return self
+
+    def __exit__(self, *_):
+        self.is_over.set()
+        self.thread.join()
+
+    def move_on(self):
+        while not self.is_over.wait(self.source.choice((0.0002, 0.001, 0.005))):
+            with contextlib.suppress(OSError):
+                self.move_all()
+
+    def move_all(self):
+        only = [self.source.choice(PROCESSORS)] if self.source.random() < 0.3 else None
+        for thread in os.listdir(f"/proc/{self.pid}/task"):
+            some = only or self.source.sample(PROCESSORS, self.source.randint(1, len(PROCESSORS)))
+            os.sched_setaffinity(int(thread), some)
+            self.moves += 1
+
+
+def fault_in(play, data, answer):
+    """What is wrong with an answer, or None."""
+    status, output, errors = answer
+    if (status, errors) != (0, b""):
+        return f"status {status}, {errors[:300]!r}"
+    net = network_of(data)
+    try:
+        made, said = whole_run(net, output)
+    except Wrong as wrong:
+        return str(wrong)
+    if not is_counted(net, output, said):
+        return f"other numbers: {said}"
+    return replayed_by(play, data, net, in_order(made, output))
+
+
+def one_run(given, number):
+    """Run of a number: what is wrong, or None; how often threads were moved; and the number of entries."""
+    source = random.Random(f"{given.seed} {number}")
+    data, workers, capacity = network(source), number_up_to_64(source), number_up_to_64(source)
+    words = [given.program, "transcript", "--workers", str(workers), "--capacity", str(capacity)]
+    answer, moves = disturbed(source, words, data, given.limit)
+    fault = fault_in(given.play, data, answer)
+    if fault is not None:
+        fault = f"FAILED run {number}, {workers} workers, capacity {capacity}: {fault}; network {data!r}"
+    return fault, moves, answer[1].count(b"\n") - 1
+
+
+def all_runs(given):
+    """The counts of the runs. No run is left unfinished if the minutes are over: they are looked at behind each batch."""
+    end = None if given.minutes is None else time.monotonic() + 60 * given.minutes
+    counts, after = Counter(failed=0), given.first + given.runs
+    with multiprocessing.Pool(given.jobs) as pool:
+        for first in range(given.first, after, BATCH):
+            numbers = range(first, min(first + BATCH, after))
+            for fault, moves, entries in pool.imap(functools.partial(one_run, given), numbers):
+                counts.update(runs=1, failed=fault is not None, moves=moves, entries=entries)
+                if fault is not None:
+                    print(fault, flush=True)
+            print(f"{counts['runs'] - counts['failed']} passed so far; to go on: --first {numbers.stop}", flush=True)
+            if end is not None and time.monotonic() > end:
+                break
+    return counts
+
+
+def main():
+    words = argparse.ArgumentParser(description=__doc__, formatter_class=argparse.RawDescriptionHelpFormatter)
+    words.add_argument("--runs", type=int, default=1000)
+    words.add_argument("--first", type=int, default=1)
+    words.add_argument("--minutes", type=float, default=None)
+    words.add_argument("--limit", type=float, default=300)
+    words.add_argument("--seed", default="2026")
+    words.add_argument("--jobs", type=int, default=len(PROCESSORS))
+    for name, program in (("--program", "forestplan"), ("--play", "forestplay")):
+        words.add_argument(name, type=os.path.abspath, default=os.path.join(TOP, "crates", program, "out", program))
+    given = words.parse_args()
+    counts = all_runs(given)
+    print(f"seed {given.seed}, runs {given.first} to {given.first + counts['runs'] - 1}: {counts['entries']} entries in all, "
+          f"threads moved {counts['moves']} times")
+    print(f"{counts['runs'] - counts['failed']} passed, {counts['failed']} failed")
+    return 1 if counts["failed"] or not counts["runs"] else 0
+
+
+if __name__ == "__main__":
+    sys.exit(main())

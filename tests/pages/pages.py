@@ -1,0 +1,329 @@
+#!/usr/bin/env python3
+"""Checks what the pages README.md and docs/ show and name. The last line is 'N passed, M failed'.
+
+  pages.py [PROGRAM PLAY]      default: the programs as `bin/forestplan` and `bin/forestplay` build them
+
+- Each command shown, a line `$ ..`, is run at the top of the repository, by bash; what stands under it, in the same columns,
+  has to be its output (notes behind two blanks are left out), or its refusal.
+- Each table of docs/learn/TUTORIAL.md is worked out from the definitions (lab/definitions/colours.py, lab/definitions/nodes.py), not from
+  the program; and so is what it says of small networks, of rows, and of nodes that break a rule (tutorial_facts.py).
+- These definitions fit together: on small networks the rounds, and any order of events, end with the colours.
+- Each excerpt of code, a fence whose first line names its file, has its lines in that file, in this order; a comment `..`
+  stands for lines that are left out.
+- Each wrong body of crates/NAME/must-fail/ and crates/NAME/wrong-bodies/ still applies (edits_apply.py).
+- No crate is reached along more paths through crates.txt than build/paths.py allows.
+- README.md or docs/work/LAYERS.md names each crate, and README.md is at most 120 lines. No line of a page is wider than 150 columns.
+- Each file named in backquotes exists, each link leads to a page and a heading, and each function and clause that
+  docs/claim/PROMISES.md names is in the code. It names each public law.
+"""
+import glob
+import os
+import random
+import re
+import subprocess
+import sys
+
+from build.paths import MOST, paths
+from lab.definitions.colours import Network, colours, merge, three
+from lab.definitions.nodes import NetState, synchronous_run, text_of_wire
+from tests import TOP
+from tests.pages import edits_apply
+from tests.pages.tutorial_facts import channels_of, dropped, example, fact_rows, pulses_of
+from tests.shell import run_line
+
+PAGES = ["README.md"] + sorted(os.path.relpath(path, TOP) for path in glob.glob(os.path.join(TOP, "docs", "**", "*.md"), recursive=True))
+LIMIT = 300
+WIDEST, LONGEST_README = 150, 120
+TALLY = {"passed": 0, "failed": 0}
+
+
+def note(name, good, what=""):
+    TALLY["passed" if good else "failed"] += 1
+    if not good:
+        print(f"FAILED {name}: {what}")
+
+
+def lines_of(page):
+    with open(os.path.join(TOP, page), encoding="utf-8") as file:
+        return file.read().split("\n")
+
+
+def shown_commands(lines):
+    """(line number, command, lines shown under it), of each command in an indented block."""
+    for number, line in enumerate(lines):
+        found = re.match(r"^( {4}.*?)\$ (.+)$", line)
+        if not found:
+            continue
+        column, shown = len(found.group(1)), []
+        for below in lines[number + 1:]:
+            if not below.startswith("    ") or "$ " in below:
+                break
+            shown.append(re.split(r" {2,}", below[column:].rstrip())[0])
+        yield number + 1, re.split(r" {2,}", found.group(2))[0], shown
+
+
+def check_commands(page, programs):
+    for number, command, shown in shown_commands(lines_of(page)):
+        words = command.replace("./forestplan", programs[0]).replace("bin/forestplay", programs[1])
+        done = run_line(words, limit=LIMIT, cwd=TOP)
+        wanted = "".join(line + "\n" for line in shown)
+        good = [(0, wanted.encode(), b"")] + [(status, b"", wanted.encode()) for status in (1, 3) if wanted]
+        note(f"{page}:{number} {command}", (done.returncode, done.stdout, done.stderr) in good, f"shown {wanted!r}, got {done}")
+
+
+def tables_of(lines):
+    """(line number, line above, rows) of each table; a row is its cells."""
+    start = None
+    for number, line in enumerate(lines + [""]):
+        if line.startswith("|") and start is None:
+            start = number
+        elif not line.startswith("|") and start is not None:
+            rows = [[cell.strip() for cell in row.strip("|").split("|")] for row in lines[start:number]]
+            yield start + 1, next((above for above in reversed(lines[:start]) if above), ""), rows
+            start = None
+
+
+def entries(c):
+    return [str(c[v]) for v in sorted(c)]
+
+
+def merges_of(net):
+    c, rows = dict.fromkeys(net.neighbours, 0), []
+    for f in range(net.forest_count):
+        c = merge(net, f, c)
+        rows += [entries(three(net, f)), entries(c)]
+    return rows
+
+
+def played(net, rows):
+    """The rows of a run, event by event: its events with their wires, and the nodes' pulses after each row."""
+    state, wanted = NetState(net), [rows[0][1:4]]
+    for row in rows[2:]:
+        wires = []
+        for kind, v, _, port in re.findall(r"(Pulse|Put|Take)\((\d+)(,(\d+))?\)", row[1]):
+            wire = state.step(kind, int(v), int(port) if port else None)
+            wires += [f"`{text_of_wire(wire)}`"] if wire else []
+        pulses = ", ".join(str(node.pulse_number) for _, node in sorted(state.nodes.items()))
+        wanted.append([row[1], " ".join(wires), pulses])
+    return wanted
+
+
+def check_definitions():
+    """On small networks the rounds, and any order of events, end with the colours: so the pages' definitions fit together."""
+    source, wrong = random.Random(2026), []
+    for _ in range(40):
+        nodes = source.randrange(0, 7)
+        pairs = [(v, w) for v in range(1, nodes + 1) for w in range(v + 1, nodes + 1)]
+        net = Network({v: v for v in range(1, nodes + 1)}, {pair for pair in pairs if source.random() < 0.5})
+        rounds, state = synchronous_run(net), NetState(net)
+        while events := list(state.possible()):
+            state.step(*source.choice(events))
+        ends = [{v: node.merged for v, node in rounds.items()}, {v: node.program.merged for v, node in state.nodes.items()}]
+        if ends != [colours(net)] * 2 or not all(node.drained() for node in state.nodes.values()):
+            wrong.append(net.neighbours)
+    note("rounds and events of 40 small networks end with the colours", not wrong, wrong[:1])
+
+
+def greatest_colours(digits):
+    """The greatest colour after each of four bit steps from numbers of so many digits: in place i and its own digit, 1."""
+    for _ in range(4):
+        greatest = 2 * (digits - 1) + 1
+        yield str(greatest)
+        digits = greatest.bit_length()
+
+
+def tutorial_table(title, rows):
+    """What the rows of a table have to be, behind the first cell of each; None for a table that isn't worked out."""
+    found = re.match(r"Forest (\d+) of `(.*)`, pulse by pulse:", title)
+    if found:
+        net, f = example(found.group(2)), int(found.group(1))
+        joined, changed = [v for v in sorted(net.neighbours) if net.neighbours[v]], dropped(net, f)
+        parents = [str(net.parent(f, v) or "-") for v in joined]
+        return [[str(v) for v in joined], parents] + [
+            [f"**{c[v]}**" if (p, v) in changed else str(c[v]) for v in joined] for p, c in enumerate(pulses_of(net, f), 2)]
+    found = re.match(r"Merges of `(.*)`:", title)
+    if found:
+        net = example(found.group(1))
+        return [entries(net.identifiers)] + merges_of(net)
+    found = re.match(r"Events on `(.*)`:", title)
+    if found:
+        return played(example(found.group(1)), rows)
+    if rows[0][0] == "network":
+        wanted = [rows[0][1:]]
+        for row in rows[2:]:
+            net = example(row[0].strip("`"))
+            last = 12 + 3 * net.forest_count * (net.span + 1)
+            wanted.append([str(x) for x in (len(net.neighbours), net.greatest_degree, net.forest_count, last, channels_of(net))])
+        return wanted
+    if rows[0][0].startswith("identifiers"):
+        return [rows[0][1:]] + [list(greatest_colours(int(row[0].split()[0]))) for row in rows[2:]]
+    return None
+
+
+def check_tutorial():
+    count = 0
+    for number, title, rows in tables_of(lines_of("docs/learn/TUTORIAL.md")):
+        wanted = tutorial_table(title, rows)
+        if wanted is not None:
+            count += 1
+            got = [row[1:1 + len(wanted[0])] for row in rows[:1] + rows[2:]]
+            note(f"docs/learn/TUTORIAL.md:{number}", got == wanted, f"wanted {wanted}")
+    note("tables of the tutorial", count == 6, count)
+    for name, good, what in fact_rows():
+        note(name, good, what)
+
+
+def heading_anchor(line):
+    text = re.sub(r"[`*,.:;()?/+·']", "", line.lstrip("#").strip().lower())
+    return text.replace(" ", "-")
+
+
+def check_names(page):
+    lines = lines_of(page)
+    for number, line in enumerate(lines, 1):
+        for name in re.findall(r"`((?:crates|docs|tests|lab|build|bin|bench|examples)/[\w./-]+)`", line):
+            if "NAME" not in name:
+                note(f"{page}:{number} {name}", os.path.exists(os.path.join(TOP, name)), "there is no such file")
+        for target in re.findall(r"\]\(([^)]*)\)", line):
+            if re.match(r"https?:", target):
+                continue
+            path, _, anchor = target.partition("#")
+            path = os.path.normpath(os.path.join(os.path.dirname(page), path)) if path else page
+            good = os.path.exists(os.path.join(TOP, path))
+            if good and anchor:
+                good = anchor in {heading_anchor(head) for head in lines_of(path) if head.startswith("#")}
+            note(f"{page}:{number} {target}", good, "the link leads nowhere")
+
+
+def check_excerpts(page):
+    """Excerpts leave lines out, so their lines are looked for one after another."""
+    lines = iter(enumerate(lines_of(page), 1))
+    for _, line in lines:
+        if line.strip() not in ("```rust", "```antt"):
+            continue
+        number, head = next(lines)
+        path = head.strip().removeprefix("// ").removeprefix("-- ")
+        excerpt = []
+        for _, line in lines:
+            if line.strip() == "```":
+                break
+            if line.strip() not in ("// ..", "-- .."):
+                excerpt.append(line.strip())
+        source = iter([line.strip() for line in lines_of(path)])
+        missing = [line for line in excerpt if line not in source]
+        note(f"{page}:{number} excerpt of {path}", not missing, f"not there, or not in this order: {missing}")
+
+
+def clauses_of_crate(crate):
+    """The names of the clauses and ghost members of each function and type of a crate, by the name of the function."""
+    found = {}
+    folder = os.path.join(TOP, "crates", crate, "src")
+    for root, _, names in os.walk(folder):
+        for name in (n for n in names if n.endswith(".rt")):
+            with open(os.path.join(root, name), encoding="utf-8") as file:
+                owner = None
+                for line in file:
+                    head = re.match(r"\s*(?:pub(?:\(\w+\))? )?(?:fn|trait|struct|enum|type|const) (\w+)", line)
+                    for title in re.findall(r"\bimpl(?:<[^{]*?>)? (?:[\w:<>, ]* for )?(\w+)", line):
+                        found.setdefault(title, set())
+                    if head:
+                        owner = head.group(1)
+                        found.setdefault(owner, set())
+                    clause = re.match(r"\s*(?:ensures|requires) (\w+) ", line)
+                    ghost = re.match(r"\s*(?:pub )?ghost (\w+)\s*[:=]", line)
+                    if owner and clause:
+                        found[owner].add(clause.group(1))
+                    if ghost:
+                        found.setdefault("ghost", set()).add(ghost.group(1))
+    return found
+
+
+def laws_of_crates():
+    """Each public law, a function with an empty body, by its path: `crate::function`, or `crate::laws::function`."""
+    found = set()
+    for crate in os.listdir(os.path.join(TOP, "crates")):
+        for module in ("lib", "laws"):
+            file = os.path.join(TOP, "crates", crate, "src", f"{module}.rt")
+            if os.path.isfile(file):
+                with open(file, encoding="utf-8") as text:
+                    names = re.findall(r"^pub fn (\w+)[^\n]*\n(?:    .*\n)+\{\}$", text.read(), re.M)
+                with open(os.path.join(TOP, "crates", crate, "src", "lib.rt"), encoding="utf-8") as text:
+                    inside = "laws::" if module == "laws" and "pub mod laws;" in text.read() else ""
+                found |= {f"{crate}::{inside}{name}" for name in names}
+    return found
+
+
+def check_promises():
+    """A promise is written as `crate::function`: `clause`, `clause`; it may go on in the next line."""
+    crates, text = {}, " ".join(line.strip() for line in lines_of("docs/claim/PROMISES.md"))
+    promises = re.findall(r"`((?!crate::)[a-z_]+(?:::\w+)+)`(?:: ((?:`\w+`(?:, |))+))?", text)
+    for path, clauses in promises:
+        parts = path.split("::")
+        crate = crates.setdefault(parts[0], clauses_of_crate(parts[0]))
+        name = parts[-1]
+        missing = [] if name in crate else [name]
+        for clause in re.findall(r"`(\w+)`", clauses):
+            if clause not in crate.get(name, set()) and clause not in crate.get("ghost", set()):
+                missing.append(clause)
+        note(f"docs/claim/PROMISES.md {path}", not missing, f"not in the code: {missing}")
+    laws = laws_of_crates()
+    missing = sorted(laws - {path for path, _ in promises})
+    note("laws in docs/claim/PROMISES.md", len(laws) > 50 and not missing, f"{len(laws)} are found, not named: {missing}")
+    note("promises of docs/claim/PROMISES.md", len(promises) > 200, f"{len(promises)} are found")
+
+
+def check_crates():
+    """README or LAYERS names each crate of crates.txt, and each crate of the toolchain that it lists."""
+    pages, names = "\n".join(lines_of("README.md") + lines_of("docs/work/LAYERS.md")), set()
+    for line in lines_of("crates.txt"):
+        names |= set(line.partition("#")[0].replace(":", " ").split())
+    missing = sorted(name for name in names if f"`{name}`" not in pages)
+    note("crates in README.md and docs/work/LAYERS.md", not missing, f"not named: {missing}")
+
+
+def check_lengths():
+    wide = [f"{page}:{number}" for page in PAGES for number, line in enumerate(lines_of(page), 1) if len(line) > WIDEST]
+    note(f"lines of pages wider than {WIDEST} columns", not wide, wide[:5])
+    length = len(lines_of("README.md")) - 1
+    note("length of README.md", length <= LONGEST_README, f"{length} lines")
+
+
+def check_paths():
+    """No crate has more paths through crates.txt than build/paths.py allows."""
+    found = paths()
+    note("paths in crates.txt", max(found.values()) <= MOST, max(found, key=found.get))
+
+
+def check_edits():
+    for path, fault in edits_apply.faults():
+        note(path, not fault, fault)
+
+
+def main():
+    if sys.argv[1:] in (["--help"], ["-h"]):
+        print(__doc__.strip())
+        return 0
+    programs = [os.path.join(TOP, "crates", name, "out", name) for name in ("forestplan", "forestplay")]
+    if len(sys.argv) > 2:
+        programs = [os.path.abspath(word) for word in sys.argv[1:3]]
+    else:
+        for name in ("forestplan", "forestplay"):
+            built = subprocess.run([os.path.join(TOP, "bin", name), "--help"], stdout=subprocess.DEVNULL)
+            note(f"{name} builds", built.returncode == 0, built)
+    for page in PAGES:
+        check_commands(page, programs)
+        check_names(page)
+        check_excerpts(page)
+    check_crates()
+    check_lengths()
+    check_paths()
+    check_edits()
+    check_tutorial()
+    check_definitions()
+    check_promises()
+    print(f"{TALLY['passed']} passed, {TALLY['failed']} failed")
+    return 1 if TALLY["failed"] else 0
+
+
+if __name__ == "__main__":
+    sys.exit(main())

@@ -1,0 +1,204 @@
+"""What docs/learn/TUTORIAL.md says of small networks, of rows, and of nodes that break a rule, worked out from the definitions
+(lab/definitions/colours.py, lab/definitions/nodes.py) or by hand: rows (name, good, what)."""
+import copy
+import itertools
+import os
+
+from lab.definitions.colours import Network, bit, colours, drop, first_colours, merge, network_of, shift, three
+from lab.definitions.nodes import AlphaNode, Colouring, NetState, last_pulse, ports_of
+from tests import TOP
+
+
+def fact_rows():
+    return [too_many_row(), row_of_six_row(), *order_rows(), *drop_rows(), *bar_rows(), *acknowledgement_rows()]
+
+
+def example(name):
+    with open(os.path.join(TOP, name), "rb") as file:
+        return network_of(file.read())
+
+
+def pulses_of(net, f):
+    """The colours in forest f after each of the pulses 2 to 12."""
+    c = net.identifiers
+    lists = [c]
+    for _ in range(4):
+        c = bit(net, f, c)
+        lists.append(c)
+    for x in (5, 4, 3):
+        before, c = c, shift(net, f, c)
+        lists.append(c)
+        c = drop(x, net, f, c, before)
+        lists.append(c)
+    return lists
+
+
+def channels_of(net):
+    return max(colours(net).values(), default=-1) + 1
+
+
+def fewest_colours(nodes, edges):
+    return next(k for k in range(nodes + 1) for c in itertools.product(range(k), repeat=nodes)
+                if all(c[v - 1] != c[w - 1] for v, w in edges))
+
+
+def too_many_row():
+    """Of the networks of up to four nodes, these two alone take a channel more than is needed."""
+    found = []
+    for nodes in range(1, 5):
+        pairs = list(itertools.combinations(range(1, nodes + 1), 2))
+        for edges in itertools.chain(*(itertools.combinations(pairs, r) for r in range(len(pairs) + 1))):
+            net = Network({v: v for v in range(1, nodes + 1)}, set(edges))
+            if channels_of(net) > fewest_colours(nodes, edges):
+                found.append(edges)
+    return "networks with a channel too many", found == [((1, 3), (1, 4), (2, 4)), ((1, 4), (2, 3), (2, 4))], found
+
+
+def row_of_six_row():
+    """If node 1 makes no pulse and the others do all that they can, they come as far as the tutorial says."""
+    state = NetState(example("examples/chain6.col"))
+    while event := next((event for event in state.possible() if event[:2] != ("Pulse", 1)), None):
+        state.step(*event)
+    pulses = [node.pulse_number for _, node in sorted(state.nodes.items())]
+    return "pulses of a row of six with node 1 at rest", pulses == [0, 1, 2, 3, 4, 5], pulses
+
+
+def rounds_in_order(row):
+    """How many rounds a row takes if each node chooses in the round after the last of its lower neighbours."""
+    chosen = {}
+    for k, v in sorted(enumerate(row), key=lambda place: place[1]):
+        chosen[v] = 1 + max([chosen[w] for w in row[max(k - 1, 0):k] + row[k + 1:k + 2] if w < v], default=0)
+    return max(chosen.values())
+
+
+def order_rows():
+    for row, wanted in (([1, 3, 2, 4], 2), ([1, 2, 3, 4], 4), (list(range(1, 20001)), 20000)):
+        found = rounds_in_order(row)
+        yield f"choosing in order on a row of {len(row)}", found == wanted, found
+
+
+def dropped(net, f):
+    """(pulse, vertex) of each drop that changes a colour."""
+    lists = dict(enumerate(pulses_of(net, f), 2))
+    return [(p, v) for p in (8, 10, 12) for v in sorted(net.neighbours) if lists[p][v] != lists[p - 1][v]]
+
+
+def drop_rows():
+    """The example, by hand from the colours after pulse 6. At pulse 7 node 1 has 5, which node 2 had; before it had 1, and
+    node 2 now has 4: so at 8 it takes 0. At 9 it has 4, the next colour of node 2; before it had 0, and node 2 now has 0: so at
+    10 it takes 1. At 11 node 3 has 3, which node 4 had; before it had 1, and node 4 now has 0: so at 12 it takes 2.
+
+    Smaller networks: a forest is a higher parent, or none, for each node, and it is forest 0 of the network of its edges."""
+    found = dropped(example("examples/drops.col"), 0)
+    yield "drops of the row of nine", found == [(8, 1), (10, 1), (12, 3)], found
+    count = 0
+    for nodes in range(2, 8):
+        for parents in itertools.product(*([None, *range(v + 1, nodes + 1)] for v in range(1, nodes + 1))):
+            net = Network({v: v for v in range(1, nodes + 1)}, {(v, w) for v, w in enumerate(parents, 1) if w})
+            count += bool(dropped(net, 0))
+    yield "forests of up to seven nodes in which a drop changes a colour", count == 0, count
+
+
+def bar_rows():
+    """The ring of four with a bar, by hand: after pulse 12 nodes 1 and 3 have 0 in forest 0, and 2 and 4 have 1. So 3 is first, by (0, 0),
+    and takes 0; then 1, by (0, 1), takes 1; then 2 and 4, by (1, 0): 2 has heard both and takes 2, 4 has heard 3 alone and takes 1. In
+    forest 1, the edge of 1 and 4, node 1 is before 4: 3 takes 0, 1 takes 1, 4 has heard both and takes 2, and so does 2."""
+    net = example("examples/barred.col")
+    merges = [first_colours(net), merge(net, 0, first_colours(net)), colours(net)]
+    wanted = [{1: 1, 2: 0, 3: 0, 4: 0}, {1: 1, 2: 2, 3: 0, 4: 1}, {1: 1, 2: 2, 3: 0, 4: 2}]
+    yield "the ring of four with a bar", (merges, last_pulse(net)) == (wanted, 36), merges
+    yield "three colours of the ring of four", three(net, 0) == {1: 0, 2: 1, 3: 0, 4: 1} and three(net, 1)[1] < three(net, 1)[4], three(net, 1)
+    star = example("examples/star.col")
+    barred = Network(star.identifiers, star.number, {9: {0}})
+    found = [colours(net) for net in (star, barred)]
+    yield "the star with a bar", found == [{v: 1 for v in range(1, 9)} | {9: 0}, {v: 0 for v in range(1, 9)} | {9: 1}], found
+
+
+class Hasty(AlphaNode):
+    """A node that says safe at once, and takes no notice of acknowledgements."""
+
+    def settle(self):
+        if self.pulse_number < self.last and not self.said:
+            self.said = True
+            for port in self.ports:
+                port.out.append(("Safe", self.pulse_number))
+
+    def on_wire(self, at, wire):
+        if wire[0] != "Ack":
+            super().on_wire(at, wire)
+
+
+def acknowledgement_rows():
+    """Two hasty nodes have all their inboxes, too; but not if a safe overtakes a greeting. A search by width, which was written
+    apart from this one, counted the same states."""
+    two = Network({1: 1, 2: 2}, {(1, 2)})
+    for kind, wanted in ((AlphaNode, (281, 641)), (Hasty, (536, 2061))):
+        for puts_apart in (False, True):
+            found = states_of(two, kind, puts_apart)
+            yield f"states of two nodes: {kind.__name__}, {puts_apart}", found == (wanted[puts_apart], True), found
+    state = start_of(two, Hasty)
+    state.step("Put", 1, 0)
+    state.step("Put", 1, 0)
+    state.link_to(2, 0).reverse()
+    found = state.step("Take", 2, 0), state.nodes[2].can_pulse(), inbox_of(state.nodes[2])
+    wanted = ("Safe", 0), True, [None]
+    yield "a safe that overtakes", found == wanted and inboxes_of(two)[1, 2] == [("Hello", 1)], found
+
+
+def start_of(net, kind):
+    state = NetState(net)
+    state.nodes = {v: kind(net, v) for v in net.neighbours}
+    return state
+
+
+def inbox_of(node):
+    return [port.present for port in node.ports]
+
+
+def inboxes_of(net):
+    """What each node has to read in each of its pulses."""
+    nodes, inboxes = {v: Colouring(net, v) for v in net.neighbours}, {}
+    sent = {v: nodes[v].greet() for v in nodes}
+    for pulse in range(1, last_pulse(net) + 1):
+        inboxes.update({(pulse, v): [sent[w][ports_of(net, w).index(v)] for w in ports_of(net, v)] for v in nodes})
+        sent = {v: nodes[v].next(pulse, inboxes[pulse, v]) for v in nodes}
+    return inboxes
+
+
+def put_all(state):
+    """The state after all puts that are possible."""
+    while event := next((event for event in state.possible() if event[0] == "Put"), None):
+        state.step(*event)
+    return state
+
+
+def states_of(net, kind, puts_apart):
+    """How many states events lead to, and whether each pulse that is possible in one of them has its inbox. If puts aren't
+    counted apart, each is made as soon as it can be."""
+    inboxes, start = inboxes_of(net), start_of(net, kind)
+    start = start if puts_apart else put_all(start)
+    seen, left, is_right = {frozen(start)}, [start], True
+    while left:
+        state = left.pop()
+        for event in state.possible():
+            if event[0] == "Pulse":
+                node = state.nodes[event[1]]
+                is_right &= inbox_of(node) == inboxes[node.pulse_number + 1, event[1]]
+            after = copy.deepcopy(state)
+            after.step(*event)
+            after = after if puts_apart else put_all(after)
+            if frozen(after) not in seen:
+                seen.add(frozen(after))
+                left.append(after)
+    return len(seen), is_right
+
+
+def frozen(thing):
+    """A value that is equal for equal states."""
+    if isinstance(thing, dict):
+        return tuple((key, frozen(value)) for key, value in thing.items())
+    if isinstance(thing, (list, tuple)):
+        return tuple(map(frozen, thing))
+    if isinstance(thing, set):
+        return frozenset(thing)
+    return frozen(vars(thing)) if hasattr(thing, "__dict__") else thing

@@ -1,0 +1,361 @@
+#!/usr/bin/env python3
+"""Black-box tests of `forestplay`: plays lists of events and transcripts by the built program, and compares standard output,
+standard error and status byte by byte. The last line is 'N passed, M failed'.
+
+  events.py [--second BINARY] [PROGRAM]
+      PROGRAM   default: the script `forestplay` at the top, which builds the program first
+      BINARY    the program as the second compiler builds it; its rows are left out if it isn't named
+
+Expected answers are worked by hand (docs/learn/TUTORIAL.md has the run of the triangle), or come from the definitions in
+lab/definitions/nodes.py; none is taken from the program."""
+import argparse
+import os
+import random
+import subprocess
+import sys
+import tempfile
+
+from lab.definitions.colours import colours, network_of
+from lab.definitions.nodes import NetState, Refused, last_pulse, missing_words, ports_of, wire_words
+from tests import TOP
+from tests.faults.refused_memory import build_front, sweep
+
+LIMIT = 60
+SEED = 2026
+STREAM_LINE = b"forestplay: stream\n"
+EDGE = "p edge 2 1|e 1 2|"
+TRIANGLE = "p edge 3 3|e 1 2|e 1 3|e 2 3|"
+ALL_PUT = "put 1 0|put 1 1|put 2 0|put 2 1|put 3 0|put 3 1|"
+ALL_TAKE = ALL_PUT.replace("put", "take")
+# Events 31 to 47 of docs/learn/TUTORIAL.md.
+LATER = ("take 1 0|take 1 1|pulse 1|put 1 1|take 3 0|take 3 0|put 1 0|take 2 0|take 2 0|put 2 0|take 1 0|put 3 0|take 1 1|put 1 1|"
+         "take 3 0|take 3 1|pulse 3|")
+TALLY = {"passed": 0, "failed": 0}
+
+
+def text(lines):
+    """Bytes of a text in which '|' stands for a line feed."""
+    return lines.replace("|", "\n").encode("latin-1")
+
+
+def note(name, good, what=""):
+    TALLY["passed" if good else "failed"] += 1
+    if not good:
+        print(f"FAILED {name}: {what}")
+
+
+def run(program, data, words=("events",), **streams):
+    given = {"input": data} if "stdin" not in streams else {}
+    streams.setdefault("stdout", subprocess.PIPE)
+    streams.setdefault("stderr", subprocess.PIPE)
+    return subprocess.run([program, *words], timeout=LIMIT, **given, **streams)
+
+
+def expect(name, done, wanted):
+    got = (done.returncode, done.stdout, done.stderr)
+    note(name, got == wanted, f"wanted {wanted}, got {got}")
+
+
+def refusal(fault):
+    return 1, b"", f"forestplay: {fault}\n".encode()
+
+
+# (name, input, output), in which '|' stands for a line feed
+WORKED = [
+    ("no node", "p edge 0 0|", ""),
+    ("a node alone", "p edge 1 0|", "node 1 pulse 0|"),
+    ("a node alone at its last pulse", "p edge 1 0|" + 12 * "pulse 1|", "node 1 pulse 12 channel 1|"),
+    ("a node alone with a bar at its last pulse", "p edge 1 0|b 1 1|b 1 3|" + 12 * "pulse 1|", "node 1 pulse 12 channel 2|"),
+    ("the start of an edge", EDGE, "node 1 pulse 0|link 1 2 taken 0|node 2 pulse 0|link 2 1 taken 0|"),
+    ("no line feed at the end", EDGE + "put 1 0",
+     "node 1 pulse 0|link 1 2 taken 0 payload 0 hello 1|node 2 pulse 0|link 2 1 taken 0|"),
+    ("an odd layout", "c x|" + EDGE + "n 1|\t put  01\t0 \r||c put 1 0|comment|take 2 000|put 2 0|put 2 0|",
+     "node 1 pulse 0|link 1 2 taken 1|node 2 pulse 0|link 2 1 taken 0 payload 0 hello 2 ack 0|"),
+    ("a safe", EDGE + "put 1 0|take 2 0|put 2 0|put 2 0|take 1 0|take 1 0|put 1 0|put 1 0|take 2 0|",
+     "node 1 pulse 0|link 1 2 taken 2 safe 0|node 2 pulse 0|link 2 1 taken 2|"),
+    ("the triangle after 6 events", TRIANGLE + ALL_PUT,
+     "node 1 pulse 0|link 1 2 taken 0 payload 0 hello 1|link 1 3 taken 0 payload 0 hello 1|"
+     "node 2 pulse 0|link 2 1 taken 0 payload 0 hello 2|link 2 3 taken 0 payload 0 hello 2|"
+     "node 3 pulse 0|link 3 1 taken 0 payload 0 hello 3|link 3 2 taken 0 payload 0 hello 3|"),
+    ("the triangle after 34 events", TRIANGLE + 2 * (ALL_PUT + ALL_TAKE) + ALL_PUT + "take 1 0|take 1 1|pulse 1|put 1 1|",
+     "node 1 pulse 1|link 1 2 taken 2 safe 0|link 1 3 taken 2 safe 0 payload 1 label 1|"
+     "node 2 pulse 0|link 2 1 taken 3|link 2 3 taken 2 safe 0|"
+     "node 3 pulse 0|link 3 1 taken 3|link 3 2 taken 2 safe 0|"),
+    ("the triangle after 45 events", TRIANGLE + 2 * (ALL_PUT + ALL_TAKE) + ALL_PUT + LATER.removesuffix("take 3 1|pulse 3|"),
+     "node 1 pulse 1|link 1 2 taken 4|link 1 3 taken 5|"
+     "node 2 pulse 0|link 2 1 taken 4|link 2 3 taken 2 safe 0|"
+     "node 3 pulse 0|link 3 1 taken 4|link 3 2 taken 2 safe 0|"),
+    ("the triangle after 47 events", TRIANGLE + 2 * (ALL_PUT + ALL_TAKE) + ALL_PUT + LATER,
+     "node 1 pulse 1|link 1 2 taken 4|link 1 3 taken 5|"
+     "node 2 pulse 0|link 2 1 taken 4|link 2 3 taken 3|"
+     "node 3 pulse 1|link 3 1 taken 4|link 3 2 taken 2 safe 0|"),
+]
+
+# (input, fault): faults of the text, of the network, of the reading of events, of an event, in this order
+REFUSED = [
+    ("", "F1"), ("put 1 0|", "F1"), ("p edge 2 1|e 1 1|put 1 0|x|", "F6 line 2"), (EDGE + "events|put 1 0|", "F8 line 3"),
+    (EDGE + "puts 1 0|", "F8 line 3"), ("p edge 2 1|put 1 0|e 1 2|", "NoEvent line 3"),
+    ("p edge 1025 1024|" + "".join(f"e 1 {v}|" for v in range(2, 1026)) + "put 9999 0|x|", "N1 vertex 1"),
+    (EDGE + "pulse 1|put 1|", "NoEvent line 4"), (EDGE + "pulse|", "NoEvent line 3"), (EDGE + "pulse 1 0|", "NoEvent line 3"),
+    (EDGE + "put 1|", "NoEvent line 3"), (EDGE + "put 1 0 0|", "NoEvent line 3"), (EDGE + "put 1 -0|", "NoEvent line 3"),
+    (EDGE + "take 1 x|", "NoEvent line 3"), (EDGE + "put 1 0|Put 1 0|", "NoEvent line 4"), (EDGE + "put 1 0|n 1|", "NoEvent line 4"),
+    (EDGE + "put 1 0|\xff|", "NoEvent line 4"),
+    (EDGE + "pulse 3|", "NoSuch line 3"), (EDGE + "pulse 0|", "NoSuch line 3"), (EDGE + "put 1 1|", "NoSuch line 3"),
+    (EDGE + "take 3 0|", "NoSuch line 3"), (EDGE + "pulse 4294967297|", "NoSuch line 3"),
+    (EDGE + "put 1 18446744073709551616|", "NoSuch line 3"), ("p edge 1 0|take 1 0|", "NoSuch line 2"),
+    (EDGE + "pulse 1|", "NotReady line 3: ack 0 of 2; safe 0 of 2"), (EDGE + "take 1 0|", "LinkEmpty line 3: link from 2 to 1"),
+    (EDGE + "put 1 0|put 1 0|", "NothingToPut line 4: list of 1 for 2"),
+    (EDGE + "c|put 1 0||take 2 0|take 2 0|take 2 0|", "LinkEmpty line 7: link from 1 to 2"),
+    (EDGE + "put 1 0|take 2 0|put 2 0|put 2 0|take 1 0|take 1 0|pulse 1|", "NotReady line 9: safe 0 of 2"),
+    ("p edge 1 0|" + 13 * "pulse 1|", "NotReady line 14: pulse 12 is the last"),
+    (EDGE + "b 1 0|put 1 0|x|", "F13 line 3"), (EDGE + "put 1 0|b 1 1|", "NoEvent line 4"),
+    ("p edge 4 3|e 1 2|e 1 3|e 1 4|pulse 1|", "NotReady line 5: ack 0 of 2, 3 and 4; safe 0 of 2, 3 and 4"),
+    (TRIANGLE + "pulse 2|", "NotReady line 5: ack 0 of 1 and 3; safe 0 of 1 and 3"),
+    (TRIANGLE + 2 * (ALL_PUT + ALL_TAKE) + ALL_PUT + "pulse 1|", "NotReady line 35: safe 0 of 2 and 3"),
+    (TRIANGLE + 2 * (ALL_PUT + ALL_TAKE) + ALL_PUT + "take 1 0|pulse 1|", "NotReady line 36: safe 0 of 3"),
+]
+
+# the same of `replay`: (name, what stands behind the edge's lines, output)
+REPLAYED = [
+    ("no entry", "transcript 1 2|", "node 1 pulse 0|link 1 2 taken 0|node 2 pulse 0|link 2 1 taken 0|"),
+    ("a greeting", "transcript 1 2|1 put 2 payload 0 hello 1|2 take 1 payload 0 hello 1|2 put 1 payload 0 hello 2|2 put 1 ack 0|",
+     "node 1 pulse 0|link 1 2 taken 1|node 2 pulse 0|link 2 1 taken 0 payload 0 hello 2 ack 0|"),
+    ("an odd layout, with another number of nodes", "n 1|\t transcript 1  9 \r| \t||1 put 002 payload\t0 hello 01\r",
+     "node 1 pulse 0|link 1 2 taken 0 payload 0 hello 1|node 2 pulse 0|link 2 1 taken 0|"),
+]
+
+# (input, fault) of `replay`: faults of the text, of the network, of the reading of the transcript, of an entry, in this order
+GREETING = "1 put 2 payload 0 hello 1|"
+NOT_REPLAYED = [
+    ("", "F1"), ("transcript 1 2|", "F1"), (EDGE, "X1 line 1"), ("p edge 2 1|e 1 1|transcript 1 2|x|", "F6 line 2"),
+    (EDGE + "q|transcript 1 2|", "F8 line 3"), (EDGE + "transcripts 1 2|", "F8 line 3"),
+    ("p edge 1025 1024|" + "".join(f"e 1 {v}|" for v in range(2, 1026)) + "transcript 1 2|x|", "N1 vertex 1"),
+    (EDGE + "transcript|", "X1 line 3"), (EDGE + "transcript 1|", "X1 line 3"), (EDGE + "transcript 3 2|", "X1 line 3"),
+    (EDGE + "transcript 2|", "X1 line 3"), (EDGE + "transcript 2 2|", "NotWhole line 3"), (EDGE + "transcript 2 2|1 put 2 close|", "X1 line 4"),
+    (EDGE + "transcript 2 2||1 1 put 2 payload 0 hello 1|", "NotWhole line 5"),
+    (EDGE + "transcript 2 2|1 1 put 2 payload 0 hello 1|1 2 take 1 payload 0 hello 1|", "WrongStamp line 5"),
+    (EDGE + "transcript 2 2|1 2 put 1 payload 0 hello 2|1 1 put 2 payload 0 hello 1|", "WrongStamp line 5"),
+    (EDGE + "transcript 2 2|1 1 put 2 payload 0 hello 1|2 2 take 1 payload 0 hello 1|9 1 pulse 1|",
+     "NotReady line 6: ack 0 of 2; safe 0 of 2"),
+    (EDGE + "transcript 2 2|18446744073709551616 1 put 2 payload 0 hello 1|", "X1 line 4"),
+    (EDGE + "transcript 2 2|18446744073709551615 1 put 2 payload 0 hello 1|", "WrongStamp line 4"),
+    (EDGE + "transcript 1 2 2|", "X1 line 3"), (EDGE + "transcript 1 2|transcript 1 2|", "X1 line 4"),
+    (EDGE + "transcript 1 2|1 pulse|", "X1 line 4"), (EDGE + "transcript 1 2||1 pulse 1 1|", "X1 line 5"),
+    (EDGE + "transcript 1 2|c|", "X1 line 4"), (EDGE + "transcript 1 2|1 take 2 close|1 pulse|", "X1 line 5"),
+    (EDGE + "transcript 1 2|1 put 2 payload 0 best 1|", "X1 line 4"), (EDGE + "transcript 1 2|4294967296 pulse 1|", "X1 line 4"),
+    (EDGE + "transcript 1 2|1 take 2 close|", "LinkEmpty line 4: link from 2 to 1"),
+    (EDGE + "transcript 1 2|1 put 2 safe 0|", "WrongWire line 4: expected payload 0 hello 1"),
+    (EDGE + "transcript 1 2|1 put 3 close|", "NoSuch line 4"),
+    (EDGE + "transcript 1 2|1 pulse 1|", "NotReady line 4: ack 0 of 2; safe 0 of 2"),
+    (EDGE + "transcript 1 2|0 pulse 1|", "NoSuch line 4"), (EDGE + "transcript 1 2|3 pulse 1|", "NoSuch line 4"),
+    (EDGE + "transcript 1 2|1 put 1 close|", "NoSuch line 4"),
+    (EDGE + "transcript 1 2|1 put 2 payload 0 hello 2|", "WrongWire line 4: expected payload 0 hello 1"),
+    (EDGE + "transcript 1 2||" + GREETING + "|1 put 2 ack 0|", "NothingToPut line 7: list of 1 for 2"),
+    (EDGE + "transcript 1 2|" + GREETING + "2 take 1 payload 0 hello 2|", "WrongWire line 5: expected payload 0 hello 1"),
+    (EDGE + "transcript 1 2|" + GREETING + "2 take 1 payload 0 hello 1|2 put 1 payload 0 hello 2|2 put 1 safe 0|",
+     "WrongWire line 7: expected ack 0"),
+    # the greatest number of each kind of payload, which is read and isn't the wire that is due, and one more
+    *((EDGE + f"transcript 1 2|1 put 2 payload 0 {kind} {most + more}|",
+       "X1 line 4" if more else "WrongWire line 4: expected payload 0 hello 1")
+      for kind, most in [("hello", 2**128 - 1), ("label", 2**16 - 1), ("colour", 2**128 - 1), ("chosen", 2**16 - 1)] for more in (0, 1)),
+    ("p edge 1 0|transcript 1 1|1 pulse 2|", "WrongWire line 3: expected pulse 1"),
+    ("p edge 1 0|transcript 1 1|1 pulse 1|1 pulse 1|", "WrongWire line 4: expected pulse 2"),
+]
+
+
+def replay_rows(program):
+    for name, behind, output in REPLAYED:
+        expect(f"replay of {name}", run(program, text(EDGE + behind), ["replay"]), (0, text(output), b""))
+    for data, fault in NOT_REPLAYED:
+        expect(f"replay: {fault} of {data[-40:]!r}", run(program, text(data), ["replay"]), refusal(fault))
+
+
+def worked_rows(program):
+    for name, data, output in WORKED:
+        expect(name, run(program, text(data)), (0, text(output), b""))
+    for data, fault in REFUSED:
+        expect(f"{fault} of {data[-40:]!r}", run(program, text(data)), refusal(fault))
+
+
+def state_text(net, state, taken):
+    lines = []
+    for v, node in sorted(state.nodes.items()):
+        is_last = node.pulse_number == last_pulse(net)
+        lines.append(f"node {v} pulse {node.pulse_number}" + (f" channel {node.program.merged + 1}" if is_last else ""))
+        for port, w in enumerate(ports_of(net, v)):
+            lines.append(f"link {v} {w} taken {taken[v, port]}" + "".join(" " + wire_words(wire) for wire in state.link[v, port]))
+    return "".join(line + "\n" for line in lines).encode()
+
+
+def answer_of(net, events):
+    """What the definitions answer to events, each with its line: the state's text, or the first refusal."""
+    state = NetState(net)
+    taken = dict.fromkeys(state.link, 0)
+    for line, kind, v, port in events:
+        try:
+            state.step(kind, v, port)
+        except Refused as refused:
+            return refusal(f"{refused} line {line}{missing_words(state, kind, v, port)}")
+        if kind == "Take":
+            w = ports_of(net, v)[port]
+            taken[w, ports_of(net, w).index(v)] += 1
+    return 0, state_text(net, state, taken), b""
+
+
+def random_network(source, most):
+    nodes = source.randrange(0, most)
+    edges = [(v, w) for v in range(1, nodes + 1) for w in range(v + 1, nodes + 1) if source.random() < 0.5]
+    source.shuffle(edges)
+    bars = [(v, source.randint(1, 4)) for v in range(1, nodes + 1) if source.random() < 0.2]
+    return f"p edge {nodes} {len(edges)}\n" + "".join(f"e {v} {w}\n" for v, w in edges) + "".join(f"b {v} {c}\n" for v, c in bars)
+
+
+def random_events(source, net, count):
+    """Events that are possible where they stand; now and then any event."""
+    state, events = NetState(net), []
+    for _ in range(count):
+        possible = list(state.possible())
+        if not possible or source.random() < 0.002:
+            kind = source.choice(["Pulse", "Put", "Take"])
+            event = kind, source.randrange(0, len(net.neighbours) + 2), None if kind == "Pulse" else source.randrange(0, 4)
+        else:
+            event = source.choice(possible)
+        events.append(event)
+        try:
+            state.step(*event)
+        except Refused:
+            break
+    return events
+
+
+def written(source, network, events):
+    """The input, with blank lines and comments among the events, and each event with its line."""
+    lines, numbered = network.splitlines(), []
+    for kind, v, port in events:
+        while lines[-1][0:1] != "p" and source.random() < 0.1:
+            lines.append(source.choice(["", "c put 1 0", " \t", "comment"]))
+        lines.append(f"{kind.lower()} {v}" + ("" if port is None else f" {port}"))
+        numbered.append((len(lines), kind, v, port))
+    return "".join(line + "\n" for line in lines).encode(), numbered
+
+
+def random_rows(program):
+    """Random networks and events against the definitions."""
+    source, wrong, refused = random.Random(SEED), [], 0
+    for _ in range(300):
+        network = random_network(source, 7)
+        net = network_of(network.encode())
+        data, events = written(source, network, random_events(source, net, source.randrange(0, 400)))
+        done, wanted = run(program, data), answer_of(net, events)
+        refused += wanted[0]
+        if (done.returncode, done.stdout, done.stderr) != wanted:
+            wrong.append((data, wanted, done))
+    note("300 random lists of events against the definitions", not wrong, wrong[:1])
+    note("some of them are refused, and some are not", 30 < refused < 270, refused)
+
+
+def ending_rows(program):
+    """Events to the end: every node has halted, nothing waits, and the channels are the colours plus one."""
+    source = random.Random(SEED)
+    for network in [TRIANGLE, TRIANGLE + "b 3 1|", "p edge 4 4|e 1 2|e 2 3|e 3 4|e 1 4|", "p edge 5 5|e 1 2|e 1 3|e 1 4|e 1 5|e 2 3|", "p edge 3 1|e 1 3|"]:
+        net = network_of(text(network))
+        events = random_events(random.Random(source.random()), net, 0) + whole_run(source, net)
+        data, numbered = written(source, text(network).decode(), events)
+        done = run(program, data)
+        expect(f"a whole run of {network}", done, answer_of(net, numbered))
+        channels = [line.split()[-1].decode() for line in done.stdout.splitlines() if line.startswith(b"node")]
+        note(f"channels of {network}", channels == [str(c + 1) for _, c in sorted(colours(net).items())], channels)
+
+
+def whole_run(source, net):
+    state, events = NetState(net), []
+    while possible := list(state.possible()):
+        events.append(source.choice(possible))
+        state.step(*events[-1])
+    return events
+
+
+def help_rows(program):
+    """Each help text whole, as build/help/ has it, and the refusals of words."""
+    for words, name in [(["--help"], "forestplay_help"), (["-h"], "forestplay_help_short"),
+                        (["events", "--help"], "events_help"), (["events", "-h"], "events_help_short"),
+                        (["replay", "--help"], "replay_help"), (["replay", "-h"], "replay_help_short"),
+                        (["rounds", "--help"], "rounds_help"), (["rounds", "-h"], "rounds_help_short")]:
+        with open(os.path.join(TOP, "build", "help", name + ".txt"), "rb") as file:
+            wanted = file.read()
+        expect(f"help by {words}", run(program, b"no network", words), (0, wanted, b""))
+    rows = [
+        ([], "'forestplay' requires a subcommand but one was not provided|  [subcommands: events, replay, rounds]", "forestplay <COMMAND>"),
+        (["check"], "unrecognized subcommand 'check'", "forestplay <COMMAND>"),
+        (["help"], "unrecognized subcommand 'help'", "forestplay <COMMAND>"),
+        (["events", "extra"], "unexpected argument 'extra' found", "forestplay events"),
+        (["replay", "extra"], "unexpected argument 'extra' found", "forestplay replay"),
+        (["rounds", "extra"], "unexpected argument 'extra' found", "forestplay rounds"),
+        ([b"\xff"], "unrecognized subcommand '\N{REPLACEMENT CHARACTER}'", "forestplay <COMMAND>"),
+    ]
+    for words, fault, usage in rows:
+        wanted = f"error: {fault}||Usage: {usage}||For more information, try '--help'.|".replace("|", "\n")
+        expect(f"refused words {words}", run(program, text(EDGE), words), (2, b"", wanted.encode()))
+
+
+def stream_rows(program):
+    with open("/dev/full", "wb") as full:
+        done = run(program, text(EDGE), stdout=full)
+    note("a full device", (done.returncode, done.stderr) == (4, STREAM_LINE), done)
+    reading, writing = os.pipe()
+    os.close(reading)
+    with os.fdopen(writing, "wb") as pipe:
+        done = run(program, text(EDGE), stdout=pipe)
+    note("a closed pipe", (done.returncode, done.stderr) == (4, STREAM_LINE), done)
+    with tempfile.TemporaryDirectory() as folder:
+        handle = os.open(folder, os.O_RDONLY)
+        done = run(program, b"", stdin=handle)
+        os.close(handle)
+    expect("a folder as standard input", done, (4, b"", STREAM_LINE))
+    closed = subprocess.run(["bash", "-c", '"$0" events <&-', program], capture_output=True, timeout=LIMIT)
+    expect("a closed standard input", closed, (4, b"", STREAM_LINE))
+
+
+def memory_rows(program):
+    """Each growth refused in turn: the right answer, or out of memory."""
+    with tempfile.TemporaryDirectory() as folder:
+        front, failure = build_front(folder)
+        note("the refusing allocator builds", failure is None, failure)
+        if failure is not None:
+            return
+        name, data, output = next(row for row in WORKED if row[0] == "the triangle after 47 events")
+        for data, wanted in [(data, (0, text(output), b"")), (EDGE + "put 1 0|put 1 0|", refusal("NothingToPut line 4: list of 1 for 2")),
+                             (EDGE + "put 1|", refusal("NoEvent line 3")), ("p edge 2 1|e 1 1|", refusal("F6 line 2"))]:
+            row = sweep(program, front, ["events"], text(data), wanted, "forestplay")
+            note(f"{row[0]} of {data[-30:]!r}", row[1], row[2])
+        name, behind, output = REPLAYED[1]
+        for data, wanted in [(EDGE + behind, (0, text(output), b"")),
+                             (EDGE + "transcript 1 2|1 put 2 safe 0|", refusal("WrongWire line 4: expected payload 0 hello 1"))]:
+            row = sweep(program, front, ["replay"], text(data), wanted, "forestplay")
+            note(f"replay: {row[0]} of {data[-30:]!r}", row[1], row[2])
+
+
+def main():
+    words = argparse.ArgumentParser()
+    words.add_argument("--second", metavar="BINARY")
+    words.add_argument("program", nargs="?", metavar="PROGRAM")
+    given = words.parse_args()
+    if given.program:
+        program = os.path.abspath(given.program)
+    else:
+        built = subprocess.run([os.path.join(TOP, "bin", "forestplay"), "--help"], stdout=subprocess.DEVNULL)
+        note("the program builds", built.returncode == 0, built)
+        program = os.path.join(TOP, "crates", "forestplay", "out", "forestplay")
+    if TALLY["failed"] == 0:
+        for rows in (worked_rows, replay_rows, random_rows, ending_rows, help_rows, stream_rows, memory_rows):
+            rows(program)
+        if given.second:
+            note("the second compiler built the program", os.path.isfile(given.second), given.second)
+            if os.path.isfile(given.second):
+                ending_rows(os.path.abspath(given.second))
+    print(f"{TALLY['passed']} passed, {TALLY['failed']} failed")
+    return 1 if TALLY["failed"] else 0
+
+
+if __name__ == "__main__":
+    sys.exit(main())

@@ -1,0 +1,143 @@
+"""Transcripts made from the definitions (lab/definitions/nodes.py) under random schedules, and transcripts with one mistake.
+
+A transcript is held as its entries' lines without line feeds, those of each node in its own order."""
+import re
+from collections import deque
+
+from lab.definitions.nodes import NetState, wire_words
+
+MOST_LOOKS = 10_000_000
+MISTAKES = ("changed", "doubled", "left out", "swapped")
+
+
+def made_transcript(source, net, capacity):
+    """The lines of each vertex in a whole run in which no link ever holds more wires than its capacity. Some nodes are slow;
+    a node that is looked at makes a turn as on a worker thread, or some of its events."""
+    state, lines = NetState(net), {v: [] for v in net.neighbours}
+    look = source.choice((turn, some_events))
+    at_work = [v for v in net.neighbours for _ in range(source.choice((1, 2, 8)))]
+    for _ in range(MOST_LOOKS):
+        if not at_work:
+            return lines
+        v = source.choice(at_work)
+        made = [line_of(state, event) for event in look(source, state, v, capacity)]
+        lines[v] += made
+        if made and state.nodes[v].drained():
+            at_work = [w for w in at_work if w != v]
+    raise AssertionError("the run doesn't end")
+
+
+def turn(_, state, v, capacity):
+    """Each event is made by the caller before the next one is asked for."""
+    node = state.nodes[v]
+    for port in range(len(node.ports)):
+        for _ in range(4):
+            if state.link_to(v, port) and node.can_take():
+                yield "Take", v, port
+    if node.can_pulse():
+        yield "Pulse", v, None
+    for port, other in enumerate(node.ports):
+        while other.out and len(state.link[v, port]) < capacity:
+            yield "Put", v, port
+
+
+def some_events(source, state, v, capacity):
+    """Takes and puts at some of the ports, in any order, with a pulse before or behind them if there can be one."""
+    node, is_first = state.nodes[v], source.random() < 0.5
+    if is_first and node.can_pulse():
+        yield "Pulse", v, None
+    for port in source.sample(range(len(node.ports)), source.randint(0, len(node.ports))):
+        if state.link_to(v, port) and source.random() < 0.7:
+            yield "Take", v, port
+        if node.ports[port].out and len(state.link[v, port]) < capacity and source.random() < 0.7:
+            yield "Put", v, port
+    if not is_first and node.can_pulse():
+        yield "Pulse", v, None
+
+
+def line_of(state, event):
+    """Makes the event; returns its entry's line."""
+    kind, v, port = event
+    wire = state.step(*event)
+    if kind == "Pulse":
+        return f"{v} pulse {state.nodes[v].pulse_number}"
+    return f"{v} {kind.lower()} {state.neighbours[v][port]} {wire_words(wire)}"
+
+
+def transcript_text(nodes, lines):
+    """As the program writes it: the vertices ascend."""
+    return "".join(line + "\n" for line in [f"transcript 1 {nodes}"] + [line for v in sorted(lines) for line in lines[v]]).encode()
+
+
+def stamped_rows(lines):
+    """(stamp, vertex, line) of each entry, in the order of edition 2. A node is looked at again once a neighbour has put more."""
+    rows, at, counter, puts = [], dict.fromkeys(lines, 0), dict.fromkeys(lines, 0), {}
+    work = list(lines)
+    while work:
+        v = work.pop()
+        for line in lines[v][at[v]:]:
+            _, kind, *others = line.split(" ", 3)
+            link = puts.setdefault((v, others[0]) if kind == "put" else (int(others[0]), str(v)), deque()) if kind != "pulse" else None
+            if kind == "take":
+                if not link:
+                    break
+                counter[v] = max(counter[v], link.popleft())
+            at[v], counter[v] = at[v] + 1, counter[v] + 1
+            rows.append((counter[v], v, line))
+            if kind == "put":
+                link.append(counter[v])
+                work.append(int(others[0]))
+    assert len(rows) == sum(map(len, lines.values())), "no order of the entries"
+    return sorted(rows, key=lambda row: row[:2])
+
+
+def merged_text(nodes, lines):
+    """As the program writes edition 2."""
+    rows = [f"{stamp} {line}" for stamp, _, line in stamped_rows(lines)]
+    return "".join(line + "\n" for line in [f"transcript 2 {nodes}"] + rows).encode()
+
+
+def mixed_text(source, nodes, lines):
+    """As it may be written too: vertices in any order, each with its entries in its own order, and in an odd layout."""
+    order = [v for v in lines for _ in lines[v]]
+    source.shuffle(order)
+    own = {v: iter(lines[v]) for v in lines}
+    rows = ["", f" transcript 1\t0{nodes}\r"] + [odd(source, next(own[v])) for v in order]
+    return "\n".join(rows).encode()
+
+
+def odd(source, line):
+    if source.random() < 0.7:
+        return line
+    line = source.choice((line, line.replace(" ", "\t"), "  " + line, line + " \r", re.sub(r"(\d+)", r"00\1", line)))
+    return source.choice((line, line + "\n", line + "\n \t\r"))
+
+
+def with_mistake(source, mistake, lines):
+    """The same with one mistake in the entries of one node."""
+    v = source.choice([v for v in lines if len(lines[v]) > 1])
+    own = list(lines[v])
+    at = source.randrange(len(own))
+    if mistake == "changed":
+        at = source.choice([i for i, line in enumerate(own) if "pulse" not in line] or [at])
+        own[at] = changed(source, own[at])
+    elif mistake == "doubled":
+        own.insert(source.choice((at + 1, source.randint(at, len(own)))), own[at])
+    elif mistake == "left out":
+        del own[at]
+    else:
+        other = source.choice([i for i in (at - 1, at + 1, source.randrange(len(own))) if 0 <= i < len(own) and i != at] or [at])
+        own[at], own[other] = own[other], own[at]
+    return lines | {v: own}
+
+
+def changed(source, line):
+    """The entry with another wire; of a pulse, with another number."""
+    head, wire = re.fullmatch(r"(\d+ (?:pulse|put \d+|take \d+)) (.*)", line).groups()
+    number = source.choice((0, 1, 2, 3, 5, 12, 40))
+    others = [re.sub(r"\d+", str(number), wire, count=1), re.sub(r"\d+$", str(number), wire)]
+    if not wire.isdigit():
+        others += ["close", f"ack {number}", f"safe {number}", wire.replace("safe", "ack"), wire.replace("ack", "safe"),
+                   f"payload {number} colour {number}", f"payload {number} best {number}",
+                   wire.replace("hello", "colour"), wire.replace("label", "chosen")]
+    return f"{head} {source.choice([other for other in others if other != wire] or [str(int(wire) + 1)])}"

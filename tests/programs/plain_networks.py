@@ -1,0 +1,221 @@
+"""`plain` on 800 networks, beside the definition of the colours; and that definition on plans worked by hand.
+
+The networks are the same in every run. A difference is told with its number in the family and the text of the network.
+In 300 of them lines give identifiers of up to 128 binary digits; in the others vertex V has the identifier V. In 200 of them
+lines bar channels."""
+import itertools
+import random
+import re
+import subprocess
+from collections import Counter
+
+from lab.definitions.colours import Network, bit, colours, first_colours, merge, plan_text, three
+
+SEED = 2026
+LIMIT = 60
+MOST_TOLD = 4000
+
+# (text in which '|' stands for a line feed, channels of vertices 1, 2, ..)
+WORKED_PLANS = [
+    ("p edge 2 1|e 1 2|", [1, 2]),
+    ("p edge 3 3|e 1 2|e 1 3|e 2 3|", [2, 3, 1]),
+    ("c path\r|p edges 3 99 extra\r|\r|n 1 2\r|e 1 2 7\r|e 2 1\r|e 3 2\r|e 2 3\r|", [1, 2, 1]),
+    ("p col 2 0|", [1, 1]),
+    ("p edge 0 0|", []),
+    ("p edge 4 4|e 1 2|e 2 3|e 3 4|e 1 4|", [1, 2, 1, 2]),
+    ("p edge 4 6|e 1 2|e 1 3|e 1 4|e 2 3|e 2 4|e 3 4|", [2, 3, 1, 4]),
+    ("p edge 1024 1023|" + "".join(f"e {v} 1024|" for v in range(1, 1024)), [1] * 1023 + [2]),
+    ("p edge 8 6|e 1 2|e 2 4|e 4 5|e 5 6|e 6 7|e 7 8|", [2, 1, 1, 2, 1, 2, 1, 2]),
+    ("p edge 9 5|e 3 4|e 4 5|e 5 6|e 6 7|e 7 9|", [1, 1, 1, 3, 2, 1, 2, 1, 1]),
+    ("p edge 10 6|e 2 3|e 3 5|e 5 6|e 6 7|e 7 8|e 8 10|", [1, 2, 1, 1, 2, 1, 2, 1, 1, 2]),
+    ("p edge 3 3|e 1 2|e 1 3|e 2 3|b 3 1|", [1, 3, 2]),
+    ("p edge 2 0|b 1 1|b 1 2|b 2 2|", [3, 1]),
+    ("p edge 2 1|e 1 2|b 1 1|b 2 2|", [2, 1]),
+    ("p edge 2 1|b 2 3|b 1 3|e 1 2|b 1 1|b 2 1|b 2 3|", [2, 4]),
+]
+
+
+def plain_network_rows(program):
+    """Rows (name, good, what) of the definition, and of the program beside it."""
+    return (worked_rows() + [row for family in FAMILIES for row in family_rows(program, family)]
+            + [row for family in NAMED for row in family_rows(program, family, long_names)]
+            + [row for family in BARRED for row in family_rows(program, family, bars_of=some_bars)]
+            + [row for family in NAMED_AND_BARRED for row in family_rows(program, family, long_names, some_bars)])
+
+
+def worked_rows():
+    rows = []
+    for text, channels in WORKED_PLANS:
+        wanted = "plan\n" + "".join(f"{v} {channel}\n" for v, channel in enumerate(channels, 1))
+        got = plan_text(text.replace("|", "\n").encode())
+        rows.append((f"the definition on {text[:50]!r}", got == wanted.encode(), got))
+    triangle = Network({1: 1, 2: 2, 3: 3}, {(1, 2), (1, 3), (2, 3)})
+    barred = Network({1: 1, 2: 2, 3: 3}, {(1, 2), (1, 3), (2, 3)}, {3: {0}})
+    after = {1: 0, 2: 2, 3: 1}
+    highest_digit = Network({1: 2**127 - 1, 2: 2**128 - 1}, {(1, 2)})
+    for name, got, wanted in [
+        ("three colours of the triangle", [three(triangle, f) for f in (0, 1)], [{1: 0, 2: 1, 3: 0}, {1: 1, 2: 1, 3: 0}]),
+        ("the triangle after one forest", merge(triangle, 0, {1: 0, 2: 0, 3: 0}), {1: 0, 2: 1, 3: 0}),
+        ("a bar: the first colours", first_colours(barred), {1: 0, 2: 0, 3: 1}),
+        ("a bar: after one forest", merge(barred, 0, {1: 0, 2: 0, 3: 1}), after),
+        ("a bar: after both forests", merge(barred, 1, after), after),
+        ("a bar: the span", (barred.greatest_bars, barred.span), (1, 3)),
+        ("bit step of 128 digits", bit(highest_digit, 0, highest_digit.identifiers), {1: 254, 2: 1}),
+        ("identifiers of 128 digits", colours(highest_digit), {1: 1, 2: 0}),
+    ]:
+        rows.append((f"the definition: {name}", got == wanted, got))
+    return rows
+
+
+def none(_source, _nodes):
+    return {}
+
+
+def family_rows(program, family, names_of=none, bars_of=none):
+    """One row for the bytes, and one that looks at neighbours and channels without the definition."""
+    title, networks = family
+    source = random.Random(f"{SEED} {title}")
+    different, unfit, count = [], [], 0
+    for count, (nodes, edges) in enumerate(networks(source), 1):
+        bars = bars_of(source, nodes)
+        network = text_of(source, nodes, edges, names_of(source, nodes), bars)
+        done = subprocess.run([program, "plain"], input=network, capture_output=True, timeout=LIMIT)
+        if (done.returncode, done.stdout, done.stderr) != (0, plan_text(network), b""):
+            different.append((count, network, done))
+        if not is_fit(nodes, edges, bars, done.stdout):
+            unfit.append((count, network, done.stdout))
+    return [(f"plain by the definition, {count} networks, {title}", count > 0 and not different,
+             f"{len(different)} differ, the first is {different[:1]}"[:MOST_TOLD]),
+            (f"plain has neighbours apart and few channels, {count} networks, {title}", not unfit,
+             f"{len(unfit)} have not, the first is {unfit[:1]}"[:MOST_TOLD])]
+
+
+def is_fit(nodes, edges, bars, plan):
+    """Whether each vertex has a channel of 1 to the greatest degree plus the greatest number of bars plus one, none has a barred
+    one, and no two neighbours have the same."""
+    rows = [(int(v), int(channel)) for v, channel in re.findall(rb"(\d+) (\d+)\n", plan)]
+    channels = dict(rows)
+    greatest_degree = max(Counter(v for edge in edges for v in edge).values(), default=0)
+    most = greatest_degree + max(map(len, bars.values()), default=0) + 1
+    return (re.fullmatch(rb"plan\n(\d+ \d+\n)*", plan) is not None
+            and [v for v, _ in rows] == list(range(1, nodes + 1))
+            and all(1 <= channel <= most and channel not in bars.get(v, ()) for v, channel in channels.items())
+            and all(channels[v] != channels[w] for v, w in edges))
+
+
+def long_names(source, nodes):
+    """Identifiers of some vertices, great ones and small ones, no two the same."""
+    while True:
+        given = {v: source.choice((source.randrange(2**128), source.randrange(2 * nodes), 2**128 - 1 - source.randrange(2 * nodes)))
+                 for v in range(1, nodes + 1) if source.random() < 0.8}
+        if len({given.get(v, v) for v in range(1, nodes + 1)}) == nodes:
+            return given
+
+
+def some_bars(source, nodes, most=12):
+    """Channels that are barred at some vertices, low ones mostly; so many at most of a vertex."""
+    bars = {v: {source.choice((source.randint(1, 4), source.randint(1, nodes + 2), 2048)) for _ in range(source.choice((1, 1, 2, most)))}
+            for v in range(1, nodes + 1) if source.random() < 0.5}
+    return bars or {1: {1}} if nodes else {}
+
+
+def text_of(source, nodes, edges, names=None, bars=None):
+    """A network text with the edges in any order and direction, some of them again from the other end, and identifiers and bars among
+    them, bars twice now and then."""
+    lines = [pair if source.random() < 0.5 else pair[::-1] for pair in sorted(edges)]
+    lines += [pair[::-1] for pair in lines if source.random() < 0.1]
+    source.shuffle(lines)
+    rows = [b"e %d %d\n" % pair for pair in lines]
+    for pair in (names or {}).items():
+        rows.insert(source.randint(0, len(rows)), b"i %d %d\n" % pair)
+    for pair in [(v, channel) for v, channels in sorted((bars or {}).items()) for channel in sorted(channels)]:
+        for _ in range(source.choice((1, 1, 1, 2))):
+            rows.insert(source.randint(0, len(rows)), b"b %d %d\n" % pair)
+    return f"p edge {nodes} {len(lines)}\n".encode() + b"".join(rows)
+
+
+def pairs_of(nodes):
+    return list(itertools.combinations(range(1, nodes + 1), 2))
+
+
+def all_small(_):
+    for nodes in range(5):
+        for mask in itertools.product((False, True), repeat=len(pairs_of(nodes))):
+            yield nodes, set(itertools.compress(pairs_of(nodes), mask))
+
+
+def random_of(count, least, greatest):
+    """Any density from none to all."""
+    def networks(source):
+        for _ in range(count):
+            nodes, density = source.randint(least, greatest), source.random()
+            yield nodes, {pair for pair in pairs_of(nodes) if source.random() < density}
+    return networks
+
+
+def shapes(source):
+    """Paths, cycles, trees, stars, two-sided and complete graphs on names in any order, among vertices without an edge."""
+    for shape, most in [(path, 40), (cycle, 40), (tree, 40), (star, 40), (two_sided, 40), (complete, 16)] * 8:
+        nodes = source.randint(13, 40)
+        names = source.sample(range(1, nodes + 1), source.randint(3, min(nodes, most)))
+        yield nodes, {(min(pair), max(pair)) for pair in shape(source, names)}
+
+
+def path(_, names):
+    return zip(names, names[1:])
+
+
+def cycle(_, names):
+    return zip(names, names[1:] + names[:1])
+
+
+def tree(source, names):
+    return [(names[i], source.choice(names[:i])) for i in range(1, len(names))]
+
+
+def star(_, names):
+    return [(names[0], name) for name in names[1:]]
+
+
+def two_sided(source, names):
+    split = source.randint(1, len(names) - 1)
+    return itertools.product(names[:split], names[split:])
+
+
+def complete(_, names):
+    return itertools.combinations(names, 2)
+
+
+def climbing(count, nodes):
+    """Long ways to the roots, on which the least digit in which a vertex differs from its parent is any that there is:
+    here it shows how many bit steps there are, and what a drop looks at, in which order. Up to three parents."""
+    def networks(source):
+        for i in range(count):
+            yield nodes, {(v, v + 2 ** source.randrange((nodes - v).bit_length()))
+                          for v in range(1, nodes) for _ in range(1 + i % 3)}
+    return networks
+
+
+FAMILIES = [
+    ("all on up to 4 nodes", all_small),
+    ("random on up to 12 nodes", random_of(160, 0, 12)),
+    ("random on 20 to 40 nodes", random_of(46, 20, 40)),
+    ("shapes on up to 40 nodes", shapes),
+    ("climbing on 40 nodes", climbing(45, 40)),
+    ("climbing on 1,000 nodes", climbing(22, 1000)),
+    ("climbing on 20,000 nodes", climbing(3, 20_000)),
+]
+# With identifiers of their own.
+NAMED = [
+    ("names on up to 12 nodes", random_of(150, 0, 12)),
+    ("names on 20 to 40 nodes", random_of(50, 20, 40)),
+]
+# With barred channels.
+BARRED = [
+    ("bars on up to 12 nodes", random_of(80, 1, 12)),
+    ("bars on 20 to 40 nodes", random_of(20, 20, 40)),
+]
+NAMED_AND_BARRED = [
+    ("names and bars on up to 12 nodes", random_of(80, 1, 12)),
+    ("names and bars on 20 to 40 nodes", random_of(20, 20, 40)),
+]

@@ -1,0 +1,167 @@
+"""`plan`, which runs the nodes on worker threads: its bytes beside those of `plain`, whatever its options are; and runs that
+stop. No time decides a result, but that a run of more than a minute has failed.
+
+That the bytes are the right ones is shown of `plain`, by plain_networks.py."""
+import itertools
+import random
+import subprocess
+
+from lab.definitions.colours import network_of, plan_text
+from lab.definitions.nodes import wire_words
+from tests.programs.one_worker import Run
+from tests.programs.plain_networks import BARRED, FAMILIES, SEED, some_bars, text_of
+
+LIMIT = 60
+MOST_TOLD = 2000
+
+PAIRS = list(itertools.product((1, 2, 4, 64), repeat=2))
+SMALL_FAMILY, SMALL_NETWORKS = "random on up to 12 nodes", 20
+# Families whose runs take seconds, and how many of their networks are played: in the first, each pair once; of those that climb, with
+# each number of parents twice, and the first.
+LONG = {"random on 20 to 40 nodes": len(PAIRS), "bars on 20 to 40 nodes": len(PAIRS) // 2, "climbing on 1,000 nodes": 6,
+        "climbing on 20,000 nodes": 1}
+
+TRIANGLE = b"p edge 3 3\ne 1 2\ne 1 3\ne 2 3\n"
+TRIANGLE_PLAN = b"plan\n1 2\n2 3\n3 1\n"
+STOPPED = b"forestplan: stopped\n"
+
+# Capacity, looks, the entries of the triangle's nodes after so many looks of one worker, and what the links then hold, by hand: node
+# 1 greets both neighbours, and node 2 takes that greeting. On a link that holds one wire its acknowledgement has no place.
+GREETED = ["1 put 2 payload 0 hello 1", "1 put 3 payload 0 hello 1"]
+TAKEN = ["2 take 1 payload 0 hello 1", "2 put 1 payload 0 hello 2"]
+FIRST_LOOKS = [
+    (4, 0, [], {}),
+    (1, 0, [], {}),
+    *((capacity, 1, GREETED, {(1, 0): ["payload 0 hello 1"], (1, 1): ["payload 0 hello 1"]}) for capacity in (4, 1)),
+    (4, 2, GREETED + TAKEN + ["2 put 1 ack 0", "2 put 3 payload 0 hello 2"],
+     {(1, 1): ["payload 0 hello 1"], (2, 0): ["payload 0 hello 2", "ack 0"], (2, 1): ["payload 0 hello 2"]}),
+    (1, 2, GREETED + TAKEN + ["2 put 3 payload 0 hello 2"],
+     {(1, 1): ["payload 0 hello 1"], (2, 0): ["payload 0 hello 2"], (2, 1): ["payload 0 hello 2"]}),
+]
+
+# (words behind `plan`, input, status, standard output, standard error)
+WORKED_RUNS = [
+    ([], b"p edge 0 0\n", 0, b"plan\n", b""),
+    (["--turns", "0"], b"p edge 0 0\n", 0, b"plan\n", b""),
+    (["--turns=0", "--workers=64", "--capacity=64"], b"p edge 0 0\n", 0, b"plan\n", b""),
+    ([], b"p col 2 0\n", 0, b"plan\n1 1\n2 1\n", b""),
+    ([], b"p edge 2 1\ne 1 2\n", 0, b"plan\n1 1\n2 2\n", b""),
+    (["--turns", "0"], TRIANGLE, 3, b"", STOPPED),
+    (["--turns", "1"], TRIANGLE, 3, b"", STOPPED),
+    (["--turns", "1", "--workers", "1"], TRIANGLE, 3, b"", STOPPED),
+    (["--turns", "1", "--workers", "64"], TRIANGLE, 3, b"", STOPPED),
+    # a look makes at most one pulse, and each of the three nodes makes 30
+    (["--turns", "89", "--workers", "1"], TRIANGLE, 3, b"", STOPPED),
+    (["--turns", "1000000000000"], TRIANGLE, 0, TRIANGLE_PLAN, b""),
+    (["--turns", "0"], b"p edge 2 1\ne 1 1\n", 1, b"", b"forestplan: F6 line 2\n"),
+] + [([f"--workers={workers}", "--capacity", str(capacity)], TRIANGLE, 0, TRIANGLE_PLAN, b"")
+     for workers in (1, 2, 8, 64) for capacity in (1, 4)]
+
+
+def plan_rows(program):
+    """Rows (name, good, what)."""
+    rows = [one_row(program, *row) for row in WORKED_RUNS]
+    rows += [family_row(program, index) for index in range(len(FAMILIES + BARRED))]
+    return rows + [small_row(program)] + list(first_rows(program)) + list(turn_rows(program))
+
+
+def answer_of(program, words, data, environment=None):
+    """Status, standard output and standard error; None for all three if the run takes too long."""
+    try:
+        done = subprocess.run([program] + words, input=data, capture_output=True, timeout=LIMIT, env=environment)
+    except subprocess.TimeoutExpired:
+        return None, None, None
+    return done.returncode, done.stdout, done.stderr
+
+
+def plan_words(workers, capacity):
+    return ["plan", "--workers", str(workers), "--capacity", str(capacity)]
+
+
+def one_row(program, words, data, *wanted):
+    got = answer_of(program, ["plan"] + words, data)
+    return f"plan {' '.join(words)} of {data[:20]!r}", got == wanted, f"wanted {wanted}, got {got}"
+
+
+def family_row(program, index):
+    """Each network of a family once, or of a long one so many, the pairs of workers and capacity by turns over all families."""
+    families = FAMILIES + BARRED
+    title, _ = families[index]
+    before = sum(1 for family in families[:index] for _ in played_texts(family))
+    different, count = [], 0
+    for count, network in enumerate(played_texts(families[index]), 1):
+        pair = PAIRS[(before + count - 1) % len(PAIRS)]
+        got = answer_of(program, plan_words(*pair), network)
+        if got != answer_of(program, ["plain"], network) or got[0] != 0:
+            different.append((count, pair, got, network))
+    return (f"plan is plain, {count} networks, {title}", count > 0 and not different,
+            f"{len(different)} differ, the first is {different[:1]}"[:MOST_TOLD])
+
+
+def small_row(program):
+    """A few small networks with each pair."""
+    family = next(family for family in FAMILIES if family[0] == SMALL_FAMILY)
+    networks = [network for network in texts_of(family) if network.count(b"\n") > 3][:SMALL_NETWORKS]
+    different = []
+    for network in networks:
+        wanted = answer_of(program, ["plain"], network)
+        different += [(pair, network) for pair in PAIRS if answer_of(program, plan_words(*pair), network) != wanted]
+    return (f"plan is plain with each of {len(PAIRS)} pairs, {len(networks)} networks",
+            len(networks) == SMALL_NETWORKS and not different, f"{len(different)} differ: {different[:1]}"[:MOST_TOLD])
+
+
+def played_texts(family):
+    """The networks of a family that are played."""
+    return itertools.islice(texts_of(family), LONG.get(family[0]))
+
+
+def texts_of(family):
+    """The texts of the networks of a family, as plain_networks.py has them."""
+    title, networks = family
+    source = random.Random(f"{SEED} {title}")
+    for nodes, edges in networks(source):
+        yield text_of(source, nodes, edges, bars=some_bars(source, nodes) if family in BARRED else {})
+
+
+def first_rows(program):
+    """What the first looks leave by the definition of a turn, and that each node's entries in the program's transcript begin so."""
+    for capacity, looks, entries, held in FIRST_LOOKS:
+        left = Run(network_of(TRIANGLE), capacity, looks)
+        links = {at: [wire_words(wire) for wire in wires] for at, wires in left.state.link.items() if wires}
+        _, whole, _ = answer_with(program, TRIANGLE, capacity, 10**9, "transcript")
+        begun = [line for v in "123" for line in of_node(v, (whole or b"").decode().splitlines())[:len(of_node(v, entries))]]
+        got = [line for _, lines in sorted(left.lines.items()) for line in lines], links, begun
+        yield f"the first {looks} looks of one worker with capacity {capacity}", got == (entries, held, entries), got
+
+
+def of_node(v, lines):
+    return [line for line in lines if line.startswith(v + " ")]
+
+
+def turn_rows(program):
+    """One worker stops with one turn less than its run needs, by the definition of a turn, and with as many it has the plan. A
+    link that held another number of wires, or another number of turns, would move that limit."""
+    for data in (TRIANGLE, b"p edge 2 0\n", b"p edge 2 1\ne 1 2\n", b"p edge 5 5\ne 1 2\ne 2 3\ne 3 4\ne 4 5\ne 1 5\n"):
+        for capacity in (1, 2, 64):
+            needed = Run(network_of(data), capacity).looks
+            got = [answer_with(program, data, capacity, turns) for turns in (needed - 1, needed)]
+            yield (f"{needed} turns for {data[:12]!r} with capacity {capacity}, and no less",
+                   got == [(3, b"", STOPPED), (0, plan_text(data), b"")], got)
+    needed = Run(network_of(TRIANGLE), 2).looks
+    words = ["plan", "--capacity=0002", "--workers=+1"]
+    got = [answer_of(program, [*words, f"--turns=+0{turns}"], TRIANGLE) for turns in (needed - 1, needed)]
+    yield "numbers of options with a sign or zeros before them", got == [(3, b"", STOPPED), (0, TRIANGLE_PLAN, b"")], got
+    for capacity in (1, 4):
+        whole = Run(network_of(TRIANGLE), capacity)
+        for command, answer in (("plan", TRIANGLE_PLAN), ("transcript", whole.text())):
+            wrong = []
+            for turns in range(201):
+                got = answer_with(program, TRIANGLE, capacity, turns, command)
+                if got != ((3, b"", STOPPED) if turns < whole.looks else (0, answer, b"")):
+                    wrong.append((turns, got))
+            yield f"{command} by 0 to 200 turns of one worker with capacity {capacity}: stopped, or the answer", not wrong, wrong[:3]
+
+
+def answer_with(program, data, capacity, turns, command="plan"):
+    words = [command, "--workers", "1", "--capacity", str(capacity), "--turns", str(turns)] + ["--edition", "1"] * (command == "transcript")
+    return answer_of(program, words, data)

@@ -1,0 +1,633 @@
+#!/usr/bin/env python3
+"""Tests of `explore`, which plays every schedule of a tiny network. The last line is 'N passed, M failed'.
+
+  schedules.py [--program FORESTPLAN] [--play FORESTPLAY] [--first]
+  schedules.py --plant          plants mistakes in copies of the explorer, and prints each that these tests let through
+
+The programs are by default those that the gate built. The table of states and steps is compared with a second search, which
+walks over the network of lab/definitions/nodes.py, puts apart; its numbers with those of a trial written before it; its lists of
+events with what `forestplay events` makes of them; and the rounds without a rule with nodes that hear and send. `--plant`
+takes some minutes, and isn't part of the gate. The rest takes about half a minute."""
+import argparse
+import gc
+import itertools
+import os
+import random
+import shutil
+import subprocess
+import sys
+import tempfile
+from collections import Counter
+from concurrent.futures import ThreadPoolExecutor
+
+from lab.definitions.colours import Network, colours, network_of, other_than
+from lab.definitions.nodes import Colouring, NetState, bit_step, last_pulse, ports_of
+from lab.schedules import ruled_rounds, rules
+from lab.schedules.space import Space, TooMany
+from tests import TOP
+from tests.programs.events import answer_of
+
+LIMIT = 120
+MOST = 200_000  # states; more show that a search goes on and on
+SEED = 2026
+TALLY = {"passed": 0, "failed": 0}
+
+NETWORKS = {
+    "two": "p edge 2 1|e 1 2|",
+    "path": "p edge 3 2|e 1 2|e 2 3|",
+    "star": "p edge 3 2|e 1 2|e 1 3|",
+    "triangle": "p edge 3 3|e 1 2|e 1 3|e 2 3|",
+    "apart": "p edge 3 1|e 1 3|",
+    "barred": "p edge 2 1|e 1 2|b 1 1|b 2 3|",
+    "alone": "p edge 1 0|",
+    "row of four": "p edge 4 3|e 1 2|e 2 3|e 3 4|",
+    "ring of four": "p edge 4 4|e 1 2|e 2 3|e 3 4|e 1 4|",
+}
+
+# (network, puts apart, states, steps), as a trial found them that searched copies of whole states.
+TRIAL = [("two", False, 281, 430), ("path", False, 3551, 8843), ("triangle", False, 16473, 50723),
+         ("row of four", False, 41421, 141961), ("ring of four", False, 171815, 688891), ("two", True, 641, None)]
+
+
+def note(name, good, what=""):
+    TALLY["passed" if good else "failed"] += 1
+    if not good:
+        print(f"FAILED {name}: {str(what)[:2000]}")
+
+
+def text_of(name):
+    return NETWORKS[name].replace("|", "\n")
+
+
+def net_of(name):
+    return network_of(text_of(name).encode())
+
+
+# The second search, over whole networks of the definitions.
+
+def twin(thing):
+    """Another object with the same attributes: copy.copy does as much, and takes some four times as long."""
+    other = object.__new__(type(thing))
+    other.__dict__.update(thing.__dict__)
+    return other
+
+
+def copied(state, v=None):
+    """A copy, of which node v may be changed, or every node."""
+    other = twin(state)
+    other.link = {end: wires[:] for end, wires in state.link.items()}
+    other.nodes = {w: copied_node(node) if v in (w, None) else node for w, node in state.nodes.items()}
+    return other
+
+
+def copied_node(node):
+    other = twin(node)
+    other.ports, other.program, other.key = [twin(port) for port in node.ports], twin(node.program), None
+    for port in other.ports:
+        port.out = port.out[:]
+    for name in ("roles", "colours", "before", "chosen"):
+        setattr(other.program, name, getattr(node.program, name).copy())
+    return other
+
+
+def node_key(node):
+    """Equal for equal nodes of a vertex."""
+    program = node.program
+    return (node.pulse_number, node.said, program.old, program.merged, frozenset(program.chosen),
+            *[tuple(getattr(program, name)) for name in ("roles", "colours", "before")],
+            tuple(tuple(port.out) for port in node.ports),
+            tuple((port.waits, port.safe, port.early_safe, port.closed, port.present, port.early) for port in node.ports))
+
+
+def net_key(state):
+    """Equal for equal states. A node's key is kept at the node, until a step changes a copy of it."""
+    for node in state.nodes.values():
+        if getattr(node, "key", None) is None:
+            node.key = node_key(node)
+    return (tuple(state.nodes[v].key for v in sorted(state.nodes)),
+            tuple((end, tuple(wires)) for end, wires in sorted(state.link.items())))
+
+
+def put_all(state):
+    for v, node in state.nodes.items():
+        for port, other in enumerate(node.ports):
+            while other.out:
+                state.step("Put", v, port)
+    return state
+
+
+def second_search(net, puts):
+    """{key: (a state, {event: key})} of all states, a put being an event of its own, or made as soon as it can be."""
+    start = NetState(net) if puts else put_all(NetState(net))
+    found, left = {net_key(start): (start, {})}, [net_key(start)]
+    while left:
+        state, steps = found[left.pop()]
+        for event in state.possible():
+            after = copied(state, event[1])
+            after.step(*event)
+            key = net_key(after if puts else put_all(after))
+            words = " ".join(str(part) for part in event if part is not None).lower()
+            steps[words] = key
+            if key not in found:
+                found[key] = after, {}
+                left.append(key)
+    return found
+
+
+def key_in_table(space, s):
+    """The key of a state of the table."""
+    state = space.states[s]
+    links = sorted(((v, space.ports[v].index(w)), space.contents[state[space.slot[v, w]]]) for v, w in space.links)
+    return tuple(node_key(space.locals[a][state[a]]) for a in range(len(space.vertices))), tuple(links)
+
+
+def shown(state, v):
+    """What is shown of a node: its pulse, its stage, and what it waits for."""
+    node, ports = state.nodes[v], list(zip(state.neighbours[v], state.nodes[v].ports))
+    p = node.pulse_number
+    if p == node.last:
+        return p, "whole" if node.drained() else "last", [("close", w) for w, port in ports if not port.closed]
+    if not node.said:
+        return p, "asks", [(f"ack {p}", w) for w, port in ports if port.waits]
+    return p, "ready" if node.can_pulse() else "safe", [(f"safe {p}", w) for w, port in ports if not port.safe]
+
+
+def table_rows(name, puts):
+    """The table beside the second search, state by state and step by step."""
+    net = net_of(name)
+    space, found = Space(net, puts=puts, limit=MOST), second_search(net, puts)
+    keys = [key_in_table(space, s) for s in range(space.count)]
+    what = f"{name}{', puts apart' if puts else ''}"
+    note(f"states of {what}", len(set(keys)) == space.count and set(keys) == set(found), (space.count, len(found)))
+    steps = [s for s, key in enumerate(keys)
+             if {str(event): keys[t] for event, t in space.steps(s)} != found.get(key, (None, {}))[1]]
+    note(f"steps of {what}", not steps, steps[:3])
+    other = [s for s, key in enumerate(keys) if key in found and not puts
+             and {v: node[:3] for v, node in space.nodes(s).items()} != {v: shown(found[key][0], v) for v in space.vertices}]
+    note(f"what is shown of the states of {what}", not other, other[:3])
+    ends = [s for s, key in enumerate(keys) if not found.get(key, (None, {}))[1]]
+    note(f"ends of {what}", space.ends == ends and len(ends) == 1, (space.ends, ends))
+    apart = max((abs(state.nodes[v].pulse_number - state.nodes[w].pulse_number) for state, _ in found.values()
+                 for v, w in space.links), default=0)
+    most = max((len(wires) for state, _ in found.values() for wires in state.link.values()), default=0)
+    note(f"pulses apart and wires of {what}", (space.farthest, space.most_wires) == (apart, most), (apart, most))
+    note(f"no fault of {what}", not space.faults, space.faults)
+    return space, found
+
+
+def puts_rows(name):
+    """With puts apart; and these states, with the puts made that they still lack, are those of the search without."""
+    _, apart = table_rows(name, True)
+    _, eager = table_rows(name, False)
+    made = {net_key(put_all(copied(state))) for state, _ in apart.values()}
+    note(f"puts as soon as they can be made, of {name}", made == set(eager), (len(made), len(eager)))
+
+
+def small_rows():
+    for name in ("alone", "apart", "barred", "two", "path"):
+        puts_rows(name)
+
+
+def trial_rows():
+    for name, puts, states, steps in TRIAL:
+        space = Space(net_of(name), puts=puts, limit=MOST)
+        note(f"numbers of {name}", (space.count, steps and len(space.target)) == (states, steps), (space.count, len(space.target)))
+        if not puts:
+            end_rows(name, space)
+
+
+# The number of events, and the ends.
+
+def payloads_of(net):
+    """How many payloads the rounds send."""
+    nodes = {v: Colouring(net, v) for v in net.neighbours}
+    sent, count = {v: nodes[v].greet() for v in nodes}, 0
+    for pulse in range(1, last_pulse(net) + 1):
+        count += sum(payload is not None for payloads in sent.values() for payload in payloads)
+        inboxes = {v: [sent[w][ports_of(net, w).index(v)] for w in ports_of(net, v)] for v in nodes}
+        sent = {v: nodes[v].next(pulse, inboxes[v]) for v in nodes}
+    return count
+
+
+def count_of_events(net):
+    """n·R + 2·wires, wires being 2·payloads + 2·edges·(R + 1)."""
+    wires = 2 * payloads_of(net) + 2 * len(net.number) * (last_pulse(net) + 1)
+    return len(net.neighbours) * last_pulse(net) + 2 * wires, wires
+
+
+def end_rows(name, space):
+    """Every schedule has the number of events that the formula says, less the puts if these aren't counted."""
+    events, wires = count_of_events(space.net)
+    wanted = events - (0 if space.puts else wires)
+    levels = all(space.depth[t] == space.depth[s] + 1 for s in range(space.count) for _, t in space.steps(s))
+    note(f"events of each schedule of {name}, {wanted}", levels and [space.depth[s] for s in space.ends] == [wanted],
+         [space.depth[s] for s in space.ends])
+    ends = [{v: node.colour for v, node in space.nodes(s).items()} for s in space.ends]
+    note(f"end of {name}", ends == [colours(space.net)], ends)
+
+
+def formula_rows():
+    for name in ("alone", "apart", "barred", "two", "path", "star"):
+        end_rows(f"{name}, puts apart", Space(net_of(name), puts=True, limit=MOST))
+
+
+def schedules_rows():
+    """The number of schedules of two, by recursion over the second search."""
+    found, ways = second_search(net_of("two"), False), {}
+
+    def count(key):
+        if key not in ways:
+            ways[key] = sum(map(count, found[key][1].values())) if found[key][1] else 1
+        return ways[key]
+
+    start = net_key(put_all(NetState(net_of("two"))))
+    note("schedules of two", Space(net_of("two"), limit=MOST).schedules == count(start), count(start))
+
+
+# Lists of events, and walks.
+
+def numbered(network, lines):
+    """The events as `answer_of` reads them, with their lines behind the network."""
+    first = network.count("\n") + 1
+    for line, event in enumerate(lines, first):
+        kind, v, *port = event.split()
+        yield line, kind.title(), int(v), int(port[0]) if port else None
+
+
+def played(play, network, lines):
+    data = network + "".join(line + "\n" for line in lines)
+    done = subprocess.run([play, "events"], input=data.encode(), capture_output=True, timeout=LIMIT)
+    return done.returncode, done.stdout, done.stderr
+
+
+def state_text(space, s, taken):
+    """A state of the table as `forestplay events` writes it."""
+    lines = []
+    for v, node in space.nodes(s).items():
+        lines.append(f"node {v} pulse {node.pulse}" + (f" channel {node.colour + 1}" if node.pulse == space.last else ""))
+        lines += [f"link {v} {w} taken {taken[v, w]}" + "".join(f" {wire}" for wire in space.wires(s)[v, w])
+                  for w in space.ports[v]]
+    return "".join(line + "\n" for line in lines).encode()
+
+
+def walk_rows(play):
+    """A hundred random walks: each state beside the definitions, and some of them, and the last, beside the program."""
+    source, wrong, differ, needless = random.Random(SEED), [], [], []
+    spaces = {name: Space(net_of(name), limit=MOST) for name in ("two", "path", "triangle")}
+    for name in ["two"] * 30 + ["path"] * 30 + ["triangle"] * 40:
+        space = spaces[name]
+        state, s, events, taken = put_all(NetState(space.net)), 0, [], dict.fromkeys(space.links, 0)
+        length = source.randrange(0, 400)
+        while space.steps(s) and len(events) < length:
+            event, s = source.choice(space.steps(s))
+            state = copied(state, event.v)
+            state.step(event.kind.title(), event.v, event.port)
+            put_all(state)
+            events.append(event)
+            if event.kind == "take":
+                taken[event.w, event.v] += 1
+            if net_key(state) != key_in_table(space, s):
+                wrong.append((name, [str(event) for event in events]))
+        kinds = Counter(line.split()[0] for line in space.lines(events))
+        if kinds["put"] != kinds["take"]:
+            needless.append((name, space.lines(events)))
+        if played(play, text_of(name), space.lines(events, eager=True)) != (0, state_text(space, s, taken), b""):
+            differ.append((name, space.lines(events, eager=True)))
+    note("a hundred random walks, state by state", not wrong, wrong[:1])
+    note("a hundred random walks by forestplay events", not differ, differ[:1])
+    note("a put only as a take needs it", not needless, needless[:1])
+
+
+def explored(*words):
+    done = subprocess.run([os.path.join(TOP, "bin", "explore"), *words], cwd=TOP, capture_output=True, timeout=LIMIT)
+    return done.returncode, done.stdout.decode(), done.stderr.decode()
+
+
+# (network, rules, what goes wrong, the fault of `forestplay events` on that list or None): what happens to two nodes is worked
+# by hand. Without `early` the list is one that the program can play, since it keeps what comes early apart; a wire out of turn
+# is none that it can take.
+BROKEN = [
+    ("two", "safes", "node 2 makes pulse 2 without `label 0` from 1", 8, "NotReady"),
+    ("two", "early", "node 2 makes pulse 1 with `label 0` from 1, not with `hello 1`", 16, None),
+    ("two", "fifo", "node 2 refuses `payload 1 label 0` from 1", 14, None),
+    ("two", "acks,fifo", "node 1 makes pulse 1 without `hello 2` from 2", 4, "NothingToPut"),
+    ("two", "safes,acks", "node 1 makes pulse 1 without `hello 2` from 2", 1, "NotReady"),
+    ("triangle", "safes", None, None, "NotReady"),
+    ("triangle", "early", None, None, None),
+]
+
+
+def broken_rows(play):
+    for name, without, what, count, fault in BROKEN:
+        with tempfile.NamedTemporaryFile("w", suffix=".col") as file:
+            file.write(text_of(name))
+            file.flush()
+            status, said, _ = explored(file.name, "--limit", str(MOST), "--without", without)
+            _, listed, _ = explored(file.name, "--limit", str(MOST), "--without", without, "--events")
+            _, apart, _ = explored(file.name, "--limit", str(MOST), "--without", without, "--puts")
+        lines = listed.splitlines()
+        first = said.split("\n")[0]
+        note(f"{name} without {without}", status == 0 and (what is None or first == f"broken after {count} events: {what}"), said)
+        note(f"the list of {name} without {without}", [line.split(":")[0] for line in said.splitlines()[1:1 + len(lines)]] == lines,
+             (said, lines))
+        note(f"{name} without {without}, puts apart: as many events", apart.split(": ")[0] == first.split(": ")[0], apart)
+        got = played(play, text_of(name), lines)
+        wanted = answer_of(net_of(name), numbered(text_of(name), lines))
+        note(f"forestplay on the list of {name} without {without}", got == wanted, (got, wanted))
+        wanted = f"forestplay: {fault} line ".encode() if fault else b""
+        note(f"forestplay refuses it as it should, {name} without {without}",
+             got[2].startswith(wanted) and got[0] == (1 if fault else 0), got)
+
+
+def whole_list_rows(play, program):
+    """One whole list of each network, by the program; and its end beside `plain`."""
+    for name in ("alone", "apart", "two", "path", "triangle"):
+        with tempfile.NamedTemporaryFile("w", suffix=".col") as file:
+            file.write(text_of(name))
+            file.flush()
+            _, listed, _ = explored(file.name, "--limit", str(MOST), "--events")
+            _, said, _ = explored(file.name, "--limit", str(MOST))
+            _, apart, _ = explored(file.name, "--limit", str(MOST), "--puts") if name == "two" else (0, "", "")
+        events, wires = count_of_events(net_of(name))
+        wanted = f"\neach has {events} events: {wires} puts, {wires} takes and {events - 2 * wires} pulses\n"
+        note(f"what explore says of {name}, puts apart", name != "two" or wanted in apart, apart)
+        status, out, _ = played(play, text_of(name), listed.splitlines())
+        channels = [line.split()[-1] for line in out.decode().splitlines() if "channel" in line]
+        plan = subprocess.run([program, "plain"], input=text_of(name).encode(), capture_output=True, timeout=LIMIT).stdout
+        note(f"a whole list of {name}", status == 0 and len(channels) == len(net_of(name).neighbours), out)
+        note(f"the end of {name} is the plan", [line.split()[1] for line in plan.decode().splitlines()[1:]] == channels, plan)
+        note(f"what explore says of the end of {name}", said.endswith(f"\none end: channels {' '.join(channels)}\n"), said)
+
+
+def not_broken_rows():
+    """On links that keep the order, acknowledgements aren't needed; and nothing is broken if no rule is left out."""
+    space = Space(net_of("two"), without=("acks",), limit=MOST)
+    note("two without acks", not space.faults and len(space.ends) == 1, space.faults)
+    beyond = Space(net_of("two"), without=("safes",), beyond=True, limit=MOST)
+    plans = [{v: node.colour for v, node in beyond.nodes(s).items()} for s in beyond.ends]
+    wrong = [plan for s, plan in zip(beyond.ends, plans) if plan != colours(beyond.net)]
+    note("beyond the first fault, two without safes: neighbours far apart", beyond.farthest > 1, beyond.farthest)
+    note("only a wrong pulse leads to another plan", all(any(node.wrong for node in beyond.nodes(s).values())
+                                                         for s, plan in zip(beyond.ends, plans) if plan in wrong), wrong)
+
+
+# The rounds without a rule, by nodes that hear and send.
+
+class NodeWithout(Colouring):
+    """A node of the colouring without a rule. It notes that it has heard its own colour from a parent."""
+
+    rule, clash = None, False
+
+    def work(self, pulse, inbox):
+        rule, parents = self.rule, {f: slot[1] for (way, f), slot in zip(self.roles, inbox) if way == "Up"}
+        for f, own in enumerate(self.colours):
+            parent = parents.get(f)
+            self.clash = self.clash or own == parent
+            if self.clash:
+                return [None] * self.degree
+            if pulse <= 6:
+                stepped = bit_step(own, parent)
+                self.colours[f] = 2 * (stepped // 2) if rule == "digit" else stepped
+            elif pulse % 2 == 1:
+                self.before[f] = own
+                if rule != "shift" and not (rule == "root" and parent is None):
+                    self.colours[f] = other_than(own) if parent is None else parent
+            elif own == {8: 5, 10: 4, 12: 3}[pulse]:
+                seen = {"children": [parent], "parent": [self.before[f]]}.get(rule, [self.before[f], parent])
+                self.colours[f] = other_than(*seen)
+        return [None] * self.degree if pulse == 12 else self.colours_sent()
+
+    def merge(self, t, inbox):
+        width = self.span + 1
+        forest, step = divmod(t, 3 * width)
+        if step == 0:
+            self.old, self.chosen = self.merged, set()
+        self.chosen |= {slot[1] for slot in inbox if slot}
+        if (self.colours[forest], 0 if self.rule == "pair" else self.old) != divmod(step, width):
+            return [None] * self.degree
+        self.merged = self.least_free(self.chosen)
+        told = [f == forest if self.rule == "earlier" else f <= forest for _, f in self.roles]
+        return [("Chosen", self.merged) if is_told and step < 3 * width - 1 else None for is_told in told]
+
+
+def goes_wrong(net, rule):
+    """Whether a node hears its own colour from a parent, or has it at the last pulse of the forests, or the plan of some forest
+    and those before it has neighbours of one colour."""
+    nodes = {v: NodeWithout(net, v) for v in net.neighbours}
+    for node in nodes.values():
+        node.rule = rule
+    sent = {v: nodes[v].greet() for v in nodes}
+    for pulse in range(1, last_pulse(net) + 1):
+        inboxes = {v: [sent[w][ports_of(net, w).index(v)] for w in ports_of(net, v)] for v in nodes}
+        sent = {v: nodes[v].next(pulse, inboxes[v]) for v in nodes}
+        if any(node.clash for node in nodes.values()):
+            return True
+        if pulse == 12 and any(nodes[v].colours[f] == nodes[w].colours[f] for v, ws in net.higher.items()
+                               for f, w in enumerate(ws)):
+            return True
+        forest, step = divmod(pulse - 13, 3 * (net.span + 1))
+        if pulse > 12 and step == 3 * (net.span + 1) - 1:
+            if any(f <= forest and len({nodes[v].merged for v in pair}) == 1 for pair, f in net.number.items()):
+                return True
+    return False
+
+
+def all_networks(nodes):
+    pairs = list(itertools.combinations(range(1, nodes + 1), 2))
+    for count in range(len(pairs) + 1):
+        for edges in itertools.combinations(pairs, count):
+            yield Network({v: v for v in range(1, nodes + 1)}, set(edges))
+
+
+# The nodes of the smallest network, found by a trial over nodes that hear and send, or worked by hand (digit).
+SMALLEST = {"digit": (2, [(1, 2)]), "shift": (5, [(1, 3), (3, 5)]), "root": (2, [(1, 2)]),
+            "pair": (3, [(1, 2), (1, 3), (2, 3)]), "earlier": (3, [(1, 2), (1, 3), (2, 3)])}
+
+
+def rounds_rows():
+    source = random.Random(SEED)
+    tried = [net for nodes in range(1, 5) for net in all_networks(nodes)] + source.sample(list(all_networks(5)), 100)
+    for rule in [*rules.OF_ROUNDS, "none"]:
+        without = () if rule == "none" else (rule,)
+        differ = [net.neighbours for net in tried if goes_wrong(net, rule) != bool(ruled_rounds.RuledRounds(net, without).clash)]
+        note(f"small networks without {rule}", not differ, differ[:1])
+    for rule in rules.OF_ROUNDS:
+        rounds, count = ruled_rounds.smallest([rule], 9)
+        edges = sorted(tuple(sorted(pair)) for pair in rounds.net.number)
+        nodes = len(rounds.net.neighbours)
+        if rule in SMALLEST:
+            note(f"the smallest network without {rule}", (nodes, edges) == SMALLEST[rule], (nodes, edges))
+        if rule == "root":
+            # By hand: after four bit steps 1 has colour 1 and its root 2 has colour 0; then 1 takes 0.
+            note("the first clash without root", rounds.clash == (7, 0, 1, 2, 0), rounds.clash)
+        note(f"it goes wrong without {rule}", goes_wrong(rounds.net, rule), edges)
+        smaller = [net for net in tried if len(net.neighbours) < nodes]
+        smaller += [network_at_random(source, source.randrange(2, nodes)) for _ in range(60 if nodes > 2 else 0)]
+        note(f"smaller networks go right without {rule}", not any(goes_wrong(net, rule) for net in smaller), count)
+    # Neighbours in the forest that was just merged never have one colour, whichever rules of the merging are left out: two are given one.
+    rounds = ruled_rounds.RuledRounds(net_of("two"), ())
+    rounds.merged.append({1: 0, 2: 0})
+    clashes = [tuple(clash) for clash in rounds.merge_clashes(0)]
+    note("neighbours in the forest just merged with one colour", clashes == [(None, 0, 1, 2, 0)], clashes)
+    nets = [network_at_random(source, 9) for _ in range(40)]
+    whole = [ruled_rounds.RuledRounds(net, ()) for net in nets]
+    note("with all rules the plan is the plan", all(rounds.clash is None and rounds.plan == colours(net)
+                                                     for net, rounds in zip(nets, whole)))
+
+
+def network_at_random(source, nodes):
+    edges = {pair for pair in itertools.combinations(range(1, nodes + 1), 2) if source.random() < 0.4}
+    return Network({v: v for v in range(1, nodes + 1)}, edges)
+
+
+# The words of the command.
+
+def rule_rows():
+    """Each rule has its part of docs/learn/GALLERY.md, and names a wrong body that is there, in one of the two folders."""
+    with open(os.path.join(TOP, "docs", "learn", "GALLERY.md"), encoding="utf-8") as file:
+        gallery = file.read()
+    for word, rule in rules.ALL.items():
+        note(f"{word} in the gallery", f"\n### `{word}`: " in gallery and f"--without {word}\n" in gallery)
+        paths = [os.path.join(TOP, "crates", rule.crate, folder) for folder in ("must-fail", "wrong-bodies")]
+        found = [path for path in paths if os.path.exists(os.path.join(path, rule.edit + ".edit"))]
+        note(f"the wrong body of {word}", len(found) == 1, rule)
+
+
+# (words, status, standard error)
+FAULTS = [
+    (["examples/petersen.col"], 1, "explore: petersen has 10 nodes, and every schedule is played of at most 4\n"),
+    (["examples/triangle.col", "--limit", "16472"], 1,
+     "explore: there are more than 16,472 states: use --limit for more, at some 420 bytes each\n"),
+    (["no.col"], 1, "explore: no.col: No such file or directory\n"),
+    (["README.md"], 1, "explore: README.md line 1: `#` begins no line of a network (F8)\n"),
+]
+REFUSED = [([], "NETWORK is missing"), (["examples/two.col", "--without", "safes,digit"], "can't be left out together"),
+           (["examples/two.col", "--without", "x"], "`x` is no rule"), (["examples/two.col", "--limit", "0"], "a number from 1 up"),
+           (["--without", "digit", "--puts"], "the rounds have no events"), (["--without", "safes"], "NETWORK is missing"),
+           (["examples/two.col", "x"], "unrecognized arguments: x")]
+
+
+def word_rows():
+    for words, status, fault in FAULTS:
+        note(f"explore {' '.join(words)}", explored(*words) == (status, "", fault), explored(*words))
+    for words, fault in REFUSED:
+        got = explored(*words)
+        note(f"explore {' '.join(words)}", got[:2] == (2, "") and fault in got[2], got)
+    note("explore at the limit", explored("examples/triangle.col", "--limit", "16473")[0] == 0)
+    status, said, fault = explored("--help")
+    note("explore --help", (status, fault) == (0, "") and all(f"  {word} " in said for word in rules.ALL), said)
+    with open("/dev/full", "wb") as full:
+        done = subprocess.run([os.path.join(TOP, "bin", "explore"), "examples/two.col"], cwd=TOP, stdout=full, stderr=subprocess.PIPE,
+                              timeout=LIMIT)
+    note("a full device", (done.returncode, done.stderr) == (
+        1, b"explore: the output can't be written: No space left on device\n"), done)
+    with tempfile.TemporaryDirectory() as folder:
+        link = os.path.join(folder, "explore")
+        os.symlink(os.path.join(TOP, "bin", "explore"), link)
+        done = subprocess.run([link, os.path.join(TOP, "examples/two.col")], cwd=folder, capture_output=True, timeout=LIMIT)
+        note("explore by a link", done.returncode == 0 and done.stdout.startswith(b"every schedule of two: 281 states"), done)
+    try:
+        note("more states than the limit", Space(net_of("two"), limit=280) is None)
+    except TooMany:
+        note("more states than the limit", True)
+
+
+# (file of lab/schedules/, text in it, the mistake that is planted in its place)
+MISTAKES = [
+    ("space.py", "return self.content(wires[:place] + wires[place + 1:])", "return self.content(wires[:place + 1] + wires[place + 2:])"),
+    ("space.py", "self.content(self.contents[c] + more)", "self.content(more + self.contents[c])"),
+    ("space.py", "self.content(self.contents[c] + more)", "self.content(self.contents[c] + more[:1])"),
+    ("space.py", "if node.can_pulse():\n            j, gone", "if node.can_pulse() and node.pulse_number != 7:\n            j, gone"),
+    ("space.py", "len(wires) if \"fifo\" in self.without else min(1, len(wires))", "len(wires)"),
+    ("space.py", "len(wires) if \"fifo\" in self.without else min(1, len(wires))", "min(1, len(wires))"),
+    ("space.py", "self.depth.append(self.depth[s] + 1)", "self.depth.append(self.depth[s])"),
+    ("space.py", "self.from_event.append(e)", "self.from_event.append(0)"),
+    ("space.py", "        if not some:\n", "        if not some and self.is_whole(state):\n            s = 0\n        if not some:\n"),
+    ("space.py", "ways[t] += ways[s]", "ways[t] += 1"),
+    ("space.py", "put_until(link, number + 1)", "put_until(link, len(sent[link]))"),
+    ("space.py", "\"safe\" if waits else \"ready\"", "\"ready\" if waits else \"safe\""),
+    ("space.py", "max((abs(pulses", "min((abs(pulses"),
+    ("space.py", "key = (a, i, p, wires[place])", "key = (a, i, wires[place])"),
+    ("space.py", "node.wrong = node.wrong or fault is not None", "node.wrong = False"),
+    ("space.py", "if t >= self.limit:", "if t > self.limit:"),
+    ("ruled_node.py", "tuple(port.out))", "len(port.out))"),
+    ("ruled_node.py", "port.early, tuple", "None, tuple"),
+    ("ruled_node.py", "(port.waits, port.safe, port.early_safe,", "(port.waits, port.early_safe,"),
+    ("ruled_node.py", "if got is None and due is not None:", "if got is None:"),
+    ("ruled_node.py", "if ahead == 0 or ahead == 1 and \"early\" in self.without:", "if ahead == 0:"),
+    ("ruled_node.py", "return self.pulse_number != self.last and self.said and self.can_take()", "return self.pulse_number != self.last"),
+    ("ruled_node.py", "if \"acks\" in self.without:\n", "if \"acks\" in self.without and not self.pulse_number:\n"),
+    ("ruled_rounds.py", "colour - colour % 2 if", "colour // 2 if"),
+    ("ruled_rounds.py", "and net.parent(f, v) is None else", "and net.parent(f, v) else"),
+    ("ruled_rounds.py", "if \"children\" in without else [before[v]]", "if \"parent\" in without else [before[v]]"),
+    ("ruled_rounds.py", "old = dict.fromkeys(old, 0)", "old = {v: -colour for v, colour in old.items()}"),
+    ("ruled_rounds.py", "== f} for v, ws", "<= f} for v, ws"),
+    ("ruled_rounds.py", "self.net.number[frozenset((v, w))] <= f and", "self.net.number[frozenset((v, w))] < f and"),
+    ("ruled_rounds.py", "for count in range(1, nodes):", "for count in range(2, nodes):"),
+    ("explore.py", "*event_lines(listed), refused", "*event_lines(listed[:-1]), refused"),
+    ("explore.py", "rest // 2:,} puts", "rest:,} puts"),
+    ("explore.py", "str(node.colour + 1)", "str(node.colour)"),
+]
+
+
+def plant(program, play):
+    """Each mistake in a copy of its own, which these tests have to refuse, as they pass the copy without one."""
+    jobs = [(0, None, None, None), *((number, *mistake) for number, mistake in enumerate(MISTAKES, 1))]
+    with ThreadPoolExecutor(2) as pool:
+        verdicts = list(pool.map(lambda job: planted(*job, program, play), jobs))
+    for number, passed in enumerate(verdicts):
+        note(f"mistake {number} is caught" if number else "a copy without a mistake", passed == (number == 0))
+    print(f"{verdicts[1:].count(False)} of {len(MISTAKES)} mistakes caught")
+
+
+def planted(number, name, there, instead, program, play):
+    """Whether a copy with this mistake passes."""
+    with tempfile.TemporaryDirectory(prefix="planted-") as folder:
+        for part in ("lab", "build", "tests", "docs", "examples", "bin", "forestplan", "README.md"):
+            copier = shutil.copytree if os.path.isdir(os.path.join(TOP, part)) else shutil.copy2
+            copier(os.path.join(TOP, part), os.path.join(folder, part))
+        for crate in {rule.crate for rule in rules.ALL.values()}:
+            for edits in ("must-fail", "wrong-bodies"):
+                if os.path.isdir(os.path.join(TOP, "crates", crate, edits)):
+                    shutil.copytree(*(os.path.join(top, "crates", crate, edits) for top in (TOP, folder)))
+        if number:
+            path = os.path.join(folder, "lab", "schedules", name)
+            with open(path, encoding="utf-8") as file:
+                source = file.read()
+            if source.count(there) != 1:
+                print(f"{number}: NOT PLANTED: {there}", flush=True)
+                return True
+            with open(path, "w", encoding="utf-8") as file:
+                file.write(source.replace(there, instead))
+        done = subprocess.run([sys.executable, "-m", "tests.programs.schedules", "--first", "--program", program, "--play", play],
+                              cwd=folder, capture_output=True, timeout=1200)
+    first = (done.stdout + done.stderr).decode().strip().split("\n")
+    why = first[-1] if done.stderr else first[0]
+    print(f"{number}: {'caught' if done.returncode else 'passed'} ({why[:100]}): {instead}", flush=True)
+    return done.returncode == 0
+
+
+def main():
+    words = argparse.ArgumentParser(description=__doc__, formatter_class=argparse.RawDescriptionHelpFormatter)
+    words.add_argument("--program", default=os.path.join(TOP, "crates/forestplan/out/forestplan"))
+    words.add_argument("--play", default=os.path.join(TOP, "crates/forestplay/out/forestplay"))
+    words.add_argument("--first", action="store_true", help="stop behind the first part in which something failed")
+    words.add_argument("--plant", action="store_true", help="plant mistakes in the explorer")
+    given = words.parse_args()
+    program, play = os.path.abspath(given.program), os.path.abspath(given.play)
+    gc.disable()  # Hundreds of thousands of states are held, none of which is in a circle: the collector would take a third of the time.
+    if given.plant:
+        plant(program, play)
+    else:
+        for rows in (rule_rows, rounds_rows, not_broken_rows, lambda: broken_rows(play), lambda: whole_list_rows(play, program),
+                     small_rows, formula_rows, schedules_rows, word_rows, lambda: walk_rows(play), trial_rows,
+                     lambda: table_rows("star", False), lambda: table_rows("triangle", False)):
+            rows()
+            if given.first and TALLY["failed"]:
+                break
+    print(f"{TALLY['passed']} passed, {TALLY['failed']} failed")
+    return 1 if TALLY["failed"] else 0
+
+
+if __name__ == "__main__":
+    sys.exit(main())
