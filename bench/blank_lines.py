@@ -1,7 +1,8 @@
 #!/usr/bin/env python3
 """Feeds the programs a gigabyte of lines that say nothing, and measures time and peak memory.
 
-  blank_lines.py [--mebibytes N,..] [--lines KIND,..] [--commands COMMAND,..] [--most GIB] [--program PROGRAM] [--play PLAY]
+  blank_lines.py [--mebibytes N,..] [--lines KIND,..] [--commands COMMAND,..] [--most GIB] [--program PROGRAM] [--play
+        PLAY]
       N         how many MiB of such lines; default 64,256,1024
       KIND      blank, return (a carriage return on each), comment, long (one comment); default: all
       COMMAND   forests, check, events, replay; default: all
@@ -9,11 +10,12 @@
       PROGRAM   default: the built forestplan
       PLAY      default: the built forestplay
 
-The lines come through a pipe. They stand inside the network, behind it (before the last row, event or entry), or before a line
-that is faulty. Prints for each run the seconds, those of the processor, the nanoseconds of the processor for a byte, and the peak
-memory as a multiple of the input. The whole input is in memory at once, and one run is made at a time. Ends with status 1 if an answer isn't
-the one that docs/claim/FORMATS.md gives, by the slow reader of tests/ on the input without these lines; a run that needs more address
-space has the line `memory`, and counts as another answer. It needs a C compiler, cc.
+The lines come through a pipe. They stand inside the network, behind it (before the last row, event or entry), or before
+a line that is faulty. Prints for each run the seconds, those of the processor, the nanoseconds of the processor for a
+byte, and the peak memory as a multiple of the input. The whole input is in memory at once, and one run is made at a
+time. Ends with status 1 if an answer isn't the one that docs/claim/FORMATS.md gives, by the slow reader of tests/ on
+the input without these lines; a run that needs more address space has the line `memory`, and counts as another answer.
+It needs a C compiler, cc.
 """
 import argparse
 import contextlib
@@ -40,13 +42,21 @@ ENTRY = b"payload 0 hello 1\n"
 # Of each command what stands before the lines, and what behind them; and whether comments may be there.
 INPUTS = {
     "forests": [("network", NETWORK, b"e 1 2\n", True), ("end", EDGE, b"", True), ("fault", NETWORK, b"e 1 1\n", True)],
-    "check": [("network", NETWORK, b"e 1 2\nplan\n1 1\n2 2\n", True), ("plan", EDGE + b"plan\n1 1\n", b"2 2\n", False),
-              ("fault", EDGE + b"plan\n1 1\n", b"2\n", False)],
-    "events": [("network", NETWORK, b"e 1 2\nput 1 0\ntake 2 0\n", True), ("events", EDGE + b"put 1 0\n", b"take 2 0\n", True),
-               ("fault", EDGE + b"put 1 0\n", b"take 1 0\n", True)],
-    "replay": [("network", NETWORK, b"e 1 2\ntranscript 1 2\n1 put 2 " + ENTRY, True),
-               ("entries", EDGE + b"transcript 1 2\n1 put 2 " + ENTRY, b"2 take 1 " + ENTRY, False),
-               ("fault", EDGE + b"transcript 1 2\n1 put 2 " + ENTRY, b"2 pulse 1\n", False)],
+    "check": [
+        ("network", NETWORK, b"e 1 2\nplan\n1 1\n2 2\n", True),
+        ("plan", EDGE + b"plan\n1 1\n", b"2 2\n", False),
+        ("fault", EDGE + b"plan\n1 1\n", b"2\n", False),
+    ],
+    "events": [
+        ("network", NETWORK, b"e 1 2\nput 1 0\ntake 2 0\n", True),
+        ("events", EDGE + b"put 1 0\n", b"take 2 0\n", True),
+        ("fault", EDGE + b"put 1 0\n", b"take 1 0\n", True),
+    ],
+    "replay": [
+        ("network", NETWORK, b"e 1 2\ntranscript 1 2\n1 put 2 " + ENTRY, True),
+        ("entries", EDGE + b"transcript 1 2\n1 put 2 " + ENTRY, b"2 take 1 " + ENTRY, False),
+        ("fault", EDGE + b"transcript 1 2\n1 put 2 " + ENTRY, b"2 pulse 1\n", False),
+    ],
 }
 
 
@@ -64,8 +74,13 @@ def fed(peak, words, before, behind, kind, mebibytes, most):
     last = b"\n" if kind == "long" else b""
     counted, begun = peak + ".count", time.perf_counter()
     with tempfile.TemporaryFile() as output, tempfile.TemporaryFile() as errors:
-        child = subprocess.Popen([peak, counted, *words], stdin=subprocess.PIPE, stdout=output, stderr=errors,
-                                 preexec_fn=lambda: resource.setrlimit(resource.RLIMIT_AS, (most * 2**30, most * 2**30)))
+        child = subprocess.Popen(
+            [peak, counted, *words],
+            stdin=subprocess.PIPE,
+            stdout=output,
+            stderr=errors,
+            preexec_fn=lambda: resource.setrlimit(resource.RLIMIT_AS, (most * 2**30, most * 2**30)),
+        )
         with contextlib.suppress(BrokenPipeError), child.stdin as pipe:
             for part in (before, *(block for _ in range(mebibytes)), last + behind):
                 pipe.write(part)
@@ -84,8 +99,11 @@ def row(peak, program, command, one, kind, mebibytes, most):
     lines = 1 if kind == "long" else mebibytes * MEBIBYTE // len(LINES[kind])
     answer, seconds, processor, memory = fed(peak, [program, command], before, behind, kind, mebibytes, most)
     is_right = answer == wanted(command, place, before, behind, lines)
-    print(f"{command:8s} {place:8s} {kind:8s} {mebibytes:6d} {seconds:8.2f} {processor:8.2f} {processor / size * 1e9:8.2f}"
-          f" {memory / size:7.2f}  {'yes' if is_right else f'NO: {answer!r:.300}'}", flush=True)
+    print(
+        f"{command:8s} {place:8s} {kind:8s} {mebibytes:6d} {seconds:8.2f} {processor:8.2f} {processor / size * 1e9:8.2f}"
+        f" {memory / size:7.2f}  {'yes' if is_right else f'NO: {answer!r:.300}'}",
+        flush=True,
+    )
     return is_right
 
 
@@ -104,7 +122,9 @@ def main():
     given = words.parse_args()
     paths = {"forestplan": os.path.abspath(given.program), "forestplay": os.path.abspath(given.play)}
     good = []
-    print(f"{'command':8s} {'where':8s} {'lines':8s} {'MiB':>6s} {'s':>8s} {'cpu s':>8s} {'ns/byte':>8s} {'memory':>7s}  right")
+    print(
+        f"{'command':8s} {'where':8s} {'lines':8s} {'MiB':>6s} {'s':>8s} {'cpu s':>8s} {'ns/byte':>8s} {'memory':>7s}  right"
+    )
     with tempfile.TemporaryDirectory() as folder:
         peak = build_peak(folder)
         for command in given.commands:

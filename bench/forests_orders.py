@@ -52,7 +52,10 @@ def main(words):
             ours, theirs = min(times[program]) * 1e3, min(times[baseline]) * 1e3
             fastest[name] = ours
             different += len(answers) > 1
-            print(f"{name:12s} {ours:14.1f} {theirs:12.1f} {ours / theirs:6.2f}  {'yes' if len(answers) == 1 else 'NO'}", flush=True)
+            print(
+                f"{name:12s} {ours:14.1f} {theirs:12.1f} {ours / theirs:6.2f}  {'yes' if len(answers) == 1 else 'NO'}",
+                flush=True,
+            )
     print(f"slowest order over fastest: {max(fastest.values()) / min(fastest.values()):.2f}")
     return 1 if different else 0
 

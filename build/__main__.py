@@ -3,7 +3,13 @@ import importlib
 import os
 import sys
 
-MODULES = {"prove": "prove", "prove-crate": "prove_crate", "install": "install", "paths": "paths", "wrong-bodies": "wrong_bodies"}
+MODULES = {
+    "prove": "prove",
+    "prove-crate": "prove_crate",
+    "install": "install",
+    "paths": "paths",
+    "wrong-bodies": "wrong_bodies",
+}
 
 
 def main():

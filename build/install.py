@@ -58,7 +58,9 @@ def build_programs():
     if missing:
         say(f"{' and '.join(missing)} will be proved and built first, once; README.md says how long that takes")
     for name in PROGRAMS:
-        done = subprocess.run([os.path.join(TOP, "bin", name), "--help"], stdin=subprocess.DEVNULL, stdout=subprocess.DEVNULL)
+        done = subprocess.run(
+            [os.path.join(TOP, "bin", name), "--help"], stdin=subprocess.DEVNULL, stdout=subprocess.DEVNULL
+        )
         if done.returncode:
             return done.returncode
     return 0

@@ -1,9 +1,10 @@
 """The toolchain's command as a module, and the store of what it proved for this user's checkouts.
 
 A library is proved over what the crates below it state, by the gate's module and with its flags, but for the search for
-contracts that no call can meet, which is left to the gate (prove_crate.py). What it states then lies in the store, `forestplan`
-in the user's cache (`$XDG_CACHE_HOME`, else `~/.cache`), under a sum of all that it was proved from: the toolchain, its sources,
-and the sums of the crates below. So another checkout with the same sources proves nothing again.
+contracts that no call can meet, which is left to the gate (prove_crate.py). What it states then lies in the store,
+`forestplan` in the user's cache (`$XDG_CACHE_HOME`, else `~/.cache`), under a sum of all that it was proved from: the
+toolchain, its sources, and the sums of the crates below. So another checkout with the same sources proves nothing
+again.
 """
 import hashlib
 import importlib.machinery
@@ -69,7 +70,9 @@ def keys():
     with open(os.path.join(TOP, "HANDLES"), "rb") as handles:
         common = kit_named() + handles.read()
     with open(os.path.join(TOP, "crates.txt"), encoding="utf-8") as text:
-        lines = {line.partition(":")[0].split()[0]: line.partition("#")[0] for line in text if ":" in line.partition("#")[0]}
+        lines = {
+            line.partition(":")[0].split()[0]: line.partition("#")[0] for line in text if ":" in line.partition("#")[0]
+        }
     found = {}
     for crate, below in listed().items():
         own = sum_of_texts(os.path.join(TOP, "crates", crate))

@@ -9,8 +9,14 @@ WITH_COMMANDS = ("picture", "network")
 
 def help_of(program, *words):
     """What `--help` prints, in lines of the width that the texts are written for."""
-    return subprocess.run([program, *words, "--help"], stdin=subprocess.DEVNULL, stdout=subprocess.PIPE, check=True, text=True,
-                          env=dict(os.environ, COLUMNS="80")).stdout
+    return subprocess.run(
+        [program, *words, "--help"],
+        stdin=subprocess.DEVNULL,
+        stdout=subprocess.PIPE,
+        check=True,
+        text=True,
+        env=dict(os.environ, COLUMNS="80"),
+    ).stdout
 
 
 def commands_of(name, text):
@@ -18,7 +24,11 @@ def commands_of(name, text):
     listed = re.search(r"^Commands:\n((?:  .*\n)+)", text, re.M)
     if listed:
         return re.findall(r"^  ([a-z]+) ", listed.group(1), re.M)
-    return re.findall(r"^  ([a-z]+) (?:[A-Z]+ )* *[a-z]", text.partition("positional arguments:")[0], re.M) if name in WITH_COMMANDS else []
+    return (
+        re.findall(r"^  ([a-z]+) (?:[A-Z]+ )* *[a-z]", text.partition("positional arguments:")[0], re.M)
+        if name in WITH_COMMANDS
+        else []
+    )
 
 
 def as_roff(text):

@@ -3,9 +3,10 @@
 
   paths.py
 
-Some kits of the toolchain (not `rattle-kit-13f`) read a crate's files once for every path that leads to it, each time that a
-crate above is checked. So a crate lists only crates that its own files name, and what many of them name is passed on by one
-(docs/work/LAYERS.md). The last line is the sum over all crates. tests/pages/pages.py refuses more than MOST for any crate.
+Some kits of the toolchain (not `rattle-kit-13f`) read a crate's files once for every path that leads to it, each time
+that a crate above is checked. So a crate lists only crates that its own files name, and what many of them name is
+passed on by one (docs/work/LAYERS.md). The last line is the sum over all crates. tests/pages/pages.py refuses more than
+MOST for any crate.
 """
 import argparse
 import os
@@ -45,7 +46,9 @@ def paths():
 
 def main():
     summary, _, more = __doc__.partition("\n")
-    argparse.ArgumentParser(description=summary, epilog=more, formatter_class=argparse.RawDescriptionHelpFormatter).parse_args()
+    argparse.ArgumentParser(
+        description=summary, epilog=more, formatter_class=argparse.RawDescriptionHelpFormatter
+    ).parse_args()
     found = paths()
     for crate, count in found.items():
         print(f"{count:6} {crate}")

@@ -1,21 +1,23 @@
 #!/usr/bin/env python3
-"""Proves crates, each as soon as those below it are proved, several side by side, builds the programs, and shows how far that is.
+"""Proves crates, each as soon as those below it are proved, several side by side, builds the programs, and shows how
+far that is.
 
   prove.py [--kept] [--jobs N] [CRATE ..]      default: every crate of crates.txt
 
-Those below a crate are proved with it, each from nothing, as the gate does it (what is left to the gate: docs/work/DECISIONS.md,
-93 and 99). What is proved is kept for all checkouts of this user (in ~/.cache/forestplan), so a call that was interrupted goes
-on where it was, and nothing is proved twice. A program goes into its crate's out/.
+Those below a crate are proved with it, each from nothing, as the gate does it (what is left to the gate:
+docs/work/DECISIONS.md, 93 and 99). What is proved is kept for all checkouts of this user (in ~/.cache/forestplan), so a
+call that was interrupted goes on where it was, and nothing is proved twice. A program goes into its crate's out/.
 
-With --kept the crates are built in their out/ instead, over what earlier checks kept there, and keep their work for `rt check`.
+With --kept the crates are built in their out/ instead, over what earlier checks kept there, and keep their work for `rt
+check`.
 
-Standard error shows how far it is; the log of a crate is out/build/CRATE.log. Two calls at once wait for each other. What has to be
-proved is decided by what the sources say, not by the times of files. The status is 0 if all is proved, 1 if a crate isn't, 2 if
-nothing could be tried, and 130 after Ctrl-C.
+Standard error shows how far it is; the log of a crate is out/build/CRATE.log. Two calls at once wait for each other.
+What has to be proved is decided by what the sources say, not by the times of files. The status is 0 if all is proved, 1
+if a crate isn't, 2 if nothing could be tried, and 130 after Ctrl-C.
 
-From nothing to the program `forestplan` it took 16 min 8 s and 54 processor minutes on four processors with nothing beside. Earlier
-proofs, which on four took 17 min 50 s and 59, took 35 min 25 s and 69 on two of four, and 66 min 46 s and 64 on one of four while other
-checks kept the others busy (docs/work/DECISIONS.md, 99, 100, 103 and 105).
+From nothing to the program `forestplan` it took 16 min 8 s and 54 processor minutes on four processors with nothing
+beside. Earlier proofs, which on four took 17 min 50 s and 59, took 35 min 25 s and 69 on two of four, and 66 min 46 s
+and 64 on one of four while other checks kept the others busy (docs/work/DECISIONS.md, 99, 100, 103 and 105).
 """
 import argparse
 import contextlib
@@ -148,8 +150,10 @@ class Proving:
         return self.behind[crate] / max(self.behind[other] for other in [*self.left, *self.running])
 
     def processes_for(self, crate):
-        """How many processes prove a crate. Each one loads what lies below anew, so one more costs 12 to 40 seconds. The crate with the longest
-        chain behind it gets three, and one that begins while at most one other runs two. Small crates and programs get one."""
+        """How many processes prove a crate. Each one loads what lies below anew, so one more costs 12 to 40 seconds.
+        The crate with the longest chain behind it gets three, and one that begins while at most one other runs two.
+        Small crates and programs get one.
+        """
         if self.seconds[crate] < SMALL or crate in PROGRAMS:
             return 1
         most = 3 if self.share_behind(crate) == 1 else 2 if len(self.running) < 2 else 1
@@ -158,11 +162,18 @@ class Proving:
     def begin(self, crate):
         """Begins a crate, which gives way to others if the chain behind it is much shorter than the longest."""
         way = [] if self.share_behind(crate) >= NEAR else ["nice", "-n", str(WAY)]
-        words = [sys.executable, os.path.join(TOP, "build"), "prove-crate", *self.words(crate, self.processes_for(crate))]
+        words = [
+            sys.executable,
+            os.path.join(TOP, "build"),
+            "prove-crate",
+            *self.words(crate, self.processes_for(crate)),
+        ]
         with open(os.path.join(LOGS, f"{crate}.log"), "w", encoding="utf-8") as log:
-            # In a group of its own Ctrl-C doesn't reach it; in a session of its own its priority would count for nothing.
-            self.running[crate] = subprocess.Popen([*way, *words], stdin=subprocess.PIPE, stdout=log, stderr=subprocess.STDOUT,
-                                                   preexec_fn=os.setpgrp)
+            # In a group of its own Ctrl-C doesn't reach it; in a session of its own its priority would count for
+            # nothing.
+            self.running[crate] = subprocess.Popen(
+                [*way, *words], stdin=subprocess.PIPE, stdout=log, stderr=subprocess.STDOUT, preexec_fn=os.setpgrp
+            )
         self.left.remove(crate)
 
     def failed(self):
@@ -232,7 +243,8 @@ def put_program(name, made, start):
 
 
 def prove_anew(crates, below, jobs, shown):
-    """Proves crates into the store, and puts the programs among them in place; returns a crate that isn't proved, if there is one."""
+    """Proves crates into the store, and puts the programs among them in place; returns a crate that isn't proved, if
+    there is one."""
     start, keys = time.time(), kit.keys()
 
     def is_proved(crate):
@@ -270,7 +282,9 @@ def proved(crates, jobs, is_kept=False, name="prove"):
     try:
         if is_kept:
             _lock = wait_for_turn(name, LOGS)
-            failed = Proving(wanted, below, jobs, shown, lambda crate, processes: ["--kept", crate, str(processes)]).run()
+            failed = Proving(
+                wanted, below, jobs, shown, lambda crate, processes: ["--kept", crate, str(processes)]
+            ).run()
         else:
             _lock = wait_for_turn(name, kit.store())
             failed = prove_anew(wanted, below, jobs, shown)
@@ -286,8 +300,12 @@ def proved(crates, jobs, is_kept=False, name="prove"):
 
 def main():
     summary, _, more = __doc__.partition("\n")
-    words = argparse.ArgumentParser(description=summary, epilog=more, formatter_class=argparse.RawDescriptionHelpFormatter)
-    words.add_argument("-j", "--jobs", type=int, default=jobs_with_room(), help="how many crates are proved side by side")
+    words = argparse.ArgumentParser(
+        description=summary, epilog=more, formatter_class=argparse.RawDescriptionHelpFormatter
+    )
+    words.add_argument(
+        "-j", "--jobs", type=int, default=jobs_with_room(), help="how many crates are proved side by side"
+    )
     words.add_argument("--kept", action="store_true", help="build in out/, over kept work, for `rt check`")
     words.add_argument("--name", default="prove", help="the name at the head of each line of progress")
     words.add_argument("crates", nargs="*", metavar="CRATE")

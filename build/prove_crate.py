@@ -3,12 +3,13 @@
 
   prove_crate.py [--kept] CRATE PROCESSES [KEY ..]
 
-The crate is proved from nothing over the statements of the libraries below it, by the gate's functions of the toolchain's
-command, and what it states, or the program, goes into the store (kit.py) under the key of it that prove.py found. The KEYs are
-those of all crates, as NAME=KEY. With --kept the library is built in the crate's out/ over what earlier checks kept there, and keeps
-its work for `rt check`.
+The crate is proved from nothing over the statements of the libraries below it, by the gate's functions of the
+toolchain's command, and what it states, or the program, goes into the store (kit.py) under the key of it that prove.py
+found. The KEYs are those of all crates, as NAME=KEY. With --kept the library is built in the crate's out/ over what
+earlier checks kept there, and keeps its work for `rt check`.
 
-It ends as soon as its standard input does, and what it has started with it. The status is 0 if the crate is proved, else 1.
+It ends as soon as its standard input does, and what it has started with it. The status is 0 if the crate is proved,
+else 1.
 """
 import argparse
 import os
@@ -38,7 +39,9 @@ def prove_kept(rt, name, flags):
     """Builds a crate in its own out/, for `rt check`."""
     if os.path.isfile(os.path.join(TOP, "crates", name, "src", "main.rt")):
         folder = os.path.join(TOP, "crates", name)
-        return subprocess.run(["rt", "run", *flags, "--", "--help"], cwd=folder, stdin=subprocess.DEVNULL, check=False).returncode
+        return subprocess.run(
+            ["rt", "run", *flags, "--", "--help"], cwd=folder, stdin=subprocess.DEVNULL, check=False
+        ).returncode
     rt.Crate.cuts_libraries = False
     # A sum of a crate takes one of each crate below it, which is asked for once here and not once for every path to it.
     known, stamp = {}, rt.Crate.__mro__[1].stamp
@@ -53,8 +56,8 @@ def prove_kept(rt, name, flags):
 
 
 def without_empty_contracts(rt):
-    """Leaves it to the gate to search for contracts that no call can meet. What is proved is the same. The module asks for the search if the
-    prover's help names it."""
+    """Leaves it to the gate to search for contracts that no call can meet. What is proved is the same. The module asks
+    for the search if the prover's help names it."""
     help_of = getattr(rt.rtlib, "help_of", None)
     if help_of:
         rt.rtlib.help_of = lambda command: help_of(command).replace("--empty-contracts", "")
@@ -68,16 +71,29 @@ def prove_anew(rt, name, flags, keys):
         for part in kit.PARTS:
             if os.path.isdir(os.path.join(crate.folder, part)):
                 shutil.copytree(os.path.join(crate.folder, part), os.path.join(room, part))
-        if kit.sum_of_texts(room) != kit.sum_of_texts(os.path.join(TOP, "crates", name)) or kit.keys()[name] != keys[name]:
+        if (
+            kit.sum_of_texts(room) != kit.sum_of_texts(os.path.join(TOP, "crates", name))
+            or kit.keys()[name] != keys[name]
+        ):
             print("its sources were changed meanwhile: call again")
             return 1
         crate.folder, made = room, os.path.join(room, "made")
         os.makedirs(made)
         os.makedirs(os.path.join(room, "out"))
         if crate.is_program:
-            # One call proves and compiles it. The gate has two compilers, and so two calls more, each of which reads all again.
+            # One call proves and compiles it. The gate has two compilers, and so two calls more, each of which reads
+            # all again.
             to = os.path.join("out", f"{name}.o")
-            words = ["build", *crate.words(flags, keeps=False), "--toolchain", f"{rt.KIT}/toolchain", "--backend", "llvm", "-o", to]
+            words = [
+                "build",
+                *crate.words(flags, keeps=False),
+                "--toolchain",
+                f"{rt.KIT}/toolchain",
+                "--backend",
+                "llvm",
+                "-o",
+                to,
+            ]
             status = crate.prove(words) or crate.link(to, os.path.join("out", name))
             if status == 0:
                 shutil.move(os.path.join(room, "out", name), made)
@@ -95,7 +111,9 @@ def prove_anew(rt, name, flags, keys):
 
 def main():
     summary, _, more = __doc__.partition("\n")
-    words = argparse.ArgumentParser(description=summary, epilog=more, formatter_class=argparse.RawDescriptionHelpFormatter)
+    words = argparse.ArgumentParser(
+        description=summary, epilog=more, formatter_class=argparse.RawDescriptionHelpFormatter
+    )
     words.add_argument("--kept", action="store_true", help="build the library in out/, for `rt check`")
     words.add_argument("crate", metavar="CRATE")
     words.add_argument("processes", metavar="PROCESSES", type=int)

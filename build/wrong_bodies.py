@@ -1,18 +1,20 @@
 #!/usr/bin/env python3
 """Tries the wrong bodies of crates/NAME/wrong-bodies/ against the prover, and prints each that is proved all the same.
 
-  wrong-bodies [-j JOBS] [--minutes N] [--since REV | CRATE ..]      default: every crate that has a folder crates/NAME/wrong-bodies/
+  wrong-bodies [-j JOBS] [--minutes N] [--since REV | CRATE ..]      default: every crate that has a folder
+  crates/NAME/wrong-bodies/
 
-Each crates/CRATE/wrong-bodies/NAME.edit is a change of code that turns the meaning of a function, in the form of the gate's
-own edits in crates/CRATE/must-fail/. It is tried by the gate's rule and by the gate's own functions, over the libraries below
-as build/prove.py proves them: what isn't proved yet is proved first. JOBS lists of edits of one crate each are tried side by
-side (default: as many as there are processors, and 4 GiB of free memory for each).
+Each crates/CRATE/wrong-bodies/NAME.edit is a change of code that turns the meaning of a function, in the form of the
+gate's own edits in crates/CRATE/must-fail/. It is tried by the gate's rule and by the gate's own functions, over the
+libraries below as build/prove.py proves them: what isn't proved yet is proved first. JOBS lists of edits of one crate
+each are tried side by side (default: as many as there are processors, and 4 GiB of free memory for each).
 
 With --since REV, the crates are those whose sources or wrong bodies differ from the commit REV, and those that list in
-crates.txt a crate whose contracts or definitions (src/, specs/) differ from it. With --minutes N, no list is begun after that time.
+crates.txt a crate whose contracts or definitions (src/, specs/) differ from it. With --minutes N, no list is begun
+after that time.
 
-The last line is 'N refused, M PROVED, K not run'. The status is 0 only if every edit was tried and refused. It takes about
-20 seconds an edit, so it is run by hand, with --since before each change is handed in; `./test` doesn't call it.
+The last line is 'N refused, M PROVED, K not run'. The status is 0 only if every edit was tried and refused. It takes
+about 20 seconds an edit, so it is run by hand, with --since before each change is handed in; `./test` doesn't call it.
 """
 import argparse
 import os
@@ -51,7 +53,8 @@ def changed_since(rev, given, at_hand):
 
 
 def lists_of(crates, jobs):
-    """The edits in lists of one crate each, so that no list is much longer than what each job gets; the longest first."""
+    """The edits in lists of one crate each, so that no list is much longer than what each job gets; the longest
+    first."""
     edits = {crate: edits_of(crate) for crate in crates}
     size = max(LIST, -(-sum(map(len, edits.values())) // jobs))
     lists = []
@@ -77,7 +80,10 @@ def said_of_each(rt, crate, edits):
         return [text for _, text in rt.must_fail_all(crate, edits, flags)]
     room = rt.seeded(crate, flags)
     if room is None:
-        return [f"must-fail {crate.name}/{os.path.basename(edit)}: NOT TRIED: the crate isn't proved as it stands" for edit in edits]
+        return [
+            f"must-fail {crate.name}/{os.path.basename(edit)}: NOT TRIED: the crate isn't proved as it stands"
+            for edit in edits
+        ]
     try:
         said = [said_over(rt, crate, edit, flags, room) for edit in edits]
         # A refusal counts only if the crate is still proved over the same.
@@ -101,7 +107,9 @@ def try_all(rt, crates, jobs, end):
     counts = {"refused": 0, "NOT REFUSED": 0, "BAD EDIT": 0, "NOT TRIED": 0, "not run": 0}
     keys = kit.keys()
     with ThreadPoolExecutor(jobs) as pool:
-        running = {pool.submit(tried, rt, crate, edits, keys, end): (crate, edits) for crate, edits in lists_of(crates, jobs)}
+        running = {
+            pool.submit(tried, rt, crate, edits, keys, end): (crate, edits) for crate, edits in lists_of(crates, jobs)
+        }
         for done in as_completed(running):
             (crate, edits), verdicts = running[done], done.result()
             refused = sum(verdict == "refused" for verdict, _ in verdicts)
@@ -116,11 +124,15 @@ def try_all(rt, crates, jobs, end):
 
 def main():
     summary, _, more = __doc__.partition("\n")
-    words = argparse.ArgumentParser(description=summary, epilog=more,
-                                    formatter_class=argparse.RawDescriptionHelpFormatter)
-    words.add_argument("-j", "--jobs", type=int, default=prove.jobs_with_room(),
-                       help="how many lists are tried side by side")
-    words.add_argument("--minutes", type=float, default=float("inf"), help="begin no list later than so many minutes from now")
+    words = argparse.ArgumentParser(
+        description=summary, epilog=more, formatter_class=argparse.RawDescriptionHelpFormatter
+    )
+    words.add_argument(
+        "-j", "--jobs", type=int, default=prove.jobs_with_room(), help="how many lists are tried side by side"
+    )
+    words.add_argument(
+        "--minutes", type=float, default=float("inf"), help="begin no list later than so many minutes from now"
+    )
     words.add_argument("--since", metavar="REV", help="only what a change since the commit REV may concern")
     words.add_argument("crates", nargs="*", metavar="CRATE")
     asked = words.parse_args()

@@ -1,7 +1,8 @@
-"""The door of the commands that are written in Python: `python3 -S lab NAME [arguments]`, as the scripts of bin/ call it.
+"""The door of the commands that are written in Python: `python3 -S lab NAME [arguments]`, as the scripts of bin/ call
+it.
 
-Here, and here alone, a command ends with one line in place of a traceback: at Ctrl-C, without memory, or if what it writes can't be
-written. A reader that has gone away is no fault.
+Here, and here alone, a command ends with one line in place of a traceback: at Ctrl-C, without memory, or if what it
+writes can't be written. A reader that has gone away is no fault.
 """
 import importlib
 import os

@@ -1,4 +1,5 @@
-"""The programs whose texts are drawn: `bin/forestplan` and `bin/forestplay`, which build themselves at the first call."""
+"""The programs whose texts are drawn: `bin/forestplan` and `bin/forestplay`, which build themselves at the first
+call."""
 import os
 import subprocess
 

@@ -68,8 +68,10 @@ def main(words):
         if not os.path.exists(path):
             sys.exit(f"{path} isn't there: build it first")
     different, forests = 0, None
-    print(f"{'command':17s} {'least ms':>9s} {'median':>7s} {'baseline':>9s} {'median':>7s} {'ratio':>6s} {'median':>7s} "
-          f"{'of forests':>11s}  same bytes")
+    print(
+        f"{'command':17s} {'least ms':>9s} {'median':>7s} {'baseline':>9s} {'median':>7s} {'ratio':>6s} {'median':>7s} "
+        f"{'of forests':>11s}  same bytes"
+    )
     with tempfile.TemporaryDirectory() as folder:
         paths = write(folder)
         for title, command, name in [("forests", "forests", "network"), ("check, in order", "check", "in_order"),

@@ -31,7 +31,12 @@ def write(path, words):
 def build(folder):
     """The two programs: the proved one and the plain one."""
     for name in CRATES:
-        shutil.copytree(f"{TOP}/crates/{name}", f"{folder}/crates/{name}", dirs_exist_ok=True, ignore=shutil.ignore_patterns("out", "must-fail"))
+        shutil.copytree(
+            f"{TOP}/crates/{name}",
+            f"{folder}/crates/{name}",
+            dirs_exist_ok=True,
+            ignore=shutil.ignore_patterns("out", "must-fail"),
+        )
     users = " ".join(name for name in CRATES if name != "colour_base")
     write(f"{folder}/crates.txt", "".join(f"{name}: {below}\n" for name, below in {**CRATES, "timed": users}.items()))
     write(f"{folder}/crates/timed/src/main.rt", text("proved.rs") + "\n" + text("loops.rs"))

@@ -3,10 +3,11 @@
 
   run.py [--turns N] [PROGRAM [BASELINE]]
 
-Default: 15 turns, PROGRAM as `./forestplan` builds it, BASELINE as baseline/build.sh builds it. Writes each network from
-its definition in graphs.py to a folder of its own, which is removed, and prints for each its last pulse R, the least and
-the median milliseconds of both programs, and the ratios PROGRAM/BASELINE of these. Times are of the whole process; the
-row without nodes is the start alone. Ends with status 1 where the programs didn't write the same bytes, or one failed.
+Default: 15 turns, PROGRAM as `./forestplan` builds it, BASELINE as baseline/build.sh builds it. Writes each network
+from its definition in graphs.py to a folder of its own, which is removed, and prints for each its last pulse R, the
+least and the median milliseconds of both programs, and the ratios PROGRAM/BASELINE of these. Times are of the whole
+process; the row without nodes is the start alone. Ends with status 1 where the programs didn't write the same bytes, or
+one failed.
 """
 import os
 import statistics

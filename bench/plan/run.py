@@ -8,10 +8,11 @@ PROGRAM as `./forestplan` builds it, BASELINE as baseline/build.sh builds it. Fo
 `run.py --turns 2 --networks queen8_8,complete32 --workers 1,4 --capacities 4`.
 
 Writes each network from its definition in graphs.py to a folder of its own, which is removed. Prints for each the least
-and the median milliseconds of both programs and the ratios PROGRAM/BASELINE of these; the growth, which is each program's
-least time over its own least time with one worker and the same capacity, and PROGRAM's growth over BASELINE's; and the
-greatest peak memory in MiB with its ratio. Times are of the whole process, started by peak.c, which needs cc. Ends with
-status 1 where the programs didn't write the same bytes, or one failed or took longer than the limit.
+and the median milliseconds of both programs and the ratios PROGRAM/BASELINE of these; the growth, which is each
+program's least time over its own least time with one worker and the same capacity, and PROGRAM's growth over
+BASELINE's; and the greatest peak memory in MiB with its ratio. Times are of the whole process, started by peak.c, which
+needs cc. Ends with status 1 where the programs didn't write the same bytes, or one failed or took longer than the
+limit.
 """
 import os
 import sys
@@ -28,7 +29,8 @@ CASES = {"queen8_8": MANY, "myciel5": FEW, "random200": FEW, "disk500": MANY, "t
 
 
 def row(name, workers, capacity, runs, alone):
-    """Prints a row; `alone` has both programs' least times with one worker, by capacity. Returns whether all is well."""
+    """Prints a row; `alone` has both programs' least times with one worker, by capacity. Returns whether all is
+    well."""
     ours, base = runs
     if workers == 1:
         alone[capacity] = (ours.least(), base.least())
@@ -52,9 +54,15 @@ def main():
     words.add_argument("--capacities", type=numbers, default={1, 2, 4})
     given = words.parse_args()
     programs = programs_of(given)
-    print(f"{'':18s} {'program ms':>19s} {'baseline ms':>19s} {'ratio':>13s} {'growth with workers':>20s} {'peak MiB':>22s}")
-    print(f"{'network':10s} wor cap " + 2 * f"{'least':>9s} {'median':>9s} " + f"{'least':>6s} {'median':>6s} "
-          + f"{'prog':>6s} {'base':>6s} {'ratio':>6s} {'prog':>7s} {'base':>7s} {'ratio':>6s}  same bytes")
+    print(
+        f"{'':18s} {'program ms':>19s} {'baseline ms':>19s} {'ratio':>13s} {'growth with workers':>20s} {'peak MiB':>22s}"
+    )
+    print(
+        f"{'network':10s} wor cap "
+        + 2 * f"{'least':>9s} {'median':>9s} "
+        + f"{'least':>6s} {'median':>6s} "
+        + f"{'prog':>6s} {'base':>6s} {'ratio':>6s} {'prog':>7s} {'base':>7s} {'ratio':>6s}  same bytes"
+    )
     good = []
     with tempfile.TemporaryDirectory() as folder:
         peak = build_peak(folder)

@@ -4,29 +4,42 @@ complete graph of 100, beside the same rounds written by hand in plain Rust, bui
 
   run.py [FOLDER]
 
-Copies the crates, with what earlier proofs left in out/, and the program to FOLDER (a new one for temporary files, if it
-isn't given), since the gate reads each .rt file of the repository; proves and builds it there, and builds plain.rs. Runs
-both by turns, compares the answers of all nodes, and prints the least nanoseconds of a node and pulse, and the engine's
-ratio to each of the two ways in which plain.rs writes the rounds. RT names another command than rt.
+Copies the crates, with what earlier proofs left in out/, and the program to FOLDER (a new one for temporary files, if
+it isn't given), since the gate reads each .rt file of the repository; proves and builds it there, and builds plain.rs.
+Runs both by turns, compares the answers of all nodes, and prints the least nanoseconds of a node and pulse, and the
+engine's ratio to each of the two ways in which plain.rs writes the rounds. RT names another command than rt.
 """
 import os, shutil, subprocess, sys, tempfile
 
 HERE = os.path.dirname(os.path.abspath(__file__))
 TOP = os.path.dirname(os.path.dirname(HERE))
-CRATES = {"dimacs_col": "thiserror", "interference": "dimacs_col", "node_api": "interference", "sync_rounds": "node_api interference"}
+CRATES = {
+    "dimacs_col": "thiserror",
+    "interference": "dimacs_col",
+    "node_api": "interference",
+    "sync_rounds": "node_api interference",
+}
 TURNS = 15
 
 
 def build(folder):
     """The two programs: the proved one and the plain one."""
     for name in CRATES:
-        shutil.copytree(f"{TOP}/crates/{name}", f"{folder}/crates/{name}", symlinks=True, dirs_exist_ok=True, ignore=shutil.ignore_patterns("must-fail"))
+        shutil.copytree(
+            f"{TOP}/crates/{name}",
+            f"{folder}/crates/{name}",
+            symlinks=True,
+            dirs_exist_ok=True,
+            ignore=shutil.ignore_patterns("must-fail"),
+        )
     with open(f"{folder}/crates.txt", "w", encoding="utf-8") as file:
         file.writelines(f"{name}: {below}\n" for name, below in {**CRATES, "timed": "interference sync_rounds"}.items())
     for name, copy in ("proved.rs", "crates/timed/src/main.rt"), ("plain.rs", "plain/main.rs"):
         os.makedirs(os.path.dirname(f"{folder}/{copy}"), exist_ok=True)
         shutil.copyfile(f"{HERE}/{name}", f"{folder}/{copy}")
-    subprocess.run([os.environ.get("RT", "rt"), "run"], cwd=f"{folder}/crates/timed", stdout=subprocess.DEVNULL, check=True)
+    subprocess.run(
+        [os.environ.get("RT", "rt"), "run"], cwd=f"{folder}/crates/timed", stdout=subprocess.DEVNULL, check=True
+    )
     subprocess.run(["rustc", "-O", "--edition", "2021", "main.rs", "-o", "plain"], cwd=f"{folder}/plain", check=True)
     return f"{folder}/crates/timed/out/timed", f"{folder}/plain/plain"
 
@@ -52,11 +65,15 @@ def main():
                 answers.setdefault(network, set()).update(given)
             for case, time in times.items():
                 least[case] = min(time, least.get(case, time))
-    print(f"{'network':10s} {'nodes':>6s} {'pulses':>6s} {'engine ns':>10s} {'slots ns':>10s} {'bare ns':>10s} {'engine/slots':>13s} {'engine/bare':>12s}")
+    print(
+        f"{'network':10s} {'nodes':>6s} {'pulses':>6s} {'engine ns':>10s} {'slots ns':>10s} {'bare ns':>10s} {'engine/slots':>13s} {'engine/bare':>12s}"
+    )
     for network in answers:
         engine, slots, bare = (least[network, way] for way in ("engine", "slots", "bare"))
         name, nodes, last = network
-        print(f"{name:10s} {nodes:>6s} {last:>6s} {engine:10.2f} {slots:10.2f} {bare:10.2f} {engine / slots:13.2f} {engine / bare:12.2f}")
+        print(
+            f"{name:10s} {nodes:>6s} {last:>6s} {engine:10.2f} {slots:10.2f} {bare:10.2f} {engine / slots:13.2f} {engine / bare:12.2f}"
+        )
     if any(len(given) != 1 for given in answers.values()):
         sys.exit("the programs gave different answers")
 

@@ -91,8 +91,12 @@ def main():
     given = words_of_command(networks(), {1, 4}).parse_args()
     programs = programs_of(given)
     print(f"{'':23s} {'program ms':>19s} {'baseline ms':>19s} {'ratio':>13s} {'peak MiB':>22s} {'bytes an entry':>13s}")
-    print(f"{'network':10s} wor {'entries':>8s} " + 2 * f"{'least':>9s} {'median':>9s} " + f"{'least':>6s} {'median':>6s} "
-          + f"{'prog':>7s} {'base':>7s} {'ratio':>6s} {'prog':>6s} {'base':>6s}  same payloads  checked")
+    print(
+        f"{'network':10s} wor {'entries':>8s} "
+        + 2 * f"{'least':>9s} {'median':>9s} "
+        + f"{'least':>6s} {'median':>6s} "
+        + f"{'prog':>7s} {'base':>7s} {'ratio':>6s} {'prog':>6s} {'base':>6s}  same payloads  checked"
+    )
     good = []
     with tempfile.TemporaryDirectory() as folder:
         peak = build_peak(folder)

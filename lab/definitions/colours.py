@@ -1,10 +1,11 @@
-"""The forests and the colours of a good network text by their definitions (docs/claim/DEFINITIONS.md), slow and plain: what
-the tests compare the program with. A list over the vertices is a dictionary, and is made for all of them at once."""
+"""The forests and the colours of a good network text by their definitions (docs/claim/DEFINITIONS.md), slow and plain:
+what the tests compare the program with. A list over the vertices is a dictionary, and is made for all of them at
+once."""
 
 
 class Network:
-    """The identifier of each vertex, the set of edges, and the barred colours of some vertices; and what the definitions read off
-    these."""
+    """The identifier of each vertex, the set of edges, and the barred colours of some vertices; and what the
+    definitions read off these."""
 
     def __init__(self, identifiers, edges, barred=None):
         self.identifiers = identifiers
@@ -31,8 +32,8 @@ def fields_of(line):
 
 
 def network_of(text):
-    """The network of a text without a fault; a vertex has the identifier that a line gives it, and else its number. A colour is a
-    channel less one."""
+    """The network of a text without a fault; a vertex has the identifier that a line gives it, and else its number. A
+    colour is a channel less one."""
     nodes, given, edges, barred = 0, {}, set(), {}
     for line in text.split(b"\n"):
         fields = fields_of(line)
@@ -112,9 +113,9 @@ def merge(net, f, old):
 
 
 def merged(net, f, old, colour_in_f):
-    """The list that its own equation gives back: each vertex has the least colour of 0 to the span that is not barred at it and
-    not among those of the neighbours that it looks at. There is one such list, since these have lower pairs; the equation is
-    applied until it holds."""
+    """The list that its own equation gives back: each vertex has the least colour of 0 to the span that is not barred
+    at it and not among those of the neighbours that it looks at. There is one such list, since these have lower pairs;
+    the equation is applied until it holds."""
     pair = {v: (colour_in_f[v], old[v]) for v in old}
     looked_at = {v: [w for w in ws if net.number[frozenset((v, w))] <= f and pair[w] < pair[v]]
                  for v, ws in net.neighbours.items()}

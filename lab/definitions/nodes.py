@@ -1,6 +1,6 @@
-"""The rounds of the colouring at one node, a node under synchroniser alpha, and a network of such nodes event by event, by
-their definitions (docs/claim/DEFINITIONS.md), slow and plain. What a caller may only do wrong (a wire that is refused, an event
-that isn't possible) raises `Refused`.
+"""The rounds of the colouring at one node, a node under synchroniser alpha, and a network of such nodes event by event,
+by their definitions (docs/claim/DEFINITIONS.md), slow and plain. What a caller may only do wrong (a wire that is
+refused, an event that isn't possible) raises `Refused`.
 
 A wire is a tuple: ("Payload", pulse, (kind, number)), ("Ack", pulse), ("Safe", pulse) or ("Close",)."""
 from lab.definitions.colours import other_than
@@ -131,7 +131,9 @@ class AlphaNode:
         return all(len(port.out) <= 3 for port in self.ports)
 
     def can_pulse(self):
-        return (self.pulse_number != self.last and self.said and all(port.safe for port in self.ports) and self.can_take())
+        return (
+            self.pulse_number != self.last and self.said and all(port.safe for port in self.ports) and self.can_take()
+        )
 
     def drained(self):
         return self.pulse_number == self.last and all(port.closed and not port.out for port in self.ports)
@@ -237,8 +239,8 @@ def named(names):
 
 
 def missing_words(state, kind, v, port=None):
-    """What stands behind the line of an event that isn't possible: the wires of the pulse that are still to come, or the out-list
-    or the link that is empty."""
+    """What stands behind the line of an event that isn't possible: the wires of the pulse that are still to come, or
+    the out-list or the link that is empty."""
     if v not in state.nodes or port is not None and port >= len(state.nodes[v].ports):
         return ""
     node, neighbours = state.nodes[v], state.neighbours[v]
@@ -261,7 +263,8 @@ def event_of(state, entry):
 
 
 def entry_words(state, entry, refused):
-    """What stands behind the line of a refused entry: what its event lacks, or the pulse or wire to which its event comes."""
+    """What stands behind the line of a refused entry: what its event lacks, or the pulse or wire to which its event
+    comes."""
     if str(refused) == "NoSuch":
         return ""
     event = event_of(state, entry)
@@ -272,7 +275,8 @@ def entry_words(state, entry, refused):
 
 
 def make(state, entry):
-    """The event of an entry of a transcript, if it is possible with what the entry says; otherwise nothing is changed."""
+    """The event of an entry of a transcript, if it is possible with what the entry says; otherwise nothing is
+    changed."""
     event = event_of(state, entry)
     if state.carried(*event) != entry.what:
         raise Refused("WrongWire")

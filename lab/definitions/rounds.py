@@ -1,6 +1,6 @@
-"""The text of `forestplay rounds` by the definitions (docs/claim/DEFINITIONS.md, docs/claim/FORMATS.md), slow and plain: from lists over
-the vertices, as lab/definitions/colours.py has them, and without a node that keeps anything. `made_text` is the same text from the
-nodes of lab/definitions/nodes.py."""
+"""The text of `forestplay rounds` by the definitions (docs/claim/DEFINITIONS.md, docs/claim/FORMATS.md), slow and
+plain: from lists over the vertices, as lab/definitions/colours.py has them, and without a node that keeps anything.
+`made_text` is the same text from the nodes of lab/definitions/nodes.py."""
 from lab.definitions.colours import bit, drop, first_colours, merge, shift, text_of
 from lab.definitions.nodes import Colouring, last_pulse, ports_of
 
@@ -84,8 +84,8 @@ class Facts:
         return [f"{v} chose {self.choice(p, v)}"] if self.chooses(p, v) else []
 
     def sent(self, p, v):
-        """(neighbour, word, number): all hear the identifier; parents the forest; children the colour; and who is a neighbour in
-        the forests merged so far the choice, but at the last step of a forest."""
+        """(neighbour, word, number): all hear the identifier; parents the forest; children the colour; and who is a
+        neighbour in the forests merged so far the choice, but at the last step of a forest."""
         for w in sorted(self.net.neighbours[v]):
             f, is_parent = self.net.number[frozenset((v, w))], self.net.identifiers[w] > self.net.identifiers[v]
             if p == 0:

@@ -1,5 +1,5 @@
-"""The nodes and edges of a graph in the language DOT of Graphviz. Attributes, ports and directions are left out, and a subgraph
-in braces at an end of an edge stands for all its nodes."""
+"""The nodes and edges of a graph in the language DOT of Graphviz. Attributes, ports and directions are left out, and a
+subgraph in braces at an end of an edge stands for all its nodes."""
 import re
 
 from lab.networks.network_text import shown
@@ -7,7 +7,9 @@ from lab.wrong import wrong_line
 
 BEGINS = re.compile(r"\s*(strict\s+)?(di)?graph\b[^{;]*\{", re.I)
 COMMENT = re.compile(r"/\*.*?\*/|//[^\n]*|^#[^\n]*", re.S | re.M)
-TOKEN = re.compile(r'\s*(?:(?P<mark>--|->|[{}\[\];,:=])|(?P<id>"(?:[^"\\]|\\.)*"|<[^>]*>|-?\.?[0-9][\w.]*|[^\W\d]\w*))', re.S)
+TOKEN = re.compile(
+    r'\s*(?:(?P<mark>--|->|[{}\[\];,:=])|(?P<id>"(?:[^"\\]|\\.)*"|<[^>]*>|-?\.?[0-9][\w.]*|[^\W\d]\w*))', re.S
+)
 WORDS = {"node", "edge", "graph"}
 
 
@@ -68,7 +70,9 @@ class Reader:
     def id(self):
         """The line and the name of the next token."""
         if self.at >= len(self.tokens):
-            raise wrong_line(self.name, self.tokens[-1][0] if self.tokens else 1, "DOT ends before its last brace: is the text cut?")
+            raise wrong_line(
+                self.name, self.tokens[-1][0] if self.tokens else 1, "DOT ends before its last brace: is the text cut?"
+            )
         line, mark, name = self.tokens[self.at]
         if name is None:
             raise self.wrong(line, mark)

@@ -16,8 +16,8 @@ ENDS = {"source": "target", "from": "to", "node1": "node2", "node_1": "node_2", 
 
 
 class Listed:
-    """`edges` has (line, name, name) and `alone` (line, name); `nodes` is the number of nodes if the text gives one, and then the
-    names are its numbers from 1; `notes` says what was guessed or left out."""
+    """`edges` has (line, name, name) and `alone` (line, name); `nodes` is the number of nodes if the text gives one,
+    and then the names are its numbers from 1; `notes` says what was guessed or left out."""
 
     def __init__(self, form):
         self.form, self.edges, self.alone, self.notes = form, [], [], []
@@ -50,13 +50,16 @@ def form_of(text):
     """The form that a text seems to have; pairs and adjacency are told apart later."""
     if dot.begins(text):
         return "dot"
-    if re.search(r"^[ \t]*(p[ \t]+[a-z]+[ \t]+[0-9]+|p[ \t]+[0-9]+[ \t]+[0-9]+|e[ \t]+[0-9]+[ \t]+[0-9]+)\b", text, re.M):
+    if re.search(
+        r"^[ \t]*(p[ \t]+[a-z]+[ \t]+[0-9]+|p[ \t]+[0-9]+[ \t]+[0-9]+|e[ \t]+[0-9]+[ \t]+[0-9]+)\b", text, re.M
+    ):
         return "dimacs"
     return None
 
 
 def listed(text, name, form, heading):
-    """The network of a text in a form, or in the one that it seems to have; `heading` says whether the first row is one."""
+    """The network of a text in a form, or in the one that it seems to have; `heading` says whether the first row is
+    one."""
     form = form or form_of(text)
     if form == "dot":
         return read_dot(text, name)
@@ -64,7 +67,9 @@ def listed(text, name, form, heading):
         return read_dimacs(text, name)
     rows, separator = rows_of(text)
     if not form and are_places(rows):
-        raise Wrong(f"{name}: a name and two numbers in each line look like places, not like pairs of nodes (if they are pairs: --as pairs)")
+        raise Wrong(
+            f"{name}: a name and two numbers in each line look like places, not like pairs of nodes (if they are pairs: --as pairs)"
+        )
     if not rows:
         raise Wrong(f"{name}: it has no line with a node")
     form = form or ("multiline" if "{" in text and groups_of(rows) else guess(rows, separator))
@@ -85,7 +90,8 @@ def rows_of(text):
 
 
 def guess(rows, separator):
-    """Pairs or adjacency. Three fields in each row are a pair and its weight, unless each row is repaid as neighbours are."""
+    """Pairs or adjacency. Three fields in each row are a pair and its weight, unless each row is repaid as neighbours
+    are."""
     if any(fields[0].endswith(":") for _, fields in rows):
         return "adjacency"
     if separator or all(len(fields) <= 2 for _, fields in rows):
@@ -103,7 +109,12 @@ def heads(rows):
         if one in words and other in words:
             return words.index(one), words.index(other)
     rest = {field for _, fields in rows[1:] for field in fields[:2]}
-    if len(rows) > 1 and len(words) > 1 and all(whole(field) is not None for field in rest) and None in map(whole, words[:2]):
+    if (
+        len(rows) > 1
+        and len(words) > 1
+        and all(whole(field) is not None for field in rest)
+        and None in map(whole, words[:2])
+    ):
         return 0, 1
     return None
 
@@ -121,9 +132,14 @@ def is_number(field):
 
 
 def is_alone(rows):
-    """Whether the words of the first row come in no other, though each other row shares one with another: it may be a heading."""
+    """Whether the words of the first row come in no other, though each other row shares one with another: it may be a
+    heading."""
     first, body = set(rows[0][1][:2]), [set(fields[:2]) for _, fields in rows[1:]]
-    return len(body) > 1 and not any(first & other for other in body) and any(one & other for one, other in zip(body, body[1:]))
+    return (
+        len(body) > 1
+        and not any(first & other for other in body)
+        and any(one & other for one, other in zip(body, body[1:]))
+    )
 
 
 def read_pairs(rows, name, separator, heading):
@@ -162,7 +178,8 @@ def read_adjacency(rows):
 
 
 def groups_of(rows):
-    """(line, node, rows of its neighbours) if each node with a count is followed by as many rows of one field, some by one; else None."""
+    """(line, node, rows of its neighbours) if each node with a count is followed by as many rows of one field, some by
+    one; else None."""
     found, at = [], 0
     while at < len(rows):
         line, fields = rows[at]
@@ -197,8 +214,8 @@ def read_dot(text, name):
 
 
 def read_dimacs(text, name):
-    """Edges are lines `e V W` or `a V W WEIGHT`, or `V W` behind `p tw`. Without a `p` line the greatest number counts. A line
-    `i V NUMBER` gives V an identifier, and `b V CHANNEL` bars a channel at V."""
+    """Edges are lines `e V W` or `a V W WEIGHT`, or `V W` behind `p tw`. Without a `p` line the greatest number counts.
+    A line `i V NUMBER` gives V an identifier, and `b V CHANNEL` bars a channel at V."""
     found = Listed("DIMACS")
     for line, raw in enumerate(text.split("\n"), 1):
         fields = [field for field in fields_of(raw) if field]

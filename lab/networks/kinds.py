@@ -1,5 +1,5 @@
-"""The kinds of networks that `bin/network KIND` makes. The same words make the same network, on every machine: what is chosen
-at random comes from `random()` of a seed alone, whose numbers Python keeps from version to version."""
+"""The kinds of networks that `bin/network KIND` makes. The same words make the same network, on every machine: what is
+chosen at random comes from `random()` of a seed alone, whose numbers Python keeps from version to version."""
 import random
 from itertools import combinations
 from math import cos, pi, sin
@@ -31,7 +31,9 @@ def checked(nodes, edges):
         if len(found) > MAX_EDGES:
             raise Wrong(f"that would be more than {MAX_EDGES} edges, and a network has at most so many")
         if max(degrees[v], degrees[w]) > MAX_DEGREE:
-            raise Wrong(f"that would be more than {MAX_DEGREE} neighbours of node {v if degrees[v] > MAX_DEGREE else w}")
+            raise Wrong(
+                f"that would be more than {MAX_DEGREE} neighbours of node {v if degrees[v] > MAX_DEGREE else w}"
+            )
     return found
 
 
@@ -55,7 +57,11 @@ def squares(rows, columns):
 def path(nodes):
     at_least(1, nodes=nodes)
     check_room(nodes, nodes - 1)
-    return Made(nodes, checked(nodes, ((v, v + 1) for v in range(1, nodes))), places={v: (v - 1, 0) for v in range(1, nodes + 1)})
+    return Made(
+        nodes,
+        checked(nodes, ((v, v + 1) for v in range(1, nodes))),
+        places={v: (v - 1, 0) for v in range(1, nodes + 1)},
+    )
 
 
 def ring(nodes):
@@ -68,7 +74,9 @@ def ring(nodes):
 def star(nodes):
     at_least(1, nodes=nodes)
     check_room(nodes, nodes - 1)
-    return Made(nodes, checked(nodes, ((v, nodes) for v in range(1, nodes))), places=circle(range(1, nodes)) | {nodes: (0, 0)})
+    return Made(
+        nodes, checked(nodes, ((v, nodes) for v in range(1, nodes))), places=circle(range(1, nodes)) | {nodes: (0, 0)}
+    )
 
 
 def complete(nodes):

@@ -1,5 +1,5 @@
-"""`bin/network`: makes networks, reads other forms of them, numbers their nodes anew, tells what they are, and puts names back
-on a plan. Nothing of it is proved: what is claimed of a plan begins at the bytes of the network's text."""
+"""`bin/network`: makes networks, reads other forms of them, numbers their nodes anew, tells what they are, and puts
+names back on a plan. Nothing of it is proved: what is claimed of a plan begins at the bytes of the network's text."""
 import argparse
 import csv
 import io
@@ -54,64 +54,104 @@ MAKERS = {"path": kinds.path, "ring": kinds.ring, "star": kinds.star, "complete"
 COMMANDS = {
     "path": ("A row: node 1 is joined to 2, 2 to 3, and so on.", "", "bin/network path 20 | bin/forestplan plain"),
     "ring": ("A row whose last node is joined to its first.", "", "bin/network ring 12 | bin/forestplan plain"),
-    "star": ("One centre, joined to all others, its leaves.", "The centre has the greatest number, so there is one forest;\n"
-             "`number --by degree --reverse` gives it the number 1.", "bin/network star 9 | bin/forestplan forests"),
+    "star": (
+        "One centre, joined to all others, its leaves.",
+        "The centre has the greatest number, so there is one forest;\n"
+        "`number --by degree --reverse` gives it the number 1.",
+        "bin/network star 9 | bin/forestplan forests",
+    ),
     "complete": ("Each node is joined to each other.", "", "bin/network complete 8 | bin/forestplan plan"),
-    "grid": ("The squares of a board; two are joined if they share a side.", "They are numbered row by row.",
-             "bin/network grid 10 10 > grid.col"),
-    "queen": ("The squares of a board; two are joined if a queen moves from one to the other.", "They are numbered row by row.",
-              "bin/network queen 5 5 | bin/forestplan plain"),
-    "tree": ("Each node but the first is joined to one before it, by chance.", "", "bin/network tree 30 --seed 7 > tree.col"),
-    "disk": ("Places by chance in a square; two are joined if they are near.",
-             "So transmitters interfere that stand near each other (a unit-disk graph).",
-             "bin/network disk 30 --reach 0.26 --seed 5 > masts.col"),
-    "random": ("So many different edges by chance, each choice as likely as any other.", "", "bin/network random 50 120 --seed 3 > net.col"),
-    "read": ("Reads a network in another form, and writes it in the DIMACS format.",
-             "  pairs      two nodes a line, as CSV, with tabs or with blanks; a heading may name\n"
-             "             the columns, and a line may have a weight behind, which isn't read\n"
-             "  adjacency  a node and its neighbours a line, with blanks between\n"
-             "  multiline  a node and how many neighbours it has, and then a line for each of these\n"
-             "  dot        a graph in the language of Graphviz\n"
-             "  dimacs     `p` and `e` lines, with mistakes that are mended if that can be\n"
-             "The form is guessed unless --as names it. Numbers from 1 on are kept, those from 0\n"
-             "on become one more, other names get numbers and stay in lines `c name V NAME`.\n"
-             "Mended, and said: a byte order mark, line ends of a carriage return alone, edges from\n"
-             "a node to itself (left out), and edges that come again or in both directions (once).",
-             "bin/network read sites.csv > sites.col"),
-    "number": ("Numbers the nodes of a network anew.",
-               "  random  by chance, by --seed\n"
-               "  degree  fewest neighbours first\n"
-               "  place   from left to right, by the comment lines `c at V X Y`\n"
-               "A node keeps its name; one without a name gets its old number as name. Identifiers and\n"
-               "barred channels of lines `i` and `b` go with their nodes.\n"
-               "The forests depend on the numbers, and so does the plan.",
-               "bin/network number examples/petersen.col --by random --seed 2 | bin/forestplan forests"),
-    "tell": ("Says what a network is, and what a run on it comes to; or what is wrong with its text.",
-             "  barred      how many channels are barred, if any is\n"
-             "  forests     the greatest number of neighbours of a node with a greater identifier\n"
-             "  in turn     how long it would take if nodes chose in the order of their numbers\n"
-             "  payloads    the messages of the rounds: every run of `plan` has just these\n"
-             "  wires       what all links of such a run carry: the payloads, as many\n"
-             "              acknowledgements, a safe of each pulse and a closing mark\n"
-             "  transcript  what `transcript` prints of it\n"
-             "  time        about how long `plan` and `transcript` take here, by the wires alone: a\n"
-             "              smaller run is measured meanwhile. Nodes without edges, other work on\n"
-             "              the machine and more workers than processors can double it.",
-             "bin/network tell examples/petersen.col"),
-    "names": ("Puts the names of a network on a plan, which it reads from standard input.",
-              "A line has a node's name and its channel; a node without a name has its number.",
-              "bin/forestplan plain < sites.col | bin/network names sites.col"),
+    "grid": (
+        "The squares of a board; two are joined if they share a side.",
+        "They are numbered row by row.",
+        "bin/network grid 10 10 > grid.col",
+    ),
+    "queen": (
+        "The squares of a board; two are joined if a queen moves from one to the other.",
+        "They are numbered row by row.",
+        "bin/network queen 5 5 | bin/forestplan plain",
+    ),
+    "tree": (
+        "Each node but the first is joined to one before it, by chance.",
+        "",
+        "bin/network tree 30 --seed 7 > tree.col",
+    ),
+    "disk": (
+        "Places by chance in a square; two are joined if they are near.",
+        "So transmitters interfere that stand near each other (a unit-disk graph).",
+        "bin/network disk 30 --reach 0.26 --seed 5 > masts.col",
+    ),
+    "random": (
+        "So many different edges by chance, each choice as likely as any other.",
+        "",
+        "bin/network random 50 120 --seed 3 > net.col",
+    ),
+    "read": (
+        "Reads a network in another form, and writes it in the DIMACS format.",
+        "  pairs      two nodes a line, as CSV, with tabs or with blanks; a heading may name\n"
+        "             the columns, and a line may have a weight behind, which isn't read\n"
+        "  adjacency  a node and its neighbours a line, with blanks between\n"
+        "  multiline  a node and how many neighbours it has, and then a line for each of these\n"
+        "  dot        a graph in the language of Graphviz\n"
+        "  dimacs     `p` and `e` lines, with mistakes that are mended if that can be\n"
+        "The form is guessed unless --as names it. Numbers from 1 on are kept, those from 0\n"
+        "on become one more, other names get numbers and stay in lines `c name V NAME`.\n"
+        "Mended, and said: a byte order mark, line ends of a carriage return alone, edges from\n"
+        "a node to itself (left out), and edges that come again or in both directions (once).",
+        "bin/network read sites.csv > sites.col",
+    ),
+    "number": (
+        "Numbers the nodes of a network anew.",
+        "  random  by chance, by --seed\n"
+        "  degree  fewest neighbours first\n"
+        "  place   from left to right, by the comment lines `c at V X Y`\n"
+        "A node keeps its name; one without a name gets its old number as name. Identifiers and\n"
+        "barred channels of lines `i` and `b` go with their nodes.\n"
+        "The forests depend on the numbers, and so does the plan.",
+        "bin/network number examples/petersen.col --by random --seed 2 | bin/forestplan forests",
+    ),
+    "tell": (
+        "Says what a network is, and what a run on it comes to; or what is wrong with its text.",
+        "  barred      how many channels are barred, if any is\n"
+        "  forests     the greatest number of neighbours of a node with a greater identifier\n"
+        "  in turn     how long it would take if nodes chose in the order of their numbers\n"
+        "  payloads    the messages of the rounds: every run of `plan` has just these\n"
+        "  wires       what all links of such a run carry: the payloads, as many\n"
+        "              acknowledgements, a safe of each pulse and a closing mark\n"
+        "  transcript  what `transcript` prints of it\n"
+        "  time        about how long `plan` and `transcript` take here, by the wires alone: a\n"
+        "              smaller run is measured meanwhile. Nodes without edges, other work on\n"
+        "              the machine and more workers than processors can double it.",
+        "bin/network tell examples/petersen.col",
+    ),
+    "names": (
+        "Puts the names of a network on a plan, which it reads from standard input.",
+        "A line has a node's name and its channel; a node without a name has its number.",
+        "bin/forestplan plain < sites.col | bin/network names sites.col",
+    ),
 }
 
 
 def command_line():
-    words = argparse.ArgumentParser(prog="network", usage="network COMMAND WORDS.. [options]", description=HELP, epilog=MORE_HELP,
-                                    formatter_class=argparse.RawDescriptionHelpFormatter)
-    commands = words.add_subparsers(prog="network", dest="command", metavar="COMMAND", required=True, help="one of those above")
+    words = argparse.ArgumentParser(
+        prog="network",
+        usage="network COMMAND WORDS.. [options]",
+        description=HELP,
+        epilog=MORE_HELP,
+        formatter_class=argparse.RawDescriptionHelpFormatter,
+    )
+    commands = words.add_subparsers(
+        prog="network", dest="command", metavar="COMMAND", required=True, help="one of those above"
+    )
     for name, (what, more, example) in COMMANDS.items():
         sizes = " ".join(size.upper() for size in SIZES.get(name, ["file"]))
-        command = commands.add_parser(name, usage=f"network {name} {sizes} [options]", description=f"{what}\n\n{more}".rstrip(),
-                                      epilog=f"Example:\n  {example}", formatter_class=argparse.RawDescriptionHelpFormatter)
+        command = commands.add_parser(
+            name,
+            usage=f"network {name} {sizes} [options]",
+            description=f"{what}\n\n{more}".rstrip(),
+            epilog=f"Example:\n  {example}",
+            formatter_class=argparse.RawDescriptionHelpFormatter,
+        )
         add_words(command, name)
         command.set_defaults(refuse=command.error)
     return words
@@ -123,9 +163,17 @@ def add_words(command, name):
     if name not in SIZES:
         command.add_argument("file", metavar="FILE", help="a file, or - for standard input")
     if name in CHANCE + ("number",):
-        command.add_argument("--seed", type=int, default=1, metavar="N", help="the same number chooses the same again; default: 1")
+        command.add_argument(
+            "--seed", type=int, default=1, metavar="N", help="the same number chooses the same again; default: 1"
+        )
     if name == "disk":
-        command.add_argument("--reach", type=float, default=0.26, metavar="R", help="joined if nearer than R sides of the square; default: 0.26")
+        command.add_argument(
+            "--reach",
+            type=float,
+            default=0.26,
+            metavar="R",
+            help="joined if nearer than R sides of the square; default: 0.26",
+        )
     if name == "read":
         command.add_argument("--as", dest="form", choices=FORMS, help="the form, if the guess is wrong")
         command.add_argument("--heading", choices=("yes", "no"), help="whether the first line of pairs is a heading")

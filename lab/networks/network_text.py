@@ -1,6 +1,8 @@
-"""The network of a text in the DIMACS format, or its first fault in words: the fault that the programs report, with its code.
+"""The network of a text in the DIMACS format, or its first fault in words: the fault that the programs report, with its
+code.
 
-Comment lines may give places (`c at V X Y`) and names (`c name V NAME`); to the programs they are comments like any other."""
+Comment lines may give places (`c at V X Y`) and names (`c name V NAME`); to the programs they are comments like any
+other."""
 import re
 from functools import lru_cache
 
@@ -19,11 +21,11 @@ MOST_DIGITS = 40
 
 
 class Network:
-    """`nodes` vertices from 1; `neighbours[v]` ascending; `edges` as pairs, the lower vertex first, ascending; `given[v]` is
-    the place (x, y) of a comment line `c at V X Y`, y growing downwards, and `names[v]` the name of `c name V NAME`;
-    `said[v]` is the identifier of the line `i V NUMBER`, and `identifiers[v]` that or v; `bars[v]` has the channels of lines
-    `b V CHANNEL`, ascending, and is there for the vertices that have some. `span` is the greatest number of neighbours and the
-    greatest number of bars of a vertex together: so many channels and one are enough."""
+    """`nodes` vertices from 1; `neighbours[v]` ascending; `edges` as pairs, the lower vertex first, ascending;
+    `given[v]` is the place (x, y) of a comment line `c at V X Y`, y growing downwards, and `names[v]` the name of `c
+    name V NAME`; `said[v]` is the identifier of the line `i V NUMBER`, and `identifiers[v]` that or v; `bars[v]` has
+    the channels of lines `b V CHANNEL`, ascending, and is there for the vertices that have some. `span` is the greatest
+    number of neighbours and the greatest number of bars of a vertex together: so many channels and one are enough."""
 
     def __init__(self, name, nodes, edges, given, names=None, identifiers=None, bars=None):
         self.name, self.nodes, self.edges, self.given, self.names = name, nodes, sorted(edges), given, names or {}
@@ -48,8 +50,8 @@ class Network:
 
 
 class Reading:
-    """What the lines so far say: `nodes` is None before the `p` line, `promised` its number of edges, and `edge_lines` counts
-    the lines that name one, again and again too."""
+    """What the lines so far say: `nodes` is None before the `p` line, `promised` its number of edges, and `edge_lines`
+    counts the lines that name one, again and again too."""
 
     def __init__(self):
         self.nodes, self.promised, self.edge_lines = None, None, 0
@@ -111,7 +113,11 @@ def problem_of(path, line, fields):
     """NODES and EDGES of a `p` line."""
     form = "`p edge NODES EDGES`"
     if len(fields) > 1 and fields[1] not in FORMATS:
-        what = "the word `edge` is missing" if whole(fields[1]) is not None else f"`p {shown(fields[1])}` is another format"
+        what = (
+            "the word `edge` is missing"
+            if whole(fields[1]) is not None
+            else f"`p {shown(fields[1])}` is another format"
+        )
         raise wrong_line(path, line, f"{what}: the line has to be {form} (F4)")
     why = why_no_number(fields[2:], ["NODES", "EDGES"])
     if len(fields) < 2 or why:
@@ -167,7 +173,9 @@ def bar_of(path, line, fields, read):
     """Vertex and channel of a `b` line."""
     v, channel = said_of_vertex(path, line, fields, read, "a barred channel", "b V CHANNEL")
     if not 1 <= channel <= MAX_CHANNEL:
-        raise wrong_line(path, line, f"channel {shown(str(channel))} is none that can be barred, which are 1 to {MAX_CHANNEL} (F13)")
+        raise wrong_line(
+            path, line, f"channel {shown(str(channel))} is none that can be barred, which are 1 to {MAX_CHANNEL} (F13)"
+        )
     barred = read.bars.get(v, ())
     if channel not in barred and len(barred) == MAX_BARS:
         raise wrong_line(path, line, f"more than {MAX_BARS} channels are barred at vertex {v} (F14)")

@@ -1,5 +1,5 @@
-"""`bin/network number`: the same network with other numbers. A node keeps its name, or is named by its old number; it keeps the
-identifier that a line gives it, and its barred channels."""
+"""`bin/network number`: the same network with other numbers. A node keeps its name, or is named by its old number; it
+keeps the identifier that a line gives it, and its barred channels."""
 import random
 
 from lab.networks.network_text import two_alike
@@ -42,6 +42,14 @@ def renumbered(network, way, seed, is_reversed):
     identifiers = {number[v]: own for v, own in network.said.items()}
     same = two_alike({v: v for v in network.vertices} | identifiers)
     if same:
-        raise Wrong(f"{network.name}: nodes {same[0]} and {same[1]} would have one identifier; give each node a line `i V NUMBER`")
-    return Made(network.nodes, {(number[v], number[w]) for v, w in network.edges}, names, places, identifiers=identifiers,
-                bars={number[v]: channels for v, channels in network.bars.items()})
+        raise Wrong(
+            f"{network.name}: nodes {same[0]} and {same[1]} would have one identifier; give each node a line `i V NUMBER`"
+        )
+    return Made(
+        network.nodes,
+        {(number[v], number[w]) for v, w in network.edges},
+        names,
+        places,
+        identifiers=identifiers,
+        bars={number[v]: channels for v, channels in network.bars.items()},
+    )

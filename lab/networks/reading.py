@@ -1,4 +1,5 @@
-"""`bin/network read`: a network in one of the forms, as a text that the programs read, and what was guessed and left out."""
+"""`bin/network read`: a network in one of the forms, as a text that the programs read, and what was guessed and left
+out."""
 from lab.networks.forms import decoded, listed
 from lab.networks.network_text import MAX_DEGREE, MAX_EDGES, MAX_NODES, shown, two_alike, whole
 from lab.networks.texts import Made
@@ -13,14 +14,21 @@ def read(data, name, form=None, heading=None):
     number = {node: v for v, node in order.items()}
     edges, left_out = kept(found, number)
     names = {v: node for v, node in order.items() if node != str(v)} | found.names
-    made = Made(max(order, default=0), edges, names, found.places, identifiers=given(found.identifiers, number, name, "an identifier"),
-                bars=given(found.bars, number, name, "a barred channel"))
+    made = Made(
+        max(order, default=0),
+        edges,
+        names,
+        found.places,
+        identifiers=given(found.identifiers, number, name, "an identifier"),
+        bars=given(found.bars, number, name, "a barred channel"),
+    )
     check(made, name)
     return made, [summary(made, found, by)] + mended + found.notes + left_out
 
 
 def numbered(found):
-    """{vertex: name}. Whole numbers without a gap from 0 or 1 on stay in their order; other names count as they come."""
+    """{vertex: name}. Whole numbers without a gap from 0 or 1 on stay in their order; other names count as they
+    come."""
     names = {}
     for line, *ends in sorted(found.edges + found.alone, key=lambda row: row[0]):
         for end in ends:
@@ -42,7 +50,9 @@ def numbered_by_text(found, name):
     shift = 1 if 0 in used and found.nodes not in used else 0
     for number in sorted(used):
         if not 1 <= number + shift <= found.nodes:
-            raise Wrong(f"{name} line {used[number]}: vertex {shown(str(number))}, and the `p` line has {found.nodes} nodes")
+            raise Wrong(
+                f"{name} line {used[number]}: vertex {shown(str(number))}, and the `p` line has {found.nodes} nodes"
+            )
     if found.nodes > MAX_NODES:
         raise Wrong(f"{name}: {found.nodes} nodes, and a network has at most {MAX_NODES}")
     if shift:
@@ -79,7 +89,9 @@ def kept(found, number):
             edges.add((v, w))
     notes = []
     if loops:
-        notes.append(f"{counted(len(loops), 'edge')} from a node to itself left out, first at line {loops[0][0]}: {loops[0][1]}")
+        notes.append(
+            f"{counted(len(loops), 'edge')} from a node to itself left out, first at line {loops[0][0]}: {loops[0][1]}"
+        )
     if both:
         notes.append(f"{counted(both, 'edge')} there in both directions, counted once")
     if again:
@@ -103,7 +115,9 @@ def check(made, name):
         raise Wrong(f"{name}: {len(made.edges)} edges, and a network has at most {MAX_EDGES}")
     most = max(degrees, key=degrees.get, default=None)
     if most and degrees[most] > MAX_DEGREE:
-        raise Wrong(f"{name}: node {made.names.get(most, most)} has {degrees[most]} neighbours, and may have {MAX_DEGREE}")
+        raise Wrong(
+            f"{name}: node {made.names.get(most, most)} has {degrees[most]} neighbours, and may have {MAX_DEGREE}"
+        )
     same = two_alike({v: v for v in range(1, made.nodes + 1)} | made.identifiers)
     if same:
         raise Wrong(f"{name}: nodes {same[0]} and {same[1]} have one identifier")

@@ -12,16 +12,16 @@ from lab.pictures.colouring import LAST_COLOUR, Rounds
 from lab.programs import TOP
 from lab.wrong import Wrong
 
-# Up to so many nodes times pulses the rounds are worked out here, in less than a second; above them `forestplay rounds` is asked,
-# and if it isn't built they are worked out here up to so many, in some seconds.
+# Up to so many nodes times pulses the rounds are worked out here, in less than a second; above them `forestplay rounds`
+# is asked, and if it isn't built they are worked out here up to so many, in some seconds.
 MOST_AT_ONCE, MOST_HERE = 300_000, 5_000_000
 # Up to so many wires nobody waits for a run.
 AN_INSTANT = 100_000
 
 
 class Run:
-    """What every whole run of a network comes to; `payloads` counts them, `how` says who counted, and `is_bound` that it is the most
-    that there can be."""
+    """What every whole run of a network comes to; `payloads` counts them, `how` says who counted, and `is_bound` that
+    it is the most that there can be."""
 
     def __init__(self, network):
         higher = {v: len(higher_of(network, v)) for v in network.vertices}
@@ -49,7 +49,8 @@ def digits(count):
 
 
 def plain_bytes(run):
-    """The bytes of a transcript without its payloads and acknowledgements: each safe and closing mark twice, and the pulses."""
+    """The bytes of a transcript without its payloads and acknowledgements: each safe and closing mark twice, and the
+    pulses."""
     network, total = run.network, len(f"transcript 1 {run.network.nodes}\n")
     safes = run.last * len("safe ") + digits(run.last) + len("close")
     for v in network.vertices:
@@ -69,7 +70,11 @@ def counted_payloads(run):
     network, steps, program = run.network, run.network.nodes * run.last, built("forestplay")
     if steps <= MOST_AT_ONCE or steps <= MOST_HERE and not program:
         rounds = Rounds(network, network.identifiers)
-        puts = [payload_bytes(v, w, pulse.number, f"{word} {number}") for pulse in rounds.pulses for v, w, word, number in pulse.puts]
+        puts = [
+            payload_bytes(v, w, pulse.number, f"{word} {number}")
+            for pulse in rounds.pulses
+            for v, w, word, number in pulse.puts
+        ]
         return len(puts), sum(puts), "counted by the definition of the rounds"
     if program:
         return *payloads_by(program, network), "counted by `forestplay rounds`"
@@ -80,7 +85,8 @@ def counted_payloads(run):
 
 
 def built(name):
-    """The program if it is built: in the tree, or in a folder in which it was installed, in place of the script that builds it."""
+    """The program if it is built: in the tree, or in a folder in which it was installed, in place of the script that
+    builds it."""
     program = os.path.join(TOP, "crates", name, "out", name)
     if os.path.exists(program):
         return program
@@ -140,12 +146,25 @@ def facts(reading, path):
     again = reading.edge_lines - edges
     most = "at most " if run.is_bound else ""
     return [
-        ("nodes", f"{network.nodes:,}" + (f", {degrees.count(0):,} of them without a neighbour" if 0 in degrees else "")),
-        ("edges", f"{edges:,}" + (f", {counted(again, 'line')} more with an edge that was there before" if again else "")
-         + f"; the `p` line says {reading.promised:,}"),
-        ("neighbours", f"{min(degrees, default=0):,} to {network.degree:,} of a node" + ("" if network.bars else enough(network))),
+        (
+            "nodes",
+            f"{network.nodes:,}" + (f", {degrees.count(0):,} of them without a neighbour" if 0 in degrees else ""),
+        ),
+        (
+            "edges",
+            f"{edges:,}"
+            + (f", {counted(again, 'line')} more with an edge that was there before" if again else "")
+            + f"; the `p` line says {reading.promised:,}",
+        ),
+        (
+            "neighbours",
+            f"{min(degrees, default=0):,} to {network.degree:,} of a node" + ("" if network.bars else enough(network)),
+        ),
         *barred(network),
-        ("forests", f"{run.forests:,}, so the last pulse is 12 + 3 * {run.forests:,} * {network.channels:,} = {run.last:,}"),
+        (
+            "forests",
+            f"{run.forests:,}, so the last pulse is 12 + 3 * {run.forests:,} * {network.channels:,} = {run.last:,}",
+        ),
         ("in turn", f"{counted(steps_in_turn(network), 'round')}, if the nodes chose in the order of their numbers"),
         ("payloads", f"{most}{run.payloads:,}; {run.how}"),
         ("wires", f"{most}2 * {run.payloads:,} + 2 * {edges:,} * {run.last + 1:,} = {run.wires:,}"),
@@ -161,8 +180,10 @@ def enough(network):
 def barred(network):
     """The line that a network with barred channels has besides."""
     if network.bars:
-        yield "barred", (f"{counted(sum(map(len, network.bars.values())), 'channel')} at {counted(len(network.bars), 'node')}, at most "
-                         f"{network.most_bars:,} at one" + enough(network))
+        yield "barred", (
+            f"{counted(sum(map(len, network.bars.values())), 'channel')} at {counted(len(network.bars), 'node')}, at most "
+            f"{network.most_bars:,} at one" + enough(network)
+        )
 
 
 def times(run):
@@ -173,9 +194,13 @@ def times(run):
     if not program:
         return "unknown, since forestplan isn't built, by which it is measured"
     known = network_for_time()
-    seconds = {command: run.wires / known.wires * seconds_of(program, command, known) for command in ("plan", "transcript")}
-    return (", ".join(f"{command} {in_words(took)}" for command, took in seconds.items())
-            + f"; by a run of {known.wires:,} wires, made just now")
+    seconds = {
+        command: run.wires / known.wires * seconds_of(program, command, known) for command in ("plan", "transcript")
+    }
+    return (
+        ", ".join(f"{command} {in_words(took)}" for command, took in seconds.items())
+        + f"; by a run of {known.wires:,} wires, made just now"
+    )
 
 
 def network_for_time():
@@ -220,8 +245,10 @@ def size(count):
 def warnings(reading):
     """What the programs read without a word, and a reader may not have meant."""
     if reading.promised not in (len(reading.edges), reading.edge_lines, 2 * len(reading.edges)):
-        yield (f"the `p` line says {counted(reading.promised, 'edge')}, and the text has {len(reading.edges)}: is it cut? "
-               "The programs plan what is there")
+        yield (
+            f"the `p` line says {counted(reading.promised, 'edge')}, and the text has {len(reading.edges)}: is it cut? "
+            "The programs plan what is there"
+        )
     for what, listed in (("place", reading.given), ("name", reading.names)):
         beyond = [v for v in listed if not 1 <= v <= reading.nodes]
         if beyond:
@@ -235,7 +262,8 @@ def tell(text, path):
 
 
 def other_form(data, path):
-    """Of a text that is no network: what `read` makes of it, or None. One that begins like a network isn't taken for pairs."""
+    """Of a text that is no network: what `read` makes of it, or None. One that begins like a network isn't taken for
+    pairs."""
     try:
         _, said = read(data, path)
     except Wrong:

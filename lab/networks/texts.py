@@ -2,8 +2,10 @@
 
 
 class Made:
-    """Vertices 1 to `nodes`; `edges` as pairs, the lower vertex first; `names[v]` and `places[v]` where there are any; `head`
-    has lines of comment; `identifiers[v]` where they aren't v; `bars[v]` are the channels barred at v, where there are any."""
+    """Vertices 1 to `nodes`; `edges` as pairs, the lower vertex first; `names[v]` and `places[v]` where there are any;
+    `head` has lines of comment; `identifiers[v]` where they aren't v; `bars[v]` are the channels barred at v, where
+    there are any.
+    """
 
     def __init__(self, nodes, edges, names=None, places=None, head=(), identifiers=None, bars=None):
         self.nodes, self.edges = nodes, sorted({(min(edge), max(edge)) for edge in edges})

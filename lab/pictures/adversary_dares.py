@@ -1,8 +1,8 @@
 """The dares of the adversary's page, and what the table says of each: whether it can be won, and with how few events.
 
-A dare is {"kind", "words", "answer"} and what the page needs to see that it is won: `apart` has `pairs` and `least`, `plan`
-the round's `plan`, `few` a `node` and the fewest events `best`, `wrong` nothing. Events are takes and pulses; a put is made by
-itself, and isn't counted."""
+A dare is {"kind", "words", "answer"} and what the page needs to see that it is won: `apart` has `pairs` and `least`,
+`plan` the round's `plan`, `few` a `node` and the fewest events `best`, `wrong` nothing. Events are takes and pulses; a
+put is made by itself, and isn't counted."""
 from lab.pictures.schedules_space import fault_words
 
 
@@ -54,14 +54,24 @@ def wrong_dare(seen):
     if faults:
         s, e = next(iter(faults))
         answer = f"Yes, with {events(seen.space.depth[s] + (e is not None))}: {fault_words(seen.space)}."
-    return {"kind": "wrong", "words": "Have a node make a pulse without its round’s messages, or refuse a message.", "answer": answer}
+    return {
+        "kind": "wrong",
+        "words": "Have a node make a pulse without its round’s messages, or refuse a message.",
+        "answer": answer,
+    }
 
 
 def apart_dare(seen):
     pairs = [link for link in seen.space.links if link[0] < link[1]]
     fewest = seen.fewest(lambda state: seen.apart(state, pairs) >= 2)
     answer = seen.none("are neighbours more than one pulse apart") if fewest is None else f"Yes, with {events(fewest)}."
-    return {"kind": "apart", "pairs": pairs, "least": 2, "words": "Bring two neighbours two pulses apart.", "answer": answer}
+    return {
+        "kind": "apart",
+        "pairs": pairs,
+        "least": 2,
+        "words": "Bring two neighbours two pulses apart.",
+        "answer": answer,
+    }
 
 
 def plan_dare(seen):
@@ -70,8 +80,12 @@ def plan_dare(seen):
     other = [space.depth[s] for s in space.ends if space.is_whole(space.states[s])
              and [node.colour + 1 for node in space.nodes(s).values()] != plan]
     answer = f"Yes, with {events(min(other))}." if other else seen.none("have all halted with other channels")
-    return {"kind": "plan", "plan": plan, "words": f"Have them all halt with other channels than {', '.join(map(str, plan))}.",
-            "answer": answer}
+    return {
+        "kind": "plan",
+        "plan": plan,
+        "words": f"Have them all halt with other channels than {', '.join(map(str, plan))}.",
+        "answer": answer,
+    }
 
 
 def ends_dare(seen, ends, distance):
@@ -84,8 +98,13 @@ def ends_dare(seen, ends, distance):
 
 def few_dare(seen, v):
     best = seen.fewest(lambda state: seen.pulse(state, v) >= 1)
-    return {"kind": "few", "node": v, "best": best, "words": f"Use as few events as you can until node {v} has made pulse 1.",
-            "answer": f"{events(best).capitalize()}; puts aren’t counted."}
+    return {
+        "kind": "few",
+        "node": v,
+        "best": best,
+        "words": f"Use as few events as you can until node {v} has made pulse 1.",
+        "answer": f"{events(best).capitalize()}; puts aren’t counted.",
+    }
 
 
 def far_ends(space):

@@ -1,5 +1,6 @@
-"""The adversary's page: whoever opens it chooses which message comes next. It needs no library and has no algorithm in it: it
-holds the table of adversary_table.py, and follows it. The page itself is adversary_page.html, which is filled in here."""
+"""The adversary's page: whoever opens it chooses which message comes next. It needs no library and has no algorithm in
+it: it holds the table of adversary_table.py, and follows it. The page itself is adversary_page.html, which is filled in
+here."""
 import json
 import os
 import re
@@ -21,10 +22,18 @@ PAGE = os.path.join(os.path.dirname(os.path.abspath(__file__)), "adversary_page.
 
 def draw(network, space):
     table = table_of(space, wire_words)
-    words = {"NAME": escaped(network.name), "TITLE": escaped(f"{title_of(network, space)}: you are the network"),
-             "ABOUT": escaped(about(space)), "PLAY": escaped(play_words(network, space)), "WIDTH": str(WIDTH), "HEIGHT": str(HEIGHT),
-             "STATES": f"{space.count:,}", "STEPS": f"{len(space.target):,}", "TABLE": compact(table),
-             "PLAN": compact(plan_of(network, space))}
+    words = {
+        "NAME": escaped(network.name),
+        "TITLE": escaped(f"{title_of(network, space)}: you are the network"),
+        "ABOUT": escaped(about(space)),
+        "PLAY": escaped(play_words(network, space)),
+        "WIDTH": str(WIDTH),
+        "HEIGHT": str(HEIGHT),
+        "STATES": f"{space.count:,}",
+        "STEPS": f"{len(space.target):,}",
+        "TABLE": compact(table),
+        "PLAN": compact(plan_of(network, space)),
+    }
     with open(PAGE, encoding="utf-8") as file:
         return re.sub(r"@([A-Z]+)@", lambda found: words[found.group(1)], file.read())
 
@@ -40,18 +49,26 @@ def compact(value):
 
 def about(space):
     if space.without:
-        reach = "" if space.expanded == space.count else f" The table goes as far as {space.depth[space.expanded - 1]} events."
+        reach = (
+            ""
+            if space.expanded == space.count
+            else f" The table goes as far as {space.depth[space.expanded - 1]} events."
+        )
         return f"{left_out_words(space.without)} Choose what comes next, and try to make something go wrong.{reach}"
     plan = ", ".join(str(space.rounds.colours[v] + 1) for v in space.vertices)
-    return (f"Choose what comes next: every order of events is in this page. Whatever you choose, after {space.depth[space.ends[0]]} "
-            f"events all have halted, with channels {plan}.")
+    return (
+        f"Choose what comes next: every order of events is in this page. Whatever you choose, after {space.depth[space.ends[0]]} "
+        f"events all have halted, with channels {plan}."
+    )
 
 
 def play_words(network, space):
     words = f"Store the list as list.events, and type (cat {network.name}.col; cat list.events) | bin/forestplay events"
     if space.without:
-        return (f"{words}. It keeps all rules, so it names the line of the first event that can happen here alone; up to there it shows "
-                "the same as this page:")
+        return (
+            f"{words}. It keeps all rules, so it names the line of the first event that can happen here alone; up to there it shows "
+            "the same as this page:"
+        )
     return f"{words}. It accepts the list, and shows:"
 
 
@@ -66,8 +83,17 @@ def plan_of(network, space):
     slots = {f"{v} {w}": slots_of(places[v], places[w]) for v, w in space.links}
     hues = {c: [channel_hue(c), text_on(channel_hue(c))] for c in range(1, network.channels + 1)}
     events = space.depth[space.ends[0]] if not space.without else 0
-    return {"nodes": nodes, "edges": edges, "slots": slots, "radius": RADIUS, "token": [HALF_WIDTH, HALF_HEIGHT], "hues": hues,
-            "wires": {kind: [hue, PALE[kind]] for kind, hue in WIRES.items()}, "events": events, "dares": dares_of(space)}
+    return {
+        "nodes": nodes,
+        "edges": edges,
+        "slots": slots,
+        "radius": RADIUS,
+        "token": [HALF_WIDTH, HALF_HEIGHT],
+        "hues": hues,
+        "wires": {kind: [hue, PALE[kind]] for kind, hue in WIRES.items()},
+        "events": events,
+        "dares": dares_of(space),
+    }
 
 
 def tidy(number):

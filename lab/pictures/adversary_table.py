@@ -1,9 +1,11 @@
-"""The table that the adversary's page follows: every state and step of a space as numbers, with the words of each number.
+"""The table that the adversary's page follows: every state and step of a space as numbers, with the words of each
+number.
 
-  phases    what a node does at each pulse, from 0
-  nodes     for each node, ascending: `values`, a row each of [pulse, words, channel or 0, 1 if it made a pulse with a wrong
+  phases    what a node does at each pulse, from 0 nodes     for each node, ascending: `values`, a row each of [pulse,
+  words, channel or 0, 1 if it made a pulse with a wrong
             inbox], and `column`, which of them it has in each state
-  links     for each link: `from`, `to`, `put` and `take`, the ports of the two, `contents`, lists of numbers of `wires`, the
+  links     for each link: `from`, `to`, `put` and `take`, the ports of the two, `contents`, lists of numbers of
+  `wires`, the
             one that comes next first, and `column`, which of them it holds in each state
   wires     the wires in words
   events    [kind, node, port, wires overtaken]: 0 is a pulse, 1 a take
@@ -39,15 +41,20 @@ def waiting(waits):
     of = {}
     for wire, w in waits:
         of.setdefault(wire, []).append(str(w))
-    return " and ".join(f"{wire} of {' and '.join(filter(None, [', '.join(ws[:-1]), ws[-1]]))}" for wire, ws in of.items())
+    return " and ".join(
+        f"{wire} of {' and '.join(filter(None, [', '.join(ws[:-1]), ws[-1]]))}" for wire, ws in of.items()
+    )
 
 
 def node_words(node):
     """What a node waits for, or what it can do."""
     if node.waits:
         return f"waits for {waiting(node.waits)}"
-    return {"ready": f"can make pulse {node.pulse + 1}", "whole": "has halted", "last": "has only to put its close"}.get(
-        node.stage, "waits for nothing")
+    return {
+        "ready": f"can make pulse {node.pulse + 1}",
+        "whole": "has halted",
+        "last": "has only to put its close",
+    }.get(node.stage, "waits for nothing")
 
 
 def node_row(node, last):
@@ -74,16 +81,34 @@ def table_of(space, words):
     nodes, links = list(nodes_of(space)), list(links_of(space, wires))
     events, steps = {}, []
     for s in range(space.expanded):
-        steps.append([(events.setdefault((int(event.kind == "take"), event.v, event.port or 0, event.place), len(events)),
-                       0 if target is None else target - s) for event, target in space.steps(s)])
+        steps.append(
+            [
+                (
+                    events.setdefault((int(event.kind == "take"), event.v, event.port or 0, event.place), len(events)),
+                    0 if target is None else target - s,
+                )
+                for event, target in space.steps(s)
+            ]
+        )
     flat = [step for row in steps for step in row]
     least = min((by for _, by in flat), default=0)
     sentences, faults = {}, {}
     for (s, e), sentence in space.faults.items():
         faults.setdefault(s, {})[-1 if e is None else e] = sentences.setdefault(sentence, len(sentences))
-    return {"digits": DIGITS, "phases": [space.phase(p) for p in range(space.last + 1)], "last": space.last, "states": space.count,
-            "followed": space.expanded, "nodes": nodes, "links": links, "wires": [words(wire) for wire in wires],
-            "events": [list(event) for event in events], "counts": column(len(row) for row in steps),
-            "chosen": column(e for e, _ in flat),
-            "targets": column(by - least for _, by in flat), "least": least, "faults": faults,
-            "sentences": [quoted(sentence) for sentence in sentences]}
+    return {
+        "digits": DIGITS,
+        "phases": [space.phase(p) for p in range(space.last + 1)],
+        "last": space.last,
+        "states": space.count,
+        "followed": space.expanded,
+        "nodes": nodes,
+        "links": links,
+        "wires": [words(wire) for wire in wires],
+        "events": [list(event) for event in events],
+        "counts": column(len(row) for row in steps),
+        "chosen": column(e for e, _ in flat),
+        "targets": column(by - least for _, by in flat),
+        "least": least,
+        "faults": faults,
+        "sentences": [quoted(sentence) for sentence in sentences],
+    }

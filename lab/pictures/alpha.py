@@ -1,10 +1,11 @@
-"""A node without a common clock, under synchroniser alpha, replayed entry by entry (docs/claim/DEFINITIONS.md). A wire that the
-node can't put or take there is refused; what a port knows of its neighbour is what the automaton and the timing show."""
+"""A node without a common clock, under synchroniser alpha, replayed entry by entry (docs/claim/DEFINITIONS.md). A wire
+that the node can't put or take there is refused; what a port knows of its neighbour is what the automaton and the
+timing show."""
 
 
 class Port:
-    """`known` is the number of safes taken, so the pulse for which the neighbour's wires come next; `paid`, whether that
-    pulse's payload is here; `waits`, whether an acknowledgement is due; `out`, what is still to be put."""
+    """`known` is the number of safes taken, so the pulse for which the neighbour's wires come next; `paid`, whether
+    that pulse's payload is here; `waits`, whether an acknowledgement is due; `out`, what is still to be put."""
 
     def __init__(self):
         self.known, self.paid, self.waits, self.closed, self.out = 0, False, False, False, []
@@ -95,4 +96,10 @@ class Node:
 
 def words_of(wire):
     kind, pulse, payload = wire
-    return kind if kind == "close" else f"{kind} {pulse}" if payload is None else f"{kind} {pulse} {payload[0]} {payload[1]}"
+    return (
+        kind
+        if kind == "close"
+        else f"{kind} {pulse}"
+        if payload is None
+        else f"{kind} {pulse} {payload[0]} {payload[1]}"
+    )

@@ -1,5 +1,6 @@
-"""What goes wrong without a rule of the rounds, and beside it the same rounds with all rules: in a forest, the colours of a node
-and of those above it, pulse by pulse; in a merge, the network with what each node has. The pair that goes wrong is red."""
+"""What goes wrong without a rule of the rounds, and beside it the same rounds with all rules: in a forest, the colours
+of a node and of those above it, pulse by pulse; in a merge, the network with what each node has. The pair that goes
+wrong is red."""
 from lab.networks.network_text import read_network
 from lab.pictures.marks import channel_circle, colour_square, draw_edge, number_square
 from lab.pictures.palette import FOREST_COLOURS, INK, PAPER, SOFT, WRONG
@@ -43,7 +44,9 @@ def in_lines(words, width):
 def network_of_rounds(rounds):
     """The network that was found, as one that was read."""
     edges = sorted(tuple(sorted(edge)) for edge in rounds.net.number)
-    return read_network("".join([f"p edge {len(rounds.net.neighbours)} {len(edges)}\n", *(f"e {v} {w}\n" for v, w in edges)]), "found")
+    return read_network(
+        "".join([f"p edge {len(rounds.net.neighbours)} {len(edges)}\n", *(f"e {v} {w}\n" for v, w in edges)]), "found"
+    )
 
 
 def left_out(without):
@@ -137,8 +140,15 @@ class OfForest:
             last = min(last, self.last)
             if first <= last:
                 x1, x2 = self.x(left, first) - COLUMN / 2 + 2, self.x(left, last) + COLUMN / 2 - 2
-                svg.text((x1 + x2) / 2, top + HEAD - 24, group if last > first else group.removesuffix(" steps") + " step" * (first == 3),
-                         10 if last > first else 8.5, INK, "middle", mark="group")
+                svg.text(
+                    (x1 + x2) / 2,
+                    top + HEAD - 24,
+                    group if last > first else group.removesuffix(" steps") + " step" * (first == 3),
+                    10 if last > first else 8.5,
+                    INK,
+                    "middle",
+                    mark="group",
+                )
                 svg.line(x1, top + HEAD - 19, x2, top + HEAD - 19, "#9A9A9A", 1)
         for pulse in range(START, self.last + 1):
             svg.text(self.x(left, pulse), top + HEAD - 8, pulse, 9, SOFT, "middle")
@@ -165,9 +175,18 @@ class OfMerge:
     """Three panels in a row: the channels before the merge, the colours in the forest, the channels after it."""
 
     def __init__(self, rounds, without, network):
-        at_most("broken", network.nodes, "nodes of a merge", MOST_MERGED, "`bin/explore NETWORK --without RULES`, which says it in words")
+        at_most(
+            "broken",
+            network.nodes,
+            "nodes of a merge",
+            MOST_MERGED,
+            "`bin/explore NETWORK --without RULES`, which says it in words",
+        )
         self.clash, self.network, self.without = rounds.clash, network, without
-        self.blocks = [(f"without {left_out(without)}", rounds, set(without)), ("with all rules", RuledRounds(rounds.net, ()), set())]
+        self.blocks = [
+            (f"without {left_out(without)}", rounds, set(without)),
+            ("with all rules", RuledRounds(rounds.net, ()), set()),
+        ]
         places = places_of(network)
         radius, least = (13, 9) if network.nodes <= 12 else (9, 6)
         self.panel = PANEL if network.nodes <= 12 else LARGE_PANEL
@@ -193,8 +212,10 @@ class OfMerge:
                 self.draw_block(svg, y + OVER, block, number == 0)
 
     def legend(self):
-        return ("Circle: the channel so far; square: the colour in this forest, with arrows to the parents. Nodes choose in the order of their "
-                "turns: the colour in this forest, and with all rules the colour so far, too, which is the channel less 1.")
+        return (
+            "Circle: the channel so far; square: the colour in this forest, with arrows to the parents. Nodes choose in the order of their "
+            "turns: the colour in this forest, and with all rules the colour so far, too, which is the channel less 1."
+        )
 
     def draw_block(self, svg, top, block, is_wrong):
         f, (_, rounds, _) = self.clash.forest, block
@@ -204,7 +225,14 @@ class OfMerge:
         after = "merged: forest 0" if f == 0 else f"merged: forests 0 to {f}"
         self.channels(svg, 20 + 2 * self.panel, top, after, rounds.merged[f + 1], f, is_wrong)
         for at, line in enumerate(self.chooses(block)):
-            svg.text(20 + 3 * self.panel, top + self.box / 2 - 20 + 17 * at, line, 11, INK if at % 2 == 0 else SOFT, mark="chooses")
+            svg.text(
+                20 + 3 * self.panel,
+                top + self.box / 2 - 20 + 17 * at,
+                line,
+                11,
+                INK if at % 2 == 0 else SOFT,
+                mark="chooses",
+            )
 
     def forest_of(self, v, w, rounds):
         return rounds.net.number[frozenset((v, w))]
@@ -229,8 +257,12 @@ class OfMerge:
                       mark="wrong" if hue == WRONG else "edge")
         self.numbers(svg, left, top)
         for v, (x, y) in sorted(places.items()):
-            is_red = is_wrong and any(merged[v] == merged[w] and self.forest_of(v, w, rounds) <= upto for w in self.network.neighbours[v])
-            svg.circle(x, y, self.radius + (3.6 if is_red else 1.4), PAPER, WRONG if is_red else None, 2.2 if is_red else None)
+            is_red = is_wrong and any(
+                merged[v] == merged[w] and self.forest_of(v, w, rounds) <= upto for w in self.network.neighbours[v]
+            )
+            svg.circle(
+                x, y, self.radius + (3.6 if is_red else 1.4), PAPER, WRONG if is_red else None, 2.2 if is_red else None
+            )
             channel_circle(svg, x, y, self.radius, merged[v] + 1)
 
     def colours(self, svg, left, top, rounds):
@@ -256,8 +288,12 @@ class OfMerge:
         turn = {v: (three[v],) if "pair" in without else (three[v], old[v]) for v in three}
         lines = []
         for v in sorted((self.clash.v, self.clash.w), key=lambda v: (turn[v], v)):
-            said = [f"{new[w] + 1} of {w}" for w in self.network.neighbours[v] if turn[w] < turn[v]
-                    and (self.forest_of(v, w, rounds) == f if "earlier" in without else self.forest_of(v, w, rounds) <= f)]
+            said = [
+                f"{new[w] + 1} of {w}"
+                for w in self.network.neighbours[v]
+                if turn[w] < turn[v]
+                and (self.forest_of(v, w, rounds) == f if "earlier" in without else self.forest_of(v, w, rounds) <= f)
+            ]
             heard = " and ".join([", ".join(said[:-1])] * bool(said[1:]) + said[-1:]) or "nothing"
             lines.append(f"node {v}, turn {', '.join(map(str, turn[v]))}: takes channel {new[v] + 1}")
             lines.append(f"(it has heard {heard})")

@@ -1,5 +1,5 @@
-"""The rounds of the colouring by their definition (docs/claim/DEFINITIONS.md), for all vertices at once: what a text of rounds or
-the payloads of a transcript have to be. Vertices carry identifiers, which need not be their numbers."""
+"""The rounds of the colouring by their definition (docs/claim/DEFINITIONS.md), for all vertices at once: what a text of
+rounds or the payloads of a transcript have to be. Vertices carry identifiers, which need not be their numbers."""
 from lab.wrong import Wrong
 
 GREET, ORIENT, SEED, LAST_COLOUR = 0, 1, 2, 12
@@ -16,8 +16,8 @@ class Pulse:
 
 
 class Rounds:
-    """A synchronous run: `parents[v, f]` is v's parent in forest f, `pulses` those from 0 to `last`; `allowed[v]` are the colours
-    that aren't barred at v, and `first[v]` the least of them, which v has before it chooses."""
+    """A synchronous run: `parents[v, f]` is v's parent in forest f, `pulses` those from 0 to `last`; `allowed[v]` are
+    the colours that aren't barred at v, and `first[v]` the least of them, which v has before it chooses."""
 
     def __init__(self, network, identifiers):
         self.network, self.identifiers = network, identifiers
@@ -29,7 +29,9 @@ class Rounds:
                 self.forest_of[v, w] = self.forest_of[w, v] = f
         self.forests = 1 + max((f for _, f in self.parents), default=-1)
         self.width = network.span + 1
-        self.allowed = {v: set(range(self.width)) - {channel - 1 for channel in network.barred(v)} for v in network.vertices}
+        self.allowed = {
+            v: set(range(self.width)) - {channel - 1 for channel in network.barred(v)} for v in network.vertices
+        }
         self.first = {v: min(self.allowed[v]) for v in network.vertices}
         self.last = LAST_COLOUR + 3 * self.forests * self.width
         self.pulses = []
@@ -46,7 +48,9 @@ class Rounds:
 
     def greet(self):
         pulse = Pulse(GREET, "greet")
-        pulse.puts = [(v, w, "hello", self.identifiers[v]) for v in self.network.vertices for w in self.network.neighbours[v]]
+        pulse.puts = [
+            (v, w, "hello", self.identifiers[v]) for v in self.network.vertices for w in self.network.neighbours[v]
+        ]
         return pulse
 
     def orient(self):
@@ -89,8 +93,8 @@ class Rounds:
         return pulse
 
     def merge(self, number):
-        """A step of merging: those of the step's pair (three-colour, old colour) choose the least colour that is neither barred nor
-        heard of."""
+        """A step of merging: those of the step's pair (three-colour, old colour) choose the least colour that is
+        neither barred nor heard of."""
         forest, step = divmod(number - 1 - LAST_COLOUR, 3 * self.width)
         colour, old = divmod(step, self.width)
         pulse = Pulse(number, "merge", (forest, colour, old))
@@ -136,7 +140,9 @@ class Rounds:
         if asked is None:
             return None
         if not 0 <= asked[0] <= asked[1] < self.forests:
-            raise Wrong(f"{self.network.name} has {'forest 0 alone' if self.forests == 1 else f'forests 0 to {self.forests - 1}'}")
+            raise Wrong(
+                f"{self.network.name} has {'forest 0 alone' if self.forests == 1 else f'forests 0 to {self.forests - 1}'}"
+            )
         return range(asked[0], asked[1] + 1)
 
     def in_forest(self, v, f):

@@ -36,7 +36,9 @@ def draw(rounds, asked=None):
     columns, width = columns_of(rounds.asked_forests(asked), rounds.forests)
     sheet = Sheet(rounds)
     said = f"{network.name}: {counted(len(network.edges), 'edge')} in {counted(count, 'forest')}; merged, they are the plan"
-    svg = Svg(max(width, LEGEND, 60 + text_width(said, 17) * 1.1), TOP + 2 * sheet.height + 76, f"Forests of {network.name}")
+    svg = Svg(
+        max(width, LEGEND, 60 + text_width(said, 17) * 1.1), TOP + 2 * sheet.height + 76, f"Forests of {network.name}"
+    )
     svg.heading(said)
     legend(svg)
     shift = (svg.width - width) / 2
@@ -50,8 +52,8 @@ def draw(rounds, asked=None):
 
 
 def columns_of(asked, forests):
-    """(forest, left) of each column, a range for those left out, and the width of all: what is asked for, at most six; else all,
-    or the first four and the last."""
+    """(forest, left) of each column, a range for those left out, and the width of all: what is asked for, at most six;
+    else all, or the first four and the last."""
     shown = list(range(forests)) if asked is None else list(asked)
     if asked is not None:
         at_most("forests", len(shown), "forests side by side", MOST_COLUMNS, "--forests A..B with fewer")
@@ -118,7 +120,14 @@ def colours_panel(svg, left, sheet, forest):
             if not sheet.rounds.in_forest(v, forest):
                 alone_chip(svg, x, y, radius * 0.6)
             elif sheet.is_large:
-                svg.rect(x - radius, y - radius, 2 * radius, 2 * radius, FOREST_COLOURS[sheet.three[v, forest]], mark="colour")
+                svg.rect(
+                    x - radius,
+                    y - radius,
+                    2 * radius,
+                    2 * radius,
+                    FOREST_COLOURS[sheet.three[v, forest]],
+                    mark="colour",
+                )
             else:
                 colour_square(svg, x, y, radius, sheet.three[v, forest])
 

@@ -1,9 +1,10 @@
-"""Places for the vertices of a network that names none: each two as far apart as the shortest way between them is long, as
-nearly as the plane allows (stress majorisation: Gansner, Koren and North, Graph Drawing 2004, with weights 1 / d²). Only +, -,
-*, / and sqrt are used, and no random number, so that a network has one drawing on every machine."""
+"""Places for the vertices of a network that names none: each two as far apart as the shortest way between them is long,
+as nearly as the plane allows (stress majorisation: Gansner, Koren and North, Graph Drawing 2004, with weights 1 / d²).
+Only +, -, *, / and sqrt are used, and no random number, so that a network has one drawing on every machine."""
 from math import sqrt
 
-# Among so many vertices each pays attention to all others; among more, to those that are near and to some that are far apart.
+# Among so many vertices each pays attention to all others; among more, to those that are near and to some that are far
+# apart.
 ALL_PAIRS = 120
 NEAR, LANDMARKS = 3, 32
 SWEEPS, STILL = 200, 0.001
@@ -38,7 +39,8 @@ def distances(network, start, most=None):
 
 
 def landmarks_of(network, part, count):
-    """Vertices that are far from each other, with the distances from each: the next is always one farthest from those before."""
+    """Vertices that are far from each other, with the distances from each: the next is always one farthest from those
+    before."""
     nearest, found, v = dict.fromkeys(part, len(part)), [], part[0]
     first = distances(network, v)
     v = max(part, key=lambda w: (first[w], -w))
@@ -126,8 +128,8 @@ def relaxed(places, pulls):
 
 
 def upright(network, places):
-    """Turned so that as many edges as can be are level or upright, and the whole is wider than high; its least vertex is in the
-    upper left quarter."""
+    """Turned so that as many edges as can be are level or upright, and the whole is wider than high; its least vertex
+    is in the upper left quarter."""
     turn = 0j
     for v in places:
         for w in network.neighbours[v]:
@@ -138,7 +140,9 @@ def upright(network, places):
     turn = root(root(turn))
     back = turn.conjugate() if turn else 1
     turned = {v: complex(x, y) * back for v, (x, y) in places.items()}
-    wide, high = (max(part) - min(part) for part in ([z.real for z in turned.values()], [z.imag for z in turned.values()]))
+    wide, high = (
+        max(part) - min(part) for part in ([z.real for z in turned.values()], [z.imag for z in turned.values()])
+    )
     if high > wide:
         turned = {v: z * 1j for v, z in turned.items()}
     first, centre = turned[min(turned)], sum(turned.values()) / len(turned)

@@ -48,7 +48,15 @@ def bar_row(svg, x, y, channels, radius):
     for at, channel in enumerate(channels[:MOST_BARS]):
         bar_mark(svg, x + radius + at * (2 * radius + 2), y, radius, channel)
     if more_bars(channels):
-        svg.text(x + MOST_BARS * (2 * radius + 2), y + 0.55 * radius, more_bars(channels), 1.5 * radius, SOFT, halo=2, mark="more")
+        svg.text(
+            x + MOST_BARS * (2 * radius + 2),
+            y + 0.55 * radius,
+            more_bars(channels),
+            1.5 * radius,
+            SOFT,
+            halo=2,
+            mark="more",
+        )
 
 
 def colour_square(svg, x, y, half, colour, number=True, mark="colour"):

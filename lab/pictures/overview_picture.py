@@ -6,7 +6,8 @@ from lab.pictures.svg import Svg, text_width
 from lab.wrong import Wrong
 
 LEFT, TOP, WIDTH = 64, 92, 1120
-# Above so many pulses a band is too narrow to be followed from node to node, and so many are drawn of a run that has more.
+# Above so many pulses a band is too narrow to be followed from node to node, and so many are drawn of a run that has
+# more.
 MOST_READABLE, USUAL = 100, 40
 
 
@@ -16,7 +17,8 @@ def usual(last):
 
 
 class Overview:
-    """Pulses `first` to `last` of a run: the ticks of each node, from the first of pulse `first` to the last of `last + 1`."""
+    """Pulses `first` to `last` of a run: the ticks of each node, from the first of pulse `first` to the last of `last +
+    1`."""
 
     def __init__(self, run, first, last):
         nodes = run.network.vertices
@@ -29,7 +31,10 @@ class Overview:
         self.stop = max(self.time(v, last + 1) for v in nodes)
         self.row = min(22, max(7, 1000 / len(nodes)))
         self.size = min(13, self.row)
-        self.left = LEFT + max((text_width(short_name(run.network, v), self.name_size()) + 6 for v in nodes if v in run.network.names), default=0)
+        self.left = LEFT + max(
+            (text_width(short_name(run.network, v), self.name_size()) + 6 for v in nodes if v in run.network.names),
+            default=0,
+        )
         self.bottom = self.y(len(nodes))
         self.column = WIDTH / (last - first + 1)
 
@@ -61,7 +66,9 @@ def draw(run, pulses=None):
     draw_bands(svg, overview)
     for v in overview.nodes:
         draw_node(svg, overview, v)
-    words = "Each band is one pulse, from the tick at which a node begins it to its next: " + said_of(overview, run.network)
+    words = "Each band is one pulse, from the tick at which a node begins it to its next: " + said_of(
+        overview, run.network
+    )
     if pulses is None and last < run.last:
         words += f" These are the first {USUAL} pulses of {run.last + 1}: draw others with --pulses A..B."
     svg.text(20, overview.bottom + 36, words, 11.5, SOFT)
@@ -101,8 +108,15 @@ def draw_node(svg, overview, v):
     svg.text(left - 14, y + 4, v, overview.size, INK, "end", bold=True)
     name = short_name(overview.network, v)
     if name:
-        svg.text(left - 20 - text_width(len(overview.nodes), overview.size) * 1.15, y + 4, name, overview.name_size(), SOFT, "end",
-                 mark="vertex-name")
+        svg.text(
+            left - 20 - text_width(len(overview.nodes), overview.size) * 1.15,
+            y + 4,
+            name,
+            overview.name_size(),
+            SOFT,
+            "end",
+            mark="vertex-name",
+        )
     for pulse, time in sorted(overview.ticks[v].items()):
         if overview.start <= time <= overview.stop:
             inside = overview.first <= pulse <= overview.last + 1

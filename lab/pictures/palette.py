@@ -1,5 +1,5 @@
-"""The colours of all pictures. Shape says which number it is (a square: a colour in one forest; a circle: a channel), and
-the number is always there too; so colour never speaks alone. The least distances under protanopia, deuteranopia and
+"""The colours of all pictures. Shape says which number it is (a square: a colour in one forest; a circle: a channel),
+and the number is always there too; so colour never speaks alone. The least distances under protanopia, deuteranopia and
 tritanopia (Machado's simulation) are 16 and more for any two channels, 22 and more for any two forest colours."""
 
 INK, SOFT, HAIRLINE, PAPER = "#1B1B1B", "#6B6B6B", "#D4D4D4", "#FFFFFF"

@@ -1,5 +1,5 @@
-"""The door: `bin/picture KIND NETWORK [options] > x.svg`. Reads the network, has the programs write what is to be drawn (or
-reads it from a file), and writes the picture, or one line on standard error and no part of it."""
+"""The door: `bin/picture KIND NETWORK [options] > x.svg`. Reads the network, has the programs write what is to be drawn
+(or reads it from a file), and writes the picture, or one line on standard error and no part of it."""
 import argparse
 import gc
 import re
@@ -55,63 +55,95 @@ line is refused; if a program refuses, its own line and status.
 
 # What each kind draws: a line of help, more of it, and its example.
 KINDS = {
-    "plan": ("Who has which channel.", "At most 400 nodes. A plan that is not proper is refused; matrix draws it.",
-             "bin/picture plan examples/petersen.col > petersen-plan.svg"),
-    "matrix": ("Who interferes with whom, sorted by channel.", "Pairs on one channel are red. At most 2,000 nodes.",
-               "bin/picture matrix examples/queen5_5.col > queen5_5-matrix.svg"),
-    "forests": ("Each forest with its three colours, and the plan after each merge.",
-                "At most 400 nodes; of more than six forests the first four and the last, or up to\nsix others with --forests.",
-                "bin/picture forests examples/four_cycle.col > four_cycle-forests.svg"),
-    "rounds": ("The colours of each node in each forest, and when it chooses which channel.",
-               "At most 100 nodes. A row for each node of each forest: without --forests the first\n"
-               "forests, as many as have 40 rows together, and with it at most 400 rows.",
-               "bin/picture rounds examples/triangle.col > triangle-rounds.svg"),
-    "bits": ("One node above its parent, digit by digit, over the four bit steps.",
-             "Without --vertex, the least one that has a parent. Vertices' names are their own\nnumbers, so they have few digits.",
-             "bin/picture bits examples/petersen.col --vertex 6 > petersen-bits.svg"),
-    "run": ("Above, what each node put, took and did; below, the same payloads as rounds.",
-            "At most 12 nodes; above 6, payloads alone unless --only says more. Without a\n"
-            "stored text two calls differ, as the runs do, but for --workers 1.",
-            "bin/picture run examples/chain6.col --pulses 3..5 --transcript \\\n"
-            "    examples/chain6_slow.transcript > chain6_slow-spacetime.svg"),
-    "overview": ("The pulses of a run without a clock, from beginning to end.",
-                 "At most 100 nodes. Of a run of more than 100 pulses the first 40, or others with\n"
-                 "--pulses; of a long text only what they depend on is read, and checked.",
-                 "bin/picture overview examples/petersen.col > petersen-overview.svg\n"
-                 "  bin/picture overview examples/queen5_5.col --pulses 100..139 > queen5_5-overview.svg"),
-    "node": ("How a node knows that a round is over: how often each step is made.",
-             "With --vertex V: what node V knew, entry by entry (at most 14 ports). Of a long run\n"
-             "the steps of the first 40 pulses, or of others with --pulses.",
-             "bin/picture node examples/petersen.col > petersen-automaton.svg\n"
-             "  bin/picture node examples/petersen.col --vertex 1 > petersen-timing.svg"),
-    "tally": ("The wires of a run by pulse, under the identity that counts them.",
-              "Any network; the run has to be whole. Of more than 100 pulses the bars of the first 40,\n"
-              "or of others with --pulses; the identity is the whole run's. If a run would be long,\n"
-              "its wires are counted by the rounds: each whole run has the same.",
-              "bin/picture tally examples/petersen.col > petersen-tally.svg"),
-    "player": ("A page with a slider and a play button: the network at each pulse.",
-               "At most 40 nodes. Of more than 200 frames, only merges in which some node chooses.\n"
-               "Add #pulse-P to the page's address for a link to pulse P, and #pulse-P-forest-F for\n"
-               "one of its forests. With --frame N, frame N alone as SVG.",
-               "bin/picture player examples/petersen.col > petersen.html"),
-    "schedules": ("Every order of events of a tiny network: its states as a lattice, one column an event.",
-                  "At most four nodes and 200,000 states. Of long ones the first columns, or those of --events. With a rule left\n"
-                  "out, up to the first event that goes wrong, which is red; with --events what comes behind it, too.",
-                  "bin/picture schedules examples/triangle.col --events 0..24 > triangle-schedules.svg\n"
-                  "  bin/picture schedules examples/path.col --without safes > path-without-safes.svg"),
-    "adversary": ("A page on which you are the network: you choose which message comes next.",
-                  "At most four nodes and 200,000 states. With a rule left out, what goes wrong is there too, in a table that\n"
-                  "may end early, which the page says.",
-                  "bin/picture adversary examples/triangle.col > triangle.html\n"
-                  "  bin/picture adversary examples/path.col --without safes > path-without-safes.html"),
-    "broken": ("What goes wrong without a rule of the rounds, and the same rounds with all rules.",
-               "At most 2,000 nodes, and 40 if they go wrong in a merge. Without NETWORK, a smallest network that goes\n"
-               "wrong, which is looked for. Rounds that go right are refused.",
-               "bin/picture broken --without shift > without-shift.svg\n"
-               "  bin/picture broken examples/petersen.col --without pair > petersen-without-pair.svg"),
+    "plan": (
+        "Who has which channel.",
+        "At most 400 nodes. A plan that is not proper is refused; matrix draws it.",
+        "bin/picture plan examples/petersen.col > petersen-plan.svg",
+    ),
+    "matrix": (
+        "Who interferes with whom, sorted by channel.",
+        "Pairs on one channel are red. At most 2,000 nodes.",
+        "bin/picture matrix examples/queen5_5.col > queen5_5-matrix.svg",
+    ),
+    "forests": (
+        "Each forest with its three colours, and the plan after each merge.",
+        "At most 400 nodes; of more than six forests the first four and the last, or up to\nsix others with --forests.",
+        "bin/picture forests examples/four_cycle.col > four_cycle-forests.svg",
+    ),
+    "rounds": (
+        "The colours of each node in each forest, and when it chooses which channel.",
+        "At most 100 nodes. A row for each node of each forest: without --forests the first\n"
+        "forests, as many as have 40 rows together, and with it at most 400 rows.",
+        "bin/picture rounds examples/triangle.col > triangle-rounds.svg",
+    ),
+    "bits": (
+        "One node above its parent, digit by digit, over the four bit steps.",
+        "Without --vertex, the least one that has a parent. Vertices' names are their own\nnumbers, so they have few digits.",
+        "bin/picture bits examples/petersen.col --vertex 6 > petersen-bits.svg",
+    ),
+    "run": (
+        "Above, what each node put, took and did; below, the same payloads as rounds.",
+        "At most 12 nodes; above 6, payloads alone unless --only says more. Without a\n"
+        "stored text two calls differ, as the runs do, but for --workers 1.",
+        "bin/picture run examples/chain6.col --pulses 3..5 --transcript \\\n"
+        "    examples/chain6_slow.transcript > chain6_slow-spacetime.svg",
+    ),
+    "overview": (
+        "The pulses of a run without a clock, from beginning to end.",
+        "At most 100 nodes. Of a run of more than 100 pulses the first 40, or others with\n"
+        "--pulses; of a long text only what they depend on is read, and checked.",
+        "bin/picture overview examples/petersen.col > petersen-overview.svg\n"
+        "  bin/picture overview examples/queen5_5.col --pulses 100..139 > queen5_5-overview.svg",
+    ),
+    "node": (
+        "How a node knows that a round is over: how often each step is made.",
+        "With --vertex V: what node V knew, entry by entry (at most 14 ports). Of a long run\n"
+        "the steps of the first 40 pulses, or of others with --pulses.",
+        "bin/picture node examples/petersen.col > petersen-automaton.svg\n"
+        "  bin/picture node examples/petersen.col --vertex 1 > petersen-timing.svg",
+    ),
+    "tally": (
+        "The wires of a run by pulse, under the identity that counts them.",
+        "Any network; the run has to be whole. Of more than 100 pulses the bars of the first 40,\n"
+        "or of others with --pulses; the identity is the whole run's. If a run would be long,\n"
+        "its wires are counted by the rounds: each whole run has the same.",
+        "bin/picture tally examples/petersen.col > petersen-tally.svg",
+    ),
+    "player": (
+        "A page with a slider and a play button: the network at each pulse.",
+        "At most 40 nodes. Of more than 200 frames, only merges in which some node chooses.\n"
+        "Add #pulse-P to the page's address for a link to pulse P, and #pulse-P-forest-F for\n"
+        "one of its forests. With --frame N, frame N alone as SVG.",
+        "bin/picture player examples/petersen.col > petersen.html",
+    ),
+    "schedules": (
+        "Every order of events of a tiny network: its states as a lattice, one column an event.",
+        "At most four nodes and 200,000 states. Of long ones the first columns, or those of --events. With a rule left\n"
+        "out, up to the first event that goes wrong, which is red; with --events what comes behind it, too.",
+        "bin/picture schedules examples/triangle.col --events 0..24 > triangle-schedules.svg\n"
+        "  bin/picture schedules examples/path.col --without safes > path-without-safes.svg",
+    ),
+    "adversary": (
+        "A page on which you are the network: you choose which message comes next.",
+        "At most four nodes and 200,000 states. With a rule left out, what goes wrong is there too, in a table that\n"
+        "may end early, which the page says.",
+        "bin/picture adversary examples/triangle.col > triangle.html\n"
+        "  bin/picture adversary examples/path.col --without safes > path-without-safes.html",
+    ),
+    "broken": (
+        "What goes wrong without a rule of the rounds, and the same rounds with all rules.",
+        "At most 2,000 nodes, and 40 if they go wrong in a merge. Without NETWORK, a smallest network that goes\n"
+        "wrong, which is looked for. Rounds that go right are refused.",
+        "bin/picture broken --without shift > without-shift.svg\n"
+        "  bin/picture broken examples/petersen.col --without pair > petersen-without-pair.svg",
+    ),
 }
 OF_SPACE = ("schedules", "adversary")
-OF_PLAN, OF_ROUNDS, OF_RUN = ("plan", "matrix"), ("forests", "rounds", "bits", "player"), ("run", "overview", "node", "tally")
+OF_PLAN, OF_ROUNDS, OF_RUN = (
+    ("plan", "matrix"),
+    ("forests", "rounds", "bits", "player"),
+    ("run", "overview", "node", "tally"),
+)
 
 
 def pulses(text):
@@ -145,8 +177,13 @@ def rules_of_rounds(text):
 
 def command_line():
     """The parser, and the one of each kind."""
-    words = argparse.ArgumentParser(prog="picture", usage="picture KIND NETWORK [options]", description=HELP, epilog=MORE_HELP,
-                                    formatter_class=argparse.RawDescriptionHelpFormatter)
+    words = argparse.ArgumentParser(
+        prog="picture",
+        usage="picture KIND NETWORK [options]",
+        description=HELP,
+        epilog=MORE_HELP,
+        formatter_class=argparse.RawDescriptionHelpFormatter,
+    )
     kinds = words.add_subparsers(dest="kind", metavar="KIND", required=True, help="one of those above")
     for name, (what, more, example) in KINDS.items():
         kind = kinds.add_parser(name, prog=f"picture {name}", usage=usage_of(name), description=f"{what}\n\n{more}",
@@ -223,7 +260,9 @@ def told(given, network, network_text):
         return programs.text_of("forestplay", ["rounds"], network_text)
     if check_run(given.kind, network):
         note(f"a run of {network.name} has more than {least_wires(network):,} wires, so its text takes a while")
-    options = [f"--{name}={value}" for name, value in (("workers", given.workers), ("capacity", given.capacity)) if value]
+    options = [
+        f"--{name}={value}" for name, value in (("workers", given.workers), ("capacity", given.capacity)) if value
+    ]
     return programs.text_of("forestplan", ["transcript", *options], network_text)
 
 
@@ -288,7 +327,9 @@ def drawn_broken(given):
 
 
 def drawn_space(given, network):
-    space = schedules_space.space_of(network, given.kind, given.without, given.kind == "adversary" or given.events is not None)
+    space = schedules_space.space_of(
+        network, given.kind, given.without, given.kind == "adversary" or given.events is not None
+    )
     if given.kind == "schedules":
         return schedules_picture.draw(network, space, given.events, given.run and file_text(given.run))
     return adversary_page.draw_table(space) if given.text else adversary_page.draw(network, space)

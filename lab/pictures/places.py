@@ -5,7 +5,8 @@ from math import sqrt
 from lab.pictures.layout import laid_out
 
 LARGEST_CIRCLE = 6
-# How far apart two vertices are at least, in radii: circles don't touch then; and neither do squares of twice that width.
+# How far apart two vertices are at least, in radii: circles don't touch then; and neither do squares of twice that
+# width.
 OF_CIRCLES, OF_SQUARES = 2.3, 2.95
 PUSHES, REFITS = 200, 12
 # A text of about this half width stands as near to its vertex at the side as above it; a wider one is moved aside.
@@ -14,7 +15,8 @@ FULL_TURN = 6.283185307179586
 
 
 def places_of(network):
-    """{vertex: (x, y)}: the comment lines `c at V X Y` if they name every vertex; else a circle for up to six; else a layout."""
+    """{vertex: (x, y)}: the comment lines `c at V X Y` if they name every vertex; else a circle for up to six; else a
+    layout."""
     named = [v for v in network.vertices if v in network.given]
     if len(named) == network.nodes:
         return {v: network.given[v] for v in network.vertices}
@@ -58,8 +60,8 @@ def fit(places, width, height, margin, left=0, top=0):
 
 
 def spaced(places, width, height, margin, radius, least, apart=OF_CIRCLES):
-    """The places fitted into a box, and the radius that they leave: at most `radius`. Vertices too near for `least` are pushed
-    apart, as far as the box allows; no two of the radius overlap in any case."""
+    """The places fitted into a box, and the radius that they leave: at most `radius`. Vertices too near for `least` are
+    pushed apart, as far as the box allows; no two of the radius overlap in any case."""
     places = fit(places, width, height, margin)
     for _ in range(REFITS):
         if least_gap(places) >= apart * least:
@@ -96,7 +98,8 @@ def least_gap(places):
 
 
 def pushed_apart(places, least):
-    """Moves each pair that is too near apart, along its line, again and again; a pair on one point in a direction of its own."""
+    """Moves each pair that is too near apart, along its line, again and again; a pair on one point in a direction of
+    its own."""
     places = dict(places)
     for _ in range(PUSHES):
         near = list(near_pairs(places, least))
@@ -150,9 +153,9 @@ def points_along(places, bend, a, b, count=12):
 
 
 def label_places(places, edges, bend, distance, boxes=None, radius=0):
-    """Where each vertex's number is written: of 16 directions the one with most room, upper ones first. `boxes[v]` is half the width
-    and half the height of what is written: then a direction in which it covers less of circles of `radius` and of other texts is
-    better, and only among those alike the one with more room."""
+    """Where each vertex's number is written: of 16 directions the one with most room, upper ones first. `boxes[v]` is
+    half the width and half the height of what is written: then a direction in which it covers less of circles of
+    `radius` and of other texts is better, and only among those alike the one with more room."""
     drawn = {e: list(points_along(places, bend, *e)) for e in edges}
     taken, found = [], {}
     near = 5 * distance
@@ -166,7 +169,11 @@ def label_places(places, edges, bend, distance, boxes=None, radius=0):
         for k in (2, 14, 1, 15, 3, 13, 0, 4, 12, 6, 10, 5, 11, 7, 9, 8):
             dx, dy = turned(k / 16)
             spot = x + dx * distance + aside * max(-1, min(1, 2 * dx)), y + dy * distance
-            room = min([gap(spot, p) for p in points] + [gap(spot, p) - 0.45 * distance for p in others + [at for at, _ in taken]] + [near])
+            room = min(
+                [gap(spot, p) for p in points]
+                + [gap(spot, p) - 0.45 * distance for p in others + [at for at, _ in taken]]
+                + [near]
+            )
             circles = [*others, (x, y)] if aside else others
             covered = covers((spot, (half_wide, half_high)), circles, radius, taken) if boxes else 0
             if best is None or covered < best[0] - 0.5 or covered <= best[0] + 0.5 and room > best[1] + 1:
@@ -177,7 +184,8 @@ def label_places(places, edges, bend, distance, boxes=None, radius=0):
 
 
 def covers(box, circles, radius, boxes):
-    """How much of circles and of other boxes a box covers, in pixels of depth; a box is its middle and half its sides."""
+    """How much of circles and of other boxes a box covers, in pixels of depth; a box is its middle and half its
+    sides."""
     (x, y), (half_wide, half_high) = box
     depth = 0.0
     for other_x, other_y in circles:

@@ -16,7 +16,9 @@ def draw(network, plan):
     clash = clashes(network, plan)
     if clash:
         v, w = clash[0]
-        raise Wrong(f"the plan is not proper: neighbours {v} and {w} share channel {plan[v]} (C4); matrix draws such a plan")
+        raise Wrong(
+            f"the plan is not proper: neighbours {v} and {w} share channel {plan[v]} (C4); matrix draws such a plan"
+        )
     is_large = network.nodes > LARGE
     width = 900 if is_large else 560 if network.nodes > SMALL else 420
     radius, least = (8.5, 6.5) if is_large else (15, 10) if network.nodes > SMALL else (19, 12)
@@ -39,9 +41,11 @@ def said_of(network):
     """What there is, and what to look for."""
     if not network.edges:
         return f"{counted(network.nodes, 'transmitter')}, and no pair interferes"
-    return (f"{counted(network.nodes, 'transmitter')}, {counted(len(network.edges), 'pair')} that "
-            f"{'interferes' if len(network.edges) == 1 else 'interfere'}, at most {counted(network.degree, 'neighbour')}: "
-            "on each line two different numbers" + ("; crossed out: barred" if network.bars else ""))
+    return (
+        f"{counted(network.nodes, 'transmitter')}, {counted(len(network.edges), 'pair')} that "
+        f"{'interferes' if len(network.edges) == 1 else 'interfere'}, at most {counted(network.degree, 'neighbour')}: "
+        "on each line two different numbers" + ("; crossed out: barred" if network.bars else "")
+    )
 
 
 def size_of(network):
@@ -50,12 +54,16 @@ def size_of(network):
 
 
 def beside_of(network):
-    """How much more room than numbers the widest name, or the longest row of barred channels, needs beside a vertex at the edge."""
-    return max([label_margin(network, size_of(network)), *(GAP + bars_width(bars, BAR) for bars in network.bars.values())])
+    """How much more room than numbers the widest name, or the longest row of barred channels, needs beside a vertex at
+    the edge."""
+    return max(
+        [label_margin(network, size_of(network)), *(GAP + bars_width(bars, BAR) for bars in network.bars.values())]
+    )
 
 
 def boxes_of(network, size):
-    """Half the width and half the height of what is written of each vertex: its number and name, and its barred channels."""
+    """Half the width and half the height of what is written of each vertex: its number and name, and its barred
+    channels."""
     boxes = {}
     for v in network.vertices:
         width, bars = text_width(label_of(network, v), size), network.barred(v)
@@ -67,7 +75,16 @@ def draw_label(svg, network, v, x, y):
     """A vertex's number and name, and behind them its barred channels, around a place."""
     size, bars = size_of(network), network.barred(v)
     shift = (GAP + bars_width(bars, BAR)) / 2 if bars else 0
-    svg.text(x - shift, y + size * 0.37, label_of(network, v), size, SOFT, "middle", halo=2.5 if network.nodes > LARGE else 3, mark="number")
+    svg.text(
+        x - shift,
+        y + size * 0.37,
+        label_of(network, v),
+        size,
+        SOFT,
+        "middle",
+        halo=2.5 if network.nodes > LARGE else 3,
+        mark="number",
+    )
     if bars:
         bar_row(svg, x - shift + text_width(label_of(network, v), size) / 2 + GAP, y, bars, BAR)
 

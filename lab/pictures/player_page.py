@@ -1,5 +1,5 @@
-"""The player: one HTML page without any library, the network at each pulse, with a slider and a play button. At the pulses of the
-colours all forests are shown, each in a panel of its own, since they go on at once."""
+"""The player: one HTML page without any library, the network at each pulse, with a slider and a play button. At the
+pulses of the colours all forests are shown, each in a panel of its own, since they go on at once."""
 from math import sqrt
 
 from lab.pictures.colouring import GREET, LAST_COLOUR, ORIENT, SEED
@@ -115,14 +115,27 @@ def draw(rounds):
     for number, pulse in enumerate(film.scenes()):
         caption, said = film.caption(pulse)
         hidden = " hidden" if number else ""
-        frames.append(f'<figure class="frame" data-pulse="{pulse}"{hidden}><figcaption><b>{escaped(caption)}</b><br>{escaped(said)}'
-                      f'</figcaption>\n<svg viewBox="0 0 {SIZE} {SIZE}">\n{film.frame(pulse).inner()}\n</svg></figure>')
+        frames.append(
+            f'<figure class="frame" data-pulse="{pulse}"{hidden}><figcaption><b>{escaped(caption)}</b><br>{escaped(said)}'
+            f'</figcaption>\n<svg viewBox="0 0 {SIZE} {SIZE}">\n{film.frame(pulse).inner()}\n</svg></figure>'
+        )
     has_choice = rounds.forests > 1
     options = "".join(f'<option value="{f}">forest {f}</option>' for f in range(rounds.forests))
-    choice = f' <select id="forest" aria-label="forest"><option value="all">all forests</option>{options}</select>' if has_choice else ""
-    return PAGE.format(name=escaped(rounds.network.name), last=len(frames) - 1, frames="\n".join(frames), choice=choice, script=SCRIPT,
-                       shared=f'<svg width="0" height="0" style="position:absolute">{film.shared()}</svg>', legend=legend(),
-                       click=" A click on a forest enlarges it." if has_choice else "")
+    choice = (
+        f' <select id="forest" aria-label="forest"><option value="all">all forests</option>{options}</select>'
+        if has_choice
+        else ""
+    )
+    return PAGE.format(
+        name=escaped(rounds.network.name),
+        last=len(frames) - 1,
+        frames="\n".join(frames),
+        choice=choice,
+        script=SCRIPT,
+        shared=f'<svg width="0" height="0" style="position:absolute">{film.shared()}</svg>',
+        legend=legend(),
+        click=" A click on a forest enlarges it." if has_choice else "",
+    )
 
 
 def draw_frame(rounds, number):
@@ -139,8 +152,13 @@ def draw_frame(rounds, number):
 def legend():
     """What the marks are."""
     svg = Svg(320, 136, "legend")
-    rows = ["a payload, sent in this pulse", "a colour in a forest (grey: still a name)", "a channel: a colour plus one",
-            "chooses in this pulse", "has none yet; arrows go to parents"]
+    rows = [
+        "a payload, sent in this pulse",
+        "a colour in a forest (grey: still a name)",
+        "a channel: a colour plus one",
+        "chooses in this pulse",
+        "has none yet; arrows go to parents",
+    ]
     for row, words in enumerate(rows):
         svg.text(52, 17 + 26 * row, words, 12, SOFT)
     svg.circle(24, 13, 8, "#E3F0F8", WIRES["payload"], 1.4)
@@ -167,7 +185,9 @@ class Film:
         places, self.radius = spaced(places_of(network), SIZE - 2 * beside, SIZE, 60, RADIUS, LEAST, OF_SQUARES)
         self.places = moved(places, beside, 0)
         self.bend = bends(self.places, network.edges, self.radius + 1)
-        self.labels = label_places(self.places, network.edges, self.bend, self.radius + 12, label_boxes(network, LABEL), self.radius * 1.42)
+        self.labels = label_places(
+            self.places, network.edges, self.bend, self.radius + 12, label_boxes(network, LABEL), self.radius * 1.42
+        )
         self.merged, now = {}, {}
         for pulse in rounds.pulses:
             now = now | pulse.chosen
@@ -186,7 +206,10 @@ class Film:
         caption, said = f"pulse {number} of {self.rounds.last} · {pulse.phase}", SAY[pulse.phase]
         if not forests and number >= SEED:
             return caption, "No node has a neighbour, so there is no forest" + (
-                f", and nothing to merge: each has {self.least()}." if number == self.rounds.last else " and no colour in it.")
+                f", and nothing to merge: each has {self.least()}."
+                if number == self.rounds.last
+                else " and no colour in it."
+            )
         if pulse.step:
             forest, colour, old = pulse.step
             caption += f" · forest {forest}"
@@ -216,7 +239,9 @@ class Film:
     def frame(self, number):
         svg = Svg(SIZE, SIZE, f"{self.network.name}, pulse {number}")
         pulse = self.rounds.pulses[number]
-        forests = range(self.rounds.forests) if SEED <= number <= LAST_COLOUR else [pulse.step[0]] if pulse.step else [None]
+        forests = (
+            range(self.rounds.forests) if SEED <= number <= LAST_COLOUR else [pulse.step[0]] if pulse.step else [None]
+        )
         columns = next(count for count in range(1, 100) if count * count >= len(forests))
         side = SIZE / columns
         # Fewer forests than panels: the last row stands in the middle of what is left.
@@ -239,7 +264,8 @@ class Film:
         return svg
 
     def panel(self, svg, pulse, forest, size=LABEL):
-        """The network with one forest's arrows, at the start with none or all; in a merge those merged before are paler."""
+        """The network with one forest's arrows, at the start with none or all; in a merge those merged before are
+        paler."""
         svg.element("use", href="#edges", color="#8A8A8A" if pulse.number == GREET else EDGE)
         seen = range(self.rounds.forests) if pulse.number == ORIENT else () if forest is None else [forest]
         if pulse.step:

@@ -1,11 +1,13 @@
-"""The rounds of a text (docs/claim/FORMATS.md). A text is read only if it is, line by line, the rounds of its network."""
+"""The rounds of a text (docs/claim/FORMATS.md). A text is read only if it is, line by line, the rounds of its
+network."""
 from lab.networks.network_text import fields_of, whole
 from lab.pictures.colouring import Rounds
 from lab.wrong import Wrong, wrong_line
 
 
 def identifiers_of(lines, network, name):
-    """What the vertices call themselves: in their greetings; a vertex without neighbours by its first colour, or as its network says."""
+    """What the vertices call themselves: in their greetings; a vertex without neighbours by its first colour, or as its
+    network says."""
     found = {}
     for line, raw in enumerate(lines, 1):
         fields = fields_of(raw)

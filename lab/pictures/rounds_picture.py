@@ -1,5 +1,5 @@
-"""The rounds strip: a block for each forest, a row for each node, a column for each pulse; squares while it is coloured,
-circles where channels are chosen."""
+"""The rounds strip: a block for each forest, a row for each node, a column for each pulse; squares while it is
+coloured, circles where channels are chosen."""
 from lab.pictures.colouring import LAST_COLOUR
 from lab.pictures.marks import alone_chip, bar_mark, bar_row, bars_width, channel_circle, colour_square, number_square
 from lab.pictures.palette import FOREST_COLOURS, INK, SOFT, channel_hue
@@ -30,7 +30,9 @@ def draw(rounds, asked=None):
     left_out = left_out_of(rounds, forests)
     top = TOP + 18 * len(left_out)
     svg = Svg(width, top + len(forests) * block - FOOT + 18, f"Rounds of {network.name}")
-    svg.heading(f"{network.name}: six colours at pulse 6, three at pulse 12, the plan at pulse {rounds.last}", *left_out)
+    svg.heading(
+        f"{network.name}: six colours at pulse 6, three at pulse 12, the plan at pulse {rounds.last}", *left_out
+    )
     legend(svg, 50 + 18 * len(left_out), network.bars)
     for number, forest in enumerate(forests):
         strip = Strip(svg, rounds, forest, top + number * block, steps[forest], column)
@@ -76,7 +78,9 @@ def legend(svg, y, has_bars):
     svg.text(42, y + 4, "circle: the node chooses this channel", 11.5, SOFT)
     svg.line(276, y, 300, y, channel_hue(1), 3, opacity="0.35")
     svg.text(308, y + 4, "its channel meanwhile", 11.5, SOFT)
-    svg.text(452, y + 4, "K and J say whose turn it is: colour in the forest, colour so far (channel J + 1).", 11.5, SOFT)
+    svg.text(
+        452, y + 4, "K and J say whose turn it is: colour in the forest, colour so far (channel J + 1).", 11.5, SOFT
+    )
 
 
 class Strip:
@@ -158,7 +162,9 @@ class Strip:
 
     def choices_of(self, v, channel, end):
         svg, y, x0 = self.svg, self.row(v), MERGES
-        chosen = [(MERGES + (index + 0.5) * self.column, pulse) for index, pulse in enumerate(self.steps) if v in pulse.chosen]
+        chosen = [
+            (MERGES + (index + 0.5) * self.column, pulse) for index, pulse in enumerate(self.steps) if v in pulse.chosen
+        ]
         for x, pulse in chosen:
             if channel is not None:
                 svg.line(x0, y, x, y, channel_hue(channel + 1), 3, opacity="0.35")

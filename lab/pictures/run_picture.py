@@ -1,8 +1,8 @@
 """Space and time: above, what happened in a run; below, the same payloads with each pulse made equally long.
 
-What is drawn is what is true. No cut through all ticks of one pulse is consistent in general, so none is shaded as one: a
-band goes from tick p to tick p + 1 of each node, and wires may cross its border backwards; they are counted in words. A pale
-bar goes from where a payload is taken to the tick at which it is read, and that tick is p + 1's."""
+What is drawn is what is true. No cut through all ticks of one pulse is consistent in general, so none is shaded as one:
+a band goes from tick p to tick p + 1 of each node, and wires may cross its border backwards; they are counted in words.
+A pale bar goes from where a payload is taken to the tick at which it is read, and that tick is p + 1's."""
 from math import sqrt
 
 from lab.pictures.marks import dash_of, short_name, wire_arrow
@@ -60,16 +60,27 @@ def draw(run, pulses=None, kinds=None):
     kinds = kinds or (KINDS if run.network.nodes <= MOST_NODES_OF_ALL_KINDS else ("payload",))
     first, last = run.window(pulses, usual(run.network, run.last))
     window = Window(run, first, last)
-    at_most("run", window.stop - window.start, "steps of time side by side", MOST_STEPS, "fewer pulses (--pulses A..B), or overview")
+    at_most(
+        "run",
+        window.stop - window.start,
+        "steps of time side by side",
+        MOST_STEPS,
+        "fewer pulses (--pulses A..B), or overview",
+    )
     nodes = run.network.nodes
     upper = (nodes - 1) * window.row_height
     lower_row = 46 if nodes <= 5 else 30
     width = max(window.x(window.stop) + 28, WIDTH)
     lower_top = TOP + upper + 136
     svg = Svg(width, lower_top + (nodes - 1) * lower_row + 66, f"Space and time of {run.name}")
-    shown = "what each node put, took and did" if set(kinds) == set(KINDS) else " and ".join(f"{NAMES[kind]}s" for kind in kinds)
-    svg.heading(f"{run.name}: {shown}, pulses {first} to {last} of {run.last}",
-                time_words(run, ", so every arrow points right"))
+    shown = (
+        "what each node put, took and did"
+        if set(kinds) == set(KINDS)
+        else " and ".join(f"{NAMES[kind]}s" for kind in kinds)
+    )
+    svg.heading(
+        f"{run.name}: {shown}, pulses {first} to {last} of {run.last}", time_words(run, ", so every arrow points right")
+    )
     legend(svg, kinds)
     svg.clip("window", LEFT - 8, 0, width - LEFT - 8, lower_top - 74)
     draw_bands(svg, window)
@@ -88,8 +99,10 @@ def draw(run, pulses=None, kinds=None):
 def time_words(run, behind=""):
     """What the place of an event from left to right is; `behind` ends the sentence."""
     if run.edition == 2:
-        return ("Time is the transcript's stamps, by Lamport's clock: one more than the node's last, and of a take also than the put's"
-                f"{behind}. It is not real time.")
+        return (
+            "Time is the transcript's stamps, by Lamport's clock: one more than the node's last, and of a take also than the put's"
+            f"{behind}. It is not real time."
+        )
     return f"No clock was kept. An event stands as far right as the longest chain of events that lead to it (found by replaying){behind}."
 
 
@@ -130,7 +143,13 @@ def draw_bands(svg, window):
     pulses = range(window.first, window.last + 1)
     for pulse in pulses:
         left, right = border(pulse), border(pulse + 1)
-        svg.path(polygon(left + right[::-1]) + ["Z"], None, None, BAND if (pulse - window.first) % 2 == 0 else PAPER, mark="band")
+        svg.path(
+            polygon(left + right[::-1]) + ["Z"],
+            None,
+            None,
+            BAND if (pulse - window.first) % 2 == 0 else PAPER,
+            mark="band",
+        )
         svg.path(polygon(left), BORDER, 1.2)
         if pulse == window.last:
             svg.path(polygon(right), BORDER, 1.2)
@@ -183,7 +202,11 @@ def write_words(svg, window, words):
             x, y = x1 + dx * part, y1 + dy * part + 3
             off = (y - 3 - TOP) % window.row_height
             is_inside = LEFT + half < x < window.x(window.stop) - half
-            if is_inside and min(off, window.row_height - off) > 11 and all(abs(x - a) > half + b or abs(y - c) > 13 for a, c, b in used):
+            if (
+                is_inside
+                and min(off, window.row_height - off) > 11
+                and all(abs(x - a) > half + b or abs(y - c) > 13 for a, c, b in used)
+            ):
                 used.append((x, y, half))
                 svg.text(x, y, text, 9.5, WIRES["payload"], "middle", bold=True, halo=3, mark="words")
                 break
@@ -208,12 +231,23 @@ def early_words(window, kinds):
     if not seen:
         return "No clock is shared, and nothing is put in these pulses."
     named = "payload" if list(kinds) == ["payload"] else "wire"
-    of_them = "" if named == "payload" or not early else f" ({payloads} of them {'a payload' if payloads == 1 else 'payloads'})"
-    come = "none comes early, before its" if not early else "1 comes early, before its" if len(early) == 1 else \
-        f"{len(early)} come early, before their"
+    of_them = (
+        ""
+        if named == "payload" or not early
+        else f" ({payloads} of them {'a payload' if payloads == 1 else 'payloads'})"
+    )
+    come = (
+        "none comes early, before its"
+        if not early
+        else "1 comes early, before its"
+        if len(early) == 1
+        else f"{len(early)} come early, before their"
+    )
     kept = " They are kept:" if len(early) > 1 else " It is kept:" if early else ""
-    return (f"No clock is shared: of {counted(len(seen), named)} put here {come} pulse has begun at the taker"
-            f"{of_them}.{kept} {'a' if early else 'A'} payload of pulse p is read when pulse p + 1 begins, never before.")
+    return (
+        f"No clock is shared: of {counted(len(seen), named)} put here {come} pulse has begun at the taker"
+        f"{of_them}.{kept} {'a' if early else 'A'} payload of pulse p is read when pulse p + 1 begins, never before."
+    )
 
 
 def draw_rounds(svg, run, first, last, top, row_height):
@@ -230,8 +264,14 @@ def draw_rounds(svg, run, first, last, top, row_height):
     puts = sorted((put for put in run.puts("payload") if first <= put.wire[1] <= last),
                   key=lambda put: (put.wire[1], put.vertex, put.neighbour))
     with svg.group("lower", transform=f"translate(0 {top:.0f})"):
-        svg.text(20, -40, "The same payloads, each from its own pulse to the one in which it is read: the synchronous rounds",
-                 13.5, INK, bold=True)
+        svg.text(
+            20,
+            -40,
+            "The same payloads, each from its own pulse to the one in which it is read: the synchronous rounds",
+            13.5,
+            INK,
+            bold=True,
+        )
         for pulse in range(first, last + 2):
             if pulse <= last:
                 svg.rect(x_of(pulse), -8, column, height + 44, BAND if (pulse - first) % 2 == 0 else PAPER)
@@ -247,8 +287,14 @@ def draw_rounds(svg, run, first, last, top, row_height):
         for v in nodes:
             for pulse in range(first, last + 2):
                 svg.line(x_of(pulse), y_of(v) - 8, x_of(pulse), y_of(v) + 8, INK, 3, mark="slot")
-        svg.text(20, height + 56, f"{counted(len(puts), 'payload')}, all that {'is' if len(puts) == 1 else 'are'} put in these pulses. Draw "
-                 "another run, with other workers: the upper half changes, this half does not.", 11.5, SOFT)
+        svg.text(
+            20,
+            height + 56,
+            f"{counted(len(puts), 'payload')}, all that {'is' if len(puts) == 1 else 'are'} put in these pulses. Draw "
+            "another run, with other workers: the upper half changes, this half does not.",
+            11.5,
+            SOFT,
+        )
 
 
 def round_arrow(svg, x1, y1, x2, y2):

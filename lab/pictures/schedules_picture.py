@@ -1,5 +1,5 @@
-"""Every schedule of a tiny network as a lattice: a mark is a state, a line a step, a column an event. One run is bold, and
-what goes wrong is red."""
+"""Every schedule of a tiny network as a lattice: a mark is a state, a line a step, a column an event. One run is bold,
+and what goes wrong is red."""
 from lab.pictures.palette import BAND, BORDER, INK, PAPER, PULSE, SOFT, WIRES, WRONG
 from lab.pictures.schedules_space import fault_words, left_out_words, title_of
 from lab.pictures.svg import Svg, text_width
@@ -13,16 +13,21 @@ APART = [BAND, "#CFE3F1", "#8FBBDD", "#56B4E9"]
 
 
 def draw(network, space, window, run_text):
-    """The states after `window` events, or after the first ones; bold is the run of a list of events, or one of ours."""
+    """The states after `window` events, or after the first ones; bold is the run of a list of events, or one of
+    ours."""
     last = last_column(space)
     low, high = window or first_window(space, last)
     if not 0 <= low <= high <= last:
-        raise Wrong(f"{network.name} has states after 0 to {last} events: --events takes two of these numbers, the lower one first")
+        raise Wrong(
+            f"{network.name} has states after 0 to {last} events: --events takes two of these numbers, the lower one first"
+        )
     steps = steps_between(space)[low:high]
     if high - low > MOST_COLUMNS:
         raise Wrong(f"schedules draws at most {MOST_COLUMNS} events at a time, and {low}..{high} are {high - low}")
     if sum(steps) > MOST_STEPS:
-        raise Wrong(f"schedules draws at most {MOST_STEPS:,} steps, and {low}..{high} have {sum(steps):,}: draw fewer events")
+        raise Wrong(
+            f"schedules draws at most {MOST_STEPS:,} steps, and {low}..{high} have {sum(steps):,}: draw fewer events"
+        )
     bold = run_of(space, run_text) if run_text is not None else first_fault(space) if space.faults else in_step(space)
     what = "the run that was given" if run_text is not None else None
     return Lattice(network, space, low, high, last, bold, what).drawn().document()
@@ -32,7 +37,9 @@ def last_column(space):
     """The most events after which all states are known, one that is refused being a state of its own."""
     if space.expanded < space.count:
         return space.depth[space.expanded]
-    return max(space.depth[space.count - 1], max((space.depth[s] + (e is not None) for s, e in space.faults), default=0))
+    return max(
+        space.depth[space.count - 1], max((space.depth[s] + (e is not None) for s, e in space.faults), default=0)
+    )
 
 
 def steps_between(space):
@@ -109,8 +116,13 @@ class Lattice:
         for s in range(space.count):
             if low <= space.depth[s] <= high:
                 self.columns[space.depth[s] - low].append(s)
-        self.steps = [(s, e, event, t) for column in self.columns for s in column for e, (event, t) in enumerate(space.steps(s))
-                      if space.depth[s] < high]
+        self.steps = [
+            (s, e, event, t)
+            for column in self.columns
+            for s in column
+            for e, (event, t) in enumerate(space.steps(s))
+            if space.depth[s] < high
+        ]
         for s, e, event, t in self.steps:
             if t is None:
                 self.columns[space.depth[s] + 1 - low].append((s, e))
@@ -122,7 +134,8 @@ class Lattice:
         return (s, e) if t is None else t
 
     def place(self):
-        """Rows by the mean of a mark's neighbours, first to the left and then to the right, so that lines cross little."""
+        """Rows by the mean of a mark's neighbours, first to the left and then to the right, so that lines cross
+        little."""
         before, after = {}, {}
         for s, e, _, t in self.steps:
             before.setdefault(self.end_of(s, e, t), []).append(s)
@@ -133,7 +146,10 @@ class Lattice:
         for sweep in range(SWEEPS):
             columns, beside = (self.columns, before) if sweep % 2 == 0 else (self.columns[::-1], after)
             for column in columns:
-                mean = {s: sum(self.row[t] for t in beside[s]) / len(beside[s]) if s in beside else self.row[s] for s in column}
+                mean = {
+                    s: sum(self.row[t] for t in beside[s]) / len(beside[s]) if s in beside else self.row[s]
+                    for s in column
+                }
                 column.sort(key=lambda s: (self.lead(s), mean[s], self.row[s]))
                 self.spread(column)
         self.widest = max(map(len, self.columns))
@@ -158,8 +174,13 @@ class Lattice:
         return self.middle + self.row[s] * self.gap
 
     def is_wrong(self, s):
-        """A state in which a node has made a pulse without its inbox, or in which nothing is possible though some node waits."""
-        return isinstance(s, tuple) or (s, None) in self.space.faults or any(node.wrong for node in self.space.nodes(s).values())
+        """A state in which a node has made a pulse without its inbox, or in which nothing is possible though some node
+        waits."""
+        return (
+            isinstance(s, tuple)
+            or (s, None) in self.space.faults
+            or any(node.wrong for node in self.space.nodes(s).values())
+        )
 
     def drawn(self):
         width = max(LEAST_WIDTH, LEFT + (len(self.columns) - 1) * self.step + 44)
@@ -171,7 +192,13 @@ class Lattice:
         svg.heading(self.fact(), *lines)
         for k in range(0, len(self.columns), 1 if len(self.columns) <= 12 else 5 if len(self.columns) <= 60 else 10):
             svg.text(LEFT + k * self.step, bottom, self.low + k, 9, SOFT, "middle")
-        svg.text(20, bottom + 16, "events so far: takes and pulses; a put is made as soon as it can be, and isn’t counted", 11.5, SOFT)
+        svg.text(
+            20,
+            bottom + 16,
+            "events so far: takes and pulses; a put is made as soon as it can be, and isn’t counted",
+            11.5,
+            SOFT,
+        )
         self.draw_steps(svg)
         for column in self.columns:
             for s in column:
@@ -185,15 +212,19 @@ class Lattice:
         if space.faults:
             s, e = next(iter(space.faults))
             return f"{title}: {space.depth[s] + (e is not None)} events are enough to go wrong"
-        return f"{title}: every schedule ends in " + ("one state" if len(space.ends) == 1 else f"one of {len(space.ends)} states")
+        return f"{title}: every schedule ends in " + (
+            "one state" if len(space.ends) == 1 else f"one of {len(space.ends)} states"
+        )
 
     def lines(self, width):
         space = self.space
         said = [left_out_words(space.without)] if space.without else []
         inside = ", and inside are the nodes’ pulses" if self.number_size() >= 5 else ""
-        said.append(f"A mark is a state of the whole network{inside}; a line is one event. "
-                    f"{space.count:,} states, {len(space.target):,} steps" + ("." if space.schedules is None
-                                                                             else f", {rounded(space.schedules)} schedules."))
+        said.append(
+            f"A mark is a state of the whole network{inside}; a line is one event. "
+            f"{space.count:,} states, {len(space.target):,} steps"
+            + ("." if space.schedules is None else f", {rounded(space.schedules)} schedules.")
+        )
         if (self.low, self.high) != (0, self.last):
             said.append(f"Here are those after {self.low} to {self.high} of {self.last} events.")
         if not any(self.low <= space.depth[s] < self.high for s, _ in self.bold):

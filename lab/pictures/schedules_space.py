@@ -1,6 +1,6 @@
-"""All states of a tiny network and the steps between them, as lab/schedules/space.py finds them, for the kinds that draw
-every schedule; and the rounds without a rule, as ruled_rounds.py there has them. What is too large for a picture is refused here,
-in a sentence."""
+"""All states of a tiny network and the steps between them, as lab/schedules/space.py finds them, for the kinds that
+draw every schedule; and the rounds without a rule, as ruled_rounds.py there has them. What is too large for a picture
+is refused here, in a sentence."""
 import re
 import sys
 
@@ -16,7 +16,8 @@ BROKEN_STATES = 20_000, 60_000, MAX_STATES
 
 
 class CutSpace(Space):
-    """A search that ends at its limit: states beyond `expanded` have no steps, and `is_cut` says that there are some."""
+    """A search that ends at its limit: states beyond `expanded` have no steps, and `is_cut` says that there are
+    some."""
 
     is_cut = False
 
@@ -32,8 +33,8 @@ class CutSpace(Space):
 
 
 def space_of(network, kind, without=(), beyond=False):
-    """The space of a network that was read. With a rule left out it goes on behind what goes wrong if `beyond`, up to the first
-    of the numbers of `BROKEN_STATES` within which something does."""
+    """The space of a network that was read. With a rule left out it goes on behind what goes wrong if `beyond`, up to
+    the first of the numbers of `BROKEN_STATES` within which something does."""
     if without and beyond:
         for limit in BROKEN_STATES:
             space = CutSpace(network_of(network), without, limit, beyond=True, progress=progress)
@@ -43,7 +44,9 @@ def space_of(network, kind, without=(), beyond=False):
     try:
         return Space(network_of(network), without, MAX_STATES + 1, progress=progress)
     except TooMany:
-        raise Wrong(f"{kind} draws at most {MAX_STATES:,} states, and {network.name} has more: leave out an edge or a node") from None
+        raise Wrong(
+            f"{kind} draws at most {MAX_STATES:,} states, and {network.name} has more: leave out an edge or a node"
+        ) from None
 
 
 def progress(states, events):
@@ -53,14 +56,16 @@ def progress(states, events):
 
 
 def broken_rounds(network, without):
-    """(rounds, how many networks go right that are smaller) of a network that was read, or of a smallest one, on which the rounds
-    go wrong without these rules. Networks that go right are refused."""
+    """(rounds, how many networks go right that are smaller) of a network that was read, or of a smallest one, on which
+    the rounds go wrong without these rules. Networks that go right are refused."""
     said = " and ".join(f"`{rule}`" for rule in without)
     if network is not None:
         rounds = RuledRounds(network_of(network), without)
         if rounds.clash is None:
-            raise Wrong(f"not broken: the rounds of {network.name} go right without {said}; without NETWORK, broken draws a smallest one "
-                        "that goes wrong")
+            raise Wrong(
+                f"not broken: the rounds of {network.name} go right without {said}; without NETWORK, broken draws a smallest one "
+                "that goes wrong"
+            )
         return rounds, 0
     most, what = (MOST_ROW, "rows") if set(without) <= set(OF_FORESTS) else (MOST_MERGED, "networks")
     rounds, tried = smallest(without, most)

@@ -36,8 +36,8 @@ def last_pulse(network):
 
 
 def least_wires(network):
-    """A whole run has so many wires and two for each payload: a safe for each pulse but the last, each edge and each end, and a
-    close for each edge and each end."""
+    """A whole run has so many wires and two for each payload: a safe for each pulse but the last, each edge and each
+    end, and a close for each edge and each end."""
     return 2 * len(network.edges) * (last_pulse(network) + 1)
 
 
@@ -45,6 +45,8 @@ def check_run(kind, network):
     """Refuses a run whose text would take too long, before it is asked for; returns whether it takes a while."""
     wires = least_wires(network)
     if wires > MOST_WIRES:
-        raise Wrong(f"{kind} draws a run of at most {MOST_WIRES:,} wires, and one of {network.name} has more than {wires:,}: "
-                    "use tally, which counts them by the rounds")
+        raise Wrong(
+            f"{kind} draws a run of at most {MOST_WIRES:,} wires, and one of {network.name} has more than {wires:,}: "
+            "use tally, which counts them by the rounds"
+        )
     return wires > MANY_WIRES

@@ -60,7 +60,9 @@ class Svg:
                           f'height="{shown(height)}"/></clipPath>')
 
     def line(self, x1, y1, x2, y2, colour=INK, width=1, dash=None, **more):
-        self.element("line", x1=x1, y1=y1, x2=x2, y2=y2, stroke=colour, stroke_width=width, stroke_dasharray=dash, **more)
+        self.element(
+            "line", x1=x1, y1=y1, x2=x2, y2=y2, stroke=colour, stroke_width=width, stroke_dasharray=dash, **more
+        )
 
     def path(self, steps, colour=INK, width=1, fill="none", **more):
         """Steps are letters and numbers, as ["M", 0, 0, "L", 5, 5]."""
@@ -84,8 +86,12 @@ class Svg:
         length = sqrt(dx * dx + dy * dy) or 1
         dx, dy = dx / length, dy / length
         back_x, back_y, half = x - dx * size, y - dy * size, size * 0.42
-        self.path(["M", x, y, "L", back_x - dy * half, back_y + dx * half, "L", back_x + dy * half, back_y - dx * half, "Z"],
-                  colour, 1, PAPER if hollow else colour)
+        self.path(
+            ["M", x, y, "L", back_x - dy * half, back_y + dx * half, "L", back_x + dy * half, back_y - dx * half, "Z"],
+            colour,
+            1,
+            PAPER if hollow else colour,
+        )
 
     def heading(self, title, *lines):
         """The fact that the picture shows, and what helps to read it, from the upper left corner."""
@@ -98,6 +104,8 @@ class Svg:
 
     def document(self):
         width, height = shown(self.width), shown(self.height)
-        return (f'<svg xmlns="http://www.w3.org/2000/svg" viewBox="0 0 {width} {height}" width="{width}" height="{height}" '
-                f'font-family="{FONT}"><title>{escaped(self.title)}</title>\n'
-                f'<rect width="100%" height="100%" fill="{PAPER}"/>\n{self.inner()}\n</svg>\n')
+        return (
+            f'<svg xmlns="http://www.w3.org/2000/svg" viewBox="0 0 {width} {height}" width="{width}" height="{height}" '
+            f'font-family="{FONT}"><title>{escaped(self.title)}</title>\n'
+            f'<rect width="100%" height="100%" fill="{PAPER}"/>\n{self.inner()}\n</svg>\n'
+        )

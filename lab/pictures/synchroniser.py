@@ -5,8 +5,8 @@ from lab.pictures.transcripts import make, nodes_of
 
 
 def steps_of(run, first, last):
-    """Counts of the node's steps (stage, cause, stage) and of its ports' (level, cause, level), from a node's beginning of pulse
-    `first` until it begins the one after `last`; a level is (safes, paid)."""
+    """Counts of the node's steps (stage, cause, stage) and of its ports' (level, cause, level), from a node's beginning
+    of pulse `first` until it begins the one after `last`; a level is (safes, paid)."""
     nodes, ports, states = Counter(), Counter(), nodes_of(run)
     for v, listed in run.entries.items():
         node = states[v]
@@ -26,8 +26,8 @@ def steps_of(run, first, last):
 
 
 class Moment:
-    """A node after one of its entries: its pulse, whether it has said safe, how many acknowledgements it awaits, and the
-    height of each port's lane: its safes above the node's pulse, and a half for a payload."""
+    """A node after one of its entries: its pulse, whether it has said safe, how many acknowledgements it awaits, and
+    the height of each port's lane: its safes above the node's pulse, and a half for a payload."""
 
     def __init__(self, node, entry):
         self.entry, self.pulse, self.said = entry, node.pulse, node.said

@@ -19,13 +19,15 @@ def counts_of(run):
     for put in run.puts():
         counts[put.wire[0]][last if put.wire[1] is None else put.wire[1]] += 1
     if sum(map(sum, counts.values())) != 2 * sum(counts["payload"]) + 2 * len(run.network.edges) * (last + 1):
-        raise Wrong(f"{run.name}: the wires of a whole run are 2 · payloads + 2 · edges · (R + 1), and here they aren't")
+        raise Wrong(
+            f"{run.name}: the wires of a whole run are 2 · payloads + 2 · edges · (R + 1), and here they aren't"
+        )
     return counts
 
 
 def counts_by(rounds):
-    """The same of any whole run, by the rounds: its payloads are theirs, each has its acknowledgement, and on each link a safe
-    goes each way at each pulse before the last, and a close at the last."""
+    """The same of any whole run, by the rounds: its payloads are theirs, each has its acknowledgement, and on each link
+    a safe goes each way at each pulse before the last, and a close at the last."""
     payloads = [len(pulse.puts) for pulse in rounds.pulses]
     ways, last = 2 * len(rounds.network.edges), rounds.last
     return {"safe": [ways] * last + [0], "ack": payloads, "payload": payloads, "close": [0] * last + [ways]}
@@ -39,17 +41,23 @@ def draw(network, name, counts, pulses=None, by_rounds=False):
     bar = max(WIDEST / len(shown) if len(shown) > WIDEST / 4 else 4, min(26, WIDEST / len(shown)))
     width = max(LEFT + bar * len(shown) + 30, 900)
     svg = Svg(width, TOP + HEIGHT + 76, f"Wires of {name}")
-    svg.heading(f"{sum(totals.values())} wires = 2 · {counted(totals['payload'], 'payload')} + 2 · {counted(edges, 'edge')} · ({last} + 1)",
-                f"{name}: in every whole run of a network, wires = 2 · payloads + 2 · edges · (R + 1), R being the last pulse"
-                + ("; counted by the rounds" if by_rounds else ""))
+    svg.heading(
+        f"{sum(totals.values())} wires = 2 · {counted(totals['payload'], 'payload')} + 2 · {counted(edges, 'edge')} · ({last} + 1)",
+        f"{name}: in every whole run of a network, wires = 2 · payloads + 2 · edges · (R + 1), R being the last pulse"
+        + ("; counted by the rounds" if by_rounds else ""),
+    )
     legend(svg, totals)
     draw_bars(svg, counts, shown, bar, width)
-    alone = "" if len(shown) == last + 1 else f"; bars of pulses {first} to {final} of {last} alone, numbers above of all"
+    alone = (
+        "" if len(shown) == last + 1 else f"; bars of pulses {first} to {final} of {last} alone, numbers above of all"
+    )
     if pulses is None and final < last:
         alone = f"; bars of the first {USUAL} pulses of {last + 1} (others with --pulses A..B), numbers above of all"
     svg.text(LEFT, TOP + HEIGHT + 36, f"pulse that the wire speaks of (close stands at R){alone}", 11, SOFT)
-    said = (f"The rounds need {counted(totals['payload'], 'payload')}. Without a clock each is acknowledged, and each node says "
-            "safe to each neighbour at each pulse before R, and close at R.")
+    said = (
+        f"The rounds need {counted(totals['payload'], 'payload')}. Without a clock each is acknowledged, and each node says "
+        "safe to each neighbour at each pulse before R, and close at R."
+    )
     svg.text(20, TOP + HEIGHT + 60, said if edges else "No node has a neighbour, so no wire is put.", 11.5, SOFT)
     return svg.document()
 
@@ -71,7 +79,8 @@ def draw_bars(svg, counts, pulses, bar, width):
         svg.line(LEFT, y, width - 20, y, "#E4E4E4", 1)
         svg.text(LEFT - 8, y + 4, mark, 10, SOFT, "end")
     every = next(size for size in (1, 2, 5, 10, 20, 50, 100, 200, 500, 1000, 10 ** 9) if bar * size > 17)
-    # Below three pixels a gap between bars would come and go with the screen's own pixels, and so would half a pixel's pale edge.
+    # Below three pixels a gap between bars would come and go with the screen's own pixels, and so would half a pixel's
+    # pale edge.
     space = min(1, bar * 0.1) if bar >= 3 else 0
     edges = None if space else "crispEdges"
     for column, pulse in enumerate(pulses):

@@ -1,4 +1,5 @@
-"""A logic analyser at one node: its own entries from left to right, a lane for what it awaits, a staircase for each port."""
+"""A logic analyser at one node: its own entries from left to right, a lane for what it awaits, a staircase for each
+port."""
 from lab.pictures.palette import INK, PAPER, SOFT, WIRES
 from lab.pictures.svg import Svg, text_width
 from lab.pictures.synchroniser import moments_of
@@ -25,8 +26,10 @@ def draw(run, vertex, pulses=None):
         raise Wrong(f"{run.name}: node {vertex} did nothing in pulses {first} to {last}")
     at_most("node", len(moments), "entries side by side", MOST_ENTRIES, "fewer pulses: --pulses A..B")
     step = max(7, min(15, 1080 / len(moments)))
-    said = ("One step to the right is one entry of this node. A lane rises by half with a payload taken, to the next line with a safe; "
-            "each pulse lowers all by one.")
+    said = (
+        "One step to the right is one entry of this node. A lane rises by half with a payload taken, to the next line with a safe; "
+        "each pulse lowers all by one."
+    )
     width = max(LEFT + len(moments) * step + 24, 40 + text_width(said, 11.5) * 0.95)
     svg = Svg(width, TOP + 58 + len(neighbours) * LANE + 26, f"Node {vertex} of {run.name}")
     svg.heading(f"{run.name}, node {vertex}: pulses {first} to {last} as it lived them", said)
@@ -100,7 +103,9 @@ class Timing:
         for index, moment in enumerate(self.moments):
             high = moment.heights[neighbour]
             if high:
-                svg.rect(self.x(index), base - high * UNIT, self.to_next(index) - self.x(index) + 0.3, high * UNIT, "#FBEFE4")
+                svg.rect(
+                    self.x(index), base - high * UNIT, self.to_next(index) - self.x(index) + 0.3, high * UNIT, "#FBEFE4"
+                )
             if before is None:
                 steps += ["M", self.x(index), base - high * UNIT]
             elif high != before:

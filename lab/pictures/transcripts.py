@@ -1,11 +1,12 @@
-"""The transcript of a run (docs/claim/FORMATS.md): entries by node, each take beside its put, and a place in time for each.
+"""The transcript of a run (docs/claim/FORMATS.md): entries by node, each take beside its put, and a place in time for
+each.
 
-A text of edition 1 is read only if some order of its entries is a run of the colouring on its network. Nodes are replayed one by
-one (a node's entries decide what it may do next), and a take may only come after its put; an entry that can come next can always
-come later too, so going on wherever one can finds an order if there is one.
+A text of edition 1 is read only if some order of its entries is a run of the colouring on its network. Nodes are
+replayed one by one (a node's entries decide what it may do next), and a take may only come after its put; an entry that
+can come next can always come later too, so going on wherever one can finds an order if there is one.
 
-A text of edition 2 has its order, and a stamp with each entry, which is its place in time. It is read only if each stamp is the one
-that Lamport's clock gives; nothing is replayed."""
+A text of edition 2 has its order, and a stamp with each entry, which is its place in time. It is read only if each
+stamp is the one that Lamport's clock gives; nothing is replayed."""
 from functools import lru_cache
 
 from lab.networks.network_text import fields_of, whole
@@ -13,22 +14,29 @@ from lab.pictures.alpha import Impossible, Node, words_of
 from lab.pictures.colouring import Rounds
 from lab.wrong import Wrong, wrong_line
 
-# Texts of more lines are read only as far as the pulses that are drawn depend on them: so many pulses further at first, and
-# further still if nodes ran ahead of each other by more.
+# Texts of more lines are read only as far as the pulses that are drawn depend on them: so many pulses further at first,
+# and further still if nodes ran ahead of each other by more.
 LONG_TEXT, AHEAD = 100_000, 8
 
 PAYLOADS = {"hello", "label", "colour", "chosen"}
 
 
 class Entry:
-    """What a node did: `kind` is `pulse`, `put` or `take`; `wire` is (kind, pulse, payload) of a put or take; `mate` is the
-    put of a take, and back; `x` the length of the longest chain of entries that ends here, which is its stamp; `during` the node's
-    pulse."""
+    """What a node did: `kind` is `pulse`, `put` or `take`; `wire` is (kind, pulse, payload) of a put or take; `mate` is
+    the put of a take, and back; `x` the length of the longest chain of entries that ends here, which is its stamp;
+    `during` the node's pulse."""
 
     __slots__ = ("line", "vertex", "kind", "neighbour", "wire", "pulse", "mate", "x", "during")
 
     def __init__(self, line, vertex, kind, neighbour, wire, pulse):
-        self.line, self.vertex, self.kind, self.neighbour, self.wire, self.pulse = line, vertex, kind, neighbour, wire, pulse
+        self.line, self.vertex, self.kind, self.neighbour, self.wire, self.pulse = (
+            line,
+            vertex,
+            kind,
+            neighbour,
+            wire,
+            pulse,
+        )
         self.mate = self.x = None
         self.during = 0
 
@@ -38,8 +46,8 @@ class Entry:
 
 
 class Run:
-    """`entries[v]` in v's order; `last` is R; `whole`, whether every node is through with its last pulse; `read_to`, the pulse
-    up to which a long text was read, or None if it was read to its end; `edition`, that of the text."""
+    """`entries[v]` in v's order; `last` is R; `whole`, whether every node is through with its last pulse; `read_to`,
+    the pulse up to which a long text was read, or None if it was read to its end; `edition`, that of the text."""
 
     def __init__(self, network, name, entries, rounds, edition):
         self.network, self.name, self.entries, self.rounds, self.edition = network, name, entries, rounds, edition
@@ -122,10 +130,14 @@ def read_entries(text, name, network, stop=None):
                 stopped.add(fields[edition - 1])
             else:
                 entries[entry.vertex].append(entry)
-        elif len(fields) == 3 and fields[0] == "transcript" and fields[1] in READERS and fields[2] == str(network.nodes):
+        elif (
+            len(fields) == 3 and fields[0] == "transcript" and fields[1] in READERS and fields[2] == str(network.nodes)
+        ):
             edition = int(fields[1])
         else:
-            raise wrong_line(name, line, f"no line `transcript 2 {network.nodes}` or `transcript 1 {network.nodes}` (X1)")
+            raise wrong_line(
+                name, line, f"no line `transcript 2 {network.nodes}` or `transcript 1 {network.nodes}` (X1)"
+            )
     if not edition:
         raise wrong_line(name, 1, "no line `transcript 2 ..` or `transcript 1 ..` (X1)")
     return edition, entries
@@ -158,10 +170,16 @@ def never_put(entries, name, last, putter, take):
     at = max((entry.pulse for entry in listed if entry.kind == "pulse"), default=0)
     words = f"node {take.vertex} takes {words_of(take.wire)} of {putter}"
     if not listed:
-        nodes = f"node {none[0]}" if len(none) == 1 else f"nodes {', '.join(map(str, none[:5]))}{' ..' if len(none) > 5 else ''}"
+        nodes = (
+            f"node {none[0]}"
+            if len(none) == 1
+            else f"nodes {', '.join(map(str, none[:5]))}{' ..' if len(none) > 5 else ''}"
+        )
         return wrong_line(name, take.line, f"{words}, but the text has no entry of {nodes}: is it cut?")
     if at < last:
-        return wrong_line(name, take.line, f"{words}, but the text ends with node {putter} at pulse {at} of {last}: is it cut?")
+        return wrong_line(
+            name, take.line, f"{words}, but the text ends with node {putter} at pulse {at} of {last}: is it cut?"
+        )
     return wrong_line(name, take.line, f"{putter} never puts {words_of(take.wire)} there")
 
 
@@ -200,8 +218,8 @@ def make(node, entry, name):
 
 
 def set_in_time(run):
-    """Gives each entry its x: one more than the entry before it at its node, and more than its put if it is a take. Of a part of a
-    text, what depends on the rest is left out."""
+    """Gives each entry its x: one more than the entry before it at its node, and more than its put if it is a take. Of
+    a part of a text, what depends on the rest is left out."""
     done, last = dict.fromkeys(run.entries, 0), dict.fromkeys(run.entries, 0)
     left, moved = sum(map(len, run.entries.values())), True
     while moved:
@@ -224,8 +242,8 @@ def set_in_time(run):
 
 
 def check_stamps(run):
-    """Each stamp has to be one more than that of the entry before at the node, and than that of the put if it is a take. Of a part
-    of a text, a take whose put is missing is left out, with all behind it."""
+    """Each stamp has to be one more than that of the entry before at the node, and than that of the put if it is a
+    take. Of a part of a text, a take whose put is missing is left out, with all behind it."""
     for v, listed in run.entries.items():
         stamp, pulse = 0, 0
         for at, entry in enumerate(listed):
@@ -234,7 +252,9 @@ def check_stamps(run):
                 break
             stamp = 1 + max(stamp, entry.mate.x if entry.kind == "take" else 0)
             if entry.x != stamp:
-                raise wrong_line(run.name, entry.line, f"stamp {entry.x}, but the clock of node {v} gives {stamp} there (WrongStamp)")
+                raise wrong_line(
+                    run.name, entry.line, f"stamp {entry.x}, but the clock of node {v} gives {stamp} there (WrongStamp)"
+                )
             if entry.kind == "pulse":
                 pulse += 1
                 if entry.pulse != pulse:
@@ -257,8 +277,8 @@ def nodes_of(run):
 
 
 def read_transcript(text, name, network, until=None):
-    """The run that a transcript tells of, or what is wrong with it. Of a long text, with `until`, only what the pulses up to that
-    one depend on is read."""
+    """The run that a transcript tells of, or what is wrong with it. Of a long text, with `until`, only what the pulses
+    up to that one depend on is read."""
     if until is not None and text.count("\n") > LONG_TEXT:
         ahead = AHEAD
         while ahead <= network.nodes + AHEAD:

@@ -1,5 +1,5 @@
-"""The door: `bin/explore NETWORK [options]`. Plays every schedule of a tiny network, with rules left out if some are named, and
-writes what it found, or one line on standard error."""
+"""The door: `bin/explore NETWORK [options]`. Plays every schedule of a tiny network, with rules left out if some are
+named, and writes what it found, or one line on standard error."""
 import argparse
 import sys
 from collections import Counter
@@ -64,12 +64,23 @@ def positive(text):
 
 
 def command_line():
-    words = argparse.ArgumentParser(prog="explore", usage="explore [NETWORK] [options]", description=HELP, epilog=MORE_HELP,
-                                    formatter_class=argparse.RawDescriptionHelpFormatter)
+    words = argparse.ArgumentParser(
+        prog="explore",
+        usage="explore [NETWORK] [options]",
+        description=HELP,
+        epilog=MORE_HELP,
+        formatter_class=argparse.RawDescriptionHelpFormatter,
+    )
     words.add_argument("network", metavar="NETWORK", nargs="?", help="the network's file")
-    words.add_argument("--without", type=rules_of, default=[], metavar="RULES", help="the rules to leave out, with commas between")
-    words.add_argument("--limit", type=positive, default=LIMIT, metavar="STATES", help=f"give up beyond so many states ({LIMIT})")
-    words.add_argument("--events", action="store_true", help="write one list of events alone, as `forestplay events` reads it")
+    words.add_argument(
+        "--without", type=rules_of, default=[], metavar="RULES", help="the rules to leave out, with commas between"
+    )
+    words.add_argument(
+        "--limit", type=positive, default=LIMIT, metavar="STATES", help=f"give up beyond so many states ({LIMIT})"
+    )
+    words.add_argument(
+        "--events", action="store_true", help="write one list of events alone, as `forestplay events` reads it"
+    )
     words.add_argument("--puts", action="store_true", help="count puts as events of their own, made at any time")
     return words
 
@@ -121,7 +132,9 @@ def said_of_rounds(given, rounds, where, what):
 
 def refused_words(without):
     """The wrong bodies that take these rules away."""
-    return "".join(f"wrong body of `{ALL[word].crate}`, which the prover refuses: {ALL[word].edit}\n" for word in without)
+    return "".join(
+        f"wrong body of `{ALL[word].crate}`, which the prover refuses: {ALL[word].edit}\n" for word in without
+    )
 
 
 # The schedules.
@@ -165,14 +178,17 @@ def whole_text(given, name, space):
     rest = space.depth[space.ends[0]] - pulses
     kinds = f"{rest // 2:,} puts, {rest // 2:,} takes" if space.puts else f"{rest:,} takes"
     channels = [" ".join(str(node.colour + 1) for node in space.nodes(s).values()) for s in space.ends]
-    return "".join(f"{line}\n" for line in [
-        f"{what}: {space.count:,} states, {len(space.target):,} steps{schedules}",
-        f"each has {rest + pulses:,} events: {kinds} and {pulses:,} pulses",
-        "each pulse had the round's inbox, and something was possible until all was done",
-        f"neighbours at most {space.farthest} pulse{'s' * (space.farthest != 1)} apart, "
-        f"at most {space.most_wires} wires of a link under way",
-        f"{'one end' if len(channels) == 1 else f'{len(channels)} ends'}: channels {' or '.join(dict.fromkeys(channels))}",
-    ]) + refused_words(given.without)
+    return "".join(
+        f"{line}\n"
+        for line in [
+            f"{what}: {space.count:,} states, {len(space.target):,} steps{schedules}",
+            f"each has {rest + pulses:,} events: {kinds} and {pulses:,} pulses",
+            "each pulse had the round's inbox, and something was possible until all was done",
+            f"neighbours at most {space.farthest} pulse{'s' * (space.farthest != 1)} apart, "
+            f"at most {space.most_wires} wires of a link under way",
+            f"{'one end' if len(channels) == 1 else f'{len(channels)} ends'}: channels {' or '.join(dict.fromkeys(channels))}",
+        ]
+    ) + refused_words(given.without)
 
 
 def rounded(number):

@@ -1,8 +1,8 @@
 """A node under the synchroniser with rules left out, and the rounds that it should simulate. The rules are those of
 rules.OF_SCHEDULES; `fifo` is one of the links, so it is in space.py.
 
-What a pulse does with an inbox that no round has is the program's own matter: it refuses a payload that isn't due, and a
-missing one that is (docs/claim/DEFINITIONS.md, refusals of the colouring), and goes on otherwise."""
+What a pulse does with an inbox that no round has is the program's own matter: it refuses a payload that isn't due, and
+a missing one that is (docs/claim/DEFINITIONS.md, refusals of the colouring), and goes on otherwise."""
 import copy
 
 from lab.definitions.nodes import AlphaNode, Colouring, Refused, last_pulse, ports_of
@@ -66,10 +66,21 @@ class RuledNode(AlphaNode):
     def key(self):
         """Equal for equal nodes of one vertex."""
         program = self.program
-        return (self.pulse_number, self.said, self.wrong, tuple(program.roles), tuple(program.colours), tuple(program.before),
-                program.old, program.merged, frozenset(program.chosen),
-                tuple((port.waits, port.safe, port.early_safe, port.closed, port.present, port.early, tuple(port.out))
-                      for port in self.ports))
+        return (
+            self.pulse_number,
+            self.said,
+            self.wrong,
+            tuple(program.roles),
+            tuple(program.colours),
+            tuple(program.before),
+            program.old,
+            program.merged,
+            frozenset(program.chosen),
+            tuple(
+                (port.waits, port.safe, port.early_safe, port.closed, port.present, port.early, tuple(port.out))
+                for port in self.ports
+            ),
+        )
 
 
 class Rounds:
@@ -102,8 +113,8 @@ def payload_words(payload):
 
 
 def program_refuses(program, pulse, inbox):
-    """Whether the colouring refuses an inbox: what is due and missing, or not due, or a value that can't be. (A role is None
-    before pulse 2, or the way and the forest.)"""
+    """Whether the colouring refuses an inbox: what is due and missing, or not due, or a value that can't be. (A role is
+    None before pulse 2, or the way and the forest.)"""
     kinds = {None if slot is None else slot[0] for slot in inbox}
     if pulse == 1:
         numbers = [slot[1] for slot in inbox if slot]

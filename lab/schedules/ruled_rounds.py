@@ -1,10 +1,10 @@
-"""The rounds of the colouring with rules left out, as lists over the vertices, by the definitions; and the smallest network
-on which they go wrong. The rules are those of rules.OF_ROUNDS.
+"""The rounds of the colouring with rules left out, as lists over the vertices, by the definitions; and the smallest
+network on which they go wrong. The rules are those of rules.OF_ROUNDS.
 
-They go wrong if a node has its parent's colour in a forest after a pulse, or if neighbours in the forests merged so far have
-one merged colour after a merge. What a forest's colours are depends, at each node, on its ancestors there alone, whose
-identifiers ascend. So if any network of N nodes goes wrong in a forest, then some row of ascending identifiers of 1 to N
-does, and rows are enough to try; the merging may need any network."""
+They go wrong if a node has its parent's colour in a forest after a pulse, or if neighbours in the forests merged so far
+have one merged colour after a merge. What a forest's colours are depends, at each node, on its ancestors there alone,
+whose identifiers ascend. So if any network of N nodes goes wrong in a forest, then some row of ascending identifiers of
+1 to N does, and rows are enough to try; the merging may need any network."""
 import copy
 import itertools
 from collections import namedtuple
@@ -12,7 +12,8 @@ from collections import namedtuple
 from lab.definitions.colours import Network, at_parent, bit, drop, first_colours, merged, other_than, shift
 from lab.schedules.rules import OF_FORESTS
 
-# Nodes v and w have one colour in a forest after a pulse, w being v's parent; or after the merge of it, if `pulse` is None.
+# Nodes v and w have one colour in a forest after a pulse, w being v's parent; or after the merge of it, if `pulse` is
+# None.
 Clash = namedtuple("Clash", "pulse forest v w colour")
 
 
@@ -45,8 +46,8 @@ def merge_of(net, f, old, three, without):
 
 
 class RuledRounds:
-    """`colours[f]` are the lists of a forest from pulse 2 on, up to the first clash; `merged` those after each merge, and
-    `plan` the last of these, if the rounds get that far; `clash` is the first one, or None."""
+    """`colours[f]` are the lists of a forest from pulse 2 on, up to the first clash; `merged` those after each merge,
+    and `plan` the last of these, if the rounds get that far; `clash` is the first one, or None."""
 
     def __init__(self, net, without):
         self.net, self.without = net, frozenset(without)
@@ -86,7 +87,9 @@ class RuledRounds:
         """What goes wrong, in a sentence or two."""
         clash, v, w = self.clash, self.clash.v, self.clash.w
         if clash.pulse is None:
-            said = f"after the merge of forest {clash.forest} the neighbours {v} and {w} both have colour {clash.colour}"
+            said = (
+                f"after the merge of forest {clash.forest} the neighbours {v} and {w} both have colour {clash.colour}"
+            )
         else:
             said = (f"after pulse {clash.pulse} node {v} and its parent {w} in forest {clash.forest} "
                     f"both have colour {clash.colour}")

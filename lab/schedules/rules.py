@@ -1,6 +1,7 @@
 """The rules that can be left out, and the wrong body that takes each one away from the proved program.
 
-`crate` and `edit` name that body: it is the file EDIT.edit in crates/CRATE/must-fail/ or in crates/CRATE/wrong-bodies/."""
+`crate` and `edit` name that body: it is the file EDIT.edit in crates/CRATE/must-fail/ or in
+crates/CRATE/wrong-bodies/."""
 from collections import namedtuple
 
 Rule = namedtuple("Rule", "says without crate edit")
@@ -31,11 +32,18 @@ OF_FORESTS = {
                    "shift_down", "drop_class_forgets_the_parent"),
 }
 OF_MERGING = {
-    "pair": Rule("nodes choose in the order of pairs: colour in the forest, old colour",
-                 "the order is by the colour in the forest alone",
-                 "colour_rules", "chooses_by_the_colour_in_the_forest_alone"),
-    "earlier": Rule("a node tells its choice to its neighbours in this forest and in earlier ones", "to those in this forest alone",
-                    "colour_rules", "is_merged_takes_the_merged_forest_alone"),
+    "pair": Rule(
+        "nodes choose in the order of pairs: colour in the forest, old colour",
+        "the order is by the colour in the forest alone",
+        "colour_rules",
+        "chooses_by_the_colour_in_the_forest_alone",
+    ),
+    "earlier": Rule(
+        "a node tells its choice to its neighbours in this forest and in earlier ones",
+        "to those in this forest alone",
+        "colour_rules",
+        "is_merged_takes_the_merged_forest_alone",
+    ),
 }
 OF_ROUNDS = OF_FORESTS | OF_MERGING
 ALL = OF_SCHEDULES | OF_ROUNDS

@@ -3,32 +3,34 @@
     from space import Space, TooMany
     space = Space(net, without=("safes",), limit=200_000)
 
-`net` is a network of the definitions (definitions.network_of makes one of what the pictures read). A put is made as soon as it
-can be, so that a state has no wires that wait to be put; `puts=True` counts puts apart, as events of their own. `without`
-has rules of rules.OF_SCHEDULES. With a rule left out the search ends at the first event that goes wrong, which a shortest list
-of events leads to; `beyond=True` goes on, from wherever the program doesn't refuse. More than `limit` states raise `TooMany`.
+`net` is a network of the definitions (definitions.network_of makes one of what the pictures read). A put is made as
+soon as it can be, so that a state has no wires that wait to be put; `puts=True` counts puts apart, as events of their
+own. `without` has rules of rules.OF_SCHEDULES. With a rule left out the search ends at the first event that goes wrong,
+which a shortest list of events leads to; `beyond=True` goes on, from wherever the program doesn't refuse. More than
+`limit` states raise `TooMany`.
 
-    space.vertices        [1, 2, 3]; space.ports[v] are v's neighbours, ascending (port 0 first)
-    space.links           [(v, w), ..]: what v puts for w
-    space.last            the last pulse of each node
-    space.count           how many states there are; they are numbered from 0, the start, by width
-    space.depth[s]        the least number of events that lead to state s
-    space.steps(s)        [(event, target)], the events possible in state s; target is None if the event is refused
-    space.event(e)        an Event: kind (take, pulse, put), v, port, w (the neighbour there), wire (in words), place (how
+    space.vertices        [1, 2, 3]; space.ports[v] are v's neighbours, ascending (port 0 first) space.links
+    [(v, w), ..]: what v puts for w space.last            the last pulse of each node space.count           how many
+    states there are; they are numbered from 0, the start, by width space.depth[s]        the least number of events
+    that lead to state s space.steps(s)        [(event, target)], the events possible in state s; target is None if the
+    event is refused space.event(e)        an Event: kind (take, pulse, put), v, port, w (the neighbour there), wire (in
+    words), place (how
                           many wires of the link it overtakes); str(event) is its line for `forestplay events`
-    space.nodes(s)        {v: Node}: pulse, stage (asks, safe, ready, last, whole), waits (what it waits for, as (wire, w)),
+    space.nodes(s)        {v: Node}: pulse, stage (asks, safe, ready, last, whole), waits (what it waits for, as (wire,
+    w)),
                           wrong (it has made a pulse with another inbox than the round's), colour (merged so far), phase
-    space.wires(s)        {(v, w): [wire, ..]}, what each link holds, in words, the one that comes next first
-    space.ends            the states in which nothing is possible
-    space.faults          {(s, e): what goes wrong in words}, e being the event's number in steps(s); and {(s, None): words} for
+    space.wires(s)        {(v, w): [wire, ..]}, what each link holds, in words, the one that comes next first space.ends
+    the states in which nothing is possible space.faults          {(s, e): what goes wrong in words}, e being the
+    event's number in steps(s); and {(s, None): words} for
                           a state in which nothing is possible though some node waits
-    space.first_fault()   the key of a fault that the fewest events lead to
-    space.path(s)         a shortest list of events from the start to state s; space.path_to_fault() one that ends with the
+    space.first_fault()   the key of a fault that the fewest events lead to space.path(s)         a shortest list of
+    events from the start to state s; space.path_to_fault() one that ends with the
                           event of the first fault
     space.lines(events, eager)
-                          the events as lines for `forestplay events`, with puts: as soon as they can be made (eager), so that
-                          the state is s, or only those that are needed
-    space.schedules       how many lists of events lead from the start to an end; None if events are possible in different
+                          the events as lines for `forestplay events`, with puts: as soon as they can be made (eager),
+                          so that the state is s, or only those that are needed
+    space.schedules       how many lists of events lead from the start to an end; None if events are possible in
+    different
                           numbers, which they are not if no rule is left out
     space.farthest        the most pulses that two neighbours are apart in any state
     space.most_wires      the most wires that any link holds in any state
@@ -109,7 +111,8 @@ class Space:
     # What a node can do.
 
     def after(self, a, node):
-        """(number of the node's value, wires that go on its links by slot), its out-lists being put unless puts are apart."""
+        """(number of the node's value, wires that go on its links by slot), its out-lists being put unless puts are
+        apart."""
         gone = []
         if not self.puts:
             for w, port in zip(self.ports[self.vertices[a]], node.ports):
@@ -139,8 +142,8 @@ class Space:
         return *self.after(a, node), None
 
     def moves_of(self, a, i, arriving):
-        """The events possible at a node with this value and these contents of the links to it: (event, value after or None,
-        link that it takes from or None, what that holds then, wires by slot, fault)."""
+        """The events possible at a node with this value and these contents of the links to it: (event, value after or
+        None, link that it takes from or None, what that holds then, wires by slot, fault)."""
         v, node, moves = self.vertices[a], self.locals[a][i], []
         if node.can_pulse():
             j, gone, fault = self.pulse(a, i)
@@ -245,7 +248,9 @@ class Space:
                 for k in range(self.first[s], self.first[s + 1])] if s < self.expanded else []
 
     def is_whole(self, state):
-        return all(self.locals[a][state[a]].drained() for a in range(len(self.vertices))) and not any(state[len(self.vertices):])
+        return all(self.locals[a][state[a]].drained() for a in range(len(self.vertices))) and not any(
+            state[len(self.vertices) :]
+        )
 
     def stuck_words(self, s):
         waiting = [f"node {v} waits for {' and '.join(f'{wire} from {w}' for wire, w in node.waits)}"
@@ -280,7 +285,9 @@ class Space:
     def farthest(self):
         places = [(self.vertices.index(v), self.vertices.index(w)) for v, w in self.links if v < w]
         pulses = [[node.pulse_number for node in nodes] for nodes in self.locals]
-        return max((abs(pulses[a][state[a]] - pulses[b][state[b]]) for state in self.states for a, b in places), default=0)
+        return max(
+            (abs(pulses[a][state[a]] - pulses[b][state[b]]) for state in self.states for a, b in places), default=0
+        )
 
     @property
     def most_wires(self):
@@ -323,7 +330,8 @@ class Space:
         return [str(event) for event in self.with_puts(events, eager)]
 
     def with_puts(self, events, eager=False):
-        """The events with the puts between them: each one as soon as it can be made, or only as a take needs its wire."""
+        """The events with the puts between them: each one as soon as it can be made, or only as a take needs its
+        wire."""
         if self.puts:
             return list(events)
         sent, put, held, state, listed = {}, {}, {}, list(self.start_unput()), []

@@ -1,9 +1,9 @@
 #!/usr/bin/env python3
 """Checks a transcript of nodes without a common clock. It is written from the pages in docs/ alone.
 
-A transcript of edition 1 has the entries of each node in that node's own order, and says nothing of the order between nodes.
-This program looks for an order of all entries that is a run, and demands that the run is whole. One of edition 2 has an order
-and stamps: stamps.py checks it. `--help` says how to call it."""
+A transcript of edition 1 has the entries of each node in that node's own order, and says nothing of the order between
+nodes. This program looks for an order of all entries that is a run, and demands that the run is whole. One of edition 2
+has an order and stamps: stamps.py checks it. `--help` says how to call it."""
 import argparse
 import gc
 import sys
@@ -56,34 +56,38 @@ Example:
   bin/check-transcript examples/triangle.col triangle.transcript
 """
 
-# What a search finds: the entries made, in this order; the nodes after them; and of each node that isn't through, the entries
-# that are left, the next one last, and the code of that one's refusal.
+# What a search finds: the entries made, in this order; the nodes after them; and of each node that isn't through, the
+# entries that are left, the next one last, and the code of that one's refusal.
 Found = namedtuple("Found", "made nodes left refusals")
 
 
 def find_order(net, entries):
     """Makes the next entry of any node as long as one is possible.
 
-    If any order of all entries is a run, this finds one. The entries of a node come in a given order, so what the node does
-    and puts follows from how many of them were made. Whether its next entry is possible depends on the node alone, and for a
-    take also on the wire that is next on the link: it is there once the neighbour has put it, and nobody else takes it. So an
-    entry that is possible stays so, with the same wire, whatever the other nodes do first. Suppose that an order is a run, and
-    that this search stops earlier. The first entry of that order that the search hasn't made has all those before it made:
-    so it is possible, and the search wouldn't have stopped. The entries that are left, and why, are the same in every search.
+    If any order of all entries is a run, this finds one. The entries of a node come in a given order, so what the node
+    does and puts follows from how many of them were made. Whether its next entry is possible depends on the node alone,
+    and for a take also on the wire that is next on the link: it is there once the neighbour has put it, and nobody else
+    takes it. So an entry that is possible stays so, with the same wire, whatever the other nodes do first. Suppose that
+    an order is a run, and that this search stops earlier. The first entry of that order that the search hasn't made has
+    all those before it made: so it is possible, and the search wouldn't have stopped. The entries that are left, and
+    why, are the same in every search.
 
     A node is looked at again only if a neighbour has put the wire that it waits for; so the time is linear."""
     own, strays = {v: [] for v in net.neighbours}, {}
     for entry in entries:
         (own[entry.vertex] if entry.vertex in own else strays.setdefault(entry.vertex, [])).append(entry)
     search = Search(net, {v: [entry.text for entry in own[v]] for v in own})
-    left = {v: own[v][node.at:][::-1] for v, node in search.nodes.items()} | {v: lost[::-1] for v, lost in strays.items()}
+    left = {v: own[v][node.at :][::-1] for v, node in search.nodes.items()} | {
+        v: lost[::-1] for v, lost in strays.items()
+    }
     refusals = {v: node.refusal for v, node in search.nodes.items()} | dict.fromkeys(strays, "NoSuch")
     return Found(search.made(own), search.nodes, {v: lost for v, lost in left.items() if lost}, refusals)
 
 
 def first_refused(found):
-    """Of the entries that are next and not possible: the first that its own node can't make, whatever the others do; and if
-    they all wait for a neighbour, the first that waits for one which is through; and if there is none, the first."""
+    """Of the entries that are next and not possible: the first that its own node can't make, whatever the others do;
+    and if they all wait for a neighbour, the first that waits for one which is through; and if there is none, the
+    first."""
     def rank(entry):
         waits = found.refusals[entry.vertex] == "LinkEmpty"
         return waits, waits and entry.neighbour in found.left, entry.line
@@ -184,8 +188,8 @@ def whole_run(net, text):
 
 
 def run_as_it_stands(net, text):
-    """The same for most transcripts of runs: lines are compared with what the nodes do, as they stand in the text. None if they
-    aren't a whole run so; then they have to be read with care."""
+    """The same for most transcripts of runs: lines are compared with what the nodes do, as they stand in the text. None
+    if they aren't a whole run so; then they have to be read with care."""
     head, *lines = text.split(b"\n")
     if lines[-1:] != [b""]:
         return None
@@ -259,10 +263,17 @@ def bytes_of(name):
 
 
 def words_of_command():
-    words = argparse.ArgumentParser(prog="check-transcript", description=HELP, epilog=MORE_HELP,
-                                    formatter_class=argparse.RawDescriptionHelpFormatter)
-    words.add_argument("--order", action="store_true",
-                       help="instead of that line print the transcript in the order found, in which it is a run line by line; of edition 2 as it is")
+    words = argparse.ArgumentParser(
+        prog="check-transcript",
+        description=HELP,
+        epilog=MORE_HELP,
+        formatter_class=argparse.RawDescriptionHelpFormatter,
+    )
+    words.add_argument(
+        "--order",
+        action="store_true",
+        help="instead of that line print the transcript in the order found, in which it is a run line by line; of edition 2 as it is",
+    )
     words.add_argument("network", metavar="NETWORK.col", help="a network that `forestplan` reads without a fault")
     words.add_argument("transcript", nargs="?", metavar="TRANSCRIPT", help="default: standard input")
     return words

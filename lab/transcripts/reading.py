@@ -8,8 +8,8 @@ from lab.definitions.nodes import wire_words
 # The word of each payload of the colouring, and the bound of its number.
 PAYLOADS = {b"hello": 2**128, b"label": 2**16, b"colour": 2**128, b"chosen": 2**16}
 
-# `kind` is Pulse, Put or Take; `what` is the number of the pulse, or the wire, as lab/definitions/nodes.py has it. A pulse has no
-# neighbour. `text` is the line as the search takes it, without the stamp; `stamp` is that of edition 2.
+# `kind` is Pulse, Put or Take; `what` is the number of the pulse, or the wire, as lab/definitions/nodes.py has it. A
+# pulse has no neighbour. `text` is the line as the search takes it, without the stamp; `stamp` is that of edition 2.
 Entry = namedtuple("Entry", "line vertex kind neighbour what text stamp", defaults=[None])
 
 # The first line: where it is, and what it says.
@@ -79,7 +79,9 @@ def read(text):
                 entries.append(READERS[head.edition](line, fields))
         except ValueError:
             is_cut = line == len(lines)
-            raise Wrong(line, "X1", "not an entry" + (", and no line feed behind it (is the text cut?)" if is_cut else "")) from None
+            raise Wrong(
+                line, "X1", "not an entry" + (", and no line feed behind it (is the text cut?)" if is_cut else "")
+            ) from None
     return head, entries
 
 

@@ -1,5 +1,6 @@
-"""The search for an order of a transcript's entries: nodes under synchroniser alpha (docs/claim/DEFINITIONS.md) that are led by the
-entries of a text. What lab/transcripts/check.py checks with; `NetState` of lab/definitions/nodes.py is the same, slow and plain.
+"""The search for an order of a transcript's entries: nodes under synchroniser alpha (docs/claim/DEFINITIONS.md) that
+are led by the entries of a text. What lab/transcripts/check.py checks with; `NetState` of lab/definitions/nodes.py is
+the same, slow and plain.
 
 An entry is its line, as b"1 put 2 safe 3", with one space between fields and no zeros before a number; so a wire is
 compared as it stands, as b"safe 3"."""
@@ -7,8 +8,8 @@ from lab.definitions.nodes import Colouring, last_pulse, ports_of
 
 
 class Port:
-    """Towards a neighbour: `mate` is its port back, `out` what is to be put, `link` what it has put and isn't taken yet;
-    `known` counts the safes that were taken, `waits` says whether an acknowledgement is due."""
+    """Towards a neighbour: `mate` is its port back, `out` what is to be put, `link` what it has put and isn't taken
+    yet; `known` counts the safes that were taken, `waits` says whether an acknowledgement is due."""
 
     __slots__ = ("owner", "neighbour", "mate", "out", "link", "known", "waits", "present", "early", "closed")
 
@@ -20,9 +21,9 @@ class Port:
 
 
 class Node:
-    """`own` has its entries, of which the first `at` are made; `refusal` is the code of the next one's, and `stuck_at` the
-    port if it waits there for a wire. `due` counts the acknowledgements that are due, `unsafe` the ports
-    whose safe of this pulse wasn't taken, `payloads` those sent."""
+    """`own` has its entries, of which the first `at` are made; `refusal` is the code of the next one's, and `stuck_at`
+    the port if it waits there for a wire. `due` counts the acknowledgements that are due, `unsafe` the ports whose safe
+    of this pulse wasn't taken, `payloads` those sent."""
 
     def __init__(self, net, v, own):
         self.vertex, self.program, self.last = v, Colouring(net, v), last_pulse(net)
@@ -84,7 +85,8 @@ class Node:
         return self.pulse == self.last and all(port.closed and not port.out for port in self.all_ports)
 
     def advance(self, work):
-        """Makes its next entries as long as that is possible; a node that waited for one of its wires is added to `work`."""
+        """Makes its next entries as long as that is possible; a node that waited for one of its wires is added to
+        `work`."""
         ports, own, at = self.ports, self.own, self.at
         self.refusal = self.stuck_at = None
         for at in range(at, len(own)):
@@ -124,8 +126,8 @@ class Node:
 
 
 class Search:
-    """Of the entries of each vertex: `nodes` has the nodes after those that can be made, and `steps` (vertex, first, end) says
-    whose entries were made in which order."""
+    """Of the entries of each vertex: `nodes` has the nodes after those that can be made, and `steps` (vertex, first,
+    end) says whose entries were made in which order."""
 
     def __init__(self, net, own):
         self.nodes = {v: Node(net, v, own.get(v, [])) for v in net.neighbours}
@@ -145,6 +147,6 @@ class Search:
         return [member for v, first, end in self.steps for member in own[v][first:end]]
 
     def is_whole(self):
-        """Whether all entries are made and all nodes are through. Each port then has taken the other's closing mark, its last
-        wire, so that no link holds one."""
+        """Whether all entries are made and all nodes are through. Each port then has taken the other's closing mark,
+        its last wire, so that no link holds one."""
         return all(node.at == len(node.own) and node.is_drained() for node in self.nodes.values())

@@ -1,5 +1,5 @@
-"""Transcripts of edition 2: their lines are a run in the order in which they stand, with the stamps of Lamport's clock. It is
-written from the pages in docs/ alone."""
+"""Transcripts of edition 2: their lines are a run in the order in which they stand, with the stamps of Lamport's clock.
+It is written from the pages in docs/ alone."""
 from collections import deque
 
 from lab.definitions.nodes import NetState, Refused, entry_words, make, wire_words
@@ -25,9 +25,9 @@ class Clock:
 
 
 def check_stamped(net, head, entries):
-    """Makes the entries one by one as they stand; raises the first fault. Each entry has to be possible with what it says, its
-    stamp has to be the one that the clock gives, and it has to be behind the entry before it by stamp and then by vertex. At the
-    end every node has to be through, and every link empty."""
+    """Makes the entries one by one as they stand; raises the first fault. Each entry has to be possible with what it
+    says, its stamp has to be the one that the clock gives, and it has to be behind the entry before it by stamp and
+    then by vertex. At the end every node has to be through, and every link empty."""
     state, clock, last = NetState(net), Clock(net.neighbours), None
     for entry in entries:
         try:
@@ -36,7 +36,9 @@ def check_stamped(net, head, entries):
             raise Wrong(entry.line, str(refused), words(entry) + entry_words(state, entry, refused)) from None
         due = clock.next(entry.kind, entry.vertex, entry.neighbour)
         if entry.stamp != due:
-            raise Wrong(entry.line, "WrongStamp", f"{words(entry)} with stamp {entry.stamp}, but the clock there gives {due}")
+            raise Wrong(
+                entry.line, "WrongStamp", f"{words(entry)} with stamp {entry.stamp}, but the clock there gives {due}"
+            )
         if last and (last.stamp, last.vertex) > (entry.stamp, entry.vertex):
             before = f"line {last.line}, which has stamp {last.stamp} of node {last.vertex}"
             raise Wrong(entry.line, "WrongStamp", f"{words(entry)} with stamp {entry.stamp}, but comes behind {before}")
@@ -61,12 +63,12 @@ KINDS = {b"pulse": "Pulse", b"put": "Put", b"take": "Take"}
 
 
 def stamped_as_it_stands(net, lines):
-    """The nodes after the lines of a whole run with right stamps; None if they aren't one as they stand, byte for byte; then they
-    have to be read with care.
+    """The nodes after the lines of a whole run with right stamps; None if they aren't one as they stand, byte for byte;
+    then they have to be read with care.
 
-    The entries of each node are led to the end by a search, in some order. What a node does follows from how many of its
-    entries were made, and a take needs nothing but that its wire was put. In the order of these lines it was: the clock has a
-    stamp for it. So the lines are a run as they stand."""
+    The entries of each node are led to the end by a search, in some order. What a node does follows from how many of
+    its entries were made, and a take needs nothing but that its wire was put. In the order of these lines it was: the
+    clock has a stamp for it. So the lines are a run as they stand."""
     clock, own, last = Clock(net.neighbours), {v: [] for v in net.neighbours}, (0, 0)
     for line in lines:
         stamp, _, entry = line.partition(b" ")

@@ -1,21 +1,21 @@
 #!/usr/bin/env python3
-"""Runs `forestplan plan` and `transcript` with 2 to 64 workers over and over, with too little memory, most often refused once threads
-run. It is no part of the gate. The last line is 'N passed, M failed', over the runs.
+"""Runs `forestplan plan` and `transcript` with 2 to 64 workers over and over, with too little memory, most often
+refused once threads run. It is no part of the gate. The last line is 'N passed, M failed', over the runs.
 
   memory_stress.py [--runs N] [--first K] [--minutes M] [--seed SEED] [--jobs J] [--program PROGRAM]
-      N         how many runs; default 1000
-      K         the number of the first run; default 1. What is printed on the way says how to go on after an interruption
-      M         stop after so many minutes, if N runs take longer
-      SEED      of networks, workers and limits, with the number of the run; default 2026. Which growth of which thread is refused is
+      N         how many runs; default 1000 K         the number of the first run; default 1. What is printed on the way
+      says how to go on after an interruption M         stop after so many minutes, if N runs take longer SEED      of
+      networks, workers and limits, with the number of the run; default 2026. Which growth of which thread is refused is
                 another one in each run
       J         how many runs there are side by side; default: half the processors
       PROGRAM   default: the built forestplan
 
-Of four runs one has a limit of address space from its start, as `ulimit -v` sets it. The others get one once their last thread has been
-started, of address space or of data: what they have at that time, and at most a little more. A run passes if it ends within a minute,
-with the right answer, or with nothing but the line and the status of memory or of threads, and if each thread that it started has ended.
-A limit under which the program can't be loaded is no run. The status is 0 if none failed, and memory was refused to one at least whose
-threads were all started. It needs a C compiler, `cc`."""
+Of four runs one has a limit of address space from its start, as `ulimit -v` sets it. The others get one once their last
+thread has been started, of address space or of data: what they have at that time, and at most a little more. A run
+passes if it ends within a minute, with the right answer, or with nothing but the line and the status of memory or of
+threads, and if each thread that it started has ended. A limit under which the program can't be loaded is no run. The
+status is 0 if none failed, and memory was refused to one at least whose threads were all started. It needs a C
+compiler, `cc`."""
 import argparse
 import contextlib
 import functools
@@ -61,9 +61,13 @@ class Run:
         self.words = [given.program, self.command, "--workers", str(self.workers)]
         self.is_from_start = source.random() < 1 / 4
         # A worker takes a stack of 8 MiB, and may take 64 MiB for what it allocates.
-        self.at_start = source.choice((4 * MIB + source.randrange(8 * MIB), 8 * MIB + source.randrange(80 * MIB * self.workers)))
+        self.at_start = source.choice(
+            (4 * MIB + source.randrange(8 * MIB), 8 * MIB + source.randrange(80 * MIB * self.workers))
+        )
         self.kind = source.choice(("VmSize", "VmData", "VmData"))
-        self.more = source.choice((0, 0, 0, source.randrange(64 * KIB), source.randrange(MIB), source.randrange(70 * MIB)))
+        self.more = source.choice(
+            (0, 0, 0, source.randrange(64 * KIB), source.randrange(MIB), source.randrange(70 * MIB))
+        )
         self.after = source.choice((0, source.randrange(40), source.randrange(400)))
 
     def told(self):
@@ -72,8 +76,8 @@ class Run:
         return f"{self.command} with {self.workers} workers, {limit}, network {self.data!r}"
 
     def answer(self, fronts, folder):
-        """The answer, or None if the program wasn't loaded; whether the limit was set under way; and how many threads were asked for,
-        started and ended, if that is known."""
+        """The answer, or None if the program wasn't loaded; whether the limit was set under way; and how many threads
+        were asked for, started and ended, if that is known."""
         name = os.path.join(folder, f"threads{os.getpid()}")
         with contextlib.suppress(FileNotFoundError):
             os.remove(name)
@@ -84,7 +88,12 @@ class Run:
             network, output, errors = [files.enter_context(tempfile.TemporaryFile(dir=folder)) for _ in range(3)]
             network.write(self.data)
             network.seek(0)
-            given = {"LD_PRELOAD": ":".join(fronts), "COUNT_THREADS": name, "STARTED": str(to_loaded), "LIMITED": str(to_limited)}
+            given = {
+                "LD_PRELOAD": ":".join(fronts),
+                "COUNT_THREADS": name,
+                "STARTED": str(to_loaded),
+                "LIMITED": str(to_limited),
+            }
             if not self.is_from_start:
                 given.update(THREADS=str(self.workers), AFTER=str(self.after), KIND=self.kind, MORE=str(self.more))
             with os.fdopen(to_loaded, "wb"), os.fdopen(to_limited, "wb"):
@@ -99,7 +108,11 @@ class Run:
             is_loaded, is_limited = [bool(mark.read(1)) for mark in marks]
             output.seek(0)
             errors.seek(0)
-            return (started.returncode, output.read(), errors.read()) if is_loaded else None, is_limited, counts_in(name)
+            return (
+                (started.returncode, output.read(), errors.read()) if is_loaded else None,
+                is_limited,
+                counts_in(name),
+            )
 
     def limit_at_start(self):
         if self.is_from_start:
@@ -124,14 +137,23 @@ class Run:
         if answer == "no end":
             return answer, answer
         asked, started, ended = threads or (0, 0, -1)
-        when = "limited from the start" if self.is_from_start else "limited under way" if is_limited else "over before the limit"
+        when = (
+            "limited from the start"
+            if self.is_from_start
+            else "limited under way"
+            if is_limited
+            else "over before the limit"
+        )
         if answer in REFUSALS:
             said = f"{REFUSALS[answer]} refused, {'all' if started == self.workers else 'not all'} threads started"
         elif self.is_right(answer):
             said = "right answer"
         else:
             return "wrong", f"{answer[0]}, {answer[1][:300]!r}, {answer[2][:300]!r}"
-        return f"{when}: {said}", None if started == ended else f"{said}, but of {asked} threads {started} started and {ended} ended"
+        return (
+            f"{when}: {said}",
+            None if started == ended else f"{said}, but of {asked} threads {started} started and {ended} ended",
+        )
 
 
 def counts_in(name):
@@ -177,7 +199,9 @@ def main():
     words.add_argument("--minutes", type=float, default=None)
     words.add_argument("--seed", default="2026")
     words.add_argument("--jobs", type=int, default=max(1, len(os.sched_getaffinity(0)) // 2))
-    words.add_argument("--program", type=os.path.abspath, default=os.path.join(TOP, "crates", "forestplan", "out", "forestplan"))
+    words.add_argument(
+        "--program", type=os.path.abspath, default=os.path.join(TOP, "crates", "forestplan", "out", "forestplan")
+    )
     given = words.parse_args()
     with tempfile.TemporaryDirectory() as folder:
         fronts = [build_front(folder, name) for name in FRONTS]

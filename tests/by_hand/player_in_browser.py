@@ -5,8 +5,8 @@
       BROWSER   Chromium or Chrome (Debian: `apt-get install chromium`); chromium if it isn't named
       FOLDER    where a screenshot of each page and size is kept
 
-It needs a browser, and so it is no part of ./test. Each page gets a script of its own (below) that presses its buttons and
-keys and writes down what it sees; the browser prints the page as it is then."""
+It needs a browser, and so it is no part of ./test. Each page gets a script of its own (below) that presses its buttons
+and keys and writes down what it sees; the browser prints the page as it is then."""
 import argparse
 import html
 import os
@@ -80,8 +80,17 @@ CLICKS = """<script>
 
 
 def in_browser(browser, path, link, size, *more):
-    words = [browser, "--headless", "--no-sandbox", "--disable-gpu", "--hide-scrollbars", f"--window-size={size[0]},{size[1]}",
-             "--virtual-time-budget=20000", *more, f"file://{path}{link}"]
+    words = [
+        browser,
+        "--headless",
+        "--no-sandbox",
+        "--disable-gpu",
+        "--hide-scrollbars",
+        f"--window-size={size[0]},{size[1]}",
+        "--virtual-time-budget=20000",
+        *more,
+        f"file://{path}{link}",
+    ]
     return subprocess.run(words, capture_output=True, timeout=120).stdout.decode("utf-8", "replace")
 
 
@@ -89,7 +98,11 @@ def page_rows(given, folder, name, network, size):
     """What each click shows, beside what the pulses say."""
     label = f"{name} at {size[0]} by {size[1]}"
     net = network_of(network)
-    at = {"net": os.path.join(folder, "net.col"), "text": os.path.join(folder, "text"), "page": os.path.join(folder, "page.html")}
+    at = {
+        "net": os.path.join(folder, "net.col"),
+        "text": os.path.join(folder, "text"),
+        "page": os.path.join(folder, "page.html"),
+    }
     for key, data in (("net", network), ("text", rounds_text(net))):
         with open(at[key], "wb") as file:
             file.write(data)
@@ -98,12 +111,26 @@ def page_rows(given, folder, name, network, size):
     with open(at["page"], "wb") as file:
         file.write(page.replace(b"</body>", CLICKS.encode() + b"</body>"))
     told = in_browser(given.browser, at["page"], "#pulse-2", size, "--dump-dom")
-    seen = [line.split("|") for line in html.unescape((re.findall(r'<pre id="seen">(.*?)</pre>', told, re.S) or [""])[0]).split("\n")]
+    seen = [
+        line.split("|")
+        for line in html.unescape((re.findall(r'<pre id="seen">(.*?)</pre>', told, re.S) or [""])[0]).split("\n")
+    ]
     rows = {row[0]: row[1:] for row in seen if len(row) == 7}
     last, forests = 12 + 3 * net.forest_count * (net.span + 1), net.forest_count
-    wanted = [("opened", 2, None), ("next", 3, None), ("right", 4, None), ("right on the slider", 5, None), ("back", 4, None), ("left", 3, None),
-              ("slid to 7", 7, None), ("slid to the end", last, None), ("right at the end", last, None), ("linked to 3", 3, None),
-              ("played 2 seconds", 5, None), ("played from the end", 0, None)]
+    wanted = [
+        ("opened", 2, None),
+        ("next", 3, None),
+        ("right", 4, None),
+        ("right on the slider", 5, None),
+        ("back", 4, None),
+        ("left", 3, None),
+        ("slid to 7", 7, None),
+        ("slid to the end", last, None),
+        ("right at the end", last, None),
+        ("linked to 3", 3, None),
+        ("played 2 seconds", 5, None),
+        ("played from the end", 0, None),
+    ]
     if forests > 1:
         wanted += [("forest 1 clicked", 7, 1), ("next, enlarged", 8, 1), ("clicked again", 8, None)]
     for what, pulse, forest in wanted:
@@ -124,7 +151,11 @@ def page_rows(given, folder, name, network, size):
     for link, frame in (("#pulse-9999", last), ("#pulse-x", 0), ("", 0)):
         told = in_browser(given.browser, at["page"], link, size, "--dump-dom")
         seen_now = re.findall(r'<figure class="frame" data-pulse="(\d+)">(.*?)</figure>', told, re.S)
-        note(f"{label}: opened at {link or 'no link'}", [pulse for pulse, _ in seen_now] == [str(frame)], [pulse for pulse, _ in seen_now])
+        note(
+            f"{label}: opened at {link or 'no link'}",
+            [pulse for pulse, _ in seen_now] == [str(frame)],
+            [pulse for pulse, _ in seen_now],
+        )
         if frame == last and seen_now:
             channels = re.findall(r'class="channel"></circle>\s*<text[^>]*>(\d+)<', seen_now[0][1])
             note(f"{label}: the last frame has the plan", channels == plan, channels)

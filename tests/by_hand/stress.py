@@ -1,21 +1,21 @@
 #!/usr/bin/env python3
-"""Runs `forestplan transcript` over and over on small networks while processors are taken away from its threads, and checks each
-transcript. It is no part of the gate. The last line is 'N passed, M failed', over the runs.
+"""Runs `forestplan transcript` over and over on small networks while processors are taken away from its threads, and
+checks each transcript. It is no part of the gate. The last line is 'N passed, M failed', over the runs.
 
   stress.py [--runs N] [--first K] [--minutes M] [--limit S] [--seed SEED] [--jobs J] [--program PROGRAM] [--play PLAY]
-      N         how many runs; default 1000
-      K         the number of the first run; default 1. What is printed on the way says how to go on after an interruption
-      M         stop after so many minutes, if N runs take longer
-      S         how many seconds a run may take; default 300. A run that takes longer is killed, and has failed
-      SEED      of networks and options, with the number of the run; default 2026. Which thread does what, and when, is another
+      N         how many runs; default 1000 K         the number of the first run; default 1. What is printed on the way
+      says how to go on after an interruption M         stop after so many minutes, if N runs take longer S         how
+      many seconds a run may take; default 300. A run that takes longer is killed, and has failed SEED      of networks
+      and options, with the number of the run; default 2026. Which thread does what, and when, is another
                 thing in each run
       J         how many runs there are side by side; default: the number of processors
       PROGRAM   default: the built forestplan
       PLAY      default: the built forestplay
 
-Each run is of a network of 2 to 40 nodes, with 1 to 64 workers and a capacity of 1 to 64. Meanwhile its threads are moved to other
-processors, some of the time all to one, every millisecond or so, and in some runs a busy loop beside takes processors too. A
-transcript has to be accepted by lab/transcripts/check.py, and in the order that it finds by `forestplay replay`."""
+Each run is of a network of 2 to 40 nodes, with 1 to 64 workers and a capacity of 1 to 64. Meanwhile its threads are
+moved to other processors, some of the time all to one, every millisecond or so, and in some runs a busy loop beside
+takes processors too. A transcript has to be accepted by lab/transcripts/check.py, and in the order that it finds by
+`forestplay replay`."""
 import argparse
 import contextlib
 import functools
@@ -41,7 +41,8 @@ BUSY = 'while kill -0 "$0" 2>/dev/null; do :; done'
 
 
 def network(source):
-    """Any density up to six nodes; beyond, a shape with a few edges more, since runs grow with the degrees. Some have bars."""
+    """Any density up to six nodes; beyond, a shape with a few edges more, since runs grow with the degrees. Some have
+    bars."""
     nodes = source.randint(2, 40)
     names = source.sample(range(1, nodes + 1), nodes)
     if nodes <= 6:
@@ -132,7 +133,8 @@ def one_run(given, number):
 
 
 def all_runs(given):
-    """The counts of the runs. No run is left unfinished if the minutes are over: they are looked at behind each batch."""
+    """The counts of the runs. No run is left unfinished if the minutes are over: they are looked at behind each
+    batch."""
     end = None if given.minutes is None else time.monotonic() + 60 * given.minutes
     counts, after = Counter(failed=0), given.first + given.runs
     with multiprocessing.Pool(given.jobs) as pool:
@@ -160,8 +162,10 @@ def main():
         words.add_argument(name, type=os.path.abspath, default=os.path.join(TOP, "crates", program, "out", program))
     given = words.parse_args()
     counts = all_runs(given)
-    print(f"seed {given.seed}, runs {given.first} to {given.first + counts['runs'] - 1}: {counts['entries']} entries in all, "
-          f"threads moved {counts['moves']} times")
+    print(
+        f"seed {given.seed}, runs {given.first} to {given.first + counts['runs'] - 1}: {counts['entries']} entries in all, "
+        f"threads moved {counts['moves']} times"
+    )
     print(f"{counts['runs'] - counts['failed']} passed, {counts['failed']} failed")
     return 1 if counts["failed"] or not counts["runs"] else 0
 

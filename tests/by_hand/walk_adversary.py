@@ -1,11 +1,13 @@
 #!/usr/bin/env python3
-"""Walks through the adversary's page in a real browser, at 1024 by 768 and at a phone's width, with mouse and keyboard. It is
-outside the gate. The last line is 'N passed, M failed'.
+"""Walks through the adversary's page in a real browser, at 1024 by 768 and at a phone's width, with mouse and keyboard.
+It is outside the gate. The last line is 'N passed, M failed'.
 
   walk_adversary.py [--browser CHROMIUM] [--play PLAY] [--shots FOLDER]
-      CHROMIUM  the browser (default: chromium, of Debian's package `chromium`); it is spoken to through a pipe, by the DevTools
+      CHROMIUM  the browser (default: chromium, of Debian's package `chromium`); it is spoken to through a pipe, by the
+      DevTools
                 protocol, so no other package is needed
-      PLAY      the built `forestplay`, which has to accept each list of events (default: crates/forestplay/out/forestplay;
+      PLAY      the built `forestplay`, which has to accept each list of events (default:
+      crates/forestplay/out/forestplay;
                 without it those rows are left out)
       FOLDER    where pictures of the page are written, to look at"""
 import argparse
@@ -22,7 +24,8 @@ SIZES = {"wide": (1024, 768), "phone": (390, 844)}
 NETWORKS = {
     "two": (b"p edge 2 1\ne 1 2\n", ()), "triangle": (b"p edge 3 3\ne 1 2\ne 1 3\ne 2 3\n", ()),
     "row of four": (b"p edge 4 3\ne 1 2\ne 2 3\ne 3 4\n", ()),
-    "star of four": (b"p edge 4 3\ne 1 4\ne 2 4\ne 3 4\n", ()), "ring of four": (b"p edge 4 4\ne 1 2\ne 2 3\ne 3 4\ne 1 4\n", ()),
+    "star of four": (b"p edge 4 3\ne 1 4\ne 2 4\ne 3 4\n", ()),
+    "ring of four": (b"p edge 4 4\ne 1 2\ne 2 3\ne 3 4\ne 1 4\n", ()),
     "two without safes": (b"p edge 2 1\ne 1 2\n", ("--without", "safes")),
     "two without early": (b"p edge 2 1\ne 1 2\n", ("--without", "early")),
     "all of four without safes": (b"p edge 4 6\ne 1 2\ne 1 3\ne 1 4\ne 2 3\ne 2 4\ne 3 4\n", ("--without", "safes")),
@@ -35,13 +38,31 @@ class Browser:
     def __init__(self, program, folder):
         ours_in, theirs_out = os.pipe()
         theirs_in, ours_out = os.pipe()
-        words = [program, "--headless", "--no-sandbox", "--disable-gpu", "--hide-scrollbars", "--remote-debugging-pipe",
-                 f"--user-data-dir={folder}", "about:blank"]
-        self.process = subprocess.Popen(["sh", "-c", f'exec "$@" 3<&{theirs_in} 4>&{theirs_out}', "sh", *words],
-                                        pass_fds=(theirs_in, theirs_out), stdout=subprocess.DEVNULL, stderr=subprocess.DEVNULL)
+        words = [
+            program,
+            "--headless",
+            "--no-sandbox",
+            "--disable-gpu",
+            "--hide-scrollbars",
+            "--remote-debugging-pipe",
+            f"--user-data-dir={folder}",
+            "about:blank",
+        ]
+        self.process = subprocess.Popen(
+            ["sh", "-c", f'exec "$@" 3<&{theirs_in} 4>&{theirs_out}', "sh", *words],
+            pass_fds=(theirs_in, theirs_out),
+            stdout=subprocess.DEVNULL,
+            stderr=subprocess.DEVNULL,
+        )
         os.close(theirs_in)
         os.close(theirs_out)
-        self.reading, self.writing, self.left, self.number, self.session = os.fdopen(ours_in, "rb"), ours_out, b"", 0, None
+        self.reading, self.writing, self.left, self.number, self.session = (
+            os.fdopen(ours_in, "rb"),
+            ours_out,
+            b"",
+            0,
+            None,
+        )
         self.told = []
         target = self.ask("Target.createTarget", url="about:blank")["targetId"]
         self.session = self.ask("Target.attachToTarget", targetId=target, flatten=True)["sessionId"]
@@ -73,7 +94,9 @@ class Browser:
 
     def open(self, path, width, height):
         self.told.clear()
-        self.ask("Emulation.setDeviceMetricsOverride", width=width, height=height, deviceScaleFactor=1, mobile=width < 600)
+        self.ask(
+            "Emulation.setDeviceMetricsOverride", width=width, height=height, deviceScaleFactor=1, mobile=width < 600
+        )
         self.ask("Page.navigate", url=f"file://{path}")
         while not any(said.get("method") == "Page.loadEventFired" for said in self.told):
             self.told.append(self.read())
@@ -89,13 +112,17 @@ class Browser:
 
     def click(self, script):
         """Presses the mouse in the middle of what the script finds."""
-        x, y = self.value(f"(function () {{ var e = {script}; e.scrollIntoView({{block: 'center'}}); var r = e.getBoundingClientRect();"
-                          " return [r.x + r.width / 2, r.y + r.height / 2]; })()")
+        x, y = self.value(
+            f"(function () {{ var e = {script}; e.scrollIntoView({{block: 'center'}}); var r = e.getBoundingClientRect();"
+            " return [r.x + r.width / 2, r.y + r.height / 2]; })()"
+        )
         for kind in ("mousePressed", "mouseReleased"):
             self.ask("Input.dispatchMouseEvent", type=kind, x=x, y=y, button="left", clickCount=1)
 
     def key(self, key):
-        more = {"Enter": {"text": "\r", "windowsVirtualKeyCode": 13}, "Tab": {"windowsVirtualKeyCode": 9}}.get(key, {"text": key})
+        more = {"Enter": {"text": "\r", "windowsVirtualKeyCode": 13}, "Tab": {"windowsVirtualKeyCode": 9}}.get(
+            key, {"text": key}
+        )
         self.ask("Input.dispatchKeyEvent", type="keyDown", key=key, **more)
         self.ask("Input.dispatchKeyEvent", type="keyUp", key=key)
 
@@ -111,7 +138,10 @@ class Browser:
 
 
 EVENTS = "run.length - 1"
-FREE_TOKEN, READY_DISC = "document.querySelector('.token:not(.behind):not(.held)')", "document.querySelector('.disc:not(.dim)')"
+FREE_TOKEN, READY_DISC = (
+    "document.querySelector('.token:not(.behind):not(.held)')",
+    "document.querySelector('.disc:not(.dim)')",
+)
 
 
 def look_rows(browser, name, width, height):
@@ -119,17 +149,23 @@ def look_rows(browser, name, width, height):
     for events in (0, 40):
         for _ in range(events):
             browser.key("r")
-        note(f"{name}: no wider than the window after {events} events",
-             browser.value("document.documentElement.scrollWidth") <= width, browser.value("document.documentElement.scrollWidth"))
-        cut = browser.value("""Array.from(document.querySelectorAll('#map text, #map rect')).filter(function (e) { var b = e.getBBox(),
+        note(
+            f"{name}: no wider than the window after {events} events",
+            browser.value("document.documentElement.scrollWidth") <= width,
+            browser.value("document.documentElement.scrollWidth"),
+        )
+        cut = browser.value(
+            """Array.from(document.querySelectorAll('#map text, #map rect')).filter(function (e) { var b = e.getBBox(),
             v = map.viewBox.baseVal; return b.x < -1 || b.y < -1 || b.x + b.width > v.width + 1 || b.y + b.height > v.height + 1; })
             .map(function (e) { return e.textContent || e.outerHTML; })""")
         note(f"{name}: the map's texts and messages are in it after {events} events", not cut, cut)
     if width > 600:
         bottom = browser.value("document.getElementById('list').getBoundingClientRect().bottom + scrollY")
         note(f"{name}: all is on the first screen", bottom <= height, bottom)
-    smallest = browser.value("""Math.min.apply(null, Array.from(document.querySelectorAll('button')).map(function (button) {
-        return button.getBoundingClientRect().height; }))""")
+    smallest = browser.value(
+        """Math.min.apply(null, Array.from(document.querySelectorAll('button')).map(function (button) {
+        return button.getBoundingClientRect().height; }))"""
+    )
     note(f"{name}: buttons are large enough for a finger", smallest >= 30, smallest)
     browser.click("document.getElementById('anew')")
     note(f"{name}: start again", browser.value(EVENTS) == 0)
@@ -142,14 +178,20 @@ def mouse_rows(browser, name):
     note(f"{name}: undo", browser.value(EVENTS) == 0)
     browser.click("document.querySelector('.disc.dim')")
     note(f"{name}: a grey node does nothing", browser.value(EVENTS) == 0)
-    grey = browser.value("Array.from(document.querySelectorAll('.disc.dim')).map(function (e) { return e.textContent; })")
+    grey = browser.value(
+        "Array.from(document.querySelectorAll('.disc.dim')).map(function (e) { return e.textContent; })"
+    )
     note(f"{name}: grey nodes say what they wait for", grey and all("waits for " in words for words in grey), grey)
     while not browser.value(f"{READY_DISC} !== null"):
         browser.click(FREE_TOKEN)
     before = browser.value("pulses().join()")
     browser.click(READY_DISC + ".querySelector('circle')")
     after = browser.value("pulses().join()")
-    note(f"{name}: a node that is clicked makes its pulse", after != before and not browser.value("now().step.take"), after)
+    note(
+        f"{name}: a node that is clicked makes its pulse",
+        after != before and not browser.value("now().step.take"),
+        after,
+    )
 
 
 def key_rows(browser, name):
@@ -185,7 +227,10 @@ def freeze_rows(browser, name):
     said = browser.value("by('said').textContent")
     note(f"{name}: nothing comes over it", held and "frozen" in said, said)
     browser.click("document.querySelector('#freeze button')")
-    note(f"{name}: its button thaws it", not browser.value(f"frozen['{edge}']") and browser.value("possible().length") > 0)
+    note(
+        f"{name}: its button thaws it",
+        not browser.value(f"frozen['{edge}']") and browser.value("possible().length") > 0,
+    )
 
 
 def played(browser, network, play):
@@ -206,7 +251,9 @@ def list_rows(browser, name, network, play):
             done, shown = played(browser, network, play), browser.value("by('state').textContent") + "\n"
             good = (done.returncode, done.stdout.decode()) == (0, shown)
             note(f"{name}: forestplay shows the same after {events or 'all'} events", good, (done, shown))
-    said, won = browser.value("by('said').textContent"), browser.value("P.dares.map(function (dare) { return judged(dare)[0]; })")
+    said, won = browser.value("by('said').textContent"), browser.value(
+        "P.dares.map(function (dare) { return judged(dare)[0]; })"
+    )
     note(f"{name}: the end", "All have halted" in said, said)
     kinds = browser.value("P.dares.map(function (dare) { return dare.kind; })")
     never = [got for got, kind in zip(won, kinds) if kind in ("wrong", "plan")]
@@ -234,7 +281,11 @@ def broken_rows(browser, name, network, play):
         done = played(browser, network, play)
         if name.startswith("two without early"):
             # The proved machine keeps what comes early apart, so these events are possible there, and go right.
-            note(f"{name}: forestplay accepts the list", done.returncode == 0 and done.stdout.startswith(b"node 1 pulse 1\n"), done)
+            note(
+                f"{name}: forestplay accepts the list",
+                done.returncode == 0 and done.stdout.startswith(b"node 1 pulse 1\n"),
+                done,
+            )
         else:
             note(f"{name}: forestplay refuses the list", done.returncode == 1 and b" line " in done.stderr, done)
 
@@ -242,7 +293,9 @@ def broken_rows(browser, name, network, play):
 def walk(browser, name, network, options, size, given):
     width, height = SIZES[size]
     with tempfile.TemporaryDirectory() as folder:
-        net, page = os.path.join(folder, f"{name.split(' without')[0].replace(' ', '_')}.col"), os.path.join(folder, "page.html")
+        net, page = os.path.join(folder, f"{name.split(' without')[0].replace(' ', '_')}.col"), os.path.join(
+            folder, "page.html"
+        )
         with open(net, "wb") as file:
             file.write(network)
         status, text, fault = call(["adversary", net, *options])

@@ -36,9 +36,14 @@ def allocation_rows(program):
         links = [f"sync_rounds_checks::greatest_within_{links}" for links in ("1_link", "50_links")]
         pulses = [f"alpha_core_checks::runs::a_node_of_{pulses}" for pulses in ("1_pulse", "50_pulses")]
         return rows + [
-            row("run_rounds allocates as often in 50 pulses as in 1", [count(front, folder, [TESTS, name]) for name in links]),
-            row("a node under the synchroniser allocates as often in 50 pulses as in 1",
-                [count(front, folder, [TESTS, name]) for name in pulses]),
+            row(
+                "run_rounds allocates as often in 50 pulses as in 1",
+                [count(front, folder, [TESTS, name]) for name in links],
+            ),
+            row(
+                "a node under the synchroniser allocates as often in 50 pulses as in 1",
+                [count(front, folder, [TESTS, name]) for name in pulses],
+            ),
         ]
 
 
@@ -46,11 +51,17 @@ def capacity_row(program, front, folder):
     """Whether each direction of a link takes the same memory for each wire of the capacity. No node is looked at."""
     name, places = "each wire of the capacity takes the same memory in each direction of a link", {}
     for directions, network in ((2, EDGE), (6, TRIANGLE)):
-        asked = [count_and_bytes(front, folder, [program] + PLAN_WORDS + ["--turns", "0", "--capacity", str(capacity)], network, status=3)
-                 for capacity in CAPACITIES]
+        asked = [
+            count_and_bytes(
+                front, folder, [program] + PLAN_WORDS + ["--turns", "0", "--capacity", str(capacity)], network, status=3
+            )
+            for capacity in CAPACITIES
+        ]
         if None in asked or len({calls for calls, _ in asked}) != 1:
             return name, False, asked
-        places[directions] = {(asked[at][1] - asked[0][1], directions * (capacity - 1)) for at, capacity in enumerate(CAPACITIES)}
+        places[directions] = {
+            (asked[at][1] - asked[0][1], directions * (capacity - 1)) for at, capacity in enumerate(CAPACITIES)
+        }
     sizes = {more / wires for rows in places.values() for more, wires in rows if wires}
     return name, len(sizes) == 1 and min(sizes) > 0, places
 

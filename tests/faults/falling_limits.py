@@ -1,5 +1,5 @@
-"""Each command with less and less address space (as `ulimit -v` sets it), until the program can't even be loaded: at each limit
-the answer is the right bytes, or one line that has a name."""
+"""Each command with less and less address space (as `ulimit -v` sets it), until the program can't even be loaded: at
+each limit the answer is the right bytes, or one line that has a name."""
 import os
 import subprocess
 import tempfile
@@ -14,7 +14,9 @@ from tests.programs.slow_reader import PROGRAM_OF, answer_to
 LIMIT = 60
 MOST, LEAST, FINE_STEPS = 2**30, 2**20, 40
 LINE = 'ulimit -v "$0"; export LD_PRELOAD="$1" STARTED="$2"; shift 2; exec "$@"'
-PATH, SHORT_PATH = (b"p edge %d %d\n" % (n, n - 1) + b"".join(b"e %d %d\n" % (v, v + 1) for v in range(1, n)) for n in (2000, 300))
+PATH, SHORT_PATH = (
+    b"p edge %d %d\n" % (n, n - 1) + b"".join(b"e %d %d\n" % (v, v + 1) for v in range(1, n)) for n in (2000, 300)
+)
 TRIANGLE = b"p edge 3 3\ne 1 2\ne 1 3\ne 2 3\n"
 CIRCLE = b"p edge 12 12\n" + b"".join(b"e %d %d\n" % (v, v % 12 + 1) for v in range(1, 13))
 
@@ -24,9 +26,18 @@ def runs():
     net = network_of(CIRCLE)
     made, _ = whole_run(net, transcript := Run(net, 4).text())
     entries = in_order(made, transcript)
-    return [(["forests"], PATH), (["plain"], PATH), (["check"], PATH + plan_text(PATH)), (["events"], CIRCLE + events_of(net, entries)),
-            (["replay"], CIRCLE + entries), (["rounds"], CIRCLE), (["plan", "--workers", "1"], SHORT_PATH),
-            (["plan", "--workers", "64"], TRIANGLE), (["transcript", "--workers", "1"], CIRCLE), (["transcript", "--workers", "4"], CIRCLE)]
+    return [
+        (["forests"], PATH),
+        (["plain"], PATH),
+        (["check"], PATH + plan_text(PATH)),
+        (["events"], CIRCLE + events_of(net, entries)),
+        (["replay"], CIRCLE + entries),
+        (["rounds"], CIRCLE),
+        (["plan", "--workers", "1"], SHORT_PATH),
+        (["plan", "--workers", "64"], TRIANGLE),
+        (["transcript", "--workers", "1"], CIRCLE),
+        (["transcript", "--workers", "4"], CIRCLE),
+    ]
 
 
 def events_of(net, entries):
@@ -47,8 +58,8 @@ def falling_limit_rows(paths):
 
 
 def limits_row(paths, front, words, data):
-    """Falls in large steps to a limit at which nothing is loaded, and then in small ones between the last at which all went well
-    and that one."""
+    """Falls in large steps to a limit at which nothing is loaded, and then in small ones between the last at which all
+    went well and that one."""
     name = PROGRAM_OF[words[0]]
     program, is_allowed = [paths[name], *words], allowed(name, words, data)
     seen, last_good, limit = {}, MOST, MOST
@@ -80,7 +91,9 @@ def answer_within(program, front, data, limit):
 def allowed(name, words, data):
     """Whether an answer is the right one, or the line of what was refused."""
     is_threaded = words[0] in ("plan", "transcript")
-    refusals = [(4, b"", f"{name}: {line}\n".encode()) for line in (["memory", "threads"] if is_threaded else ["memory"])]
+    refusals = [
+        (4, b"", f"{name}: {line}\n".encode()) for line in (["memory", "threads"] if is_threaded else ["memory"])
+    ]
     if words[0] == "transcript":
         return lambda answer: answer in refusals or is_whole(data, answer)
     wanted = answer_to(words[0], data)

@@ -19,7 +19,8 @@ MOST = 5000
 
 
 def build_front(folder, name="refuse_growth"):
-    """The library that refuses or counts allocations (or threads), and what its compiler said if it failed, else None."""
+    """The library that refuses or counts allocations (or threads), and what its compiler said if it failed, else
+    None."""
     front = os.path.join(folder, name + ".so")
     built = subprocess.run(["cc", "-O1", "-shared", "-fPIC", "-o", front, os.path.join(HERE, name + ".c"), "-ldl"],
                            capture_output=True)
@@ -35,7 +36,9 @@ def refused_memory_rows(program, network, answer):
         rows = [("the refusing allocator builds", True, "")]
         rows.append(sweep(program, front, ["forests"], network, (0, answer, b"")))
         rows.append(sweep(program, front, ["plain"], network, (0, plan_text(network), b"")))
-        rows += [sweep(program, front, ["plain"], barred, (0, plan_text(barred), b"")) for barred in barred_networks(network)]
+        rows += [
+            sweep(program, front, ["plain"], barred, (0, plan_text(barred), b"")) for barred in barred_networks(network)
+        ]
         checked = network + plan_text(network)
         rows.append(sweep(program, front, ["check"], checked, (0, b"proper 3\n", b"")))
         rows.append(sweep(program, front, ["check"], network, (1, b"", b"forestplan: C6 line 1\n")))
@@ -49,11 +52,15 @@ def refused_memory_rows(program, network, answer):
 
 def barred_networks(network):
     """With identifiers and bars; and with so many bars that the nodes' sets of colours have boxes of their own."""
-    return [network + b"i 1 9\nb 3 1\nb 3 7\nb 1 2\ni 2 0\n", network + b"".join(b"b 1 %d\n" % channel for channel in range(1, 131))]
+    return [
+        network + b"i 1 9\nb 3 1\nb 3 7\nb 1 2\ni 2 0\n",
+        network + b"".join(b"b 1 %d\n" % channel for channel in range(1, 131)),
+    ]
 
 
 def tried_again(front, folder, name):
-    """Refuses each growth of a test in turn: it passes, and then asks more often for memory than if nothing is refused."""
+    """Refuses each growth of a test in turn: it passes, and then asks more often for memory than if nothing is
+    refused."""
     words = [TESTS, name]
     ample = count(front, folder, words) or 0
     counts = [count(front, folder, words, refused=refused) for refused in range(1, ample + 1)]

@@ -1,5 +1,6 @@
-"""`plan` and `transcript` if a thread is refused, or memory while threads run: they end in one line or in the right answer, and
-each thread that was started comes to its end. A push to a deque that is refused changes nothing in the answer."""
+"""`plan` and `transcript` if a thread is refused, or memory while threads run: they end in one line or in the right
+answer, and each thread that was started comes to its end. A push to a deque that is refused changes nothing in the
+answer."""
 import os
 import subprocess
 import tempfile
@@ -25,10 +26,15 @@ def refused_thread_rows(program, queens):
         if failure is not None or thread_failure is not None:
             return [("the libraries that refuse growths and threads build", False, failure or thread_failure)]
         counted = Counted(program, [growths, threads], folder)
-        return [each_thread(counted, "triangle", TRIANGLE, range(1, MOST_WORKERS + 1)), each_thread(counted, "queen5_5", queens, (4,)),
-                signed_number(counted),
-                *growths_of_one_worker(program, growths), growths_of_workers(counted, "plan"), growths_of_workers(counted, "transcript"),
-                refused_pushes(program, folder)]
+        return [
+            each_thread(counted, "triangle", TRIANGLE, range(1, MOST_WORKERS + 1)),
+            each_thread(counted, "queen5_5", queens, (4,)),
+            signed_number(counted),
+            *growths_of_one_worker(program, growths),
+            growths_of_workers(counted, "plan"),
+            growths_of_workers(counted, "transcript"),
+            refused_pushes(program, folder),
+        ]
 
 
 class Counted:
@@ -39,9 +45,16 @@ class Counted:
         self.growths, self.threads = os.path.join(folder, "growths"), os.path.join(folder, "threads")
 
     def run(self, words, data, growth=0, thread=0):
-        """The answer; how many growths were asked for; and how many threads were, how many started, and how many ended."""
-        given = {"PATH": os.environ.get("PATH", ""), "LD_PRELOAD": self.front, "REFUSE": str(growth), "REFUSE_THREAD": str(thread),
-                 "COUNT": self.growths, "COUNT_THREADS": self.threads}
+        """The answer; how many growths were asked for; and how many threads were, how many started, and how many
+        ended."""
+        given = {
+            "PATH": os.environ.get("PATH", ""),
+            "LD_PRELOAD": self.front,
+            "REFUSE": str(growth),
+            "REFUSE_THREAD": str(thread),
+            "COUNT": self.growths,
+            "COUNT_THREADS": self.threads,
+        }
         try:
             done = subprocess.run([self.program, *words], input=data, capture_output=True, timeout=LIMIT, env=given)
         except subprocess.TimeoutExpired:
@@ -58,18 +71,24 @@ def numbers_in(name):
 
 
 def each_thread(counted, title, data, numbers):
-    """With each number of workers: as many threads are asked for, and if the first, the second, .. of them is refused, no other is
-    asked for, and those before it end."""
+    """With each number of workers: as many threads are asked for, and if the first, the second, .. of them is refused,
+    no other is asked for, and those before it end."""
     wrong, refused = [], 0
     for workers in numbers:
         words = ["plan", "--workers", str(workers)]
         for thread in range(workers + 1):
             answer, _, *threads = counted.run(words, data, thread=thread)
-            wanted = (THREADS, [thread, thread - 1, thread - 1]) if thread else ((0, plan_text(data), b""), [workers] * 3)
+            wanted = (
+                (THREADS, [thread, thread - 1, thread - 1]) if thread else ((0, plan_text(data), b""), [workers] * 3)
+            )
             refused += thread > 0
             if (answer, threads) != wanted:
                 wrong.append((workers, thread, answer, threads))
-    return f"each of 1 to {max(numbers)} threads refused in turn: plan of {title}, {refused} refusals", not wrong, wrong[:3]
+    return (
+        f"each of 1 to {max(numbers)} threads refused in turn: plan of {title}, {refused} refusals",
+        not wrong,
+        wrong[:3],
+    )
 
 
 def signed_number(counted):
@@ -78,16 +97,20 @@ def signed_number(counted):
 
 
 def growths_of_one_worker(program, growths):
-    """With one worker a run is the same each time, by the definition of looks and turns. To start a thread takes memory of the system's
-    own; if that is refused, the thread is."""
+    """With one worker a run is the same each time, by the definition of looks and turns. To start a thread takes memory
+    of the system's own; if that is refused, the thread is."""
     run = Run(network_of(TRIANGLE), 4)
-    for words, wanted in [(["plan"], plan_text(TRIANGLE)), (["transcript"], run.merged()), (["transcript", "--edition", "1"], run.text())]:
+    for words, wanted in [
+        (["plan"], plan_text(TRIANGLE)),
+        (["transcript"], run.merged()),
+        (["transcript", "--edition", "1"], run.text()),
+    ]:
         yield sweep(program, growths, [*words, "--workers", "1"], TRIANGLE, (0, wanted, b""), or_else=THREADS)
 
 
 def growths_of_workers(counted, command):
-    """With several workers a growth of one number is another one in each run. Each is refused, up to twenty more than there
-    were in a run without refusals, and that twice for each number of workers."""
+    """With several workers a growth of one number is another one in each run. Each is refused, up to twenty more than
+    there were in a run without refusals, and that twice for each number of workers."""
     wrong, late, whole = [], 0, 0
     for workers in (2, 4, 16) * 2:
         words = [command, "--workers", str(workers)]
@@ -100,20 +123,31 @@ def growths_of_workers(counted, command):
             if not (is_refused or is_right(command, answer)) or ended != started:
                 wrong.append((workers, growth, answer, started, ended))
     late_enough = late > 0 or command == "plan"
-    return (f"each growth refused in turn: {command} with 2, 4 and 16 workers, {late} of them once all threads were started",
-            not wrong and whole > 0 and late_enough, wrong[:3] or (late, whole))
+    return (
+        f"each growth refused in turn: {command} with 2, 4 and 16 workers, {late} of them once all threads were started",
+        not wrong and whole > 0 and late_enough,
+        wrong[:3] or (late, whole),
+    )
 
 
 # Network, workers, and how many microseconds a worker is stopped at a time.
-STOPPED = [(ONE_EDGE, 4, 5), (TRIANGLE, 4, 5), (TRIANGLE, 4, 20), (ONE_EDGE, 3, 200), (TRIANGLE, 8, 20), (TRIANGLE, 1, 5)]
+STOPPED = [
+    (ONE_EDGE, 4, 5),
+    (TRIANGLE, 4, 5),
+    (TRIANGLE, 4, 20),
+    (ONE_EDGE, 3, 200),
+    (TRIANGLE, 8, 20),
+    (TRIANGLE, 1, 5),
+]
 
 
 def refused_pushes(program, folder, enough=8, patience=5 * LIMIT):
-    """Runs of several workers that are refused all memory they ask for, until `enough` of them were refused some; on a busy machine few
-    are, so after LIMIT seconds one is enough, and the row fails if none was after `patience` seconds. A worker asks for none but in a
-    push, and in this only if a thief that has claimed a place of the deque is stopped before it gives it free, while the owner comes
-    round to the place again: so the workers are stopped all the time, and the networks are small. With one worker there is no thief. If
-    a refused push dropped its node, the run wouldn't end, or the nodes couldn't be gathered."""
+    """Runs of several workers that are refused all memory they ask for, until `enough` of them were refused some; on a
+    busy machine few are, so after LIMIT seconds one is enough, and the row fails if none was after `patience` seconds.
+    A worker asks for none but in a push, and in this only if a thief that has claimed a place of the deque is stopped
+    before it gives it free, while the owner comes round to the place again: so the workers are stopped all the time,
+    and the networks are small. With one worker there is no thief. If a refused push dropped its node, the run wouldn't
+    end, or the nodes couldn't be gathered."""
     front, failure = build_front(folder, "refuse_in_threads")
     if failure is not None:
         return "the library that refuses what workers ask for builds", False, failure
@@ -126,8 +160,11 @@ def refused_pushes(program, folder, enough=8, patience=5 * LIMIT):
             refused += count
             if answer != (0, plan_text(data), b"") or (workers == 1 and count > 0):
                 wrong.append((data, workers, stop, answer, count))
-    return (f"pushes refused in the middle of a run: in {runs[1]} of {runs[0]} runs of plan with up to 8 workers, {refused} refusals",
-            not wrong and runs[1] > 0, wrong[:3] or f"no run in {patience} seconds was refused memory")
+    return (
+        f"pushes refused in the middle of a run: in {runs[1]} of {runs[0]} runs of plan with up to 8 workers, {refused} refusals",
+        not wrong and runs[1] > 0,
+        wrong[:3] or f"no run in {patience} seconds was refused memory",
+    )
 
 
 def refused_in_threads(program, front, folder, workers, data, stop):
@@ -135,7 +172,9 @@ def refused_in_threads(program, front, folder, workers, data, stop):
     name = os.path.join(folder, "refused")
     given = {"PATH": os.environ.get("PATH", ""), "LD_PRELOAD": front, "STOP": str(stop), "COUNT": name}
     try:
-        done = subprocess.run([program, "plan", "--workers", str(workers)], input=data, capture_output=True, timeout=LIMIT, env=given)
+        done = subprocess.run(
+            [program, "plan", "--workers", str(workers)], input=data, capture_output=True, timeout=LIMIT, env=given
+        )
     except subprocess.TimeoutExpired:
         return "no end", 0
     # A run that a signal ends writes no count.

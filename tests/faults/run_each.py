@@ -21,7 +21,8 @@ class Running:
         self.process = subprocess.Popen(words, pass_fds=files, env=environment, stdin=subprocess.DEVNULL)
 
     def answers(self):
-        """Waits for the answer to each text: status (or minus the signal that ended it), standard output, standard error."""
+        """Waits for the answer to each text: status (or minus the signal that ended it), standard output, standard
+        error."""
         with self.given, self.made, self.process:
             try:
                 status = self.process.wait(LIMIT)

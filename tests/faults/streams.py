@@ -1,13 +1,15 @@
 #!/usr/bin/env python3
-"""Breaks the streams of the built programs: each read of the input fails in turn, and each write of what is written, or it takes nothing.
+"""Breaks the streams of the built programs: each read of the input fails in turn, and each write of what is written, or
+it takes nothing.
 
   streams.py [--program PROGRAM] [--play PLAY]
       PROGRAM   default: the built forestplan
       PLAY      default: the built forestplay
 
-A stream gives or takes three bytes at a time (broken_streams.c). Behind a read or write that failed there is no other one, the status is
-4 with the line `stream`, and standard output has just the bytes of the writes before. A break of standard error changes no status. Help
-and refused words read nothing. Answers are worked by hand. It needs a C compiler, `cc`. The last line is 'N passed, M failed'."""
+A stream gives or takes three bytes at a time (broken_streams.c). Behind a read or write that failed there is no other
+one, the status is 4 with the line `stream`, and standard output has just the bytes of the writes before. A break of
+standard error changes no status. Help and refused words read nothing. Answers are worked by hand. It needs a C
+compiler, `cc`. The last line is 'N passed, M failed'."""
 import argparse
 import os
 import subprocess
@@ -35,9 +37,19 @@ COMMANDS = [
     ("forestplan", ["transcript", "--workers=2", "--edition=1"], APART,
      "transcript 1 2|" + "".join(f"{v} pulse {p}|" for v in (1, 2) for p in PULSES)),
     ("forestplan", ["check"], EDGE + "plan|1 2|2 1|", "proper 2|"),
-    ("forestplay", ["events"], EDGE + "put 1 0|", "node 1 pulse 0|link 1 2 taken 0 payload 0 hello 1|node 2 pulse 0|link 2 1 taken 0|"),
+    (
+        "forestplay",
+        ["events"],
+        EDGE + "put 1 0|",
+        "node 1 pulse 0|link 1 2 taken 0 payload 0 hello 1|node 2 pulse 0|link 2 1 taken 0|",
+    ),
     ("forestplay", ["replay"], ALONE + "transcript 1 1|1 pulse 1|1 pulse 2|", "node 1 pulse 2|"),
-    ("forestplay", ["rounds"], ALONE, "rounds 1 1 0 0 12|" + "".join(f"pulse {p} {step}|" for p, step in enumerate(STEPS))),
+    (
+        "forestplay",
+        ["rounds"],
+        ALONE,
+        "rounds 1 1 0 0 12|" + "".join(f"pulse {p} {step}|" for p, step in enumerate(STEPS)),
+    ),
 ]
 
 # Words, input, status and what is written to errors, if that is known.
@@ -115,34 +127,52 @@ def write_rows(broken, name, words, data, answer, takes_none):
 
 
 def refusal_rows(broken, words, data, status, line):
-    """What is written to errors; then each write of it breaks in turn: the status stays, and a beginning of the text is there."""
+    """What is written to errors; then each write of it breaks in turn: the status stays, and a beginning of the text is
+    there."""
     whole, counts = broken.run("forestplan", words, data)
     told = whole[2] if line is None else text(line)
     name = f"the refusal of {words} on {data!r}"
     note(f"{name} is written, whole", whole == (status, b"", told) and counts[OUTPUT] == 0 and told, whole)
-    note(f"{name} reads {'the input' if status == 1 else 'nothing'}", counts[INPUT] == (pieces(data) + 1 if status == 1 else 0), counts)
+    note(
+        f"{name} reads {'the input' if status == 1 else 'nothing'}",
+        counts[INPUT] == (pieces(data) + 1 if status == 1 else 0),
+        counts,
+    )
     for takes_none in (False, True):
         wrong = []
         for call in range(pieces(told)):
             got, counts = broken.run("forestplan", words, data, ERRORS, call, takes_none)
             if got != (status, b"", told[:PIECE * call]) or counts[ERRORS] != call + 1:
                 wrong.append((call, got, counts))
-        note(f"{name}: each of {pieces(told)} writes to errors {'takes nothing' if takes_none else 'fails'}", not wrong, wrong[:2])
+        note(
+            f"{name}: each of {pieces(told)} writes to errors {'takes nothing' if takes_none else 'fails'}",
+            not wrong,
+            wrong[:2],
+        )
 
 
 def help_rows(broken, words):
     """Help reads nothing; if output breaks, it is a stream that failed."""
     (status, helped, errors), counts = broken.run("forestplan", words, text(TRIANGLE))
-    note(f"help by {words} reads nothing", (status, errors, counts[INPUT]) == (0, b"", 0) and helped, (status, errors, counts))
+    note(
+        f"help by {words} reads nothing",
+        (status, errors, counts[INPUT]) == (0, b"", 0) and helped,
+        (status, errors, counts),
+    )
     for takes_none in (False, True):
         got, counts = broken.run("forestplan", words, text(TRIANGLE), OUTPUT, 2, takes_none)
-        note(f"help by {words} into a stream that breaks", got == (4, helped[:2 * PIECE], b"forestplan: stream\n") and counts[OUTPUT] == 3,
-             (got, counts))
+        note(
+            f"help by {words} into a stream that breaks",
+            got == (4, helped[: 2 * PIECE], b"forestplan: stream\n") and counts[OUTPUT] == 3,
+            (got, counts),
+        )
 
 
 def main():
     summary, _, more = __doc__.partition("\n")
-    words = argparse.ArgumentParser(description=summary, epilog=more, formatter_class=argparse.RawDescriptionHelpFormatter)
+    words = argparse.ArgumentParser(
+        description=summary, epilog=more, formatter_class=argparse.RawDescriptionHelpFormatter
+    )
     for name, program in (("--program", "forestplan"), ("--play", "forestplay")):
         words.add_argument(name, default=os.path.join(TOP, "crates", program, "out", program))
     given = words.parse_args()

@@ -1,5 +1,6 @@
 #!/usr/bin/env python3
-"""Checks that each wrong body still applies: those of crates/NAME/must-fail/ and of crates/NAME/wrong-bodies/. tests/pages/pages.py calls it.
+"""Checks that each wrong body still applies: those of crates/NAME/must-fail/ and of crates/NAME/wrong-bodies/.
+tests/pages/pages.py calls it.
 
   edits_apply.py
 
@@ -20,7 +21,9 @@ import re
 from tests import TOP
 
 # What a path may begin with anywhere.
-LANGUAGE = set("std core crate self super Self bool char str i8 i16 i32 i64 i128 isize u8 u16 u32 u64 u128 usize".split())
+LANGUAGE = set(
+    "std core crate self super Self bool char str i8 i16 i32 i64 i128 isize u8 u16 u32 u64 u128 usize".split()
+)
 
 # A path's first two words, if the first is written small. A call with types, `name::<T>(..)`, is none.
 PATH = re.compile(r"(?<![\w:])([a-z]\w*)::(\w+)")
@@ -72,7 +75,9 @@ def fault_of(crate, edit, listed):
         rest = rest.removeprefix(" ")
         if word == "file":
             path = rest.strip()
-            if not path.startswith(("src/", "specs/", "proofs/")) or not os.path.isfile(os.path.join(TOP, "crates", crate, path)):
+            if not path.startswith(("src/", "specs/", "proofs/")) or not os.path.isfile(
+                os.path.join(TOP, "crates", crate, path)
+            ):
                 return f"the crate has no file {path}"
         elif word == "old":
             old = rest
@@ -99,7 +104,9 @@ def fault_of(crate, edit, listed):
 def edits():
     """Each edit, with its crate: those of the gate, and the further ones."""
     crates = sorted(os.listdir(os.path.join(TOP, "crates")))
-    for crate, folder in [(crate, os.path.join("crates", crate, name)) for crate in crates for name in ("must-fail", "wrong-bodies")]:
+    for crate, folder in [
+        (crate, os.path.join("crates", crate, name)) for crate in crates for name in ("must-fail", "wrong-bodies")
+    ]:
         if os.path.isdir(os.path.join(TOP, folder)):
             for name in sorted(os.listdir(os.path.join(TOP, folder))):
                 yield crate, os.path.join(folder, name)
@@ -113,7 +120,9 @@ def faults():
 
 def main():
     summary, _, more = __doc__.partition("\n")
-    argparse.ArgumentParser(description=summary, epilog=more, formatter_class=argparse.RawDescriptionHelpFormatter).parse_args()
+    argparse.ArgumentParser(
+        description=summary, epilog=more, formatter_class=argparse.RawDescriptionHelpFormatter
+    ).parse_args()
     found = faults()
     wrong = [(path, fault) for path, fault in found if fault]
     for path, fault in wrong:

@@ -3,16 +3,20 @@
 
   pages.py [PROGRAM PLAY]      default: the programs as `bin/forestplan` and `bin/forestplay` build them
 
-- Each command shown, a line `$ ..`, is run at the top of the repository, by bash; what stands under it, in the same columns,
+- Each command shown, a line `$ ..`, is run at the top of the repository, by bash; what stands under it, in the same
+  columns,
   has to be its output (notes behind two blanks are left out), or its refusal.
-- Each table of docs/learn/TUTORIAL.md is worked out from the definitions (lab/definitions/colours.py, lab/definitions/nodes.py), not from
+- Each table of docs/learn/TUTORIAL.md is worked out from the definitions (lab/definitions/colours.py,
+  lab/definitions/nodes.py), not from
   the program; and so is what it says of small networks, of rows, and of nodes that break a rule (tutorial_facts.py).
 - These definitions fit together: on small networks the rounds, and any order of events, end with the colours.
-- Each excerpt of code, a fence whose first line names its file, has its lines in that file, in this order; a comment `..`
+- Each excerpt of code, a fence whose first line names its file, has its lines in that file, in this order; a comment
+  `..`
   stands for lines that are left out.
 - Each wrong body of crates/NAME/must-fail/ and crates/NAME/wrong-bodies/ still applies (edits_apply.py).
 - No crate is reached along more paths through crates.txt than build/paths.py allows.
-- README.md or docs/work/LAYERS.md names each crate, and README.md is at most 120 lines. No line of a page is wider than 150 columns.
+- README.md or docs/work/LAYERS.md names each crate, and README.md is at most 120 lines. No line of a page is wider than
+  150 columns.
 - Each file named in backquotes exists, each link leads to a page and a heading, and each function and clause that
   docs/claim/PROMISES.md names is in the code. It names each public law.
 """
@@ -31,7 +35,9 @@ from tests.pages import edits_apply
 from tests.pages.tutorial_facts import channels_of, dropped, example, fact_rows, pulses_of
 from tests.shell import run_line
 
-PAGES = ["README.md"] + sorted(os.path.relpath(path, TOP) for path in glob.glob(os.path.join(TOP, "docs", "**", "*.md"), recursive=True))
+PAGES = ["README.md"] + sorted(
+    os.path.relpath(path, TOP) for path in glob.glob(os.path.join(TOP, "docs", "**", "*.md"), recursive=True)
+)
 LIMIT = 300
 WIDEST, LONGEST_README = 150, 120
 TALLY = {"passed": 0, "failed": 0}
@@ -68,7 +74,11 @@ def check_commands(page, programs):
         done = run_line(words, limit=LIMIT, cwd=TOP)
         wanted = "".join(line + "\n" for line in shown)
         good = [(0, wanted.encode(), b"")] + [(status, b"", wanted.encode()) for status in (1, 3) if wanted]
-        note(f"{page}:{number} {command}", (done.returncode, done.stdout, done.stderr) in good, f"shown {wanted!r}, got {done}")
+        note(
+            f"{page}:{number} {command}",
+            (done.returncode, done.stdout, done.stderr) in good,
+            f"shown {wanted!r}, got {done}",
+        )
 
 
 def tables_of(lines):
@@ -109,7 +119,8 @@ def played(net, rows):
 
 
 def check_definitions():
-    """On small networks the rounds, and any order of events, end with the colours: so the pages' definitions fit together."""
+    """On small networks the rounds, and any order of events, end with the colours: so the pages' definitions fit
+    together."""
     source, wrong = random.Random(2026), []
     for _ in range(40):
         nodes = source.randrange(0, 7)
@@ -118,14 +129,18 @@ def check_definitions():
         rounds, state = synchronous_run(net), NetState(net)
         while events := list(state.possible()):
             state.step(*source.choice(events))
-        ends = [{v: node.merged for v, node in rounds.items()}, {v: node.program.merged for v, node in state.nodes.items()}]
+        ends = [
+            {v: node.merged for v, node in rounds.items()},
+            {v: node.program.merged for v, node in state.nodes.items()},
+        ]
         if ends != [colours(net)] * 2 or not all(node.drained() for node in state.nodes.values()):
             wrong.append(net.neighbours)
     note("rounds and events of 40 small networks end with the colours", not wrong, wrong[:1])
 
 
 def greatest_colours(digits):
-    """The greatest colour after each of four bit steps from numbers of so many digits: in place i and its own digit, 1."""
+    """The greatest colour after each of four bit steps from numbers of so many digits: in place i and its own digit,
+    1."""
     for _ in range(4):
         greatest = 2 * (digits - 1) + 1
         yield str(greatest)
@@ -140,7 +155,9 @@ def tutorial_table(title, rows):
         joined, changed = [v for v in sorted(net.neighbours) if net.neighbours[v]], dropped(net, f)
         parents = [str(net.parent(f, v) or "-") for v in joined]
         return [[str(v) for v in joined], parents] + [
-            [f"**{c[v]}**" if (p, v) in changed else str(c[v]) for v in joined] for p, c in enumerate(pulses_of(net, f), 2)]
+            [f"**{c[v]}**" if (p, v) in changed else str(c[v]) for v in joined]
+            for p, c in enumerate(pulses_of(net, f), 2)
+        ]
     found = re.match(r"Merges of `(.*)`:", title)
     if found:
         net = example(found.group(1))
@@ -153,7 +170,9 @@ def tutorial_table(title, rows):
         for row in rows[2:]:
             net = example(row[0].strip("`"))
             last = 12 + 3 * net.forest_count * (net.span + 1)
-            wanted.append([str(x) for x in (len(net.neighbours), net.greatest_degree, net.forest_count, last, channels_of(net))])
+            wanted.append(
+                [str(x) for x in (len(net.neighbours), net.greatest_degree, net.forest_count, last, channels_of(net))]
+            )
         return wanted
     if rows[0][0].startswith("identifiers"):
         return [rows[0][1:]] + [list(greatest_colours(int(row[0].split()[0]))) for row in rows[2:]]
@@ -268,7 +287,9 @@ def check_promises():
         note(f"docs/claim/PROMISES.md {path}", not missing, f"not in the code: {missing}")
     laws = laws_of_crates()
     missing = sorted(laws - {path for path, _ in promises})
-    note("laws in docs/claim/PROMISES.md", len(laws) > 50 and not missing, f"{len(laws)} are found, not named: {missing}")
+    note(
+        "laws in docs/claim/PROMISES.md", len(laws) > 50 and not missing, f"{len(laws)} are found, not named: {missing}"
+    )
     note("promises of docs/claim/PROMISES.md", len(promises) > 200, f"{len(promises)} are found")
 
 

@@ -1,5 +1,5 @@
-"""What docs/learn/TUTORIAL.md says of small networks, of rows, and of nodes that break a rule, worked out from the definitions
-(lab/definitions/colours.py, lab/definitions/nodes.py) or by hand: rows (name, good, what)."""
+"""What docs/learn/TUTORIAL.md says of small networks, of rows, and of nodes that break a rule, worked out from the
+definitions (lab/definitions/colours.py, lab/definitions/nodes.py) or by hand: rows (name, good, what)."""
 import copy
 import itertools
 import os
@@ -38,8 +38,12 @@ def channels_of(net):
 
 
 def fewest_colours(nodes, edges):
-    return next(k for k in range(nodes + 1) for c in itertools.product(range(k), repeat=nodes)
-                if all(c[v - 1] != c[w - 1] for v, w in edges))
+    return next(
+        k
+        for k in range(nodes + 1)
+        for c in itertools.product(range(k), repeat=nodes)
+        if all(c[v - 1] != c[w - 1] for v, w in edges)
+    )
 
 
 def too_many_row():
@@ -67,7 +71,7 @@ def rounds_in_order(row):
     """How many rounds a row takes if each node chooses in the round after the last of its lower neighbours."""
     chosen = {}
     for k, v in sorted(enumerate(row), key=lambda place: place[1]):
-        chosen[v] = 1 + max([chosen[w] for w in row[max(k - 1, 0):k] + row[k + 1:k + 2] if w < v], default=0)
+        chosen[v] = 1 + max([chosen[w] for w in row[max(k - 1, 0) : k] + row[k + 1 : k + 2] if w < v], default=0)
     return max(chosen.values())
 
 
@@ -84,11 +88,14 @@ def dropped(net, f):
 
 
 def drop_rows():
-    """The example, by hand from the colours after pulse 6. At pulse 7 node 1 has 5, which node 2 had; before it had 1, and
-    node 2 now has 4: so at 8 it takes 0. At 9 it has 4, the next colour of node 2; before it had 0, and node 2 now has 0: so at
-    10 it takes 1. At 11 node 3 has 3, which node 4 had; before it had 1, and node 4 now has 0: so at 12 it takes 2.
+    """The example, by hand from the colours after pulse 6. At pulse 7 node 1 has 5, which node 2 had; before it had 1,
+    and node 2 now has 4: so at 8 it takes 0. At 9 it has 4, the next colour of node 2; before it had 0, and node 2 now
+    has 0: so at 10 it takes 1. At 11 node 3 has 3, which node 4 had; before it had 1, and node 4 now has 0: so at 12 it
+    takes 2.
 
-    Smaller networks: a forest is a higher parent, or none, for each node, and it is forest 0 of the network of its edges."""
+    Smaller networks: a forest is a higher parent, or none, for each node, and it is forest 0 of the network of its
+    edges.
+    """
     found = dropped(example("examples/drops.col"), 0)
     yield "drops of the row of nine", found == [(8, 1), (10, 1), (12, 3)], found
     count = 0
@@ -100,18 +107,25 @@ def drop_rows():
 
 
 def bar_rows():
-    """The ring of four with a bar, by hand: after pulse 12 nodes 1 and 3 have 0 in forest 0, and 2 and 4 have 1. So 3 is first, by (0, 0),
-    and takes 0; then 1, by (0, 1), takes 1; then 2 and 4, by (1, 0): 2 has heard both and takes 2, 4 has heard 3 alone and takes 1. In
-    forest 1, the edge of 1 and 4, node 1 is before 4: 3 takes 0, 1 takes 1, 4 has heard both and takes 2, and so does 2."""
+    """The ring of four with a bar, by hand: after pulse 12 nodes 1 and 3 have 0 in forest 0, and 2 and 4 have 1. So 3
+    is first, by (0, 0), and takes 0; then 1, by (0, 1), takes 1; then 2 and 4, by (1, 0): 2 has heard both and takes 2,
+    4 has heard 3 alone and takes 1. In forest 1, the edge of 1 and 4, node 1 is before 4: 3 takes 0, 1 takes 1, 4 has
+    heard both and takes 2, and so does 2.
+    """
     net = example("examples/barred.col")
     merges = [first_colours(net), merge(net, 0, first_colours(net)), colours(net)]
     wanted = [{1: 1, 2: 0, 3: 0, 4: 0}, {1: 1, 2: 2, 3: 0, 4: 1}, {1: 1, 2: 2, 3: 0, 4: 2}]
     yield "the ring of four with a bar", (merges, last_pulse(net)) == (wanted, 36), merges
-    yield "three colours of the ring of four", three(net, 0) == {1: 0, 2: 1, 3: 0, 4: 1} and three(net, 1)[1] < three(net, 1)[4], three(net, 1)
+    yield "three colours of the ring of four", three(net, 0) == {1: 0, 2: 1, 3: 0, 4: 1} and three(net, 1)[1] < three(
+        net, 1
+    )[4], three(net, 1)
     star = example("examples/star.col")
     barred = Network(star.identifiers, star.number, {9: {0}})
     found = [colours(net) for net in (star, barred)]
-    yield "the star with a bar", found == [{v: 1 for v in range(1, 9)} | {9: 0}, {v: 0 for v in range(1, 9)} | {9: 1}], found
+    yield "the star with a bar", found == [
+        {v: 1 for v in range(1, 9)} | {9: 0},
+        {v: 0 for v in range(1, 9)} | {9: 1},
+    ], found
 
 
 class Hasty(AlphaNode):
@@ -129,8 +143,8 @@ class Hasty(AlphaNode):
 
 
 def acknowledgement_rows():
-    """Two hasty nodes have all their inboxes, too; but not if a safe overtakes a greeting. A search by width, which was written
-    apart from this one, counted the same states."""
+    """Two hasty nodes have all their inboxes, too; but not if a safe overtakes a greeting. A search by width, which was
+    written apart from this one, counted the same states."""
     two = Network({1: 1, 2: 2}, {(1, 2)})
     for kind, wanted in ((AlphaNode, (281, 641)), (Hasty, (536, 2061))):
         for puts_apart in (False, True):
@@ -173,8 +187,8 @@ def put_all(state):
 
 
 def states_of(net, kind, puts_apart):
-    """How many states events lead to, and whether each pulse that is possible in one of them has its inbox. If puts aren't
-    counted apart, each is made as soon as it can be."""
+    """How many states events lead to, and whether each pulse that is possible in one of them has its inbox. If puts
+    aren't counted apart, each is made as soon as it can be."""
     inboxes, start = inboxes_of(net), start_of(net, kind)
     start = start if puts_apart else put_all(start)
     seen, left, is_right = {frozen(start)}, [start], True

@@ -47,14 +47,22 @@ class Drawing:
         return path
 
     def run(self, kind, network, text, *options, **more):
-        option = {"plan": "--plan", "matrix": "--plan", "run": "--transcript", "overview": "--transcript", "node": "--transcript",
-                  "tally": "--transcript"}.get(kind, "--rounds")
+        option = {
+            "plan": "--plan",
+            "matrix": "--plan",
+            "run": "--transcript",
+            "overview": "--transcript",
+            "node": "--transcript",
+            "tally": "--transcript",
+        }.get(kind, "--rounds")
         words = [kind, self.file("net.col", network), option, self.file("text", text), *map(str, options)]
         return call(words, **more) if more else self.painter(words)
 
     def by_rounds(self, network, text, *options):
         """The tally that is counted by a text of rounds."""
-        status, picture, fault = self.painter(["tally", self.file("net.col", network), "--rounds", self.file("text", text), *options])
+        status, picture, fault = self.painter(
+            ["tally", self.file("net.col", network), "--rounds", self.file("text", text), *options]
+        )
         if status:
             raise AssertionError(f"tally is refused: {fault.decode()}")
         return picture.decode()
@@ -72,4 +80,6 @@ def transcript(network, seed, capacity=4):
 
 
 def transcript_by(program, network, workers):
-    return subprocess.run([program, "transcript", "--workers", workers], input=network, capture_output=True, timeout=LIMIT).stdout
+    return subprocess.run(
+        [program, "transcript", "--workers", workers], input=network, capture_output=True, timeout=LIMIT
+    ).stdout

@@ -1,5 +1,6 @@
-"""Pictures of rounds without a rule: what is left out beside the rounds of ruled_rounds.py (tests/programs/schedules.py compares these with
-nodes that hear and send), what has all rules beside lab/definitions/colours.py, and the words beside what `bin/explore` prints."""
+"""Pictures of rounds without a rule: what is left out beside the rounds of ruled_rounds.py (tests/programs/schedules.py
+compares these with nodes that hear and send), what has all rules beside lab/definitions/colours.py, and the words
+beside what `bin/explore` prints."""
 import os
 import re
 import subprocess
@@ -40,17 +41,22 @@ def squares_of(group):
 def words_row(name, root, said):
     """The sentences of bin/explore are in the picture's, with its own quotes."""
     shown = " ".join(texts(root))
-    missing = [line for line in said if line and not line.startswith("wrong body") and line[1:].replace("'", "’") not in shown]
+    missing = [
+        line for line in said if line and not line.startswith("wrong body") and line[1:].replace("'", "’") not in shown
+    ]
     note(f"{name}: the words", not missing, missing)
 
 
 def forest_row(name, root, rounds):
-    """The rows are the node that goes wrong and those above it; the squares are the colours; the frame is around two equal ones."""
+    """The rows are the node that goes wrong and those above it; the squares are the colours; the frame is around two
+    equal ones."""
     clash, net = rounds.clash, rounds.net
     chain, v = [clash.v], clash.v
     while len(chain) < clash.pulse - 1 and (v := net.parent(clash.forest, v)):
         chain.insert(0, v)
-    circles = sorted(zip([centre(mark)[1] for mark in marks(root, "node")], [int(said) for _, _, said in numbered(root, "node")]))
+    circles = sorted(
+        zip([centre(mark)[1] for mark in marks(root, "node")], [int(said) for _, _, said in numbered(root, "node")])
+    )
     note(f"{name}: its nodes", [v for _, v in circles] == chain, (circles, chain))
     groups = [marks(root, "without")[0], marks(root, "with")[0]]
     wanted = [rounds.colours[clash.forest], colours_by_definition(net, clash.forest, clash.pulse)]
@@ -68,8 +74,10 @@ def merge_row(name, root, rounds):
     """Three panels each; red are the edges of the forests merged whose ends have one channel, and no others."""
     clash, net = rounds.clash, rounds.net
     f, vertices = clash.forest, sorted(rounds.net.neighbours)
-    for kind, (before, colours, after) in {"without": (rounds.merged[f], rounds.colours[f][-1], rounds.merged[f + 1]),
-                                           "with": (merged_by_definition(net, f), three(net, f), merged_by_definition(net, f + 1))}.items():
+    for kind, (before, colours, after) in {
+        "without": (rounds.merged[f], rounds.colours[f][-1], rounds.merged[f + 1]),
+        "with": (merged_by_definition(net, f), three(net, f), merged_by_definition(net, f + 1)),
+    }.items():
         group = marks(root, kind)[0]
         shown = [int(said) for _, _, said in numbered(group, "channel")]
         wanted = [c[v] + 1 for c in (before, after) for v in vertices]
@@ -78,7 +86,11 @@ def merge_row(name, root, rounds):
         note(f"{name}: the colours {kind}", squares == [colours[v] for v in vertices], squares)
         places = dict(zip(vertices, [centre(mark) for mark in marks(group, "channel")][len(vertices):]))
         red = sorted(tuple(sorted(nearest(places, end) for end in ends(mark))) for mark in marks(group, "wrong"))
-        same = sorted(tuple(sorted(edge)) for edge, forest in net.number.items() if forest <= f and len({after[v] for v in edge}) == 1)
+        same = sorted(
+            tuple(sorted(edge))
+            for edge, forest in net.number.items()
+            if forest <= f and len({after[v] for v in edge}) == 1
+        )
         note(f"{name}: what is red {kind}", red == same and bool(red) == (kind == "without"), (red, same))
         takes = {int(v): int(c) - 1 for v, c in re.findall(r"node (\d+), turn [\d, ]+: takes channel (\d+)",
                                                            "\n".join(mark.text for mark in marks(group, "chooses")))}
@@ -88,9 +100,19 @@ def merge_row(name, root, rounds):
                  for v, words in re.findall(r"node (\d+), turn .*\n\(it has heard (.*)\)", said)}
         left_out = rounds.without if kind == "without" else ()
         turn = {v: (colours[v],) if "pair" in left_out else (colours[v], before[v]) for v in vertices}
-        told = {v: {w: after[w] + 1 for w in net.neighbours[v] if turn[w] < turn[v]
-                    and (net.number[frozenset((v, w))] == f or net.number[frozenset((v, w))] < f and "earlier" not in left_out)}
-                for v in (clash.v, clash.w)}
+        told = {
+            v: {
+                w: after[w] + 1
+                for w in net.neighbours[v]
+                if turn[w] < turn[v]
+                and (
+                    net.number[frozenset((v, w))] == f
+                    or net.number[frozenset((v, w))] < f
+                    and "earlier" not in left_out
+                )
+            }
+            for v in (clash.v, clash.w)
+        }
         note(f"{name}: who has heard what {kind}", heard == told, (heard, told))
         arrows = len(marks(group, "arrow"))
         note(f"{name}: the forest's edges {kind}", arrows == sum(forest == f for forest in net.number.values()), arrows)
@@ -126,7 +148,10 @@ def broken_rows(painter, all_of):
     for name, rule in (("petersen", "pair"), ("drops", "parent"), ("disk100", "children"), ("queen5_5", "earlier")):
         rounds = RuledRounds(network_of(all_of[name]), [rule])
         broken_row(painter, f"broken {name} without {rule}", [f"examples/{name}.col", "--without", rule], rounds)
-    for name, rule, said in (("disk100", "pair", b"at most 40 nodes of a merge"), ("chain6", "shift", b"not broken: the rounds of chain6 go")):
+    for name, rule, said in (
+        ("disk100", "pair", b"at most 40 nodes of a merge"),
+        ("chain6", "shift", b"not broken: the rounds of chain6 go"),
+    ):
         status, picture, fault = painter(["broken", f"examples/{name}.col", "--without", rule])
         note(f"refused: {name} without {rule}", (status, picture) == (1, b"") and said in fault, fault)
     both = painter(["broken", "--without", "pair,earlier"])

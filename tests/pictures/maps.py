@@ -31,7 +31,12 @@ def apart_row(name, circles):
 
 def squares_row(name, squares):
     """No two squares (half a side, x, y) overlap."""
-    wrong = [(p, q) for at, p in enumerate(squares) for q in squares[:at] if max(abs(p[1] - q[1]), abs(p[2] - q[2])) < p[0] + q[0] - 0.1]
+    wrong = [
+        (p, q)
+        for at, p in enumerate(squares)
+        for q in squares[:at]
+        if max(abs(p[1] - q[1]), abs(p[2] - q[2])) < p[0] + q[0] - 0.1
+    ]
     note(f"{name}: no squares overlap", squares and not wrong, wrong[:3])
 
 
@@ -51,15 +56,23 @@ def crowded_rows(draw, name, network):
 
 def grid_rows(draw, wide, high):
     """A grid without places is drawn as one: edges about equally long, and all other pairs farther apart."""
-    edges = {(v, v + 1) for v in range(1, wide * high + 1) if v % wide} | {(v, v + wide) for v in range(1, wide * (high - 1) + 1)}
+    edges = {(v, v + 1) for v in range(1, wide * high + 1) if v % wide} | {
+        (v, v + wide) for v in range(1, wide * (high - 1) + 1)
+    }
     network = f"p edge {wide * high} {len(edges)}\n" + "".join(f"e {v} {w}\n" for v, w in sorted(edges))
     places = places_drawn(draw, network.encode())
     far = {(v, w): gap(places[v], places[w]) for v in places for w in places if v < w}
     longest = max(far[e] for e in edges)
     note(f"a grid of {wide} by {high}: its edges", longest < 1.25 * min(far[e] for e in edges), longest)
     nearest_other = min(length for pair, length in far.items() if pair not in edges)
-    note(f"a grid of {wide} by {high}: others are farther apart", nearest_other > 1.15 * longest, (nearest_other, longest))
-    level = sum(min(abs(places[v][0] - places[w][0]), abs(places[v][1] - places[w][1])) < 0.12 * far[v, w] for v, w in edges)
+    note(
+        f"a grid of {wide} by {high}: others are farther apart",
+        nearest_other > 1.15 * longest,
+        (nearest_other, longest),
+    )
+    level = sum(
+        min(abs(places[v][0] - places[w][0]), abs(places[v][1] - places[w][1])) < 0.12 * far[v, w] for v, w in edges
+    )
     note(f"a grid of {wide} by {high}: its edges are level or upright", level > 0.9 * len(edges), (level, len(edges)))
 
 
@@ -70,13 +83,20 @@ def parts_rows(draw):
     network = f"p edge 16 {len(edges)}\n" + "".join(f"e {v} {w}\n" for v, w in edges)
     places = places_drawn(draw, network.encode())
     boxes = [tuple(of(places[v][at] for v in ring) for of in (min, max) for at in (0, 1)) for ring in rings]
-    wrong = [(a, b) for at, a in enumerate(boxes) for b in boxes[:at] if a[0] < b[2] and b[0] < a[2] and a[1] < b[3] and b[1] < a[3]]
+    wrong = [
+        (a, b)
+        for at, a in enumerate(boxes)
+        for b in boxes[:at]
+        if a[0] < b[2] and b[0] < a[2] and a[1] < b[3] and b[1] < a[3]
+    ]
     note("parts are drawn beside each other", not wrong, wrong)
 
 
 def places_drawn(draw, network):
     root = parsed(draw("plan", network, plan_text(network)))
-    return {int(title(group).split()[1].rstrip(":")): centre(marks(group, "channel")[0]) for group in marks(root, "vertex")}
+    return {
+        int(title(group).split()[1].rstrip(":")): centre(marks(group, "channel")[0]) for group in marks(root, "vertex")
+    }
 
 
 def words_of_bars(net, v):
@@ -87,8 +107,8 @@ def words_of_bars(net, v):
 
 
 def bars_row(name, net, root, times):
-    """Of each vertex the lowest four barred channels, crossed out, in the order of the vertices, and how many more there are; all of
-    it so many times."""
+    """Of each vertex the lowest four barred channels, crossed out, in the order of the vertices, and how many more
+    there are; all of it so many times."""
     of_all = times * [sorted(net.barred[v]) for v in sorted(net.barred)]
     wanted = [("bar", CHANNELS[c % 8], str(c + 1)) for bars in of_all for c in bars[:4]]
     shown = numbered(root, "bar")
@@ -97,20 +117,29 @@ def bars_row(name, net, root, times):
     note(f"{name}: further ones", more == [f"+{len(bars) - 4}" for bars in of_all if len(bars) > 4], more)
     width = float(root.get("viewBox").split()[2])
     right = [centre(mark)[0] + number(mark, "r") for mark in marks(root, "bar")] + [
-        number(mark, "x") + 0.6 * number(mark, "font-size") * len(mark.text) for mark in marks(root, "more")]
-    note(f"{name}: no barred channel is cut", all(x <= width for x in right) and all(number(mark, "cx") > number(mark, "r")
-         for mark in marks(root, "bar")), right)
+        number(mark, "x") + 0.6 * number(mark, "font-size") * len(mark.text) for mark in marks(root, "more")
+    ]
+    note(
+        f"{name}: no barred channel is cut",
+        all(x <= width for x in right) and all(number(mark, "cx") > number(mark, "r") for mark in marks(root, "bar")),
+        right,
+    )
 
 
 def plan_rows(draw, name, network):
     net = network_of(network)
     plan = {v: c + 1 for v, c in colours(net).items()}
     root = parsed(draw("plan", network, plan_text(network)))
-    places = {int(title(group).split()[1].rstrip(":")): centre(marks(group, "channel")[0]) for group in marks(root, "vertex")}
+    places = {
+        int(title(group).split()[1].rstrip(":")): centre(marks(group, "channel")[0]) for group in marks(root, "vertex")
+    }
     wanted = [f"vertex {v}: channel {c}{words_of_bars(net, v)}" for v, c in sorted(plan.items())]
     note(f"plan of {name}: a vertex each", titles(root, "vertex") == wanted, titles(root, "vertex"))
     bars_row(f"plan of {name}", net, root, len(plan) <= 100)
-    note(f"plan of {name}: it says that channels are barred", any("barred" in text for text in texts(root)[:2]) == (net.greatest_bars > 0))
+    note(
+        f"plan of {name}: it says that channels are barred",
+        any("barred" in text for text in texts(root)[:2]) == (net.greatest_bars > 0),
+    )
     shown = [row[1:] for group in marks(root, "vertex") for row in numbered(group, "channel")]
     wanted = [(CHANNELS[(c - 1) % 8], str(c)) for _, c in sorted(plan.items())]
     note(f"plan of {name}: hues and numbers", shown == wanted, shown)
@@ -145,7 +174,9 @@ def matrix_rows(draw, name, network, plan_of=plan_text):
         x, y = centre(mark)
         pair = order[int((y - top) / cell)], order[int((x - left) / cell)]
         shown[pair + (mark.get("class") == "wrong",)] += 1
-    wanted = Counter(pair + (plan[pair[0]] == plan[pair[1]],) for e in net.number for pair in (tuple(e), tuple(e)[::-1]))
+    wanted = Counter(
+        pair + (plan[pair[0]] == plan[pair[1]],) for e in net.number for pair in (tuple(e), tuple(e)[::-1])
+    )
     note(f"matrix of {name}: a mark for each pair, on both sides", shown == wanted, shown - wanted)
     for side in ("row", "column"):
         numbers = [int(mark.text) for mark in marks(root, side)]
@@ -169,7 +200,14 @@ def forests_rows(draw, name, network, asked=None):
     for f in range(net.forest_count):
         merged = merge(net, f, merged)
         if f in kept:
-            forest_rows(f"forest {f} of {name}", net, f, shown_forests[f"forest {f}"], merged, shown_forests[f"after forest {f}"])
+            forest_rows(
+                f"forest {f} of {name}",
+                net,
+                f,
+                shown_forests[f"forest {f}"],
+                merged,
+                shown_forests[f"after forest {f}"],
+            )
 
 
 def forest_rows(name, net, f, above, merged, below):
@@ -235,7 +273,9 @@ def rounds_rows(draw, name, network, asked=None, *options):
         table = colour_table(net, f)
         pairs = [(three(net, f)[v], old[v]) for v in old]
         turns.append(sorted(set(pairs)))
-        wanted = [strip_mark(column, row[v], v in ended) for v in sorted(net.neighbours) for column, row in enumerate(table)]
+        wanted = [
+            strip_mark(column, row[v], v in ended) for v in sorted(net.neighbours) for column, row in enumerate(table)
+        ]
         note(f"rounds of {name}, forest {f}: squares", numbered(block, "colour", "alone") == wanted)
         block = next(group for group in marks(root, "choices") if title(group) == f"forest {f}")
         for mark in ("choice", "after"):
@@ -266,9 +306,15 @@ def columns_row(name, root):
     squares = [centre(mark)[0] for mark in block.iter() if mark.get("class") in ("colour", "alone")][:11]
     heads = marks(root, "group")[:len(HEADS)]
     wanted = [squares[0], sum(squares[1:5]) / 4, *squares[5:]]
-    note(f"{name}: heads over their columns", all(abs(number(mark, "x") - x) < 0.3 for mark, x in zip(heads, wanted)), wanted)
+    note(
+        f"{name}: heads over their columns",
+        all(abs(number(mark, "x") - x) < 0.3 for mark, x in zip(heads, wanted)),
+        wanted,
+    )
     wide = [(number(mark, "x"), 0.31 * number(mark, "font-size") * len(mark.text)) for mark in heads]
-    note(f"{name}: heads don't overlap", all(x + half < y - other for (x, half), (y, other) in zip(wide, wide[1:])), wide)
+    note(
+        f"{name}: heads don't overlap", all(x + half < y - other for (x, half), (y, other) in zip(wide, wide[1:])), wide
+    )
 
 
 def strip_mark(column, colour, is_in_forest):
@@ -287,7 +333,9 @@ def bits_rows(draw, name, network, v):
     text = rounds_text(net)
     for f in range(net.forest_count):
         if net.parent(f, v):
-            bits_of_forest(f"{name}, forest {f}", net, f, v, parsed(draw("bits", network, text, "--vertex", v, "--forest", f)))
+            bits_of_forest(
+                f"{name}, forest {f}", net, f, v, parsed(draw("bits", network, text, "--vertex", v, "--forest", f))
+            )
 
 
 def bits_of_forest(name, net, f, v, root):
@@ -315,16 +363,27 @@ def player_rows(draw, name, network):
     net = network_of(network)
     text, last = rounds_text(net), last_pulse(net)
     page = draw("player", network, text)
-    frames = re.findall(r'<figure class="frame" data-pulse="(\d+)"( hidden)?><figcaption><b>([^<]*)</b><br>([^<]*)</figcaption>\s*'
-                        r'(<svg.*?</svg>)', page, re.S)
+    frames = re.findall(
+        r'<figure class="frame" data-pulse="(\d+)"( hidden)?><figcaption><b>([^<]*)</b><br>([^<]*)</figcaption>\s*'
+        r'(<svg.*?</svg>)',
+        page,
+        re.S,
+    )
     chosen_at = choices_of(text)
     wanted = [p for p in range(last + 1) if last < 200 or p <= 12 or p in chosen_at]
     shown = [int(frame[0]) for frame in frames]
     note(f"player of {name}: a frame for each pulse, none before an earlier one", shown == wanted, shown)
-    note(f"player of {name}: the first is seen", [bool(frame[1]) for frame in frames] == [False] + [True] * (len(wanted) - 1))
+    note(
+        f"player of {name}: the first is seen",
+        [bool(frame[1]) for frame in frames] == [False] + [True] * (len(wanted) - 1),
+    )
     note(f"player of {name}: the slider's end", f'max="{len(wanted) - 1}"' in page)
     options = re.findall(r'<option value="(\d+)">', page)
-    note(f"player of {name}: a choice of forests", options == [str(f) for f in range(net.forest_count)] * (net.forest_count > 1), options)
+    note(
+        f"player of {name}: a choice of forests",
+        options == [str(f) for f in range(net.forest_count)] * (net.forest_count > 1),
+        options,
+    )
     shared_rows(f"player of {name}", net, parsed(re.search(r"<svg[^>]*>(<defs>.*?</defs>)</svg>", page, re.S).group(1)))
     wrong, merged = [], {}
     for pulse, (_, _, caption, said, drawn) in zip(shown, frames):
@@ -348,8 +407,15 @@ def shared_rows(name, net, shared):
 
 
 def frame_faults(net, text, pulse, root, merged, words):
-    """What is wrong in a frame: its panels, and in each its tokens, its vertices' colours or channels, and its arrows."""
-    forests = [None] if pulse < 2 else list(range(net.forest_count)) if pulse <= 12 else [(pulse - 13) // (3 * (net.span + 1))]
+    """What is wrong in a frame: its panels, and in each its tokens, its vertices' colours or channels, and its
+    arrows."""
+    forests = (
+        [None]
+        if pulse < 2
+        else list(range(net.forest_count))
+        if pulse <= 12
+        else [(pulse - 13) // (3 * (net.span + 1))]
+    )
     panels, wrong = marks(root, "panel"), []
     if [title(panel) if len(panel) and panel.find(TITLE) is not None else None for panel in panels] != (
             [None if f is None else f"forest {f}" for f in forests] or [None]):
@@ -377,7 +443,15 @@ def frame_faults(net, text, pulse, root, merged, words):
         if len(marks(panel, "blank")) != blanks:
             wrong.append((pulse, forest, "blanks", len(marks(panel, "blank")), blanks))
         used = [element.get("href") for element in panel.iter() if element.tag.endswith("use")]
-        seen = range(net.forest_count) if pulse == 1 else range(forest + 1) if pulse > 12 else [] if forest is None else [forest]
+        seen = (
+            range(net.forest_count)
+            if pulse == 1
+            else range(forest + 1)
+            if pulse > 12
+            else []
+            if forest is None
+            else [forest]
+        )
         if used != ["#edges"] + [f"#forest-{f}" for f in seen]:
             wrong.append((pulse, forest, "arrows", used))
         if len(marks(panel, "chooses")) != sum(f" chose " in line for line in pulse_text(text, pulse)):

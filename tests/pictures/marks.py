@@ -7,7 +7,9 @@ SVG = "{http://www.w3.org/2000/svg}"
 
 def parsed(picture):
     """A picture, or a part of a page: that names no space of its own."""
-    return tree.fromstring(picture if "xmlns=" in picture else re.sub(r"^<(\w+)", r'<\1 xmlns="http://www.w3.org/2000/svg"', picture))
+    return tree.fromstring(
+        picture if "xmlns=" in picture else re.sub(r"^<(\w+)", r'<\1 xmlns="http://www.w3.org/2000/svg"', picture)
+    )
 
 
 def marks(root, name):
@@ -52,7 +54,8 @@ def hue(element):
 
 
 def numbered(root, *names):
-    """(class, fill, number) of each mark of these classes and of the text drawn next; None for a mark without a number."""
+    """(class, fill, number) of each mark of these classes and of the text drawn next; None for a mark without a
+    number."""
     elements, found = list(root.iter()), []
     for index, element in enumerate(elements):
         if element.get("class") in names:

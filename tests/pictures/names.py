@@ -1,4 +1,5 @@
-"""Pictures of a network whose text names its vertices, and where numbers and names are written: not on a circle nor on each other."""
+"""Pictures of a network whose text names its vertices, and where numbers and names are written: not on a circle nor on
+each other."""
 from itertools import combinations
 
 from lab.definitions.colours import network_of, plan_text
@@ -36,12 +37,22 @@ def label_rows(name, picture, deepest):
     labels, circles = marks(root, "number"), marks(root, "channel")
     width, height = (float(side) for side in root.get("viewBox").split()[2:])
     boxes = [box_of(label) for label in labels]
-    cut = [label.text for label, box in zip(labels, boxes) if box[0] < 0 or box[1] > width or box[2] < 0 or box[3] > height]
+    cut = [
+        label.text for label, box in zip(labels, boxes) if box[0] < 0 or box[1] > width or box[2] < 0 or box[3] > height
+    ]
     note(f"{name}: no number is cut", not cut, cut)
-    on = [(label.text, round(depth_in_circle(box, circle), 1)) for label, box in zip(labels, boxes) for circle in circles
-          if depth_in_circle(box, circle) > deepest]
+    on = [
+        (label.text, round(depth_in_circle(box, circle), 1))
+        for label, box in zip(labels, boxes)
+        for circle in circles
+        if depth_in_circle(box, circle) > deepest
+    ]
     note(f"{name}: no number is on a circle", not on, on)
-    touch = [(a.text, b.text) for (a, box), (b, other) in combinations(list(zip(labels, boxes)), 2) if depth_in_box(box, other) > deepest]
+    touch = [
+        (a.text, b.text)
+        for (a, box), (b, other) in combinations(list(zip(labels, boxes)), 2)
+        if depth_in_box(box, other) > deepest
+    ]
     note(f"{name}: no number is on another", not touch, touch)
 
 
@@ -56,13 +67,21 @@ def name_rows(draw, all_of):
         shown = texts(parsed(draw("player", NAMED, rounds, "--frame", frame)))
         note(f"names in frame {frame} of a player", all(label in shown for label in LABELS), shown)
     page = draw("player", NAMED, rounds)
-    note("names in a player are escaped", "3 Köln &amp; &lt;Bon…<" in page and "<Bon" not in page and "\x1b" not in page)
-    for kind, names, times in (("run", ["Ulm", "Frankfu…", "Köln &…", "a\ufffdb"], 2),
-                               ("overview", ["Ulm", "Frankfurt a…", "Köln & <Bon…", "a\ufffdb"], 1)):
+    note(
+        "names in a player are escaped", "3 Köln &amp; &lt;Bon…<" in page and "<Bon" not in page and "\x1b" not in page
+    )
+    for kind, names, times in (
+        ("run", ["Ulm", "Frankfu…", "Köln &…", "a\ufffdb"], 2),
+        ("overview", ["Ulm", "Frankfurt a…", "Köln & <Bon…", "a\ufffdb"], 1),
+    ):
         root = parsed(draw(kind, NAMED, run))
         shown = [mark.text for mark in marks(root, "vertex-name")]
         note(f"names in {kind}", shown == names * times, shown)
-        cut = [mark.text for mark in marks(root, "vertex-name") if number(mark, "x") - LETTER * number(mark, "font-size") * len(mark.text) < 0]
+        cut = [
+            mark.text
+            for mark in marks(root, "vertex-name")
+            if number(mark, "x") - LETTER * number(mark, "font-size") * len(mark.text) < 0
+        ]
         note(f"names in {kind}: none is cut", not cut, cut)
     for name in ("disk100", "petersen", "queen5_5", "drops"):
         label_rows(f"plan of {name}", draw("plan", all_of[name], plan_text(all_of[name])), 0.5)

@@ -1,7 +1,8 @@
-"""One process that draws many pictures: it reads the code of `bin/picture` once, and forks a child for each, which calls its `main`.
+"""One process that draws many pictures: it reads the code of `bin/picture` once, and forks a child for each, which
+calls its `main`.
 
-Run as a program it takes requests on standard input, a line of JSON each, and answers each with the child's status. The tests ask
-it by `Painter`; what depends on how the command is started they ask of the command."""
+Run as a program it takes requests on standard input, a line of JSON each, and answers each with the child's status. The
+tests ask it by `Painter`; what depends on how the command is started they ask of the command."""
 import argparse
 import json
 import os
@@ -15,8 +16,8 @@ from tests import TOP
 
 
 class Painter:
-    """`painter(words, data)` is the status, standard output and standard error of `bin/picture` with these words and this standard input,
-    in the folder at the top."""
+    """`painter(words, data)` is the status, standard output and standard error of `bin/picture` with these words and
+    this standard input, in the folder at the top."""
 
     def __init__(self, folder, limit):
         self.limit = limit
@@ -35,7 +36,13 @@ class Painter:
     def __call__(self, words, data=b""):
         with open(self.input, "wb") as file:
             file.write(data)
-        request = {"words": words, "input": self.input, "output": self.output, "errors": self.errors, "limit": self.limit}
+        request = {
+            "words": words,
+            "input": self.input,
+            "output": self.output,
+            "errors": self.errors,
+            "limit": self.limit,
+        }
         print(json.dumps(request), file=self.process.stdin, flush=True)
         status = int(self.process.stdout.readline())
         with open(self.output, "rb") as output, open(self.errors, "rb") as errors:

@@ -27,7 +27,9 @@ def entries_of(text):
 
 def takes_of(text):
     """The arrows' titles that a transcript has: one for each take."""
-    return Counter(f"{f[2]} to {f[0]}: {' '.join(f[3:])}" for own in entries_of(text).values() for f in own if f[1] == "take")
+    return Counter(
+        f"{f[2]} to {f[0]}: {' '.join(f[3:])}" for own in entries_of(text).values() for f in own if f[1] == "take"
+    )
 
 
 def whole_run_rows(draw, name, network, text):
@@ -35,12 +37,23 @@ def whole_run_rows(draw, name, network, text):
     last = last_pulse(network_of(network))
     root = parsed(draw("run", network, text, "--pulses", f"0..{last}", "--only", "payload,ack,safe,close"))
     arrows = {kind: marks(root, kind) for kind in WIRES}
-    note(f"run of {name}: an arrow for each take", Counter(title(group) for kind in WIRES for group in arrows[kind]) == takes_of(text))
-    lines = [(title(group), *ends(next(mark for mark in group if mark.tag.endswith("line")))) for kind in WIRES for group in arrows[kind]]
+    note(
+        f"run of {name}: an arrow for each take",
+        Counter(title(group) for kind in WIRES for group in arrows[kind]) == takes_of(text),
+    )
+    lines = [
+        (title(group), *ends(next(mark for mark in group if mark.tag.endswith("line"))))
+        for kind in WIRES
+        for group in arrows[kind]
+    ]
     note(f"run of {name}: arrows point right", all(start[0] < end[0] for _, start, end in lines))
     rows = sorted({ends(mark)[0][1] for mark in marks(root, "tick")})
     ticks = [sorted(ends(mark)[0][0] for mark in marks(root, "tick") if ends(mark)[0][1] == y) for y in rows]
-    note(f"run of {name}: a tick for each pulse", [len(row) for row in ticks] == [last + 1] * len(entries_of(text)), ticks)
+    note(
+        f"run of {name}: a tick for each pulse",
+        [len(row) for row in ticks] == [last + 1] * len(entries_of(text)),
+        ticks,
+    )
     bars_rows(f"run of {name}", root, rows, ticks)
     order_rows(f"run of {name}", lines, rows, ticks, text)
 
@@ -53,10 +66,17 @@ def bars_rows(name, root, rows, ticks):
         (x1, y), (x2, _) = ends(bar)
         row = ticks[int(from_to[1]) - 1]
         tip = max(ends(mark)[0][0] for mark in group.iter() if mark.tag.endswith("path"))
-        if abs(rows[int(from_to[1]) - 1] + 10 - y) > 0.2 or abs(row[pulse + 1] - x2) > 0.2 or abs(tip - x1) > 0.2 or x1 > x2:
+        if (
+            abs(rows[int(from_to[1]) - 1] + 10 - y) > 0.2
+            or abs(row[pulse + 1] - x2) > 0.2
+            or abs(tip - x1) > 0.2
+            or x1 > x2
+        ):
             wrong.append((title(group), x1, x2))
     count = len(marks(root, "bar")), len(marks(root, "payload"))
-    note(f"{name}: each payload is kept till the tick that reads it", not wrong and count[0] == count[1], wrong or count)
+    note(
+        f"{name}: each payload is kept till the tick that reads it", not wrong and count[0] == count[1], wrong or count
+    )
 
 
 def order_rows(name, lines, rows, ticks, text):
@@ -78,7 +98,8 @@ def order_rows(name, lines, rows, ticks, text):
 
 
 def window_rows(draw, name, network, text, first, last):
-    """A few pulses: the lower half has each payload put in them once, from its pulse to the next; the ticks are theirs."""
+    """A few pulses: the lower half has each payload put in them once, from its pulse to the next; the ticks are
+    theirs."""
     picture = draw("run", network, text, "--pulses", f"{first}..{last}")
     root, payloads = parsed(picture), Counter()
     for own in entries_of(text).values():
@@ -99,7 +120,11 @@ def lower_rows(name, lower, first, last):
     """Each payload of the lower half goes from its putter's row and pulse to its taker's row and the next pulse."""
     slots = [ends(mark)[0] for mark in marks(lower, "slot")]
     columns, rows = sorted({x for x, _ in slots}), sorted({y + 8 for _, y in slots})
-    note(f"{name}: a slot for each node and pulse", len(columns) == last - first + 2 and len(slots) == len(rows) * len(columns), slots)
+    note(
+        f"{name}: a slot for each node and pulse",
+        len(columns) == last - first + 2 and len(slots) == len(rows) * len(columns),
+        slots,
+    )
     wrong = []
     for group in marks(lower, "round"):
         v, w, pulse = (int(title(group).replace(":", "").split()[at]) for at in (0, 2, 4))
@@ -112,7 +137,8 @@ def lower_rows(name, lower, first, last):
 
 
 def times_of(network, text):
-    """{(vertex, pulse): length of the longest chain of entries that ends with it}, along an order that the text can have."""
+    """{(vertex, pulse): length of the longest chain of entries that ends with it}, along an order that the text can
+    have."""
     net = network_of(network)
     last, puts, found = Counter(), {}, {(v, 0): 0 for v in net.neighbours}
     for entry in find_order(net, read(text)[1]).made:
@@ -132,7 +158,8 @@ def usual(last):
 
 
 def overview_rows(draw, name, network, text, window=None):
-    """All pulses, or some: the ticks of them and of the next one, as far apart as their times; those of others are grey."""
+    """All pulses, or some: the ticks of them and of the next one, as far apart as their times; those of others are
+    grey."""
     last, times = last_pulse(network_of(network)), times_of(network, text)
     first, final = window or usual(last)
     name = f"overview of {name}, pulses {first} to {final}"
@@ -142,7 +169,11 @@ def overview_rows(draw, name, network, text, window=None):
     shown = sorted((rows[ends(mark)[0][1]], ends(mark)[0][0]) for mark in marks(root, "tick"))
     note(f"{name}: ticks", [v for v, _ in shown] == [v for v, _ in wanted], (len(shown), len(wanted)))
     (low, high), (left, right) = ((min(x for _, x in pairs), max(x for _, x in pairs)) for pairs in (wanted, shown))
-    wrong = [(v, x) for (v, x), (_, time) in zip(shown, wanted) if abs(left + (time - low) / (high - low) * (right - left) - x) > 0.2]
+    wrong = [
+        (v, x)
+        for (v, x), (_, time) in zip(shown, wanted)
+        if abs(left + (time - low) / (high - low) * (right - left) - x) > 0.2
+    ]
     note(f"{name}: they are as far apart as their times", not wrong, wrong[:5])
     grey = sum(not first <= p <= final + 1 and low <= time <= high for (_, p), time in times.items())
     note(f"{name}: grey ticks", len(marks(root, "outside")) == grey, (len(marks(root, "outside")), grey))
@@ -151,7 +182,8 @@ def overview_rows(draw, name, network, text, window=None):
 
 
 class Replayed:
-    """A transcript replayed by the definitions: counts of the steps, and the levels of one node's ports after each entry."""
+    """A transcript replayed by the definitions: counts of the steps, and the levels of one node's ports after each
+    entry."""
 
     def __init__(self, network, text, watched):
         net = network_of(network)
@@ -240,18 +272,31 @@ def tally_marks(name, root, net, text, window, last):
             shown[kind, pulse] = count
     wanted = {(kind, pulse): count for (kind, pulse), count in counts.items() if first <= pulse <= final}
     note(f"tally of {name}: a bar for each kind and pulse", shown == wanted, shown)
-    heights = [(number(group[1], "height"), int(title(group).split()[-1])) for kind in WIRES for group in marks(root, kind)]
+    heights = [
+        (number(group[1], "height"), int(title(group).split()[-1])) for kind in WIRES for group in marks(root, kind)
+    ]
     unit = sum(height for height, _ in heights) / sum(count for _, count in heights)
     bars = sorted({(number(group[1], "x"), number(group[1], "width")) for kind in WIRES for group in marks(root, kind)})
     # A figure with one decimal place may be off by a twentieth.
     gaps = [b - a - wide for (a, wide), (b, _) in zip(bars, bars[1:])]
-    note(f"tally of {name}: bars don't overlap, and narrow ones leave no gap",
-         all(gap > -0.2 and (wide > 2 or gap < 0.2) for gap, (_, wide) in zip(gaps, bars)), gaps[:5])
-    note(f"tally of {name}: bars as high as their counts", all(abs(height - unit * count) < 0.2 for height, count in heights), heights)
+    note(
+        f"tally of {name}: bars don't overlap, and narrow ones leave no gap",
+        all(gap > -0.2 and (wide > 2 or gap < 0.2) for gap, (_, wide) in zip(gaps, bars)),
+        gaps[:5],
+    )
+    note(
+        f"tally of {name}: bars as high as their counts",
+        all(abs(height - unit * count) < 0.2 for height, count in heights),
+        heights,
+    )
     total, payloads = sum(counts.values()), sum(count for (kind, _), count in counts.items() if kind == "payload")
     edges = "1 edge" if len(net.number) == 1 else f"{len(net.number)} edges"
     said = f"{total} wires = 2 · {payloads} payloads + 2 · {edges} · ({last} + 1)"
-    note(f"tally of {name}: its title", texts(root)[0] == said and total == 2 * payloads + 2 * len(net.number) * (last + 1), texts(root)[0])
+    note(
+        f"tally of {name}: its title",
+        texts(root)[0] == said and total == 2 * payloads + 2 * len(net.number) * (last + 1),
+        texts(root)[0],
+    )
 
 
 def run_rows(draw, name, network, texts_of, v):
@@ -300,8 +345,8 @@ def lockstep_text(net):
 
 
 def long_rows(draw):
-    """Of a long run the first 40 pulses are drawn, and only what they depend on is read: the same picture as of a run that was
-    stopped a little later. The tally is the same by the rounds."""
+    """Of a long run the first 40 pulses are drawn, and only what they depend on is read: the same picture as of a run
+    that was stopped a little later. The tally is the same by the rounds."""
     network = b"p edge 12 66\n" + b"".join(b"e %d %d\n" % (v, w) for w in range(1, 13) for v in range(1, w))
     net = network_of(network)
     lines, last = lockstep_text(net), last_pulse(net)
@@ -312,9 +357,18 @@ def long_rows(draw):
         note(f"{kind} {words} of a long text", draw(kind, network, text, *words) == draw(kind, network, short, *words))
     picture = draw("overview", network, text)
     said = texts(parsed(picture))
-    note("overview of a long run: what it says", ": pulses 0 to 39 of 408," in said[0] and "the first 40 pulses of 409:" in said[-1], said[-1])
-    note("node of a long run: what it says", "in pulses 0 to 39 of the run" in texts(parsed(draw("node", network, text)))[1])
-    root, whole = parsed(draw("tally", network, text)), parsed(draw.by_rounds(network, rounds_text(net), "--pulses", f"0..{last}"))
+    note(
+        "overview of a long run: what it says",
+        ": pulses 0 to 39 of 408," in said[0] and "the first 40 pulses of 409:" in said[-1],
+        said[-1],
+    )
+    note(
+        "node of a long run: what it says",
+        "in pulses 0 to 39 of the run" in texts(parsed(draw("node", network, text)))[1],
+    )
+    root, whole = parsed(draw("tally", network, text)), parsed(
+        draw.by_rounds(network, rounds_text(net), "--pulses", f"0..{last}")
+    )
     tally_marks("a long run", root, net, text, (0, 39), last)
     tally_marks("a long run, all of it by the rounds", whole, net, text, (0, last), last)
     note("tally of a long run: what it says", any("the first 40 pulses of 409" in words for words in texts(root)))
@@ -328,8 +382,8 @@ def long_rows(draw):
 
 
 def words_rows(draw, name, network, text):
-    """Neither the payloads' words nor the names of pulses overlap or reach over the edge. A bold letter of DejaVu Sans is 0.7 of
-    its size wide on average."""
+    """Neither the payloads' words nor the names of pulses overlap or reach over the edge. A bold letter of DejaVu Sans
+    is 0.7 of its size wide on average."""
     root = parsed(draw("run", network, text))
     for mark_name, before in (("words", 0.5), ("name", 0)):
         boxes = []
@@ -354,4 +408,8 @@ def cut_rows(draw, network, text):
         v = int(lines[at - 1].split()[0])
         status, picture, fault = draw.run("tally", network, b"\n".join(lines[:at]) + b"\n")
         missing = "node %d:" % nodes if v == nodes - 1 else f"{v + 1}" if v < nodes else f"ends with node {v} at pulse"
-        note(f"a transcript cut at line {at}", (status, picture) == (1, b"") and b"is it cut?" in fault and missing.encode() in fault, fault)
+        note(
+            f"a transcript cut at line {at}",
+            (status, picture) == (1, b"") and b"is it cut?" in fault and missing.encode() in fault,
+            fault,
+        )

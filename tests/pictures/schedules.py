@@ -1,5 +1,6 @@
 """Pictures of every schedule: the adversary's table and the lattice, beside the explorer's states, the definitions of
-lab/definitions/nodes.py played event by event, and what `forestplay events` shows. What is read here is the JSON and the SVG alone."""
+lab/definitions/nodes.py played event by event, and what `forestplay events` shows. What is read here is the JSON and
+the SVG alone."""
 import json
 import os
 import random
@@ -13,7 +14,11 @@ from lab.schedules.space import Space
 from tests.pictures.base import LIMIT, SEED, note
 from tests.pictures.marks import centre, ends, marks, parsed, texts, title, titles
 
-TWO, ROW_OF_FOUR, STAR = b"p edge 2 1\ne 1 2\n", b"p edge 4 3\ne 1 2\ne 2 3\ne 3 4\n", b"p edge 4 3\ne 1 4\ne 2 4\ne 3 4\n"
+TWO, ROW_OF_FOUR, STAR = (
+    b"p edge 2 1\ne 1 2\n",
+    b"p edge 4 3\ne 1 2\ne 2 3\ne 3 4\n",
+    b"p edge 4 3\ne 1 4\ne 2 4\ne 3 4\n",
+)
 ALL_OF_FOUR, FIVE = b"p edge 4 6\ne 1 2\ne 1 3\ne 1 4\ne 2 3\ne 2 4\ne 3 4\n", b"p edge 5 1\ne 1 2\n"
 WALKS = 100
 
@@ -58,7 +63,9 @@ class Table:
         return [tuple(values[column[s]]) for values, column in self.node]
 
     def wires(self, s):
-        return {link: [self.data["wires"][wire] for wire in contents[column[s]]] for link, contents, column in self.link}
+        return {
+            link: [self.data["wires"][wire] for wire in contents[column[s]]] for link, contents, column in self.link
+        }
 
     def fault(self, s, e):
         number = self.data["faults"].get(str(s), {}).get(str(e))
@@ -86,20 +93,35 @@ def table_rows(painter, name, network, without=()):
     table = table_of(painter, network, *(["--without", ",".join(without)] if without else []))
     net = network_of(network)
     space = Space(net, without, beyond=bool(without))
-    wrong = [s for s in range(space.count) if [row[0] for row in table.nodes(s)] != [node.pulse for node in space.nodes(s).values()]
-             or [row[3] for row in table.nodes(s)] != [node.wrong for node in space.nodes(s).values()]
-             or table.wires(s) != space.wires(s)]
+    wrong = [
+        s
+        for s in range(space.count)
+        if [row[0] for row in table.nodes(s)] != [node.pulse for node in space.nodes(s).values()]
+        or [row[3] for row in table.nodes(s)] != [node.wrong for node in space.nodes(s).values()]
+        or table.wires(s) != space.wires(s)
+    ]
     note(f"table of {name}: each state", len(table.node[0][1]) == space.count and not wrong, wrong[:3])
-    ports = [(v, w, net_port_to(net, v, w), net_port_to(net, w, v)) for v in net.neighbours for w in sorted(net.neighbours[v])]
+    ports = [
+        (v, w, net_port_to(net, v, w), net_port_to(net, w, v))
+        for v in net.neighbours
+        for w in sorted(net.neighbours[v])
+    ]
     shown = [(link["from"], link["to"], link["put"], link["take"]) for link in table.data["links"]]
     note(f"table of {name}: its links and ports", shown == ports, shown)
     wrong = [s for s in range(space.count)
              if table.steps[s] != [((event.kind, event.v, event.port, event.place), t) for event, t in space.steps(s)]]
     note(f"table of {name}: each step", len(table.steps) == space.count and not wrong, wrong[:3])
     faults = {(s, e): plain(words) for (s, e), words in space.faults.items()}
-    shown = {(int(s), None if e == "-1" else int(e)): plain(table.data["sentences"][k])
-             for s, row in table.data["faults"].items() for e, k in row.items()}
-    note(f"table of {name}: what goes wrong", shown == faults and bool(faults) == (without not in [(), ("acks",)]), list(shown.items())[:3])
+    shown = {
+        (int(s), None if e == "-1" else int(e)): plain(table.data["sentences"][k])
+        for s, row in table.data["faults"].items()
+        for e, k in row.items()
+    }
+    note(
+        f"table of {name}: what goes wrong",
+        shown == faults and bool(faults) == (without not in [(), ("acks",)]),
+        list(shown.items())[:3],
+    )
     return table
 
 
@@ -136,8 +158,8 @@ def shown_state(table, s, taken):
 
 
 def walk_rows(name, network, table, play, walks):
-    """Random walks over the table: the definitions allow the same at each state, and what they wait for is said; the list that
-    a walk makes is accepted by `forestplay`, which shows the walk's last state."""
+    """Random walks over the table: the definitions allow the same at each state, and what they wait for is said; the
+    list that a walk makes is accepted by `forestplay`, which shows the walk's last state."""
     net, source = network_of(network), random.Random(f"{SEED} {name}")
     wrong, played = [], []
     for walk in range(walks):
@@ -145,11 +167,24 @@ def walk_rows(name, network, table, play, walks):
         put_all(net, state, lines)
         stop = source.randrange(1, 700)
         while True:
-            nodes = [(node.pulse_number, waits_of(net, v, node), node.program.merged + 1 if node.pulse_number == last_pulse(net) else 0)
-                     for v, node in state.nodes.items()]
-            links = {(v, net_port(net, v, port)): [wire_words(wire) for wire in wires] for (v, port), wires in state.link.items()}
+            nodes = [
+                (
+                    node.pulse_number,
+                    waits_of(net, v, node),
+                    node.program.merged + 1 if node.pulse_number == last_pulse(net) else 0,
+                )
+                for v, node in state.nodes.items()
+            ]
+            links = {
+                (v, net_port(net, v, port)): [wire_words(wire) for wire in wires]
+                for (v, port), wires in state.link.items()
+            }
             events = {(kind.lower(), v, port, 0) for kind, v, port in state.possible()}
-            if ([row[:3] for row in table.nodes(s)], table.wires(s), {event for event, _ in table.steps[s]}) != (nodes, links, events):
+            if ([row[:3] for row in table.nodes(s)], table.wires(s), {event for event, _ in table.steps[s]}) != (
+                nodes,
+                links,
+                events,
+            ):
                 wrong.append((s, nodes, table.nodes(s)))
                 break
             if not table.steps[s] or stop == 0:
@@ -162,7 +197,9 @@ def walk_rows(name, network, table, play, walks):
                 taken[sorted(net.neighbours[v])[port], v] += 1
             put_all(net, state, lines)
         if play:
-            done = subprocess.run([play, "events"], input=network + "\n".join(lines).encode() + b"\n", capture_output=True, timeout=LIMIT)
+            done = subprocess.run(
+                [play, "events"], input=network + "\n".join(lines).encode() + b"\n", capture_output=True, timeout=LIMIT
+            )
             if (done.returncode, done.stdout) != (0, shown_state(table, s, taken)):
                 played.append((lines[-3:], done))
     note(f"{walks} walks over the table of {name}: each state is the definitions'", not wrong, wrong[:1])
@@ -192,7 +229,11 @@ def dare_rows(name, network, table, plan, answers):
     depth = table.depths()
     pulses = {s: [row[0] for row in table.nodes(s)] for s in depth}
     dares = plan["dares"]
-    note(f"dares of {name}: what they say", [re.findall(r"\d[\d,]*", dare["answer"])[:2] for dare in dares] == answers, dares)
+    note(
+        f"dares of {name}: what they say",
+        [re.findall(r"\d[\d,]*", dare["answer"])[:2] for dare in dares] == answers,
+        dares,
+    )
     for dare in dares:
         if dare["kind"] == "few":
             best = min(depth[s] for s in depth if pulses[s][dare["node"] - 1] >= 1)
@@ -225,13 +266,20 @@ def lattice_rows(painter, name, network, table, low, high, *options):
     note(f"lattice of {name}: its columns", shown == [counts[d] for d in range(low, high + 1)], shown)
     steps = Counter(depth[s] for s in depth for _ in table.steps[s])
     lines = [len(marks(root, mark)) for mark in ("step", "bold")]
-    note(f"lattice of {name}: its steps", sum(lines) == sum(steps[d] for d in range(low, high)) and lines[1] == high - low, lines)
+    note(
+        f"lattice of {name}: its steps",
+        sum(lines) == sum(steps[d] for d in range(low, high)) and lines[1] == high - low,
+        lines,
+    )
     run = sorted(ends(line) for group in marks(root, "bold") for line in list(group)[1:2])
     note(f"lattice of {name}: the bold run is one", all(a[1] == b[0] for a, b in zip(run, run[1:])), run[:3])
     bold = {ends(list(group)[1])[0] for group in marks(root, "bold") if title(group).startswith("pulse")}
     takes = {ends(list(group)[1])[0] for group in marks(root, "step") if title(group).startswith("take")}
     note(f"lattice of {name}: the bold run takes before it pulses", bold and not bold & takes, bold & takes)
-    kinds = Counter(words.split(":")[1].split()[0] if ":" in words else "pulse" for words in titles(root, "step") + titles(root, "bold"))
+    kinds = Counter(
+        words.split(":")[1].split()[0] if ":" in words else "pulse"
+        for words in titles(root, "step") + titles(root, "bold")
+    )
     wanted = Counter()
     for s in depth:
         for (kind, v, port, _), _ in table.steps[s]:
@@ -261,13 +309,23 @@ def broken_rows(painter, name, network, without):
 
 
 def beyond_rows(painter, network, without, low, high):
-    """With --events, what comes behind the first event that goes wrong is there too: a node that has made a wrong pulse is red."""
+    """With --events, what comes behind the first event that goes wrong is there too: a node that has made a wrong pulse
+    is red."""
     space = Space(network_of(network), without, beyond=True)
     root = parsed(drawn(painter, "schedules", network, "--without", ",".join(without), "--events", f"{low}..{high}"))
-    wrong = sum(low <= space.depth[s] <= high and any(node.wrong for node in space.nodes(s).values()) for s in range(space.count))
-    refused = sum(e is not None and low <= space.depth[s] < high and space.steps(s)[e][1] is None for s, e in space.faults)
+    wrong = sum(
+        low <= space.depth[s] <= high and any(node.wrong for node in space.nodes(s).values())
+        for s in range(space.count)
+    )
+    refused = sum(
+        e is not None and low <= space.depth[s] < high and space.steps(s)[e][1] is None for s, e in space.faults
+    )
     red = len(marks(root, "state wrong"))
-    note(f"two without {without}, {low} to {high} events: red marks", red == wrong + refused and wrong + refused > 0, (red, wrong, refused))
+    note(
+        f"two without {without}, {low} to {high} events: red marks",
+        red == wrong + refused and wrong + refused > 0,
+        (red, wrong, refused),
+    )
     right = sum(low <= space.depth[s] <= high for s in range(space.count)) - wrong
     shown = len(marks(root, "state"))
     note(f"two without {without}, {low} to {high} events: other marks", shown == right, (shown, right))
@@ -291,7 +349,15 @@ def given_run_rows(painter, folder, table):
     note("the run that is given is bold", [words for _, words in bold] == takes[:40], bold[:5])
     with open(path, "w", encoding="utf-8") as file:
         file.write("c a run\nput 1 0\ntake 2 0\ntake 2 0\n")
-    refused(painter, "a run that is none", "schedules", TWO, "--run", path, words=b"line 4: `take 2 0` is not possible there")
+    refused(
+        painter,
+        "a run that is none",
+        "schedules",
+        TWO,
+        "--run",
+        path,
+        words=b"line 4: `take 2 0` is not possible there",
+    )
 
 
 def refused(painter, name, kind, network, *options, words=b"", status=1):
@@ -306,20 +372,38 @@ def refused_rows(painter):
         refused(painter, f"{kind} without nonsense", kind, TWO, "--without", "safe", words=b"safes", status=2)
     refused(painter, "schedules of all of four", "schedules", ALL_OF_FOUR, words=b"at most 200,000 states")
     for window, words in (("0..105", b"0 to 104"), ("3..2", b"0 to 104"), ("0..9,", b"two numbers")):
-        refused(painter, f"schedules of events {window}", "schedules", TWO, "--events", window, words=words, status=2 if "," in window else 1)
+        refused(
+            painter,
+            f"schedules of events {window}",
+            "schedules",
+            TWO,
+            "--events",
+            window,
+            words=words,
+            status=2 if "," in window else 1,
+        )
     refused(painter, "schedules of 109 events", "schedules", STAR, "--events", "0..109", words=b"at most 108 events")
     refused(painter, "schedules of too many steps", "schedules", STAR, "--events", "0..108", words=b"draw fewer events")
 
 
 def schedule_rows(painter, folder, examples, play):
     path, triangle = examples["path"], examples["triangle"]
-    tables = {name: table_rows(painter, name, network) for name, network in (("two", TWO), ("path", path), ("triangle", triangle))}
+    tables = {
+        name: table_rows(painter, name, network)
+        for name, network in (("two", TWO), ("path", path), ("triangle", triangle))
+    }
     for without in (("safes",), ("acks",), ("early",), ("fifo",)):
         table_rows(painter, f"two without {without[0]}", TWO, without)
     for name, walks in (("two", WALKS // 4), ("path", WALKS // 4), ("triangle", WALKS // 2)):
         walk_rows(name, examples.get(name, TWO), tables[name], play, walks)
     dare_rows("two", TWO, tables["two"], page_rows(painter, "two", TWO), [["281"], ["281"], ["281"], ["6"]])
-    dare_rows("path", path, tables["path"], page_rows(painter, "path", path), [["3,551"], ["3,551"], ["3,551"], ["2", "17"], ["11"]])
+    dare_rows(
+        "path",
+        path,
+        tables["path"],
+        page_rows(painter, "path", path),
+        [["3,551"], ["3,551"], ["3,551"], ["2", "17"], ["11"]],
+    )
     lattice_rows(painter, "two", TWO, tables["two"], 0, 104)
     lattice_rows(painter, "two, its first columns", TWO, tables["two"], 0, None)
     lattice_rows(painter, "path", path, tables["path"], 0, 20)

@@ -32,7 +32,8 @@ TALLY = {"passed": 0, "failed": 0}
 TRIANGLE = "p edge 3 3|e 1 2|e 1 3|e 2 3|"
 TRIANGLE_FORESTS = "forests 3 2|0 1 2|0 2 3|1 1 3|"
 STREAM_LINE = b"forestplan: stream\n"
-# Networks on which `plan` takes seconds: it is run of another star with as great a span, and of that with as great a degree.
+# Networks on which `plan` takes seconds: it is run of another star with as great a span, and of that with as great a
+# degree.
 LONG = ("the greatest star", "the greatest span")
 
 
@@ -73,15 +74,26 @@ def forests_rows():
         ("complete graph on four", "p edge 4 6|e 1 2|e 1 3|e 1 4|e 2 3|e 2 4|e 3 4|",
          "forests 4 3|0 1 2|0 2 3|0 3 4|1 1 3|1 2 4|2 1 4|"),
         ("the lower vertex with the higher identifier", "p edge 2 1|i 1 7|e 1 2|", "forests 2 1|0 2 1|"),
-        ("identifiers changed about, behind the edges", "p edge 3 2|e 1 2|e 2 3|i 3 0 x|i 1 2|i 2 1|", "forests 3 1|0 2 1|0 3 2|"),
+        (
+            "identifiers changed about, behind the edges",
+            "p edge 3 2|e 1 2|e 2 3|i 3 0 x|i 1 2|i 2 1|",
+            "forests 3 1|0 2 1|0 3 2|",
+        ),
         ("no line feed at the end", "p edge 2 1|e 1 2", "forests 2 1|0 1 2|"),
         ("a triangle with a bar", TRIANGLE + "b 3 1|", TRIANGLE_FORESTS),
         ("tabs and leading blanks", " \tp\tcol 2\t1|\t e 1  2|", "forests 2 1|0 1 2|"),
         ("comment of bytes that are no text", "c\xff|p edge 1 0|", "forests 1 0|"),
-        ("lines that say nothing, and the greatest vertex", "cp x|d|v 1|x 1 2|p edge 20000 0|e 20000 1", "forests 20000 1|0 1 20000|"),
+        (
+            "lines that say nothing, and the greatest vertex",
+            "cp x|d|v 1|x 1 2|p edge 20000 0|e 20000 1",
+            "forests 20000 1|0 1 20000|",
+        ),
         ("edges in any order", "p edge 4 4|e 4 1|e 3 4|e 1 2|e 3 2|", "forests 4 2|0 1 2|0 2 3|0 3 4|1 1 4|"),
-        ("the greatest identifier, and one with zeros before it", f"p edge 3 2|e 1 2|e 1 3|i 3 {2**128 - 1} x\r|\ti 01  0007|",
-         "forests 3 1|0 1 3|0 2 1|"),
+        (
+            "the greatest identifier, and one with zeros before it",
+            f"p edge 3 2|e 1 2|e 1 3|i 3 {2**128 - 1} x\r|\ti 01  0007|",
+            "forests 3 1|0 1 3|0 2 1|",
+        ),
         ("identifiers about 2^64", f"p edge 2 1|e 1 2|i 2 {2**64 - 1}|i 1 {'0' * 40}{2**64}", "forests 2 1|0 2 1|"),
         ("the greatest star", "p edge 1024 1023|" + "".join(f"e {v} 1024|" for v in range(1, 1024)),
          "forests 1024 1|" + "".join(f"0 {v} 1024|" for v in range(1, 1024))),
@@ -96,13 +108,21 @@ def plain_rows():
         ("one edge and an identifier", "p edge 2 1|i 2 5|e 1 2|", [2, 1]),
         ("one edge and the greatest identifier", f"p edge 2 1|i 2 {2**128 - 1}|e 1 2|", [2, 1]),
         ("triangle", TRIANGLE, [2, 3, 1]),
-        ("path in an odd layout", "c path\r|p edges 3 99 extra\r|\r|n 1 2\r|e 1 2 7\r|e 2 1\r|e 3 2\r|e 2 3\r|", [1, 2, 1]),
+        (
+            "path in an odd layout",
+            "c path\r|p edges 3 99 extra\r|\r|n 1 2\r|e 1 2 7\r|e 2 1\r|e 3 2\r|e 2 3\r|",
+            [1, 2, 1],
+        ),
         ("two nodes alone", "p col 2 0|", [1, 1]),
         ("no node", "p edge 0 0|", []),
         ("four-cycle", "p edge 4 4|e 1 2|e 2 3|e 3 4|e 1 4|", [1, 2, 1, 2]),
         ("complete graph on four", "p edge 4 6|e 1 2|e 1 3|e 1 4|e 2 3|e 2 4|e 3 4|", [2, 3, 1, 4]),
         ("the greatest star", "p edge 1024 1023|" + "".join(f"e {v} 1024|" for v in range(1, 1024)), [1] * 1023 + [2]),
-        ("a path of seven, one node alone", "p edge 8 6|e 1 2|e 2 4|e 4 5|e 5 6|e 6 7|e 7 8|", [2, 1, 1, 2, 1, 2, 1, 2]),
+        (
+            "a path of seven, one node alone",
+            "p edge 8 6|e 1 2|e 2 4|e 4 5|e 5 6|e 6 7|e 7 8|",
+            [2, 1, 1, 2, 1, 2, 1, 2],
+        ),
         ("a path of six, three nodes alone", "p edge 9 5|e 3 4|e 4 5|e 5 6|e 6 7|e 7 9|", [1, 1, 1, 3, 2, 1, 2, 1, 1]),
         ("a path of seven, three nodes alone", "p edge 10 6|e 2 3|e 3 5|e 5 6|e 6 7|e 7 8|e 8 10|",
          [1, 2, 1, 1, 2, 1, 2, 1, 1, 2]),
@@ -127,8 +147,8 @@ def bars_of(v, first, last):
 
 
 def barred_plans():
-    """Rows of networks with barred channels, worked by hand. On one edge the three-colours are 0 and 1, so vertex 1 chooses first;
-    in the greatest star the centre chooses last."""
+    """Rows of networks with barred channels, worked by hand. On one edge the three-colours are 0 and 1, so vertex 1
+    chooses first; in the greatest star the centre chooses last."""
     edge, star = "p edge 2 1|e 1 2|", "p edge 1024 1023|" + "".join(f"e {v} 1024|" for v in range(1, 1024))
     return [
         ("the triangle, with 1 barred at vertex 3", TRIANGLE + "b 3 1|", [1, 3, 2]),
@@ -142,9 +162,16 @@ def barred_plans():
         ("a bar of the greatest channel, before the edges", "p edge 2 1|\tb 02 02048 further|e 1 2|", [1, 2]),
         ("as many bars of a vertex as the limit", "p edge 1 0|" + bars_of(1, 1, 1024), [1025]),
         ("as many bars of a vertex as the limit, each twice", "p edge 1 0|" + 2 * bars_of(1, 1, 1024), [1025]),
-        ("all channels barred, at one of two vertices each", "p edge 2 0|" + bars_of(1, 1, 1024) + bars_of(2, 1025, 2048), [1025, 1]),
-        ("all channels barred, each at a vertex of its own", "p edge 2048 0|" + "".join(f"b {v} {v}|" for v in range(1, 2049)),
-         [2] + [1] * 2047),
+        (
+            "all channels barred, at one of two vertices each",
+            "p edge 2 0|" + bars_of(1, 1, 1024) + bars_of(2, 1025, 2048),
+            [1025, 1],
+        ),
+        (
+            "all channels barred, each at a vertex of its own",
+            "p edge 2048 0|" + "".join(f"b {v} {v}|" for v in range(1, 2049)),
+            [2] + [1] * 2047,
+        ),
         ("the greatest span", star + bars_of(1024, 1, 1024), [1] * 1023 + [1025]),
         ("the greatest span, with 1 free", star + bars_of(1024, 2, 1025), [1] * 1023 + [1026]),
     ]
@@ -187,29 +214,66 @@ def fault_rows():
         (edge + "e 340282366920938463463374607431768211457 1|", "F5 line 2"),
         (edge + "e 4294967297 4294967297|", "F5 line 2"),
         (edge + "|c|e 1 1|e 0 0|", "F6 line 4"),
-        ("e x|p edge 2 1|", "F3 line 1"), ("b1 2|", "F8 line 1"), ("p edge 20001 x|", "F4 line 1"), (edge + "e 1 1|q|", "F6 line 2"),
-        (edge + "id 1 5|", "F8 line 2"), (edge + "I 1 5|", "F8 line 2"), (edge + "\xff 1|", "F8 line 2"), (edge + "bar 1 1|", "F8 line 2"),
-        (edge + "i|", "F4 line 2"), (edge + "i x 1|", "F4 line 2"), (edge + "i 1 +1|", "F4 line 2"),
-        (edge + "i 340282366920938463463374607431768211457 1|", "F5 line 2"), (edge + "i 2 5|i 1 5|e 1 2|i 2 6|", "F12 line 5"),
-        (edge + "b 2 1|b 2 4294967297|", "F13 line 3"), (edge + bars_of(1, 1, 1024) + "b 3 1|", "F5 line 1026"),
+        ("e x|p edge 2 1|", "F3 line 1"),
+        ("b1 2|", "F8 line 1"),
+        ("p edge 20001 x|", "F4 line 1"),
+        (edge + "e 1 1|q|", "F6 line 2"),
+        (edge + "id 1 5|", "F8 line 2"),
+        (edge + "I 1 5|", "F8 line 2"),
+        (edge + "\xff 1|", "F8 line 2"),
+        (edge + "bar 1 1|", "F8 line 2"),
+        (edge + "i|", "F4 line 2"),
+        (edge + "i x 1|", "F4 line 2"),
+        (edge + "i 1 +1|", "F4 line 2"),
+        (edge + "i 340282366920938463463374607431768211457 1|", "F5 line 2"),
+        (edge + "i 2 5|i 1 5|e 1 2|i 2 6|", "F12 line 5"),
+        (edge + "b 2 1|b 2 4294967297|", "F13 line 3"),
+        (edge + bars_of(1, 1, 1024) + "b 3 1|", "F5 line 1026"),
         (edge + bars_of(2, 1025, 2048) + bars_of(1, 1, 1024) + bars_of(2, 2000, 2048) + "b 2 1024|", "F14 line 2099"),
-        ("i 1 5|p edge 2 1|", "F10 line 1"), ("i x|p edge 2 1|", "F10 line 1"), (edge + "i 1|", "F4 line 2"), (edge + "i 3 x|", "F4 line 2"),
-        (edge + "i 3 5|", "F5 line 2"), (edge + "i 0 340282366920938463463374607431768211456|", "F5 line 2"),
-        (edge + "i 1 340282366920938463463374607431768211456|", "F11 line 2"), (edge + "i 1 5|i 1 5|", "F12 line 3"),
+        ("i 1 5|p edge 2 1|", "F10 line 1"),
+        ("i x|p edge 2 1|", "F10 line 1"),
+        (edge + "i 1|", "F4 line 2"),
+        (edge + "i 3 x|", "F4 line 2"),
+        (edge + "i 3 5|", "F5 line 2"),
+        (edge + "i 0 340282366920938463463374607431768211456|", "F5 line 2"),
+        (edge + "i 1 340282366920938463463374607431768211456|", "F11 line 2"),
+        (edge + "i 1 5|i 1 5|", "F12 line 3"),
         (edge + "i 1 5|i 1 340282366920938463463374607431768211456|", "F11 line 3"),
-        (edge + "i 1 2|e 1 2|", "N2 vertices 1 2"), (edge + "i 2 1|", "N2 vertices 1 2"),
-        (edge + "i 1 9|i 2 009|", "N2 vertices 1 2"), (edge + "i 2 9|i 1 9|", "N2 vertices 1 2"),
-        ("p edge 4 0|i 4 2|i 3 1|", "N2 vertices 1 3"), ("p edge 4 0|i 3 1|i 4 2|", "N2 vertices 1 3"),
-        ("b 1 1|", "F10 line 1"), ("b 1 1|p edge 2 1|", "F10 line 1"), ("b x|p edge 2 1|", "F10 line 1"), (edge + "b|", "F4 line 2"),
-        (edge + "b 1|", "F4 line 2"), (edge + "b x 1|", "F4 line 2"), (edge + "b 3 x|", "F4 line 2"), (edge + "b 1 -1|", "F4 line 2"),
-        (edge + "b 3 1|", "F5 line 2"), (edge + "b 3 0|", "F5 line 2"), (edge + "b 0 2049|", "F5 line 2"),
-        (edge + "b 4294967297 1|", "F5 line 2"), (edge + "b 1 0|", "F13 line 2"), (edge + "b 1 2049|", "F13 line 2"),
-        (edge + "b 1 65537|", "F13 line 2"), (edge + "b 1 4294967297|", "F13 line 2"), (edge + "b 2 18446744073709551617|", "F13 line 2"),
-        (edge + "b 1 340282366920938463463374607431768211457|", "F13 line 2"), (edge + "b 1 1|b 2 1|b 1 000|", "F13 line 4"),
-        (edge + bars_of(1, 1, 1025), "F14 line 1026"), (edge + bars_of(2, 1024, 2048), "F14 line 1026"),
-        (edge + bars_of(1, 1, 1024) + bars_of(2, 1, 1024) + bars_of(1, 1, 1024) + "e 1 2|b 2 2048|b 1 2048|", "F14 line 3075"),
-        (edge + bars_of(1, 1, 1024) + "b 1 2049|", "F13 line 1026"), (edge + bars_of(1, 1, 1024) + "b 1 1|q|", "F8 line 1027"),
-        (edge + "e 1 1|" + bars_of(1, 1, 1025), "F6 line 2"), (edge + "b 1 2|i 1 2|", "N2 vertices 1 2"),
+        (edge + "i 1 2|e 1 2|", "N2 vertices 1 2"),
+        (edge + "i 2 1|", "N2 vertices 1 2"),
+        (edge + "i 1 9|i 2 009|", "N2 vertices 1 2"),
+        (edge + "i 2 9|i 1 9|", "N2 vertices 1 2"),
+        ("p edge 4 0|i 4 2|i 3 1|", "N2 vertices 1 3"),
+        ("p edge 4 0|i 3 1|i 4 2|", "N2 vertices 1 3"),
+        ("b 1 1|", "F10 line 1"),
+        ("b 1 1|p edge 2 1|", "F10 line 1"),
+        ("b x|p edge 2 1|", "F10 line 1"),
+        (edge + "b|", "F4 line 2"),
+        (edge + "b 1|", "F4 line 2"),
+        (edge + "b x 1|", "F4 line 2"),
+        (edge + "b 3 x|", "F4 line 2"),
+        (edge + "b 1 -1|", "F4 line 2"),
+        (edge + "b 3 1|", "F5 line 2"),
+        (edge + "b 3 0|", "F5 line 2"),
+        (edge + "b 0 2049|", "F5 line 2"),
+        (edge + "b 4294967297 1|", "F5 line 2"),
+        (edge + "b 1 0|", "F13 line 2"),
+        (edge + "b 1 2049|", "F13 line 2"),
+        (edge + "b 1 65537|", "F13 line 2"),
+        (edge + "b 1 4294967297|", "F13 line 2"),
+        (edge + "b 2 18446744073709551617|", "F13 line 2"),
+        (edge + "b 1 340282366920938463463374607431768211457|", "F13 line 2"),
+        (edge + "b 1 1|b 2 1|b 1 000|", "F13 line 4"),
+        (edge + bars_of(1, 1, 1025), "F14 line 1026"),
+        (edge + bars_of(2, 1024, 2048), "F14 line 1026"),
+        (
+            edge + bars_of(1, 1, 1024) + bars_of(2, 1, 1024) + bars_of(1, 1, 1024) + "e 1 2|b 2 2048|b 1 2048|",
+            "F14 line 3075",
+        ),
+        (edge + bars_of(1, 1, 1024) + "b 1 2049|", "F13 line 1026"),
+        (edge + bars_of(1, 1, 1024) + "b 1 1|q|", "F8 line 1027"),
+        (edge + "e 1 1|" + bars_of(1, 1, 1025), "F6 line 2"),
+        (edge + "b 1 2|i 1 2|", "N2 vertices 1 2"),
         ("p edge 1025 1024|" + "".join(f"e 1 {v}|" for v in range(2, 1026)), "N1 vertex 1"),
     ]
     for network, fault in rows:
@@ -220,8 +284,17 @@ def fault_rows():
 def beginning_rows():
     """Each beginning of the triangle's text."""
     whole = text(TRIANGLE)
-    answers = {0: "F1", 10: "forests 3 0|", 11: "forests 3 0|", 16: "forests 3 1|0 1 2|", 17: "forests 3 1|0 1 2|",
-               22: "forests 3 2|0 1 2|1 1 3|", 23: "forests 3 2|0 1 2|1 1 3|", 28: TRIANGLE_FORESTS, 29: TRIANGLE_FORESTS}
+    answers = {
+        0: "F1",
+        10: "forests 3 0|",
+        11: "forests 3 0|",
+        16: "forests 3 1|0 1 2|",
+        17: "forests 3 1|0 1 2|",
+        22: "forests 3 2|0 1 2|1 1 3|",
+        23: "forests 3 2|0 1 2|1 1 3|",
+        28: TRIANGLE_FORESTS,
+        29: TRIANGLE_FORESTS,
+    }
     for line, (first, last) in enumerate([(1, 9), (12, 15), (18, 21), (24, 27)], 1):
         answers.update({k: f"F4 line {line}" for k in range(first, last + 1)})
     for k in range(len(whole) + 1):
@@ -275,8 +348,14 @@ def help_rows():
 
 
 def refused_words_rows():
-    """Each text whole. The first line is the fault, then maybe a tip, the usage of what was named, and where help is."""
-    program, forests, plain, plan = "forestplan <COMMAND>", "forestplan forests", "forestplan plain", "forestplan plan [OPTIONS]"
+    """Each text whole. The first line is the fault, then maybe a tip, the usage of what was named, and where help
+    is."""
+    program, forests, plain, plan = (
+        "forestplan <COMMAND>",
+        "forestplan forests",
+        "forestplan plain",
+        "forestplan plan [OPTIONS]",
+    )
     none = "'forestplan' requires a subcommand but one was not provided|  [subcommands: forests, plain, plan, transcript, check]"
     like_both = "||  tip: some similar subcommands exist: 'plain', 'plan'"
     like_workers = "||  tip: a similar argument exists: '--workers'"
@@ -299,8 +378,16 @@ def refused_words_rows():
         (["plan", "--workers", "-1"], "unexpected argument '-1' found", plan),
         (["plan", "-w", "1"], "unexpected argument '-w' found", plan),
         (["plan", "--edition", "1"], "unexpected argument '--edition' found", plan),
-        (["plan", "--worker", "1"], "unexpected argument '--worker' found" + like_workers, "forestplan plan --workers <N>"),
-        (["plan", "--workers", "1", "--workers", "1"], "the argument '--workers <N>' cannot be used multiple times", plan),
+        (
+            ["plan", "--worker", "1"],
+            "unexpected argument '--worker' found" + like_workers,
+            "forestplan plan --workers <N>",
+        ),
+        (
+            ["plan", "--workers", "1", "--workers", "1"],
+            "the argument '--workers <N>' cannot be used multiple times",
+            plan,
+        ),
         (["plan", "--turns=1", "--turns=2"], "the argument '--turns <N>' cannot be used multiple times", plan),
         (["plain", b"\xff"], "unrecognized subcommand '\N{REPLACEMENT CHARACTER}'", program),
         ([b"\xff"], "unrecognized subcommand '\N{REPLACEMENT CHARACTER}'", program),
@@ -313,12 +400,27 @@ def refused_value_rows():
     """Values of options that are refused. Each text whole; it has no usage."""
     no_digit, too_large = "invalid digit found in string", "number too large to fit in target type"
     empty = "cannot parse integer from empty string"
-    rows = [(option, value, f"{value} is not in 1..=64") for option in ("workers", "capacity")
-            for value in ("0", "65", "4294967297", "18446744073709551615")]
-    rows += [("turns", value, f"{value} is not in 0..=1000000000000") for value in ("1000000000001", "18446744073709551615")]
-    rows += [(option, value, why) for option in ("workers", "capacity", "turns") for value, why in [
-        ("18446744073709551616", too_large), ("four", no_digit), ("4.0", no_digit), ("4 ", no_digit), ("0x4", no_digit),
-        ("+", no_digit), ("", empty)]]
+    rows = [
+        (option, value, f"{value} is not in 1..=64")
+        for option in ("workers", "capacity")
+        for value in ("0", "65", "4294967297", "18446744073709551615")
+    ]
+    rows += [
+        ("turns", value, f"{value} is not in 0..=1000000000000") for value in ("1000000000001", "18446744073709551615")
+    ]
+    rows += [
+        (option, value, why)
+        for option in ("workers", "capacity", "turns")
+        for value, why in [
+            ("18446744073709551616", too_large),
+            ("four", no_digit),
+            ("4.0", no_digit),
+            ("4 ", no_digit),
+            ("0x4", no_digit),
+            ("+", no_digit),
+            ("", empty),
+        ]
+    ]
     for option, value, why in rows:
         expect_refused(["plan", f"--{option}", value], f"invalid value '{value}' for '--{option} <N>': {why}")
         expect_refused(["plan", f"--{option}={value}"], f"invalid value '{value}' for '--{option} <N>': {why}")
@@ -327,7 +429,9 @@ def refused_value_rows():
         expect_refused(["plan", f"--{option}"], f"a value is required for '--{option} <N>' but none was supplied")
     for value, why in [("0", "0 is not in 1..=2"), ("3", "3 is not in 1..=2"), ("two", no_digit), ("", empty)]:
         expect_refused(["transcript", "--edition", value], f"invalid value '{value}' for '--edition <N>': {why}")
-    expect_refused(["plan", "--workers", "65", "--turns", "x"], "invalid value '65' for '--workers <N>': 65 is not in 1..=64")
+    expect_refused(
+        ["plan", "--workers", "65", "--turns", "x"], "invalid value '65' for '--workers <N>': 65 is not in 1..=64"
+    )
 
 
 def expect_refused(words, fault):
@@ -396,8 +500,20 @@ def main():
         note("the program builds", built.returncode == 0, built)
         PROGRAM = os.path.join(TOP, "crates", "forestplan", "out", "forestplan")
     if TALLY["failed"] == 0:
-        for rows in (forests_rows, plain_rows, example_rows, fault_rows, beginning_rows, edge_limit_rows, definition_rows,
-                     help_rows, refused_words_rows, refused_value_rows, stream_rows, example_stream_rows):
+        for rows in (
+            forests_rows,
+            plain_rows,
+            example_rows,
+            fault_rows,
+            beginning_rows,
+            edge_limit_rows,
+            definition_rows,
+            help_rows,
+            refused_words_rows,
+            refused_value_rows,
+            stream_rows,
+            example_stream_rows,
+        ):
             rows()
         if given.second:
             note("the second compiler built the program", os.path.isfile(given.second), given.second)

@@ -1,13 +1,13 @@
 #!/usr/bin/env python3
-"""Black-box tests of `forestplay`: plays lists of events and transcripts by the built program, and compares standard output,
-standard error and status byte by byte. The last line is 'N passed, M failed'.
+"""Black-box tests of `forestplay`: plays lists of events and transcripts by the built program, and compares standard
+output, standard error and status byte by byte. The last line is 'N passed, M failed'.
 
   events.py [--second BINARY] [PROGRAM]
       PROGRAM   default: the script `forestplay` at the top, which builds the program first
       BINARY    the program as the second compiler builds it; its rows are left out if it isn't named
 
-Expected answers are worked by hand (docs/learn/TUTORIAL.md has the run of the triangle), or come from the definitions in
-lab/definitions/nodes.py; none is taken from the program."""
+Expected answers are worked by hand (docs/learn/TUTORIAL.md has the run of the triangle), or come from the definitions
+in lab/definitions/nodes.py; none is taken from the program."""
 import argparse
 import os
 import random
@@ -28,8 +28,10 @@ TRIANGLE = "p edge 3 3|e 1 2|e 1 3|e 2 3|"
 ALL_PUT = "put 1 0|put 1 1|put 2 0|put 2 1|put 3 0|put 3 1|"
 ALL_TAKE = ALL_PUT.replace("put", "take")
 # Events 31 to 47 of docs/learn/TUTORIAL.md.
-LATER = ("take 1 0|take 1 1|pulse 1|put 1 1|take 3 0|take 3 0|put 1 0|take 2 0|take 2 0|put 2 0|take 1 0|put 3 0|take 1 1|put 1 1|"
-         "take 3 0|take 3 1|pulse 3|")
+LATER = (
+    "take 1 0|take 1 1|pulse 1|put 1 1|take 3 0|take 3 0|put 1 0|take 2 0|take 2 0|put 2 0|take 1 0|put 3 0|take 1 1|put 1 1|"
+    "take 3 0|take 3 1|pulse 3|"
+)
 TALLY = {"passed": 0, "failed": 0}
 
 
@@ -65,45 +67,85 @@ WORKED = [
     ("no node", "p edge 0 0|", ""),
     ("a node alone", "p edge 1 0|", "node 1 pulse 0|"),
     ("a node alone at its last pulse", "p edge 1 0|" + 12 * "pulse 1|", "node 1 pulse 12 channel 1|"),
-    ("a node alone with a bar at its last pulse", "p edge 1 0|b 1 1|b 1 3|" + 12 * "pulse 1|", "node 1 pulse 12 channel 2|"),
+    (
+        "a node alone with a bar at its last pulse",
+        "p edge 1 0|b 1 1|b 1 3|" + 12 * "pulse 1|",
+        "node 1 pulse 12 channel 2|",
+    ),
     ("the start of an edge", EDGE, "node 1 pulse 0|link 1 2 taken 0|node 2 pulse 0|link 2 1 taken 0|"),
-    ("no line feed at the end", EDGE + "put 1 0",
-     "node 1 pulse 0|link 1 2 taken 0 payload 0 hello 1|node 2 pulse 0|link 2 1 taken 0|"),
-    ("an odd layout", "c x|" + EDGE + "n 1|\t put  01\t0 \r||c put 1 0|comment|take 2 000|put 2 0|put 2 0|",
-     "node 1 pulse 0|link 1 2 taken 1|node 2 pulse 0|link 2 1 taken 0 payload 0 hello 2 ack 0|"),
-    ("a safe", EDGE + "put 1 0|take 2 0|put 2 0|put 2 0|take 1 0|take 1 0|put 1 0|put 1 0|take 2 0|",
-     "node 1 pulse 0|link 1 2 taken 2 safe 0|node 2 pulse 0|link 2 1 taken 2|"),
-    ("the triangle after 6 events", TRIANGLE + ALL_PUT,
-     "node 1 pulse 0|link 1 2 taken 0 payload 0 hello 1|link 1 3 taken 0 payload 0 hello 1|"
-     "node 2 pulse 0|link 2 1 taken 0 payload 0 hello 2|link 2 3 taken 0 payload 0 hello 2|"
-     "node 3 pulse 0|link 3 1 taken 0 payload 0 hello 3|link 3 2 taken 0 payload 0 hello 3|"),
-    ("the triangle after 34 events", TRIANGLE + 2 * (ALL_PUT + ALL_TAKE) + ALL_PUT + "take 1 0|take 1 1|pulse 1|put 1 1|",
-     "node 1 pulse 1|link 1 2 taken 2 safe 0|link 1 3 taken 2 safe 0 payload 1 label 1|"
-     "node 2 pulse 0|link 2 1 taken 3|link 2 3 taken 2 safe 0|"
-     "node 3 pulse 0|link 3 1 taken 3|link 3 2 taken 2 safe 0|"),
-    ("the triangle after 45 events", TRIANGLE + 2 * (ALL_PUT + ALL_TAKE) + ALL_PUT + LATER.removesuffix("take 3 1|pulse 3|"),
-     "node 1 pulse 1|link 1 2 taken 4|link 1 3 taken 5|"
-     "node 2 pulse 0|link 2 1 taken 4|link 2 3 taken 2 safe 0|"
-     "node 3 pulse 0|link 3 1 taken 4|link 3 2 taken 2 safe 0|"),
-    ("the triangle after 47 events", TRIANGLE + 2 * (ALL_PUT + ALL_TAKE) + ALL_PUT + LATER,
-     "node 1 pulse 1|link 1 2 taken 4|link 1 3 taken 5|"
-     "node 2 pulse 0|link 2 1 taken 4|link 2 3 taken 3|"
-     "node 3 pulse 1|link 3 1 taken 4|link 3 2 taken 2 safe 0|"),
+    (
+        "no line feed at the end",
+        EDGE + "put 1 0",
+        "node 1 pulse 0|link 1 2 taken 0 payload 0 hello 1|node 2 pulse 0|link 2 1 taken 0|",
+    ),
+    (
+        "an odd layout",
+        "c x|" + EDGE + "n 1|\t put  01\t0 \r||c put 1 0|comment|take 2 000|put 2 0|put 2 0|",
+        "node 1 pulse 0|link 1 2 taken 1|node 2 pulse 0|link 2 1 taken 0 payload 0 hello 2 ack 0|",
+    ),
+    (
+        "a safe",
+        EDGE + "put 1 0|take 2 0|put 2 0|put 2 0|take 1 0|take 1 0|put 1 0|put 1 0|take 2 0|",
+        "node 1 pulse 0|link 1 2 taken 2 safe 0|node 2 pulse 0|link 2 1 taken 2|",
+    ),
+    (
+        "the triangle after 6 events",
+        TRIANGLE + ALL_PUT,
+        "node 1 pulse 0|link 1 2 taken 0 payload 0 hello 1|link 1 3 taken 0 payload 0 hello 1|"
+        "node 2 pulse 0|link 2 1 taken 0 payload 0 hello 2|link 2 3 taken 0 payload 0 hello 2|"
+        "node 3 pulse 0|link 3 1 taken 0 payload 0 hello 3|link 3 2 taken 0 payload 0 hello 3|",
+    ),
+    (
+        "the triangle after 34 events",
+        TRIANGLE + 2 * (ALL_PUT + ALL_TAKE) + ALL_PUT + "take 1 0|take 1 1|pulse 1|put 1 1|",
+        "node 1 pulse 1|link 1 2 taken 2 safe 0|link 1 3 taken 2 safe 0 payload 1 label 1|"
+        "node 2 pulse 0|link 2 1 taken 3|link 2 3 taken 2 safe 0|"
+        "node 3 pulse 0|link 3 1 taken 3|link 3 2 taken 2 safe 0|",
+    ),
+    (
+        "the triangle after 45 events",
+        TRIANGLE + 2 * (ALL_PUT + ALL_TAKE) + ALL_PUT + LATER.removesuffix("take 3 1|pulse 3|"),
+        "node 1 pulse 1|link 1 2 taken 4|link 1 3 taken 5|"
+        "node 2 pulse 0|link 2 1 taken 4|link 2 3 taken 2 safe 0|"
+        "node 3 pulse 0|link 3 1 taken 4|link 3 2 taken 2 safe 0|",
+    ),
+    (
+        "the triangle after 47 events",
+        TRIANGLE + 2 * (ALL_PUT + ALL_TAKE) + ALL_PUT + LATER,
+        "node 1 pulse 1|link 1 2 taken 4|link 1 3 taken 5|"
+        "node 2 pulse 0|link 2 1 taken 4|link 2 3 taken 3|"
+        "node 3 pulse 1|link 3 1 taken 4|link 3 2 taken 2 safe 0|",
+    ),
 ]
 
 # (input, fault): faults of the text, of the network, of the reading of events, of an event, in this order
 REFUSED = [
-    ("", "F1"), ("put 1 0|", "F1"), ("p edge 2 1|e 1 1|put 1 0|x|", "F6 line 2"), (EDGE + "events|put 1 0|", "F8 line 3"),
-    (EDGE + "puts 1 0|", "F8 line 3"), ("p edge 2 1|put 1 0|e 1 2|", "NoEvent line 3"),
+    ("", "F1"),
+    ("put 1 0|", "F1"),
+    ("p edge 2 1|e 1 1|put 1 0|x|", "F6 line 2"),
+    (EDGE + "events|put 1 0|", "F8 line 3"),
+    (EDGE + "puts 1 0|", "F8 line 3"),
+    ("p edge 2 1|put 1 0|e 1 2|", "NoEvent line 3"),
     ("p edge 1025 1024|" + "".join(f"e 1 {v}|" for v in range(2, 1026)) + "put 9999 0|x|", "N1 vertex 1"),
-    (EDGE + "pulse 1|put 1|", "NoEvent line 4"), (EDGE + "pulse|", "NoEvent line 3"), (EDGE + "pulse 1 0|", "NoEvent line 3"),
-    (EDGE + "put 1|", "NoEvent line 3"), (EDGE + "put 1 0 0|", "NoEvent line 3"), (EDGE + "put 1 -0|", "NoEvent line 3"),
-    (EDGE + "take 1 x|", "NoEvent line 3"), (EDGE + "put 1 0|Put 1 0|", "NoEvent line 4"), (EDGE + "put 1 0|n 1|", "NoEvent line 4"),
+    (EDGE + "pulse 1|put 1|", "NoEvent line 4"),
+    (EDGE + "pulse|", "NoEvent line 3"),
+    (EDGE + "pulse 1 0|", "NoEvent line 3"),
+    (EDGE + "put 1|", "NoEvent line 3"),
+    (EDGE + "put 1 0 0|", "NoEvent line 3"),
+    (EDGE + "put 1 -0|", "NoEvent line 3"),
+    (EDGE + "take 1 x|", "NoEvent line 3"),
+    (EDGE + "put 1 0|Put 1 0|", "NoEvent line 4"),
+    (EDGE + "put 1 0|n 1|", "NoEvent line 4"),
     (EDGE + "put 1 0|\xff|", "NoEvent line 4"),
-    (EDGE + "pulse 3|", "NoSuch line 3"), (EDGE + "pulse 0|", "NoSuch line 3"), (EDGE + "put 1 1|", "NoSuch line 3"),
-    (EDGE + "take 3 0|", "NoSuch line 3"), (EDGE + "pulse 4294967297|", "NoSuch line 3"),
-    (EDGE + "put 1 18446744073709551616|", "NoSuch line 3"), ("p edge 1 0|take 1 0|", "NoSuch line 2"),
-    (EDGE + "pulse 1|", "NotReady line 3: ack 0 of 2; safe 0 of 2"), (EDGE + "take 1 0|", "LinkEmpty line 3: link from 2 to 1"),
+    (EDGE + "pulse 3|", "NoSuch line 3"),
+    (EDGE + "pulse 0|", "NoSuch line 3"),
+    (EDGE + "put 1 1|", "NoSuch line 3"),
+    (EDGE + "take 3 0|", "NoSuch line 3"),
+    (EDGE + "pulse 4294967297|", "NoSuch line 3"),
+    (EDGE + "put 1 18446744073709551616|", "NoSuch line 3"),
+    ("p edge 1 0|take 1 0|", "NoSuch line 2"),
+    (EDGE + "pulse 1|", "NotReady line 3: ack 0 of 2; safe 0 of 2"),
+    (EDGE + "take 1 0|", "LinkEmpty line 3: link from 2 to 1"),
     (EDGE + "put 1 0|put 1 0|", "NothingToPut line 4: list of 1 for 2"),
     (EDGE + "c|put 1 0||take 2 0|take 2 0|take 2 0|", "LinkEmpty line 7: link from 1 to 2"),
     (EDGE + "put 1 0|take 2 0|put 2 0|put 2 0|take 1 0|take 1 0|pulse 1|", "NotReady line 9: safe 0 of 2"),
@@ -118,20 +160,31 @@ REFUSED = [
 # the same of `replay`: (name, what stands behind the edge's lines, output)
 REPLAYED = [
     ("no entry", "transcript 1 2|", "node 1 pulse 0|link 1 2 taken 0|node 2 pulse 0|link 2 1 taken 0|"),
-    ("a greeting", "transcript 1 2|1 put 2 payload 0 hello 1|2 take 1 payload 0 hello 1|2 put 1 payload 0 hello 2|2 put 1 ack 0|",
-     "node 1 pulse 0|link 1 2 taken 1|node 2 pulse 0|link 2 1 taken 0 payload 0 hello 2 ack 0|"),
-    ("an odd layout, with another number of nodes", "n 1|\t transcript 1  9 \r| \t||1 put 002 payload\t0 hello 01\r",
-     "node 1 pulse 0|link 1 2 taken 0 payload 0 hello 1|node 2 pulse 0|link 2 1 taken 0|"),
+    (
+        "a greeting",
+        "transcript 1 2|1 put 2 payload 0 hello 1|2 take 1 payload 0 hello 1|2 put 1 payload 0 hello 2|2 put 1 ack 0|",
+        "node 1 pulse 0|link 1 2 taken 1|node 2 pulse 0|link 2 1 taken 0 payload 0 hello 2 ack 0|",
+    ),
+    (
+        "an odd layout, with another number of nodes",
+        "n 1|\t transcript 1  9 \r| \t||1 put 002 payload\t0 hello 01\r",
+        "node 1 pulse 0|link 1 2 taken 0 payload 0 hello 1|node 2 pulse 0|link 2 1 taken 0|",
+    ),
 ]
 
-# (input, fault) of `replay`: faults of the text, of the network, of the reading of the transcript, of an entry, in this order
+# (input, fault) of `replay`: faults of the text, of the network, of the reading of the transcript, of an entry, in this
+# order
 GREETING = "1 put 2 payload 0 hello 1|"
 NOT_REPLAYED = [
     ("", "F1"), ("transcript 1 2|", "F1"), (EDGE, "X1 line 1"), ("p edge 2 1|e 1 1|transcript 1 2|x|", "F6 line 2"),
     (EDGE + "q|transcript 1 2|", "F8 line 3"), (EDGE + "transcripts 1 2|", "F8 line 3"),
     ("p edge 1025 1024|" + "".join(f"e 1 {v}|" for v in range(2, 1026)) + "transcript 1 2|x|", "N1 vertex 1"),
-    (EDGE + "transcript|", "X1 line 3"), (EDGE + "transcript 1|", "X1 line 3"), (EDGE + "transcript 3 2|", "X1 line 3"),
-    (EDGE + "transcript 2|", "X1 line 3"), (EDGE + "transcript 2 2|", "NotWhole line 3"), (EDGE + "transcript 2 2|1 put 2 close|", "X1 line 4"),
+    (EDGE + "transcript|", "X1 line 3"),
+    (EDGE + "transcript 1|", "X1 line 3"),
+    (EDGE + "transcript 3 2|", "X1 line 3"),
+    (EDGE + "transcript 2|", "X1 line 3"),
+    (EDGE + "transcript 2 2|", "NotWhole line 3"),
+    (EDGE + "transcript 2 2|1 put 2 close|", "X1 line 4"),
     (EDGE + "transcript 2 2||1 1 put 2 payload 0 hello 1|", "NotWhole line 5"),
     (EDGE + "transcript 2 2|1 1 put 2 payload 0 hello 1|1 2 take 1 payload 0 hello 1|", "WrongStamp line 5"),
     (EDGE + "transcript 2 2|1 2 put 1 payload 0 hello 2|1 1 put 2 payload 0 hello 1|", "WrongStamp line 5"),
@@ -139,10 +192,14 @@ NOT_REPLAYED = [
      "NotReady line 6: ack 0 of 2; safe 0 of 2"),
     (EDGE + "transcript 2 2|18446744073709551616 1 put 2 payload 0 hello 1|", "X1 line 4"),
     (EDGE + "transcript 2 2|18446744073709551615 1 put 2 payload 0 hello 1|", "WrongStamp line 4"),
-    (EDGE + "transcript 1 2 2|", "X1 line 3"), (EDGE + "transcript 1 2|transcript 1 2|", "X1 line 4"),
-    (EDGE + "transcript 1 2|1 pulse|", "X1 line 4"), (EDGE + "transcript 1 2||1 pulse 1 1|", "X1 line 5"),
-    (EDGE + "transcript 1 2|c|", "X1 line 4"), (EDGE + "transcript 1 2|1 take 2 close|1 pulse|", "X1 line 5"),
-    (EDGE + "transcript 1 2|1 put 2 payload 0 best 1|", "X1 line 4"), (EDGE + "transcript 1 2|4294967296 pulse 1|", "X1 line 4"),
+    (EDGE + "transcript 1 2 2|", "X1 line 3"),
+    (EDGE + "transcript 1 2|transcript 1 2|", "X1 line 4"),
+    (EDGE + "transcript 1 2|1 pulse|", "X1 line 4"),
+    (EDGE + "transcript 1 2||1 pulse 1 1|", "X1 line 5"),
+    (EDGE + "transcript 1 2|c|", "X1 line 4"),
+    (EDGE + "transcript 1 2|1 take 2 close|1 pulse|", "X1 line 5"),
+    (EDGE + "transcript 1 2|1 put 2 payload 0 best 1|", "X1 line 4"),
+    (EDGE + "transcript 1 2|4294967296 pulse 1|", "X1 line 4"),
     (EDGE + "transcript 1 2|1 take 2 close|", "LinkEmpty line 4: link from 2 to 1"),
     (EDGE + "transcript 1 2|1 put 2 safe 0|", "WrongWire line 4: expected payload 0 hello 1"),
     (EDGE + "transcript 1 2|1 put 3 close|", "NoSuch line 4"),
@@ -151,13 +208,28 @@ NOT_REPLAYED = [
     (EDGE + "transcript 1 2|1 put 1 close|", "NoSuch line 4"),
     (EDGE + "transcript 1 2|1 put 2 payload 0 hello 2|", "WrongWire line 4: expected payload 0 hello 1"),
     (EDGE + "transcript 1 2||" + GREETING + "|1 put 2 ack 0|", "NothingToPut line 7: list of 1 for 2"),
-    (EDGE + "transcript 1 2|" + GREETING + "2 take 1 payload 0 hello 2|", "WrongWire line 5: expected payload 0 hello 1"),
-    (EDGE + "transcript 1 2|" + GREETING + "2 take 1 payload 0 hello 1|2 put 1 payload 0 hello 2|2 put 1 safe 0|",
-     "WrongWire line 7: expected ack 0"),
+    (
+        EDGE + "transcript 1 2|" + GREETING + "2 take 1 payload 0 hello 2|",
+        "WrongWire line 5: expected payload 0 hello 1",
+    ),
+    (
+        EDGE + "transcript 1 2|" + GREETING + "2 take 1 payload 0 hello 1|2 put 1 payload 0 hello 2|2 put 1 safe 0|",
+        "WrongWire line 7: expected ack 0",
+    ),
     # the greatest number of each kind of payload, which is read and isn't the wire that is due, and one more
-    *((EDGE + f"transcript 1 2|1 put 2 payload 0 {kind} {most + more}|",
-       "X1 line 4" if more else "WrongWire line 4: expected payload 0 hello 1")
-      for kind, most in [("hello", 2**128 - 1), ("label", 2**16 - 1), ("colour", 2**128 - 1), ("chosen", 2**16 - 1)] for more in (0, 1)),
+    *(
+        (
+            EDGE + f"transcript 1 2|1 put 2 payload 0 {kind} {most + more}|",
+            "X1 line 4" if more else "WrongWire line 4: expected payload 0 hello 1",
+        )
+        for kind, most in [
+            ("hello", 2**128 - 1),
+            ("label", 2**16 - 1),
+            ("colour", 2**128 - 1),
+            ("chosen", 2**16 - 1),
+        ]
+        for more in (0, 1)
+    ),
     ("p edge 1 0|transcript 1 1|1 pulse 2|", "WrongWire line 3: expected pulse 1"),
     ("p edge 1 0|transcript 1 1|1 pulse 1|1 pulse 1|", "WrongWire line 4: expected pulse 2"),
 ]
@@ -183,7 +255,9 @@ def state_text(net, state, taken):
         is_last = node.pulse_number == last_pulse(net)
         lines.append(f"node {v} pulse {node.pulse_number}" + (f" channel {node.program.merged + 1}" if is_last else ""))
         for port, w in enumerate(ports_of(net, v)):
-            lines.append(f"link {v} {w} taken {taken[v, port]}" + "".join(" " + wire_words(wire) for wire in state.link[v, port]))
+            lines.append(
+                f"link {v} {w} taken {taken[v, port]}" + "".join(" " + wire_words(wire) for wire in state.link[v, port])
+            )
     return "".join(line + "\n" for line in lines).encode()
 
 
@@ -207,7 +281,11 @@ def random_network(source, most):
     edges = [(v, w) for v in range(1, nodes + 1) for w in range(v + 1, nodes + 1) if source.random() < 0.5]
     source.shuffle(edges)
     bars = [(v, source.randint(1, 4)) for v in range(1, nodes + 1) if source.random() < 0.2]
-    return f"p edge {nodes} {len(edges)}\n" + "".join(f"e {v} {w}\n" for v, w in edges) + "".join(f"b {v} {c}\n" for v, c in bars)
+    return (
+        f"p edge {nodes} {len(edges)}\n"
+        + "".join(f"e {v} {w}\n" for v, w in edges)
+        + "".join(f"b {v} {c}\n" for v, c in bars)
+    )
 
 
 def random_events(source, net, count):
@@ -217,7 +295,11 @@ def random_events(source, net, count):
         possible = list(state.possible())
         if not possible or source.random() < 0.002:
             kind = source.choice(["Pulse", "Put", "Take"])
-            event = kind, source.randrange(0, len(net.neighbours) + 2), None if kind == "Pulse" else source.randrange(0, 4)
+            event = (
+                kind,
+                source.randrange(0, len(net.neighbours) + 2),
+                None if kind == "Pulse" else source.randrange(0, 4),
+            )
         else:
             event = source.choice(possible)
         events.append(event)
@@ -257,7 +339,13 @@ def random_rows(program):
 def ending_rows(program):
     """Events to the end: every node has halted, nothing waits, and the channels are the colours plus one."""
     source = random.Random(SEED)
-    for network in [TRIANGLE, TRIANGLE + "b 3 1|", "p edge 4 4|e 1 2|e 2 3|e 3 4|e 1 4|", "p edge 5 5|e 1 2|e 1 3|e 1 4|e 1 5|e 2 3|", "p edge 3 1|e 1 3|"]:
+    for network in [
+        TRIANGLE,
+        TRIANGLE + "b 3 1|",
+        "p edge 4 4|e 1 2|e 2 3|e 3 4|e 1 4|",
+        "p edge 5 5|e 1 2|e 1 3|e 1 4|e 1 5|e 2 3|",
+        "p edge 3 1|e 1 3|",
+    ]:
         net = network_of(text(network))
         events = random_events(random.Random(source.random()), net, 0) + whole_run(source, net)
         data, numbered = written(source, text(network).decode(), events)
@@ -285,7 +373,11 @@ def help_rows(program):
             wanted = file.read()
         expect(f"help by {words}", run(program, b"no network", words), (0, wanted, b""))
     rows = [
-        ([], "'forestplay' requires a subcommand but one was not provided|  [subcommands: events, replay, rounds]", "forestplay <COMMAND>"),
+        (
+            [],
+            "'forestplay' requires a subcommand but one was not provided|  [subcommands: events, replay, rounds]",
+            "forestplay <COMMAND>",
+        ),
         (["check"], "unrecognized subcommand 'check'", "forestplay <COMMAND>"),
         (["help"], "unrecognized subcommand 'help'", "forestplay <COMMAND>"),
         (["events", "extra"], "unexpected argument 'extra' found", "forestplay events"),
@@ -324,13 +416,19 @@ def memory_rows(program):
         if failure is not None:
             return
         name, data, output = next(row for row in WORKED if row[0] == "the triangle after 47 events")
-        for data, wanted in [(data, (0, text(output), b"")), (EDGE + "put 1 0|put 1 0|", refusal("NothingToPut line 4: list of 1 for 2")),
-                             (EDGE + "put 1|", refusal("NoEvent line 3")), ("p edge 2 1|e 1 1|", refusal("F6 line 2"))]:
+        for data, wanted in [
+            (data, (0, text(output), b"")),
+            (EDGE + "put 1 0|put 1 0|", refusal("NothingToPut line 4: list of 1 for 2")),
+            (EDGE + "put 1|", refusal("NoEvent line 3")),
+            ("p edge 2 1|e 1 1|", refusal("F6 line 2")),
+        ]:
             row = sweep(program, front, ["events"], text(data), wanted, "forestplay")
             note(f"{row[0]} of {data[-30:]!r}", row[1], row[2])
         name, behind, output = REPLAYED[1]
-        for data, wanted in [(EDGE + behind, (0, text(output), b"")),
-                             (EDGE + "transcript 1 2|1 put 2 safe 0|", refusal("WrongWire line 4: expected payload 0 hello 1"))]:
+        for data, wanted in [
+            (EDGE + behind, (0, text(output), b"")),
+            (EDGE + "transcript 1 2|1 put 2 safe 0|", refusal("WrongWire line 4: expected payload 0 hello 1")),
+        ]:
             row = sweep(program, front, ["replay"], text(data), wanted, "forestplay")
             note(f"replay: {row[0]} of {data[-30:]!r}", row[1], row[2])
 

@@ -1,9 +1,9 @@
 #!/usr/bin/env python3
 """Tests of the first call of a program, which proves and builds it: of the scripts `forestplan` and build/prove.py.
 
-They run in a tree of three crates, over a command `rt` that proves nothing: it has what the scripts use of the toolchain's, and its
-program prints a line. And each script of tests/, lab/, build/ and bench/ has to say with --help what it does, where nothing is
-built and there is no toolchain. The last line is 'N passed, M failed'."""
+They run in a tree of three crates, over a command `rt` that proves nothing: it has what the scripts use of the
+toolchain's, and its program prints a line. And each script of tests/, lab/, build/ and bench/ has to say with --help
+what it does, where nothing is built and there is no toolchain. The last line is 'N passed, M failed'."""
 import argparse
 import os
 import re
@@ -20,8 +20,8 @@ from tests import TOP
 LIMIT = 300
 TALLY = {"passed": 0, "failed": 0}
 
-# In place of the toolchain's command, and of its module. A crate whose source has the word `wrong` isn't proved, and one with `slow`
-# takes a minute.
+# In place of the toolchain's command, and of its module. A crate whose source has the word `wrong` isn't proved, and
+# one with `slow` takes a minute.
 RT = """#!/usr/bin/env python3
 import os
 import time
@@ -114,15 +114,24 @@ class Tree:
         write(os.path.join(kit, "rt"), RT, 0o755)
         write(os.path.join(kit, "rattle"), "")
         write(os.path.join(folder, "kits", "rattle", "KIT-ID"), "a kit\n")
-        self.environment = dict(os.environ, PATH=f"{kit}:{os.environ['PATH']}", XDG_CACHE_HOME=os.path.join(folder, "cache"))
+        self.environment = dict(
+            os.environ, PATH=f"{kit}:{os.environ['PATH']}", XDG_CACHE_HOME=os.path.join(folder, "cache")
+        )
         self.store = os.path.join(folder, "cache", "forestplan")
 
     def source(self, crate, text):
         write(os.path.join(self.top, "crates", crate, "src", "lib.rt"), f"//! {text}\n")
 
     def begun(self, *words):
-        return subprocess.Popen([os.path.join(self.top, "forestplan"), *words], stdin=subprocess.PIPE, stdout=subprocess.PIPE,
-                                stderr=subprocess.PIPE, text=True, env=self.environment, start_new_session=True)
+        return subprocess.Popen(
+            [os.path.join(self.top, "forestplan"), *words],
+            stdin=subprocess.PIPE,
+            stdout=subprocess.PIPE,
+            stderr=subprocess.PIPE,
+            text=True,
+            env=self.environment,
+            start_new_session=True,
+        )
 
     def call(self, *words, given=""):
         with self.begun(*words) as started:
@@ -162,7 +171,11 @@ def wait_until(what):
 
 def run_first(tree):
     got = tree.call("--help")
-    note("the help of a program that isn't built", got[0] == 0 and got[1].startswith("Plans channels") and not got[2], got)
+    note(
+        "the help of a program that isn't built",
+        got[0] == 0 and got[1].startswith("Plans channels") and not got[2],
+        got,
+    )
     status, out, err = tree.call("plain", "x", given="input\n")
     note("what the program prints", (status, out) == (0, "plain x\ninput\n"), (status, out))
     lines = err.splitlines()
@@ -177,15 +190,31 @@ def run_first(tree):
     note("a crate of tests is no part of the program", got == (0, "plan\n", ""), got)
     tree.source("aside", "changed")
     got = tree.call("plan")
-    note("what the program isn't made from is not proved", got[:2] == (0, "plan\n") and " 3 of 3 crates proved" in got[2], got)
+    note(
+        "what the program isn't made from is not proved",
+        got[:2] == (0, "plan\n") and " 3 of 3 crates proved" in got[2],
+        got,
+    )
     tree.source("middle", "changed")
     status, out, err = tree.call("plan")
-    note("a changed source is proved", (status, out) == (0, "plan\n") and " 1 of 3 crates proved, 0 s: now middle" in err, err)
+    note(
+        "a changed source is proved",
+        (status, out) == (0, "plan\n") and " 1 of 3 crates proved, 0 s: now middle" in err,
+        err,
+    )
     note("and what lies above it", " 2 of 3 crates proved" in err and " 3 of 3 crates proved" in err, err)
     tree.source("middle", "fine")
     got = tree.call("plan")
-    note("the state before is still known", got[:2] == (0, "plan\n") and " 3 of 3 crates proved, 0 s: nothing to do" in got[2], got)
-    note("no room is left", sorted(os.listdir(tree.store)) == ["forestplan", "lock", "lower", "middle"], os.listdir(tree.store))
+    note(
+        "the state before is still known",
+        got[:2] == (0, "plan\n") and " 3 of 3 crates proved, 0 s: nothing to do" in got[2],
+        got,
+    )
+    note(
+        "no room is left",
+        sorted(os.listdir(tree.store)) == ["forestplan", "lock", "lower", "middle"],
+        os.listdir(tree.store),
+    )
 
 
 def run_elsewhere(tree, folder):
@@ -193,7 +222,11 @@ def run_elsewhere(tree, folder):
     other = Tree(folder)
     other.environment, other.store = tree.environment, tree.store
     got = other.call("plan")
-    note("another checkout takes over what is proved", got[:2] == (0, "plan\n") and " 3 of 3 crates proved, 0 s: nothing to do" in got[2], got)
+    note(
+        "another checkout takes over what is proved",
+        got[:2] == (0, "plan\n") and " 3 of 3 crates proved, 0 s: nothing to do" in got[2],
+        got,
+    )
     for at in range(5):
         other.source("middle", f"state {at}")
         note(f"state {at}", other.call("plan")[:2] == (0, "plan\n"))
@@ -203,14 +236,22 @@ def run_elsewhere(tree, folder):
 def run_failures(tree):
     tree.source("middle", "wrong")
     status, out, err = tree.call("plan")
-    note("a crate that isn't proved", status == 70 and not out and "the crate middle isn't proved" in err, (status, out, err))
+    note(
+        "a crate that isn't proved",
+        status == 70 and not out and "the crate middle isn't proved" in err,
+        (status, out, err),
+    )
     note("the end of its log", "  fn middle::f: not proved\n" in err and "out/build/middle.log" in err, err)
     tree.source("middle", "fine once more")
     status, out, _ = tree.call("plan")
     note("and mended", (status, out) == (0, "plan\n"), (status, out))
     tree.source("forestplan", "wrong")
     status, out, err = tree.call("plan")
-    note("a program that isn't proved", status == 70 and not out and "the crate forestplan isn't proved" in err, (status, out, err))
+    note(
+        "a program that isn't proved",
+        status == 70 and not out and "the crate forestplan isn't proved" in err,
+        (status, out, err),
+    )
     note("what is left to the gate of it", "asks besides: .\n" in tree.log("forestplan"), tree.log("forestplan"))
     tree.source("forestplan", "fine")
     status, out, _ = tree.call("plan")
@@ -227,7 +268,11 @@ def run_stopped(tree):
                 if at == 0:
                     with tree.begun("plan") as second:
                         line = second.stderr.readline() + second.stderr.readline()
-                        note("a second call waits", "forestplan: another call is proving already; waiting for its end" in line, line)
+                        note(
+                            "a second call waits",
+                            "forestplan: another call is proving already; waiting for its end" in line,
+                            line,
+                        )
                         os.killpg(second.pid, signal.SIGINT)
                         note("and is stopped", second.wait(LIMIT) == 130, second.returncode)
                 os.killpg(first.pid, sent)
@@ -247,7 +292,11 @@ def run_stopped(tree):
     note("nothing goes on after a call that was killed", wait_until(lambda: not tree.at_work()), tree.at_work())
     tree.source("middle", "fast")
     note("the next call", tree.call("plan")[:2] == (0, "plan\n"))
-    note("no room is left of those", not [name for name in os.listdir(tree.store) if name.startswith("room-")], os.listdir(tree.store))
+    note(
+        "no room is left of those",
+        not [name for name in os.listdir(tree.store) if name.startswith("room-")],
+        os.listdir(tree.store),
+    )
 
 
 def run_helps(folder):
@@ -266,8 +315,15 @@ def run_helps(folder):
         # Those of a package are called as its modules.
         name = os.path.relpath(script, top).removesuffix(".py")
         words = [script] if name.startswith("bench") else ["-m", name.replace("/", ".")]
-        done = subprocess.run([sys.executable, *words, "--help"], stdin=subprocess.DEVNULL, capture_output=True, text=True,
-                              timeout=LIMIT, cwd=top, env=dict(os.environ, PATH=path, COLUMNS="120"))
+        done = subprocess.run(
+            [sys.executable, *words, "--help"],
+            stdin=subprocess.DEVNULL,
+            capture_output=True,
+            text=True,
+            timeout=LIMIT,
+            cwd=top,
+            env=dict(os.environ, PATH=path, COLUMNS="120"),
+        )
         good = done.returncode == 0 and len(done.stdout) > 60 and not done.stderr
         note(f"{name} --help", good, done)
     note("no script has made anything", not os.path.exists(os.path.join(top, "crates")))
@@ -275,7 +331,9 @@ def run_helps(folder):
 
 def main():
     summary, _, more = __doc__.partition("\n")
-    argparse.ArgumentParser(description=summary, epilog=more, formatter_class=argparse.RawDescriptionHelpFormatter).parse_args()
+    argparse.ArgumentParser(
+        description=summary, epilog=more, formatter_class=argparse.RawDescriptionHelpFormatter
+    ).parse_args()
     # A shell has what it runs in the background ignore SIGINT, and what is started from there would, too.
     signal.signal(signal.SIGINT, signal.default_int_handler)
     with tempfile.TemporaryDirectory(prefix="first-run-") as folder:

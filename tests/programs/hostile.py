@@ -1,18 +1,18 @@
 #!/usr/bin/env python3
-"""Feeds the built programs texts that nobody would write, and compares each answer with that of a slow reader written from
-docs/claim/FORMATS.md (slow_reader.py). The last line is 'N passed, M failed'.
+"""Feeds the built programs texts that nobody would write, and compares each answer with that of a slow reader written
+from docs/claim/FORMATS.md (slow_reader.py). The last line is 'N passed, M failed'.
 
   hostile.py [--texts N] [--seed SEED] [--first K] [--only COMMAND ..] [--program PROGRAM] [--play PLAY]
-      N         how many random texts, over all commands; default 60000
-      SEED      of the random texts; default 2026
-      K         the first part of the random texts, which come in parts of 100,000, each from SEED and its number; default 1. From 2 on
+      N         how many random texts, over all commands; default 60000 SEED      of the random texts; default 2026 K
+      the first part of the random texts, which come in parts of 100,000, each from SEED and its number; default 1. From
+      2 on
                 there is nothing but random texts: so a long run goes on after an interruption
-      COMMAND   only the rows of these commands, with the same texts as beside the others; so a long run is split over processes
-      PROGRAM   default: the built forestplan
-      PLAY      default: the built forestplay
+      COMMAND   only the rows of these commands, with the same texts as beside the others; so a long run is split over
+      processes PROGRAM   default: the built forestplan PLAY      default: the built forestplay
 
-Besides the random texts: each byte at each place of a small text, byte order marks and other bytes before each place, numbers around
-powers of two, lines of a megabyte, about as many bars of a vertex as the limit; and less and less address space. It needs a C compiler, `cc`."""
+Besides the random texts: each byte at each place of a small text, byte order marks and other bytes before each place,
+numbers around powers of two, lines of a megabyte, about as many bars of a vertex as the limit; and less and less
+address space. It needs a C compiler, `cc`."""
 import argparse
 import os
 import sys
@@ -51,11 +51,24 @@ WHOLE = {
 READERS = ("forests", "check", "events", "replay")
 # How many of 100 random texts are for a command.
 SHARES = {"forests": 28, "plain": 3, "plan": 3, "transcript": 3, "check": 20, "events": 20, "replay": 20, "rounds": 3}
-# One worker, since a thread takes longer to start than a text to be read; and no look for the transcript, which then is known.
+# One worker, since a thread takes longer to start than a text to be read; and no look for the transcript, which then is
+# known.
 WORDS = {"plan": ["plan", "--workers", "1"], "transcript": ["transcript", "--workers", "1", "--turns", "0"]}
 # Bytes that editors and other systems put into texts: byte order marks, line ends, spaces that are none.
-MARKS = [b"\xef\xbb\xbf", b"\xff\xfe", b"\xfe\xff", b"\r\n", b"\r\r\n", b"\n\r", b"\r\r", b"\0\0", b"\n\0\n", b"\xc2\xa0", b"\xe2\x80\xa8",
-         b"\x1b[2J"]
+MARKS = [
+    b"\xef\xbb\xbf",
+    b"\xff\xfe",
+    b"\xfe\xff",
+    b"\r\n",
+    b"\r\r\n",
+    b"\n\r",
+    b"\r\r",
+    b"\0\0",
+    b"\n\0\n",
+    b"\xc2\xa0",
+    b"\xe2\x80\xa8",
+    b"\x1b[2J",
+]
 
 
 def note(name, good, what=""):
@@ -71,8 +84,8 @@ class Programs:
         self.paths, self.front, self.texts = paths, front, 0
 
     def differences(self, command, texts):
-        """Of texts in batches: how many there were, how many had no fault, and the first that is answered otherwise. The slow reader
-        reads a batch while the program does."""
+        """Of texts in batches: how many there were, how many had no fault, and the first that is answered otherwise.
+        The slow reader reads a batch while the program does."""
         count, good, rest = 0, 0, iter(texts)
         while batch := list(islice(rest, BATCH)):
             running = Running(self.front, [self.paths[PROGRAM_OF[command]]] + WORDS.get(command, [command]), batch)
@@ -121,11 +134,27 @@ def without_20_000_nodes(texts):
 
 def long_lines(data, length=2**20):
     """A line of a megabyte before the text, in the middle of it and behind it; and many blank lines."""
-    for line in (b"c" * length, b" " * length, b"\t" * length, b"q" * length, b"e" * length, b"1" * length, b"\0" * length,
-                 b"\xff" * length, b"\r" * length, b"c" + b"\r" * length, b"e 1 2 " + b"9 " * (length // 2),
-                 b"e 1 " + b"0" * length + b"2", b"e 1 " + b"9" * length, b"i 1 " + b"0" * length + b"5", b"i 1 " + b"9" * length,
-                 b"b 1 " + b"0" * length + b"5", b"b 1 " + b"9" * length,
-                 b" " * length + b"e 1 2", b"p edge " + b"1" * length + b" 1"):
+    for line in (
+        b"c" * length,
+        b" " * length,
+        b"\t" * length,
+        b"q" * length,
+        b"e" * length,
+        b"1" * length,
+        b"\0" * length,
+        b"\xff" * length,
+        b"\r" * length,
+        b"c" + b"\r" * length,
+        b"e 1 2 " + b"9 " * (length // 2),
+        b"e 1 " + b"0" * length + b"2",
+        b"e 1 " + b"9" * length,
+        b"i 1 " + b"0" * length + b"5",
+        b"i 1 " + b"9" * length,
+        b"b 1 " + b"0" * length + b"5",
+        b"b 1 " + b"9" * length,
+        b" " * length + b"e 1 2",
+        b"p edge " + b"1" * length + b" 1",
+    ):
         middle = data.index(b"\n") + 1
         yield line + b"\n" + data
         yield data[:middle] + line + b"\n" + data[middle:]
@@ -136,10 +165,14 @@ def long_lines(data, length=2**20):
 
 
 def crowds_of_bars(data):
-    """About as many bars of a vertex as the limit, each once or some again, before the text's own lines and behind them."""
+    """About as many bars of a vertex as the limit, each once or some again, before the text's own lines and behind
+    them."""
     middle = data.index(b"\n") + 1
     for count, again in product((1023, 1024, 1025, 1026), (0, 3)):
-        lines = b"".join(b"b 1 %d\n" % channel for channel in [*range(1, again + 1), *range(2049 - count, 2049), *range(2046, 2046 + again)])
+        lines = b"".join(
+            b"b 1 %d\n" % channel
+            for channel in [*range(1, again + 1), *range(2049 - count, 2049), *range(2046, 2046 + again)]
+        )
         yield data[:middle] + lines + data[middle:]
         yield data + lines
 
@@ -156,7 +189,9 @@ def main():
     with tempfile.TemporaryDirectory() as folder:
         front, failure = build_front(folder, "run_each")
         note("the library that runs a program on many texts builds", failure is None, failure)
-        programs = Programs({"forestplan": os.path.abspath(given.program), "forestplay": os.path.abspath(given.play)}, front)
+        programs = Programs(
+            {"forestplan": os.path.abspath(given.program), "forestplay": os.path.abspath(given.play)}, front
+        )
         if failure is None and given.first == 1:
             all_rows(programs, given.only)
             for row in falling_limit_rows(programs.paths):
@@ -172,7 +207,11 @@ def all_rows(programs, only):
     for command in only:
         small = SMALL[command]
         data = text(small)
-        programs.row("each beginning", command, chain.from_iterable(beginnings(text(whole)) for whole in WHOLE.get(command, [small])))
+        programs.row(
+            "each beginning",
+            command,
+            chain.from_iterable(beginnings(text(whole)) for whole in WHOLE.get(command, [small])),
+        )
         programs.row("each mark at each place", command, each_mark(data))
         numbers = each_number(data)
         programs.row("numbers around powers of two", command,
@@ -192,7 +231,11 @@ def random_rows(programs, given):
         for command in given.only:
             texts = islice(texts_of(command, f"{seed} {part}"), size * SHARES[command] // 100)
             made, good = programs.row(f"random texts, seed {seed}, part {part}", command, texts)
-            note(f"some of the texts are good, and most are not, {command}", made < 100 or made // 10 < good < made // 2, (made, good))
+            note(
+                f"some of the texts are good, and most are not, {command}",
+                made < 100 or made // 10 < good < made // 2,
+                (made, good),
+            )
         print(f"seed {seed}, parts {first} to {part}: {programs.texts - before} random texts", flush=True)
 
 

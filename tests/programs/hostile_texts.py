@@ -8,17 +8,104 @@ from tests.programs.made_transcripts import line_of
 from tests.programs.plain_networks import pairs_of
 
 POWERS = [2**16, 2**31, 2**32, 2**63, 2**64, 2**127, 2**128, 2**129, 10**60, 1023, 1024, 2048, 20_000]
-NUMBERS = ([b"%d" % n for n in range(12)] + [b"%d" % (power + d) for power in POWERS for d in (-1, 0, 1)]
-           + [b"0" * 40 + b"2", b"9" * 400, b"-1", b"+1", b"1.0", b"0x1", b"1e0", b"1_0", b"\xd9\xa1", b"\xb2", b"1\x00", b"\x001", b"", b"nan"])
+NUMBERS = (
+    [b"%d" % n for n in range(12)]
+    + [b"%d" % (power + d) for power in POWERS for d in (-1, 0, 1)]
+    + [
+        b"0" * 40 + b"2",
+        b"9" * 400,
+        b"-1",
+        b"+1",
+        b"1.0",
+        b"0x1",
+        b"1e0",
+        b"1_0",
+        b"\xd9\xa1",
+        b"\xb2",
+        b"1\x00",
+        b"\x001",
+        b"",
+        b"nan",
+    ]
+)
 # 20,000 vertices are slow for the definitions, where each has a node.
 SMALL_NUMBERS = [n for n in NUMBERS if not n.isdigit() or not 1000 < int(n[:60]) <= 20_000]
 BYTES = [bytes([b]) for b in b"\x00\t\n\x0b\x0c\r \x1a\x1b#%+-.01239bcdeinpvx\x7f\x80\xa0\xc2\xfe\xff"]
-WORDS = [b"p", b"e", b"c", b"i", b"b", b"n", b"d", b"v", b"x", b"cx", b"edge", b"edges", b"col", b"plan", b"plans", b"pulse", b"put", b"take", b"Put",
-         b"transcript", b"payload", b"hello", b"label", b"colour", b"chosen", b"best", b"ack", b"safe", b"close", b"PLAN", b"\xef\xbb\xbfp",
-         b"p\x00", b"\xffe", b"q"]
-LINES = [b"", b"\r", b" \t", b"c", b"c \xff\x00", b"n 1 1", b"p edge 2 1", b"p col 3 0", b"e 1 2", b"e 1 1", b"e 0 1", b"i 1 5", b"i 2 1", b"i 1 2", b"i 0 5",
-         b"i 2 %d" % (2**128 - 1), b"i 1 %d" % 2**128, b"b 1 1", b"b 2 1", b"b 1 2048 x", b"b 2 0", b"b 1 2049", b"b 3 2", b"plan", b"1 1", b"2 1",
-         b"put 1 0", b"take 2 0", b"pulse 1", b"transcript 1 2", b"transcript 2 2", b"1 put 2 payload 0 hello 1", b"1 1 put 2 payload 0 hello 1", b"1 pulse 1", b"q", b"\x00", b"\xff"]
+WORDS = [
+    b"p",
+    b"e",
+    b"c",
+    b"i",
+    b"b",
+    b"n",
+    b"d",
+    b"v",
+    b"x",
+    b"cx",
+    b"edge",
+    b"edges",
+    b"col",
+    b"plan",
+    b"plans",
+    b"pulse",
+    b"put",
+    b"take",
+    b"Put",
+    b"transcript",
+    b"payload",
+    b"hello",
+    b"label",
+    b"colour",
+    b"chosen",
+    b"best",
+    b"ack",
+    b"safe",
+    b"close",
+    b"PLAN",
+    b"\xef\xbb\xbfp",
+    b"p\x00",
+    b"\xffe",
+    b"q",
+]
+LINES = [
+    b"",
+    b"\r",
+    b" \t",
+    b"c",
+    b"c \xff\x00",
+    b"n 1 1",
+    b"p edge 2 1",
+    b"p col 3 0",
+    b"e 1 2",
+    b"e 1 1",
+    b"e 0 1",
+    b"i 1 5",
+    b"i 2 1",
+    b"i 1 2",
+    b"i 0 5",
+    b"i 2 %d" % (2**128 - 1),
+    b"i 1 %d" % 2**128,
+    b"b 1 1",
+    b"b 2 1",
+    b"b 1 2048 x",
+    b"b 2 0",
+    b"b 1 2049",
+    b"b 3 2",
+    b"plan",
+    b"1 1",
+    b"2 1",
+    b"put 1 0",
+    b"take 2 0",
+    b"pulse 1",
+    b"transcript 1 2",
+    b"transcript 2 2",
+    b"1 put 2 payload 0 hello 1",
+    b"1 1 put 2 payload 0 hello 1",
+    b"1 pulse 1",
+    b"q",
+    b"\x00",
+    b"\xff",
+]
 
 
 def texts_of(command, seed):
@@ -37,7 +124,11 @@ def good_text(source, command):
     nodes = source.choice((0, 1, 2, 2, 3, 3, 4, 5))
     edges = [pair for pair in pairs_of(nodes) if source.random() < 0.6]
     given, bars = given_in(source, nodes), bars_in(source, nodes)
-    lines = [b"e %d %d" % pair for pair in edges] + [b"i %d %d" % pair for pair in given.items()] + [b"b %d %d" % pair for pair in bars]
+    lines = (
+        [b"e %d %d" % pair for pair in edges]
+        + [b"i %d %d" % pair for pair in given.items()]
+        + [b"b %d %d" % pair for pair in bars]
+    )
     source.shuffle(lines)
     lines.insert(0, b"p %s %d %d" % (source.choice((b"edge", b"edges", b"col")), nodes, len(edges)))
     barred = {v: {channel - 1 for w, channel in bars if v == w} for v in range(1, nodes + 1)}
@@ -47,13 +138,18 @@ def good_text(source, command):
 
 
 def given_in(source, nodes):
-    """Identifiers for some of the vertices in half of the texts, small ones, great ones and the numbers of others; no two of one network
-    are the same."""
+    """Identifiers for some of the vertices in half of the texts, small ones, great ones and the numbers of others; no
+    two of one network are the same."""
     if source.random() < 0.5:
         return {}
     while True:
-        given = {v: source.choice((source.randrange(8), source.choice(POWERS[:7]) - source.randrange(3), source.randrange(2**128)))
-                 for v in range(1, nodes + 1) if source.random() < 0.6}
+        given = {
+            v: source.choice(
+                (source.randrange(8), source.choice(POWERS[:7]) - source.randrange(3), source.randrange(2**128))
+            )
+            for v in range(1, nodes + 1)
+            if source.random() < 0.6
+        }
         if len({given.get(v, v) for v in range(1, nodes + 1)}) == nodes:
             return given
 
@@ -62,7 +158,10 @@ def bars_in(source, nodes):
     """Bars in half of the texts, low channels mostly, some of them twice."""
     if nodes == 0 or source.random() < 0.5:
         return []
-    return [(source.randint(1, nodes), source.choice((1, 1, 2, 3, source.randint(1, 2048), 2048))) for _ in range(source.choice((1, 2, 3, 6)))]
+    return [
+        (source.randint(1, nodes), source.choice((1, 1, 2, 3, source.randint(1, 2048), 2048)))
+        for _ in range(source.choice((1, 2, 3, 6)))
+    ]
 
 
 def behind(source, command, net, network):
@@ -73,7 +172,9 @@ def behind(source, command, net, network):
         return []
     events = random_events(source, net, source.choice((3, 10, 40)))
     if command == "events":
-        return [" ".join(str(word) for word in (kind.lower(), *at) if word is not None).encode() for kind, *at in events]
+        return [
+            " ".join(str(word) for word in (kind.lower(), *at) if word is not None).encode() for kind, *at in events
+        ]
     state = NetState(net)
     possible = events[:-1] if events else []
     return [b"transcript 1 %d" % len(net.neighbours)] + [line_of(state, event).encode() for event in possible]
@@ -105,7 +206,9 @@ def spoil_field(source, text, numbers):
     at = source.randrange(len(lines))
     fields = lines[at].split(b" ")
     field = source.randrange(len(fields))
-    fields[field:field + source.choice((0, 1, 1, 1))] = [source.choice(numbers if source.random() < 0.7 else WORDS)] * source.choice((0, 1, 1, 1))
+    fields[field : field + source.choice((0, 1, 1, 1))] = [
+        source.choice(numbers if source.random() < 0.7 else WORDS)
+    ] * source.choice((0, 1, 1, 1))
     lines[at] = b" ".join(fields)
     return b"\n".join(lines)
 
@@ -119,13 +222,43 @@ def spoil_line(source, text, _):
 
 
 def spoil_spaces(source, text, _):
-    old, new = source.choice(((b" ", b"\t"), (b" ", b"  \t"), (b" ", b"\x0b"), (b" ", b"\xc2\xa0"), (b"\n", b"\r\n"), (b"\n", b"\r"),
-                              (b"\n", b"\r\r\n"), (b"\n", b" \r\n"), (b"\n", b"\n\n"), (b"\n", b"\n\r"), (b"\n", b"\0\n"), (b"\n", b"\n \t")))
+    old, new = source.choice(
+        (
+            (b" ", b"\t"),
+            (b" ", b"  \t"),
+            (b" ", b"\x0b"),
+            (b" ", b"\xc2\xa0"),
+            (b"\n", b"\r\n"),
+            (b"\n", b"\r"),
+            (b"\n", b"\r\r\n"),
+            (b"\n", b" \r\n"),
+            (b"\n", b"\n\n"),
+            (b"\n", b"\n\r"),
+            (b"\n", b"\0\n"),
+            (b"\n", b"\n \t"),
+        )
+    )
     return text.replace(old, new, source.choice((1, 2, -1)))
 
 
 def spoil_start(source, text, _):
-    return source.choice((b"\xef\xbb\xbf", b"\xff\xfe", b"\0", b"\r", b" ", b"\n", b"\x1b[2J", b"c" * 300 + b"\n", b" " * 300)) + text
+    return (
+        source.choice(
+            (b"\xef\xbb\xbf", b"\xff\xfe", b"\0", b"\r", b" ", b"\n", b"\x1b[2J", b"c" * 300 + b"\n", b" " * 300)
+        )
+        + text
+    )
 
 
-SPOILERS = [spoil_byte, without_byte, beginning, spoil_field, spoil_field, spoil_field, spoil_line, spoil_line, spoil_spaces, spoil_start]
+SPOILERS = [
+    spoil_byte,
+    without_byte,
+    beginning,
+    spoil_field,
+    spoil_field,
+    spoil_field,
+    spoil_line,
+    spoil_line,
+    spoil_spaces,
+    spoil_start,
+]

@@ -1,4 +1,5 @@
-"""Transcripts made from the definitions (lab/definitions/nodes.py) under random schedules, and transcripts with one mistake.
+"""Transcripts made from the definitions (lab/definitions/nodes.py) under random schedules, and transcripts with one
+mistake.
 
 A transcript is held as its entries' lines without line feeds, those of each node in its own order."""
 import re
@@ -11,8 +12,8 @@ MISTAKES = ("changed", "doubled", "left out", "swapped")
 
 
 def made_transcript(source, net, capacity):
-    """The lines of each vertex in a whole run in which no link ever holds more wires than its capacity. Some nodes are slow;
-    a node that is looked at makes a turn as on a worker thread, or some of its events."""
+    """The lines of each vertex in a whole run in which no link ever holds more wires than its capacity. Some nodes are
+    slow; a node that is looked at makes a turn as on a worker thread, or some of its events."""
     state, lines = NetState(net), {v: [] for v in net.neighbours}
     look = source.choice((turn, some_events))
     at_work = [v for v in net.neighbours for _ in range(source.choice((1, 2, 8)))]
@@ -66,18 +67,25 @@ def line_of(state, event):
 
 def transcript_text(nodes, lines):
     """As the program writes it: the vertices ascend."""
-    return "".join(line + "\n" for line in [f"transcript 1 {nodes}"] + [line for v in sorted(lines) for line in lines[v]]).encode()
+    return "".join(
+        line + "\n" for line in [f"transcript 1 {nodes}"] + [line for v in sorted(lines) for line in lines[v]]
+    ).encode()
 
 
 def stamped_rows(lines):
-    """(stamp, vertex, line) of each entry, in the order of edition 2. A node is looked at again once a neighbour has put more."""
+    """(stamp, vertex, line) of each entry, in the order of edition 2. A node is looked at again once a neighbour has
+    put more."""
     rows, at, counter, puts = [], dict.fromkeys(lines, 0), dict.fromkeys(lines, 0), {}
     work = list(lines)
     while work:
         v = work.pop()
         for line in lines[v][at[v]:]:
             _, kind, *others = line.split(" ", 3)
-            link = puts.setdefault((v, others[0]) if kind == "put" else (int(others[0]), str(v)), deque()) if kind != "pulse" else None
+            link = (
+                puts.setdefault((v, others[0]) if kind == "put" else (int(others[0]), str(v)), deque())
+                if kind != "pulse"
+                else None
+            )
             if kind == "take":
                 if not link:
                     break
@@ -126,7 +134,9 @@ def with_mistake(source, mistake, lines):
     elif mistake == "left out":
         del own[at]
     else:
-        other = source.choice([i for i in (at - 1, at + 1, source.randrange(len(own))) if 0 <= i < len(own) and i != at] or [at])
+        other = source.choice(
+            [i for i in (at - 1, at + 1, source.randrange(len(own))) if 0 <= i < len(own) and i != at] or [at]
+        )
         own[at], own[other] = own[other], own[at]
     return lines | {v: own}
 

@@ -1,13 +1,14 @@
 #!/usr/bin/env python3
-"""Tests of transcripts of edition 2: all entries of a run in one order, with stamps. The last line is 'N passed, M failed'.
+"""Tests of transcripts of edition 2: all entries of a run in one order, with stamps. The last line is 'N passed, M
+failed'.
 
   merged.py [--program PROGRAM] [--play PLAY] [--runs N]
       PROGRAM   has the command `transcript`
       PLAY      has the command `replay`; the rows of a program that isn't named are left out
       N         how many whole runs of PROGRAM are checked, default 60; 1000 take some minutes
 
-Expected verdicts are worked by hand, or come from the definitions in lab/definitions/nodes.py and stamps.py; none is taken from a
-program."""
+Expected verdicts are worked by hand, or come from the definitions in lab/definitions/nodes.py and stamps.py; none is
+taken from a program."""
 import argparse
 import os
 import random
@@ -42,32 +43,71 @@ APART = "transcript 2 2|" + "".join(f"{p} {v} pulse {p}|" for p in range(1, 13) 
 GREETED = f"transcript 2 2|1 1 put 2 {HELLO_1}|1 2 put 1 {HELLO_2}|2 1 take 2 {HELLO_2}|2 2 take 1 {HELLO_1}|"
 
 # (network, transcript, what is said, up to the second colon of a refusal), in which '|' stands for a line feed
-WORKED = [
-    ("p edge 0 0|", "transcript 2 0|", "whole run of 0 nodes, 0 entries, 0 payloads, 0 wires"),
-    ("p edge 2 0|", APART, "whole run of 2 nodes, 24 entries, 0 payloads, 0 wires"),
-    ("p edge 2 0|", "\r| transcript\t2  002\r|" + APART[15:-1], "whole run of 2 nodes, 24 entries, 0 payloads, 0 wires"),
-    ("p edge 2 0|", APART.replace("|7 1", "||007 01"), "whole run of 2 nodes, 24 entries, 0 payloads, 0 wires"),
-    ("p edge 2 0|", APART[:-14], "line 24: NotWhole"), ("p edge 2 0|", "transcript 2 2|", "line 1: NotWhole"),
-    ("p edge 2 0|", "transcript 2 3|" + APART[15:], "line 1: Nodes"), ("p edge 2 0|", APART + "13 1 put 2 close|", "line 26: NoSuch"),
-    # an order by vertex, which comes too late at line 14; and one that isn't by vertex where stamps are equal
-    ("p edge 2 0|", "transcript 2 2|" + "".join(f"{p} {v} pulse {p}|" for v in (1, 2) for p in range(1, 13)), "line 14: WrongStamp"),
-    ("p edge 2 0|", "transcript 2 2|1 2 pulse 1|1 1 pulse 1|", "line 3: WrongStamp"),
-    # the reading
-    (EDGE, "transcript 2|", "line 1: X1"), (EDGE, "transcript 2 2 2|", "line 1: X1"), (EDGE, "transcript 3 2|", "line 1: X1"),
-    (EDGE, "transcript 02 2|", "line 1: X1"), (EDGE, "transcript 2 4294967296|", "line 1: X1"),
-    (EDGE, f"transcript 2 2|1 put 2 {HELLO_1}|", "line 2: X1"), (EDGE, "transcript 1 2|1 1 pulse 1|", "line 2: X1"),
-] + [(EDGE, f"transcript 2 2||{entry}|1 1 pulse 1|", "line 3: X1") for entry in (
-    "1", "1 1", "1 1 pulse", "1 1 pulse 1 1", "-1 1 pulse 1", "x 1 pulse 1", "1 pulse 1", "pulse 1", "18446744073709551616 1 pulse 1",
-    "99999999999999999999 1 pulse 1", "1 4294967296 pulse 1", "1 1 put 2", "1 1 put 2 close 0", "+1 1 pulse 1")] + [
-    # the stamps
-    (EDGE, GREETED, "line 5: NotWhole"), (EDGE, GREETED.replace("2 1 take", "3 1 take"), "line 4: WrongStamp"),
-    (EDGE, GREETED.replace("2 2 take", "1 2 take"), "line 5: WrongStamp"), (EDGE, GREETED.replace("1 1 put", "0 1 put"), "line 2: WrongStamp"),
-    (EDGE, GREETED.replace("1 1 put", f"{GREATEST} 1 put"), "line 2: WrongStamp"), (EDGE, "transcript 2 2|1 1 pulse 1|", "line 2: NotReady"),
-    (EDGE, f"transcript 2 2|1 1 take 2 {HELLO_2}|", "line 2: LinkEmpty"), (EDGE, "transcript 2 2|1 1 put 2 safe 0|", "line 2: WrongWire"),
-    # an entry that isn't possible is that first, whatever its stamp is
-    (EDGE, "transcript 2 2|7 1 pulse 1|", "line 2: NotReady"), (EDGE, "transcript 2 2|7 3 pulse 1|", "line 2: NoSuch"),
-    (EDGE, f"transcript 2 2|1 1 put 2 {HELLO_1}|2 1 put 2 safe 0|", "line 3: NothingToPut"),
-]
+WORKED = (
+    [
+        ("p edge 0 0|", "transcript 2 0|", "whole run of 0 nodes, 0 entries, 0 payloads, 0 wires"),
+        ("p edge 2 0|", APART, "whole run of 2 nodes, 24 entries, 0 payloads, 0 wires"),
+        (
+            "p edge 2 0|",
+            "\r| transcript\t2  002\r|" + APART[15:-1],
+            "whole run of 2 nodes, 24 entries, 0 payloads, 0 wires",
+        ),
+        ("p edge 2 0|", APART.replace("|7 1", "||007 01"), "whole run of 2 nodes, 24 entries, 0 payloads, 0 wires"),
+        ("p edge 2 0|", APART[:-14], "line 24: NotWhole"),
+        ("p edge 2 0|", "transcript 2 2|", "line 1: NotWhole"),
+        ("p edge 2 0|", "transcript 2 3|" + APART[15:], "line 1: Nodes"),
+        ("p edge 2 0|", APART + "13 1 put 2 close|", "line 26: NoSuch"),
+        # an order by vertex, which comes too late at line 14; and one that isn't by vertex where stamps are equal
+        (
+            "p edge 2 0|",
+            "transcript 2 2|" + "".join(f"{p} {v} pulse {p}|" for v in (1, 2) for p in range(1, 13)),
+            "line 14: WrongStamp",
+        ),
+        ("p edge 2 0|", "transcript 2 2|1 2 pulse 1|1 1 pulse 1|", "line 3: WrongStamp"),
+        # the reading
+        (EDGE, "transcript 2|", "line 1: X1"),
+        (EDGE, "transcript 2 2 2|", "line 1: X1"),
+        (EDGE, "transcript 3 2|", "line 1: X1"),
+        (EDGE, "transcript 02 2|", "line 1: X1"),
+        (EDGE, "transcript 2 4294967296|", "line 1: X1"),
+        (EDGE, f"transcript 2 2|1 put 2 {HELLO_1}|", "line 2: X1"),
+        (EDGE, "transcript 1 2|1 1 pulse 1|", "line 2: X1"),
+    ]
+    + [
+        (EDGE, f"transcript 2 2||{entry}|1 1 pulse 1|", "line 3: X1")
+        for entry in (
+            "1",
+            "1 1",
+            "1 1 pulse",
+            "1 1 pulse 1 1",
+            "-1 1 pulse 1",
+            "x 1 pulse 1",
+            "1 pulse 1",
+            "pulse 1",
+            "18446744073709551616 1 pulse 1",
+            "99999999999999999999 1 pulse 1",
+            "1 4294967296 pulse 1",
+            "1 1 put 2",
+            "1 1 put 2 close 0",
+            "+1 1 pulse 1",
+        )
+    ]
+    + [
+        # the stamps
+        (EDGE, GREETED, "line 5: NotWhole"),
+        (EDGE, GREETED.replace("2 1 take", "3 1 take"), "line 4: WrongStamp"),
+        (EDGE, GREETED.replace("2 2 take", "1 2 take"), "line 5: WrongStamp"),
+        (EDGE, GREETED.replace("1 1 put", "0 1 put"), "line 2: WrongStamp"),
+        (EDGE, GREETED.replace("1 1 put", f"{GREATEST} 1 put"), "line 2: WrongStamp"),
+        (EDGE, "transcript 2 2|1 1 pulse 1|", "line 2: NotReady"),
+        (EDGE, f"transcript 2 2|1 1 take 2 {HELLO_2}|", "line 2: LinkEmpty"),
+        (EDGE, "transcript 2 2|1 1 put 2 safe 0|", "line 2: WrongWire"),
+        # an entry that isn't possible is that first, whatever its stamp is
+        (EDGE, "transcript 2 2|7 1 pulse 1|", "line 2: NotReady"),
+        (EDGE, "transcript 2 2|7 3 pulse 1|", "line 2: NoSuch"),
+        (EDGE, f"transcript 2 2|1 1 put 2 {HELLO_1}|2 1 put 2 safe 0|", "line 3: NothingToPut"),
+    ]
+)
 
 
 def verdict_of(net, data):
@@ -93,7 +133,8 @@ def worked_rows(play):
 
 
 def said_by(play, network, data):
-    """None if `PLAY replay` accepts it, else its fault in the form of the checker's, with lines from the transcript's first."""
+    """None if `PLAY replay` accepts it, else its fault in the form of the checker's, with lines from the transcript's
+    first."""
     done = subprocess.run([play, "replay"], input=network + data, capture_output=True, timeout=LIMIT)
     if (done.returncode, done.stderr) == (0, b""):
         return None
@@ -146,7 +187,9 @@ def spoiled(source, kind, data):
     first, *rows = data.split(b"\n")[:-1]
     at = source.randrange(len(rows))
     if kind == "two lines swapped":
-        other = source.choice([i for i in (at - 1, at + 1, source.randrange(len(rows))) if 0 <= i < len(rows) and i != at])
+        other = source.choice(
+            [i for i in (at - 1, at + 1, source.randrange(len(rows))) if 0 <= i < len(rows) and i != at]
+        )
         at, other = min(at, other), max(at, other)
         rows[at], rows[other] = rows[other], rows[at]
     elif kind == "cut":
@@ -186,7 +229,8 @@ def spoiled_rows(play, count):
 
 # ---- the program
 def one_worker_rows(program):
-    """With one worker the whole text is known, as in edition 1; edition 2 is what the program writes if it isn't told."""
+    """With one worker the whole text is known, as in edition 1; edition 2 is what the program writes if it isn't
+    told."""
     wrong, count = [], 0
     for count, (network, net) in enumerate(networks(), 1):
         capacity = CAPACITIES[count % 3]
@@ -194,7 +238,9 @@ def one_worker_rows(program):
         done = transcript_by(program, words, network)
         if done != (0, Run(net, capacity).merged(), b""):
             wrong.append((network, words, done))
-    note(f"the transcripts of one worker of {count} networks, by the definition", not wrong, f"{len(wrong)}: {wrong[:1]}")
+    note(
+        f"the transcripts of one worker of {count} networks, by the definition", not wrong, f"{len(wrong)}: {wrong[:1]}"
+    )
     for workers in (1, 2, 4, 64):
         done = transcript_by(program, ["--workers", str(workers)], b"p col 2 0\n")
         note(f"two nodes apart, {workers} workers", done == (0, text(APART), b""), done)
@@ -213,7 +259,8 @@ def networks_of_runs(source):
 
 
 def run_rows(program, play, count):
-    """Whole runs of four and more workers: the checker accepts each, and so does `PLAY replay`, in the order of its lines."""
+    """Whole runs of four and more workers: the checker accepts each, and so does `PLAY replay`, in the order of its
+    lines."""
     source, wrong, entries, most = random.Random(SEED), [], 0, 0
     for (nodes, pairs), at in zip(networks_of_runs(source), range(count)):
         network = text_of(source, nodes, pairs)
@@ -225,7 +272,11 @@ def run_rows(program, play, count):
         if not good or got:
             wrong.append((network, words, status, fault, verdict_of(net, data), got))
         entries, most = entries + data.count(b"\n") - 1, max(most, nodes)
-    note(f"{count} whole runs on networks of up to {most} nodes, {entries} entries", not wrong, f"{len(wrong)}: {wrong[:1]}")
+    note(
+        f"{count} whole runs on networks of up to {most} nodes, {entries} entries",
+        not wrong,
+        f"{len(wrong)}: {wrong[:1]}",
+    )
 
 
 def main():

@@ -1,5 +1,6 @@
-"""The run of one worker thread, by the definition of looks and turns (docs/claim/DEFINITIONS.md): with one worker it is the same each
-time, so all of it can be compared, and the number of looks that it needs tells whether capacity and turns reached the run."""
+"""The run of one worker thread, by the definition of looks and turns (docs/claim/DEFINITIONS.md): with one worker it is
+the same each time, so all of it can be compared, and the number of looks that it needs tells whether capacity and turns
+reached the run."""
 from collections import deque
 
 from lab.definitions.nodes import NetState

@@ -2,10 +2,11 @@
 """Tests of `bin/network`. The last line is 'N passed, M failed'.
 
   own_networks.py [--program PROGRAM] [--play PLAY]
-      PROGRAM   has the command `forests`, which has to accept each network that is written
-      PLAY      has the command `rounds`, by which `tell` counts of large networks; the rows of a program that isn't named are left out
+      PROGRAM   has the command `forests`, which has to accept each network that is written PLAY      has the command
+      `rounds`, by which `tell` counts of large networks; the rows of a program that isn't named are left out
 
-Expected counts are formulas, or come from the definitions in lab/definitions/colours.py, lab/definitions/nodes.py and lab/definitions/rounds.py."""
+Expected counts are formulas, or come from the definitions in lab/definitions/colours.py, lab/definitions/nodes.py and
+lab/definitions/rounds.py."""
 import argparse
 import csv
 import io
@@ -87,12 +88,29 @@ def queens(rows, columns):
 
 # (words, nodes, edges, least and greatest number of neighbours)
 KINDS = [
-    ("path 1", 1, 0, 0, 0), ("path 2", 2, 1, 1, 1), ("path 1000", 1000, 999, 1, 2), ("ring 3", 3, 3, 2, 2), ("ring 500", 500, 500, 2, 2),
-    ("star 1", 1, 0, 0, 0), ("star 1024", 1024, 1023, 1, 1023), ("complete 1", 1, 0, 0, 0), ("complete 100", 100, 4950, 99, 99),
-    ("grid 1 7", 7, 6, 1, 2), ("grid 10 10", 100, 180, 2, 4), ("grid 7 1", 7, 6, 1, 2), ("grid 30 20", 600, 2 * 600 - 30 - 20, 2, 4),
-    ("queen 1 1", 1, 0, 0, 0), ("queen 5 5", 25, 160, 12, 16), ("queen 3 7", 21, queens(3, 7), None, None),
-    ("queen 8 8", 64, queens(8, 8), 21, 27), ("random 10 45", 10, 45, 9, 9), ("random 10 0", 10, 0, 0, 0), ("random 40 700", 40, 700, None, None),
-    ("random 20000 60000", 20000, 60000, None, None), ("tree 200", 200, 199, 1, None), ("tree 1", 1, 0, 0, 0),
+    ("path 1", 1, 0, 0, 0),
+    ("path 2", 2, 1, 1, 1),
+    ("path 1000", 1000, 999, 1, 2),
+    ("ring 3", 3, 3, 2, 2),
+    ("ring 500", 500, 500, 2, 2),
+    ("star 1", 1, 0, 0, 0),
+    ("star 1024", 1024, 1023, 1, 1023),
+    ("complete 1", 1, 0, 0, 0),
+    ("complete 100", 100, 4950, 99, 99),
+    ("grid 1 7", 7, 6, 1, 2),
+    ("grid 10 10", 100, 180, 2, 4),
+    ("grid 7 1", 7, 6, 1, 2),
+    ("grid 30 20", 600, 2 * 600 - 30 - 20, 2, 4),
+    ("queen 1 1", 1, 0, 0, 0),
+    ("queen 5 5", 25, 160, 12, 16),
+    ("queen 3 7", 21, queens(3, 7), None, None),
+    ("queen 8 8", 64, queens(8, 8), 21, 27),
+    ("random 10 45", 10, 45, 9, 9),
+    ("random 10 0", 10, 0, 0, 0),
+    ("random 40 700", 40, 700, None, None),
+    ("random 20000 60000", 20000, 60000, None, None),
+    ("tree 200", 200, 199, 1, None),
+    ("tree 1", 1, 0, 0, 0),
 ]
 
 
@@ -102,16 +120,26 @@ def kind_rows():
         net, pairs = network_of(text), edges_of(text)
         degrees = [len(ws) for ws in net.neighbours.values()]
         head = f"p edge {nodes} {edges}\n".encode()
-        note(f"{words} has its nodes and edges", (len(degrees), len(pairs), head in text) == (nodes, edges, True), (len(degrees), len(pairs)))
-        note(f"{words} has its numbers of neighbours",
-             least in (None, min(degrees)) and most in (None, max(degrees)), (min(degrees), max(degrees)))
+        note(
+            f"{words} has its nodes and edges",
+            (len(degrees), len(pairs), head in text) == (nodes, edges, True),
+            (len(degrees), len(pairs)),
+        )
+        note(
+            f"{words} has its numbers of neighbours",
+            least in (None, min(degrees)) and most in (None, max(degrees)),
+            (min(degrees), max(degrees)),
+        )
         note(f"{words} says how it was made", text.startswith(f"c Made by bin/network {words}".encode()), text[:80])
         if words.split()[0] not in ("tree", "random"):
             note(f"{words} has a place for each node", sorted(comments(text, "at")) == list(range(1, nodes + 1)))
     note("the 5 by 5 queens are the example's", edges_of(written("queen", 5, 5)) == edges_of(example("queen5_5.col")))
     note("a star is the example's", edges_of(written("star", 9)) == edges_of(example("star.col")))
     for text in (written("tree", 200, "--seed", 3), written("tree", 200)):
-        note("in a tree each node but the first has one before it", sorted(w for _, w in edges_of(text)) == list(range(2, 201)))
+        note(
+            "in a tree each node but the first has one before it",
+            sorted(w for _, w in edges_of(text)) == list(range(2, 201)),
+        )
     for reach in (0.05, 0.26, 1.5):
         disk_row(reach)
 
@@ -136,22 +164,62 @@ def disk_row(reach):
 
 def seed_rows():
     for words in ("tree 50", "disk 50", "random 50 100"):
-        texts = [by_script(*words.split(), "--seed", seed, env=dict(os.environ, PYTHONHASHSEED=str(hashing)))[1]
-                 for hashing, seed in ((1, 4), (2, 4), (1, 5))]
-        note(f"{words}: a seed is the same again, and another is another",
-             texts[0] == texts[1] and edges_of(texts[0]) != edges_of(texts[2]) and b"--seed 4\n" in texts[0], texts[0][:80])
+        texts = [
+            by_script(*words.split(), "--seed", seed, env=dict(os.environ, PYTHONHASHSEED=str(hashing)))[1]
+            for hashing, seed in ((1, 4), (2, 4), (1, 5))
+        ]
+        note(
+            f"{words}: a seed is the same again, and another is another",
+            texts[0] == texts[1] and edges_of(texts[0]) != edges_of(texts[2]) and b"--seed 4\n" in texts[0],
+            texts[0][:80],
+        )
 
 
-REFUSED = ["path 0", "path -1", "path x", "path 20001", "ring 2", "star 1025", "star 0", "complete 1025", "complete 2000", "grid 0 3",
-           "grid 200 101", "queen 141 141", "queen 0 1", "tree 0", "tree 20001", "disk 30 --reach 0", "disk 30 --reach 3", "disk 0",
-           "disk 2000 --reach 2", "random 10 46", "random 2000 400001", "random 5 -1", "random 5", "path 3 4", "path 3 --seed 1", "square 4",
-           "", "read", "number x", "number x --by size", "tell", "tell x y", "read x --as graph"]
+REFUSED = [
+    "path 0",
+    "path -1",
+    "path x",
+    "path 20001",
+    "ring 2",
+    "star 1025",
+    "star 0",
+    "complete 1025",
+    "complete 2000",
+    "grid 0 3",
+    "grid 200 101",
+    "queen 141 141",
+    "queen 0 1",
+    "tree 0",
+    "tree 20001",
+    "disk 30 --reach 0",
+    "disk 30 --reach 3",
+    "disk 0",
+    "disk 2000 --reach 2",
+    "random 10 46",
+    "random 2000 400001",
+    "random 5 -1",
+    "random 5",
+    "path 3 4",
+    "path 3 --seed 1",
+    "square 4",
+    "",
+    "read",
+    "number x",
+    "number x --by size",
+    "tell",
+    "tell x y",
+    "read x --as graph",
+]
 
 
 def word_rows():
     for words in REFUSED:
         status, text, fault = call(*words.split())
-        note(f"refused words: {words}", (status, text) == (2, b"") and re.search(rb"^network[^\n]*: error: ", fault, re.M), fault)
+        note(
+            f"refused words: {words}",
+            (status, text) == (2, b"") and re.search(rb"^network[^\n]*: error: ", fault, re.M),
+            fault,
+        )
     status, told, fault = by_script("--help")
     commands = re.findall(r"^  ([a-z]+) [A-Z]+", told.decode().split("positional")[0], re.M)
     note("help", (status, fault, len(commands)) == (0, b"", 13), commands)
@@ -160,39 +228,120 @@ def word_rows():
         note(f"help of {command}", (status, fault) == (0, b"") and f"bin/network {command} ".encode() in told, told)
     for command in (["read"], ["tell"], ["number", "--by", "degree"], ["names"]):
         status, text, fault = call(*command, "/nowhere.col")
-        note(f"{command[0]} of no file", (status, text, fault) == (1, b"", b"network: /nowhere.col: No such file or directory\n"), fault)
+        note(
+            f"{command[0]} of no file",
+            (status, text, fault) == (1, b"", b"network: /nowhere.col: No such file or directory\n"),
+            fault,
+        )
 
 
-# (what it is, the text, the edges by names, nodes without one, a part of what is said). The first eight were written by networkx 3.6.1
-# of one graph, by its writers of edge lists, weighted edge lists, adjacency lists and multiline adjacency lists.
+# (what it is, the text, the edges by names, nodes without one, a part of what is said). The first eight were written by
+# networkx 3.6.1 of one graph, by its writers of edge lists, weighted edge lists, adjacency lists and multiline
+# adjacency lists.
 GRAPH, ALONE = "03 04 34 41 12", "5"
 FORMS = [
-    ("an edge list", "0 3 {}\n0 4 {}\n3 4 {}\n4 1 {}\n1 2 {}\n", GRAPH, "", "pairs; 5 nodes, 5 edges, at most 3 neighbours; it counts from 0"),
+    (
+        "an edge list",
+        "0 3 {}\n0 4 {}\n3 4 {}\n4 1 {}\n1 2 {}\n",
+        GRAPH,
+        "",
+        "pairs; 5 nodes, 5 edges, at most 3 neighbours; it counts from 0",
+    ),
     ("an edge list without data", "0 3\n0 4\n3 4\n4 1\n1 2\n", GRAPH, "", "pairs; "),
-    ("an edge list with data", "0 3 {'weight': 3.5}\n0 4 {'weight': 4.5}\n3 4 {'weight': 6.0}\n4 1 {'weight': 3.5}\n1 2 {'weight': 3.0}\n", GRAPH, "", "pairs; "),
-    ("a weighted edge list", "0 3 3.5\n0 4 4.5\n3 4 6.0\n4 1 3.5\n1 2 3.0\n", GRAPH, "", "further columns, as weights are, aren't read"),
+    (
+        "an edge list with data",
+        "0 3 {'weight': 3.5}\n0 4 {'weight': 4.5}\n3 4 {'weight': 6.0}\n4 1 {'weight': 3.5}\n1 2 {'weight': 3.0}\n",
+        GRAPH,
+        "",
+        "pairs; ",
+    ),
+    (
+        "a weighted edge list",
+        "0 3 3.5\n0 4 4.5\n3 4 6.0\n4 1 3.5\n1 2 3.0\n",
+        GRAPH,
+        "",
+        "further columns, as weights are, aren't read",
+    ),
     ("an edge list with commas", "0,3,3.5\n0,4,4.5\n3,4,6.0\n4,1,3.5\n1,2,3.0\n", GRAPH, "", "further columns"),
-    ("an adjacency list", "#nx.py\n# GMT Mon Nov 23 22:04:36 2026\n# \n0 3 4\n3 4\n4 1\n1 2\n2\n5\n", GRAPH, ALONE, "adjacency; 6 nodes, 1 of them without"),
-    ("a multiline adjacency list", "#nx.py\n# GMT\n# \n0 2\n3 {}\n4 {}\n3 1\n4 {}\n4 1\n1 {}\n1 1\n2 {}\n2 0\n5 0\n", GRAPH, ALONE, "in several lines; 6 nodes"),
-    ("an adjacency list of names", "# \nUlm Jena Kiel\nJena Kiel\nKiel Aue\nAue Bonn\nBonn\nTrier\n",
-     "Ulm-Jena Ulm-Kiel Jena-Kiel Kiel-Aue Aue-Bonn", "Trier", "numbers by first appearance"),
-    ("CSV with a heading", "source,target\nA,B\nB,C\nA,C\n", "AB BC AC", "", "pairs with a heading; 3 nodes, 3 edges, at most 2 neighbours; numbers by"),
-    ("CSV of Gephi", "Id,Source,Target,Type,Weight\n0,a,b,Undirected,1\n1,b,c,Undirected,2\n", "ab bc", "", "pairs with a heading"),
-    ("CSV without a heading", '"Upper Hill","Mill, old"\n"Mill, old",Dam\n', "Upper Hill-Mill, old Mill, old-Dam", "", "pairs; 3 nodes"),
+    (
+        "an adjacency list",
+        "#nx.py\n# GMT Mon Nov 23 22:04:36 2026\n# \n0 3 4\n3 4\n4 1\n1 2\n2\n5\n",
+        GRAPH,
+        ALONE,
+        "adjacency; 6 nodes, 1 of them without",
+    ),
+    (
+        "a multiline adjacency list",
+        "#nx.py\n# GMT\n# \n0 2\n3 {}\n4 {}\n3 1\n4 {}\n4 1\n1 {}\n1 1\n2 {}\n2 0\n5 0\n",
+        GRAPH,
+        ALONE,
+        "in several lines; 6 nodes",
+    ),
+    (
+        "an adjacency list of names",
+        "# \nUlm Jena Kiel\nJena Kiel\nKiel Aue\nAue Bonn\nBonn\nTrier\n",
+        "Ulm-Jena Ulm-Kiel Jena-Kiel Kiel-Aue Aue-Bonn",
+        "Trier",
+        "numbers by first appearance",
+    ),
+    (
+        "CSV with a heading",
+        "source,target\nA,B\nB,C\nA,C\n",
+        "AB BC AC",
+        "",
+        "pairs with a heading; 3 nodes, 3 edges, at most 2 neighbours; numbers by",
+    ),
+    (
+        "CSV of Gephi",
+        "Id,Source,Target,Type,Weight\n0,a,b,Undirected,1\n1,b,c,Undirected,2\n",
+        "ab bc",
+        "",
+        "pairs with a heading",
+    ),
+    (
+        "CSV without a heading",
+        '"Upper Hill","Mill, old"\n"Mill, old",Dam\n',
+        "Upper Hill-Mill, old Mill, old-Dam",
+        "",
+        "pairs; 3 nodes",
+    ),
     ("CSV with an unknown heading", "Mast,Next\n1,2\n2,3\n", "12 23", "", "pairs with a heading; 3 nodes, 2 edges"),
     ("CSV with semicolons and CR LF", "from;to\r\n1;2\r\n2;3\r\n3;\r\n", "12 23", "", "pairs with a heading"),
-    ("pairs with tabs, in both directions", "1\t2\n2\t1\n2\t3\n3\t2\n", "12 23", "", "2 edges there in both directions, counted once"),
-    ("pairs with a loop and an edge again", "1 2\n2 2\n1 2\n2 3\n", "12 23", "", "1 edge from a node to itself left out, first at line 2: 2"),
+    (
+        "pairs with tabs, in both directions",
+        "1\t2\n2\t1\n2\t3\n3\t2\n",
+        "12 23",
+        "",
+        "2 edges there in both directions, counted once",
+    ),
+    (
+        "pairs with a loop and an edge again",
+        "1 2\n2 2\n1 2\n2 3\n",
+        "12 23",
+        "",
+        "1 edge from a node to itself left out, first at line 2: 2",
+    ),
     ("pairs with lines that end with CR", "1 2\r2 3\r", "12 23", "", "lines end with a carriage return alone"),
     ("pairs behind a byte order mark", "\ufeff1 2\n2 3\n", "12 23", "", "a byte order mark is left out"),
     ("pairs with a gap in the numbers", "10 20\n20 40\n", "10-20 20-40", "", "numbered anew, in their order"),
     ("pairs and a lone node", "1 2\n3\n", "12", "3", "3 nodes, 1 of them without a neighbour"),
     ("a ring as adjacency", "1 2 3\n2 1 3\n3 1 2\n", "12 13 23", "", "adjacency; 3 nodes, 3 edges"),
     ("adjacency with colons", "a: b c\nb: a\nc: a\n", "ab ac", "", "adjacency; 3 nodes, 2 edges"),
-    ("DOT", 'graph "my net" {\n  // masts\n  node [shape=circle, label="a -- b"];\n  rankdir = LR;\n  A -- B -- C [len=2];\n  "D e" -- A:n /* x */\n  F\n}\n',
-     "A-B B-C D e-A", "F", "DOT; 5 nodes, 1 of them without a neighbour, 3 edges"),
+    (
+        "DOT",
+        'graph "my net" {\n  // masts\n  node [shape=circle, label="a -- b"];\n  rankdir = LR;\n  A -- B -- C [len=2];\n  "D e" -- A:n /* x */\n  F\n}\n',
+        "A-B B-C D e-A",
+        "F",
+        "DOT; 5 nodes, 1 of them without a neighbour, 3 edges",
+    ),
     ("directed DOT", "strict digraph{a->b;b->a;b->c}", "ab bc", "", "directions aren't read"),
-    ("DOT with subgraphs", "graph {\n a -- { b c }\n subgraph cluster_x { d -- e }\n}\n", "ab ac de", "", "DOT; 5 nodes"),
+    (
+        "DOT with subgraphs",
+        "graph {\n a -- { b c }\n subgraph cluster_x { d -- e }\n}\n",
+        "ab ac de",
+        "",
+        "DOT; 5 nodes",
+    ),
     ("DIMACS from 0", "p edge 3 2\ne 0 1\ne 1 2\n", "01 12", "", "it counts from 0"),
     ("DIMACS of shortest paths", "p sp 3 2\na 1 2 7\na 2 3 9\n", "12 23", "", "`p sp` is read like `p edge`"),
     ("a graph of tree width", "c x\np tw 4 2\n1 2\n2 3\n", "12 23", "4", "`p tw` is read like `p edge`"),
@@ -205,7 +354,10 @@ def named_pairs(edges):
     """Pairs of names of a row of FORMS, unordered."""
     if "-" not in edges:
         return {frozenset(pair) for pair in edges.split()}
-    parts, pairs = edges.replace("Upper Hill", "Upper_Hill").replace("Mill, old", "Mill,_old").replace("D e", "D_e"), set()
+    parts, pairs = (
+        edges.replace("Upper Hill", "Upper_Hill").replace("Mill, old", "Mill,_old").replace("D e", "D_e"),
+        set(),
+    )
     for pair in parts.split():
         pairs.add(frozenset(name.replace("_", " ") for name in pair.split("-")))
     return pairs
@@ -215,7 +367,9 @@ def pairs_in(text):
     """The edges of a network's text by the names of its nodes, and the nodes without an edge."""
     net, names = network_of(text), comments(text, "name")
     named = {v: names.get(v, str(v)) for v in net.neighbours}
-    return {frozenset(map(named.get, edge)) for edge in net.number}, {named[v] for v, ws in net.neighbours.items() if not ws}
+    return {frozenset(map(named.get, edge)) for edge in net.number}, {
+        named[v] for v, ws in net.neighbours.items() if not ws
+    }
 
 
 def form_rows(folder):
@@ -224,36 +378,67 @@ def form_rows(folder):
         with open(path, "wb") as file:
             file.write(text.encode())
         status, wrote, told = call("read", path)
-        note(f"read: {name}", status == 0 and pairs_in(wrote) == (named_pairs(edges), set(alone.split())), (status, wrote, told))
+        note(
+            f"read: {name}",
+            status == 0 and pairs_in(wrote) == (named_pairs(edges), set(alone.split())),
+            (status, wrote, told),
+        )
         note(f"read: {name}: what is said", f"network: {path}: ".encode() in told and said.encode() in told, told)
         note(f"read: {name}: read again it is the same", call("read", "-", data=wrote)[1] == wrote, wrote)
         WRITTEN.append(wrote)
     data = "1 2\n2 3\n".encode("utf-16")
     note("read: UTF-16", edges_of(written("read", "-", data=data)) == {(1, 2), (2, 3)})
-    note("read: Latin-1", comments(written("read", "-", data="Köln Aue\n".encode("latin-1")), "name") == {1: "Köln", 2: "Aue"})
-    for data, form, edges in ((b"1 2 5\n2 3 9\n", "adjacency", 4), (b"1 2\n2\n3\n3 0\n", "multiline", 2), (b"a,b\n", "pairs", 1)):
+    note(
+        "read: Latin-1",
+        comments(written("read", "-", data="Köln Aue\n".encode("latin-1")), "name") == {1: "Köln", 2: "Aue"},
+    )
+    for data, form, edges in (
+        (b"1 2 5\n2 3 9\n", "adjacency", 4),
+        (b"1 2\n2\n3\n3 0\n", "multiline", 2),
+        (b"a,b\n", "pairs", 1),
+    ):
         text = written("read", "-", "--as", form, data=data)
         note(f"read as {form}", len(edges_of(text)) == edges, text)
     asked = call("read", "-", data=b"site,other\nA,B\nB,C\nC,D\n")
-    note("a heading that isn't known is asked for", asked[0] == 0 and b"is line 1 (`site,other`) a heading? then --heading yes" in asked[2], asked)
+    note(
+        "a heading that isn't known is asked for",
+        asked[0] == 0 and b"is line 1 (`site,other`) a heading? then --heading yes" in asked[2],
+        asked,
+    )
     places = call("read", "-", data=b"name,x,y\nUlm,1,2.5\nAue,3,4\nHof,5,6\n")
     note("a list of places is refused", places[:2] == (1, b"") and b"look like places" in places[2], places)
     heading = b"north,south\na,b\n"
     for choice, edges in (("yes", 1), ("no", 2)):
-        note(f"read with a heading: {choice}", len(edges_of(written("read", "-", "--heading", choice, data=heading))) == edges)
+        note(
+            f"read with a heading: {choice}",
+            len(edges_of(written("read", "-", "--heading", choice, data=heading))) == edges,
+        )
 
 
 def faulty_rows():
     """What can't be read is refused in one line, with the number of the line."""
     for data, said in [
-            (b"", b"no line with a node"), (b"# x\n", b"no line with a node"), (b"1 2\n\0\n", b"no text"), (b"source,target\nA,B\n,C\n", b"line 3: no pair"),
-            (b"graph { a -- b", b"is the text cut"), (b"graph {\n a -- }\n", b"line 2: DOT isn't read on from `}`"), (b"graph { a ! b }", b"`!`"),
-            (b"p edge 2 1\ne 1 x\n", b"line 2: no edge"), (b"p edge 2 1\ne 1 7\n", b"line 2: vertex 7, and the `p` line has 2"),
-            (b"p edge 2 1\np edge 2 1\n", b"line 2: a second `p` line"), (b"p edge x\ne 1 2\n", b"line 1: no number of nodes"),
-            (b"p edge 20001 0\n", b"at most 20000"), (b"".join(b"1 %d\n" % v for v in range(2, 1026)), b"node 1 has 1024 neighbours, and may have 1023"),
-            (b"".join(b"%d %d\n" % (v, v + 1) for v in range(1, 20001)), b"20001 nodes, and a network has at most 20000")]:
+        (b"", b"no line with a node"),
+        (b"# x\n", b"no line with a node"),
+        (b"1 2\n\0\n", b"no text"),
+        (b"source,target\nA,B\n,C\n", b"line 3: no pair"),
+        (b"graph { a -- b", b"is the text cut"),
+        (b"graph {\n a -- }\n", b"line 2: DOT isn't read on from `}`"),
+        (b"graph { a ! b }", b"`!`"),
+        (b"p edge 2 1\ne 1 x\n", b"line 2: no edge"),
+        (b"p edge 2 1\ne 1 7\n", b"line 2: vertex 7, and the `p` line has 2"),
+        (b"p edge 2 1\np edge 2 1\n", b"line 2: a second `p` line"),
+        (b"p edge x\ne 1 2\n", b"line 1: no number of nodes"),
+        (b"p edge 20001 0\n", b"at most 20000"),
+        (b"".join(b"1 %d\n" % v for v in range(2, 1026)), b"node 1 has 1024 neighbours, and may have 1023"),
+        (b"".join(b"%d %d\n" % (v, v + 1) for v in range(1, 20001)), b"20001 nodes, and a network has at most 20000"),
+    ]:
         status, text, told = call("read", "-", data=data)
-        note(f"not read: {data[:30]!r}", (status, text) == (1, b"") and re.fullmatch(rb"network: -[^\n]*\n", told) and said in told, told)
+        note(
+            f"not read: {data[:30]!r}",
+            (status, text) == (1, b"") and re.fullmatch(rb"network: -[^\n]*\n", told) and said in told,
+            told,
+        )
 
 
 def random_form_rows():
@@ -298,13 +483,20 @@ def number_rows():
             text = written("number", "-", *words.split(), data=before)
             names = comments(text, "name")
             note(f"{name} numbered {words} is the same network", pairs_in(text)[0] == wanted, text[:200])
-            note(f"{name} numbered {words} keeps its places", {names[v]: place for v, place in comments(text, "at").items()}
-                 == {str(v): place for v, place in places.items()})
+            note(
+                f"{name} numbered {words} keeps its places",
+                {names[v]: place for v, place in comments(text, "at").items()}
+                == {str(v): place for v, place in places.items()},
+            )
             net = network_of(text)
             degrees = [len(net.neighbours[v]) for v in sorted(net.neighbours)]
             across = [float(comments(text, "at")[v].split()[0]) for v in sorted(net.neighbours)]
             if "degree" in words:
-                note(f"{name} numbered {words}: the order", degrees == sorted(degrees, reverse="reverse" in words), degrees)
+                note(
+                    f"{name} numbered {words}: the order",
+                    degrees == sorted(degrees, reverse="reverse" in words),
+                    degrees,
+                )
             if "place" in words:
                 note(f"{name} numbered {words}: the order", across == sorted(across), across)
         again = [call("number", "-", "--by", "random", "--seed", seed, data=before)[1] for seed in (1, 1, 2)]
@@ -327,13 +519,20 @@ def name_rows(folder):
 
 
 def script_rows(folder):
-    """The script from another folder, through a symbolic link, with a file whose name has a blank, and into a closed pipe."""
+    """The script from another folder, through a symbolic link, with a file whose name has a blank, and into a closed
+    pipe."""
     os.symlink(DOOR, os.path.join(folder, "linked"))
     with open(os.path.join(folder, "my sites.csv"), "wb") as file:
         file.write(b"a,b\n")
     done = subprocess.run(["./linked", "read", "my sites.csv"], capture_output=True, timeout=LIMIT, cwd=folder)
-    note("through a link, from another folder", (done.returncode, done.stdout) == (0, b"c name 1 a\nc name 2 b\np edge 2 1\ne 1 2\n"), done)
-    done = subprocess.run(["bash", "-c", 'set -o pipefail; "$0" random 2000 100000 | head -1', DOOR], capture_output=True, timeout=LIMIT)
+    note(
+        "through a link, from another folder",
+        (done.returncode, done.stdout) == (0, b"c name 1 a\nc name 2 b\np edge 2 1\ne 1 2\n"),
+        done,
+    )
+    done = subprocess.run(
+        ["bash", "-c", 'set -o pipefail; "$0" random 2000 100000 | head -1', DOOR], capture_output=True, timeout=LIMIT
+    )
     note("into a pipe that is closed", (done.returncode, done.stdout.count(b"\n"), done.stderr) == (0, 1, b""), done)
 
 
@@ -367,9 +566,16 @@ def identifier_rows():
         net, made = network_of(LONG_NAMES), network_of(written(*words, data=data))
         edges = [{frozenset(found.identifiers[v] for v in pair) for pair in found.number} for found in (net, made)]
         note(f"{words}: who has which neighbours, by identifiers", edges[0] == edges[1] and len(edges[0]) == 4, edges)
-    for words, data in ((["read", "-"], b"p tw 2 1\n1 2\ni 1 2\n"), (["number", "-", "--by", "degree"], b"p edge 2 0\ni 2 9\ni 1 9\n")):
+    for words, data in (
+        (["read", "-"], b"p tw 2 1\n1 2\ni 1 2\n"),
+        (["number", "-", "--by", "degree"], b"p edge 2 0\ni 2 9\ni 1 9\n"),
+    ):
         status, text, said = call(*words, data=data)
-        note(f"{words}: two of one identifier", (status, text) == (1, b"") and b"1 and 2 have one identifier" in said, said)
+        note(
+            f"{words}: two of one identifier",
+            (status, text) == (1, b"") and b"1 and 2 have one identifier" in said,
+            said,
+        )
 
 
 BARRED = b"c name 4 Last\np edge 4 4\ne 1 2\ne 2 3\nb 4 2\ne 1 4\nb 4 2048\ne 1 3\nb 1 2\nb 4 2 again\n"
@@ -384,9 +590,16 @@ def bar_rows():
         note(f"{words}: whose channels are barred", found == [wanted, wanted], found)
     text = written("read", "-", data=b"p edge 3 1\ne 0 1\nb 0 7\n")
     note("a bar in a text that counts from 0", b"\nb 1 7\n" in text, text)
-    for data, said in ((b"p edge 2 1\nb 1 0\n", b"no vertex with a channel of 1 to 2048: `b 1 0`"), (b"p edge 2 1\nb 1\n", b"`b 1`"),
-                       (b"p edge 2 1\nb 1 2049\n", b"`b 1 2049`"), (b"p edge 2 1\nb 3 1\n", b"a barred channel of 3, which is no vertex"),
-                       (b"p edge 2 1\n" + b"".join(b"b 2 %d\n" % channel for channel in range(1, 1026)), b"line 1026: more than 1024 channels")):
+    for data, said in (
+        (b"p edge 2 1\nb 1 0\n", b"no vertex with a channel of 1 to 2048: `b 1 0`"),
+        (b"p edge 2 1\nb 1\n", b"`b 1`"),
+        (b"p edge 2 1\nb 1 2049\n", b"`b 1 2049`"),
+        (b"p edge 2 1\nb 3 1\n", b"a barred channel of 3, which is no vertex"),
+        (
+            b"p edge 2 1\n" + b"".join(b"b 2 %d\n" % channel for channel in range(1, 1026)),
+            b"line 1026: more than 1024 channels",
+        ),
+    ):
         status, text, why = call("read", "-", data=data)
         note(f"read of {data[:30]}", (status, text) == (1, b"") and said in why, why)
     told, _ = told_of(BARRED)
@@ -396,9 +609,16 @@ def bar_rows():
         path = os.path.join(folder, "net.col")
         with open(path, "wb") as file:
             file.write(BARRED)
-        for plan, wanted in ((b"plan\n1 1\n2 3\n3 2\n4 3\n", (0, b"1 1\n2 3\n3 2\nLast 3\n")), (b"plan\n1 1\n2 3\n3 2\n4 2\n", (1, b""))):
+        for plan, wanted in (
+            (b"plan\n1 1\n2 3\n3 2\n4 3\n", (0, b"1 1\n2 3\n3 2\nLast 3\n")),
+            (b"plan\n1 1\n2 3\n3 2\n4 2\n", (1, b"")),
+        ):
             status, text, why = call("names", path, data=plan)
-            note(f"names on {plan}", (status, text) == wanted and (b"channel 2 is barred at vertex 4 (C8)" in why) == (status == 1), why)
+            note(
+                f"names on {plan}",
+                (status, text) == wanted and (b"channel 2 is barred at vertex 4 (C8)" in why) == (status == 1),
+                why,
+            )
 
 
 def tell_rows():
@@ -418,30 +638,48 @@ def tell_rows():
         got = {key: numbers(what) for key, what in told.items()}
         bars = [len(barred) for barred in net.barred.values() if barred]
         enough = max(degrees) + max(bars, default=0) + 1
-        wanted = {"edges": [edges, edges], "neighbours": [min(degrees), max(degrees)] + ([] if bars else [enough]),
-                  "forests": [net.forest_count, 12, 3, net.forest_count, enough, last], "in turn": [steps_in_order(net)],
-                  "payloads": [payloads], "wires": [2, payloads, 2, edges, last + 1, wires]}
+        wanted = {
+            "edges": [edges, edges],
+            "neighbours": [min(degrees), max(degrees)] + ([] if bars else [enough]),
+            "forests": [net.forest_count, 12, 3, net.forest_count, enough, last],
+            "in turn": [steps_in_order(net)],
+            "payloads": [payloads],
+            "wires": [2, payloads, 2, edges, last + 1, wires],
+        }
         note(f"tell of {name}", {key: got.get(key) for key in wanted} == wanted, (told, wanted))
         note(f"tell of {name}: the transcript's lines", got["transcript"][0] == run.count(b"\n"), told)
-        note(f"tell of {name}: the transcript's bytes", told["transcript"].endswith(f", {rounded(len(run))} without stamps"), (told, len(run)))
+        note(
+            f"tell of {name}: the transcript's bytes",
+            told["transcript"].endswith(f", {rounded(len(run))} without stamps"),
+            (told, len(run)),
+        )
         note(f"tell of {name}: no warning", warned == b"", warned)
         note(f"tell of {name}: the time", told["time"] == "less than a second", told)
     for data, said in ((b"p edge 3 99\ne 1 2\n", b"the `p` line says 99 edges, and the text has 1: is it cut?"),
                        (b"p edge 2 1\ne 1 2\nc at 3 0 0\n", b"a place is given for vertex 3"),
                        (b"p edge 2 1\ne 1 2\nc name 9 X\n", b"a name is given for vertex 9")):
         note(f"warned of {data}", said in told_of(data)[1])
-    for data in (b"p edge 2 1\ne 1 2\n", b"p edge 2 2\ne 1 2\ne 2 1\n", b"p edge 3 2\ne 1 2\ne 2 1\ne 2 3\ne 3 2\n", b"p edge 0 0\n"):
+    for data in (
+        b"p edge 2 1\ne 1 2\n",
+        b"p edge 2 2\ne 1 2\ne 2 1\n",
+        b"p edge 3 2\ne 1 2\ne 2 1\ne 2 3\ne 3 2\n",
+        b"p edge 0 0\n",
+    ):
         note(f"not warned of {data}", told_of(data)[1] == b"")
 
 
 def bound_rows():
-    """What `tell` says without the program of a network that is too large to be worked out: bounds of what it says of a smaller one
-    are above the counts."""
+    """What `tell` says without the program of a network that is too large to be worked out: bounds of what it says of a
+    smaller one are above the counts."""
     from networks import read_network
     from telling import Run, most_payloads
     for words in ("complete 8", "random 30 80", "grid 5 5", "star 7", "tree 12", "disk 20 --seed 3"):
         run = Run(read_network(call(*words.split())[1].decode(), "net"))
-        note(f"the most payloads of {words}", run.payloads <= most_payloads(run) <= 2 * run.payloads, (run.payloads, most_payloads(run)))
+        note(
+            f"the most payloads of {words}",
+            run.payloads <= most_payloads(run) <= 2 * run.payloads,
+            (run.payloads, most_payloads(run)),
+        )
 
 
 def rounded(count):
@@ -455,33 +693,66 @@ def rounded(count):
 
 # (text, its fault, a part of what is said of it, whether `read` can read it)
 FAULTS = [
-    ("", "F1", "there is no line", False), ("c x\n", "F1", "there is no line", False),
-    ("p edge 1 0\np edge 1 0\n", "F2 line 2", "second", False), ("e 1 2\np edge 2 1\n", "F3 line 1", "before", True),
-    ("p edge 2\n", "F4 line 1", "EDGES is missing", False), ("p\n", "F4 line 1", "NODES is missing", False), ("p edge\n", "F4 line 1", "NODES is missing", False),
-    ("p sp 2 1\na 1 2 3\n", "F4 line 1", "`p sp` is another format", True), ("p tw 2 1\n1 2\n", "F4 line 1", "`p tw` is another format", True),
-    ("p 2 1\ne 1 2\n", "F4 line 1", "the word `edge` is missing", True), ("p edge 2 x\n", "F4 line 1", "`x` is no number", False),
-    ("p edge 2 1\ne 1\n", "F4 line 2", "W is missing", False), ("p edge 2 1\ne 1 b\n", "F4 line 2", "`b` is no number", False),
-    ("p edge 2 1\re 1 2\r", "F4 line 1", "carriage return", True), ("p edge 2 1\ne 1 2\r\r\n", "F4 line 2", "carriage return", True),
+    ("", "F1", "there is no line", False),
+    ("c x\n", "F1", "there is no line", False),
+    ("p edge 1 0\np edge 1 0\n", "F2 line 2", "second", False),
+    ("e 1 2\np edge 2 1\n", "F3 line 1", "before", True),
+    ("p edge 2\n", "F4 line 1", "EDGES is missing", False),
+    ("p\n", "F4 line 1", "NODES is missing", False),
+    ("p edge\n", "F4 line 1", "NODES is missing", False),
+    ("p sp 2 1\na 1 2 3\n", "F4 line 1", "`p sp` is another format", True),
+    ("p tw 2 1\n1 2\n", "F4 line 1", "`p tw` is another format", True),
+    ("p 2 1\ne 1 2\n", "F4 line 1", "the word `edge` is missing", True),
+    ("p edge 2 x\n", "F4 line 1", "`x` is no number", False),
+    ("p edge 2 1\ne 1\n", "F4 line 2", "W is missing", False),
+    ("p edge 2 1\ne 1 b\n", "F4 line 2", "`b` is no number", False),
+    ("p edge 2 1\re 1 2\r", "F4 line 1", "carriage return", True),
+    ("p edge 2 1\ne 1 2\r\r\n", "F4 line 2", "carriage return", True),
     ("p edge 2 1\ne 1 3\n", "F5 line 2", "vertex 3 is none, since the `p` line has 2", False),
-    ("p edge 2 1\ne 0 1\n", "F5 line 2", "count from 1", True), ("p edge 2 1\ne 0 x\n", "F4 line 2", "no number", False),
-    ("p edge 2 1\ne 0 9\n", "F5 line 2", "count from 1", False), ("p edge 2 1\ne 2 2\n", "F6 line 2", "from vertex 2 to itself", True),
-    ("p edge 20001 0\n", "F7 line 1", "more than 20000 nodes", False), ("p edge %s 0\n" % ("9" * 5000), "F7 line 1", "more than 20000 nodes", False),
-    ("p edge 2 1\ne 1 %s\n" % ("9" * 5000), "F5 line 2", "is none", False), ("p edge 2 1\ne 1 000002\n q\n", "F8 line 3", "`q` begins no line", False),
-    ("source,target\nA,B\n", "F8 line 1", "`source,target` begins no line", True), ("graph { a -- b }\n", "F8 line 1", "`graph`", True),
-    ("1 2\n2 3\n", "F8 line 1", "`1` begins no line", True), ("\ufeffp edge 2 1\ne 1 2\n", "F8 line 1", "byte order mark", True),
-    ("p edge 1025 1024\n" + "".join(f"e 1 {v}\n" for v in range(2, 1026)), "N1 vertex 1", "vertex 1 has 1024 neighbours", False),
-    ("node 1\n", "F8 line 1", "`node`", True), ("p edge 2 1\n\x0b\n", "F8 line 2", "`\\x0b`", False), ("p\x0bedge 2 1\n", "F8 line 1", "`p\\x0bedge`", False),
-    ("i 1 5\np edge 2 1\n", "F10 line 1", "an identifier before", True), ("p edge 2 1\ni 1\n", "F4 line 2", "NUMBER is missing", False),
-    ("p edge 2 1\ni x 1\n", "F4 line 2", "`x` is no number", False), ("p edge 2 1\ni 3 5\n", "F5 line 2", "vertex 3 is none", False),
-    ("p edge 2 1\ni 0 %d\n" % 2**128, "F5 line 2", "count from 1", False), ("p edge 2 1\ni 1 %d\n" % 2**128, "F11 line 2", "2^128", False),
+    ("p edge 2 1\ne 0 1\n", "F5 line 2", "count from 1", True),
+    ("p edge 2 1\ne 0 x\n", "F4 line 2", "no number", False),
+    ("p edge 2 1\ne 0 9\n", "F5 line 2", "count from 1", False),
+    ("p edge 2 1\ne 2 2\n", "F6 line 2", "from vertex 2 to itself", True),
+    ("p edge 20001 0\n", "F7 line 1", "more than 20000 nodes", False),
+    ("p edge %s 0\n" % ("9" * 5000), "F7 line 1", "more than 20000 nodes", False),
+    ("p edge 2 1\ne 1 %s\n" % ("9" * 5000), "F5 line 2", "is none", False),
+    ("p edge 2 1\ne 1 000002\n q\n", "F8 line 3", "`q` begins no line", False),
+    ("source,target\nA,B\n", "F8 line 1", "`source,target` begins no line", True),
+    ("graph { a -- b }\n", "F8 line 1", "`graph`", True),
+    ("1 2\n2 3\n", "F8 line 1", "`1` begins no line", True),
+    ("\ufeffp edge 2 1\ne 1 2\n", "F8 line 1", "byte order mark", True),
+    (
+        "p edge 1025 1024\n" + "".join(f"e 1 {v}\n" for v in range(2, 1026)),
+        "N1 vertex 1",
+        "vertex 1 has 1024 neighbours",
+        False,
+    ),
+    ("node 1\n", "F8 line 1", "`node`", True),
+    ("p edge 2 1\n\x0b\n", "F8 line 2", "`\\x0b`", False),
+    ("p\x0bedge 2 1\n", "F8 line 1", "`p\\x0bedge`", False),
+    ("i 1 5\np edge 2 1\n", "F10 line 1", "an identifier before", True),
+    ("p edge 2 1\ni 1\n", "F4 line 2", "NUMBER is missing", False),
+    ("p edge 2 1\ni x 1\n", "F4 line 2", "`x` is no number", False),
+    ("p edge 2 1\ni 3 5\n", "F5 line 2", "vertex 3 is none", False),
+    ("p edge 2 1\ni 0 %d\n" % 2**128, "F5 line 2", "count from 1", False),
+    ("p edge 2 1\ni 1 %d\n" % 2**128, "F11 line 2", "2^128", False),
     ("p edge 2 1\ni 1 5\ni 1 5\n", "F12 line 3", "second identifier of vertex 1", False),
-    ("b 1 5\np edge 2 1\n", "F10 line 1", "a barred channel before", True), ("p edge 2 1\nb 1\n", "F4 line 2", "CHANNEL is missing", False),
-    ("p edge 2 1\nb x 1\n", "F4 line 2", "no `b V CHANNEL`: `x` is no number", False), ("p edge 2 1\nb 3 0\n", "F5 line 2", "vertex 3 is none", False),
-    ("p edge 2 1\nb 0 1\n", "F5 line 2", "count from 1", False), ("p edge 2 1\nb 1 0\n", "F13 line 2", "channel 0 is none", False),
+    ("b 1 5\np edge 2 1\n", "F10 line 1", "a barred channel before", True),
+    ("p edge 2 1\nb 1\n", "F4 line 2", "CHANNEL is missing", False),
+    ("p edge 2 1\nb x 1\n", "F4 line 2", "no `b V CHANNEL`: `x` is no number", False),
+    ("p edge 2 1\nb 3 0\n", "F5 line 2", "vertex 3 is none", False),
+    ("p edge 2 1\nb 0 1\n", "F5 line 2", "count from 1", False),
+    ("p edge 2 1\nb 1 0\n", "F13 line 2", "channel 0 is none", False),
     ("p edge 2 1\nb 1 2049\n", "F13 line 2", "channel 2049 is none that can be barred, which are 1 to 2048", False),
-    ("p edge 2 1\n" + "".join(f"b 2 {channel}\n" for channel in range(1, 1026)), "F14 line 1026", "more than 1024 channels are barred at vertex 2", False),
+    (
+        "p edge 2 1\n" + "".join(f"b 2 {channel}\n" for channel in range(1, 1026)),
+        "F14 line 1026",
+        "more than 1024 channels are barred at vertex 2",
+        False,
+    ),
     ("p edge 2 1\ni 1 2\n", "N2 vertices 1 2", "vertices 1 and 2 have one identifier", False),
-    ("p edge 99999999999999999999999999 x\n", "F4 line 1", "no number", False), ("p edge 2 1\ne 1 2 \t\r\ne 1 -2\n", "F4 line 3", "`-2`", False),
+    ("p edge 99999999999999999999999999 x\n", "F4 line 1", "no number", False),
+    ("p edge 2 1\ne 1 2 \t\r\ne 1 -2\n", "F4 line 3", "`-2`", False),
 ]
 
 
@@ -491,10 +762,19 @@ def fault_rows(program):
         status, wrote, told = call("tell", "-", data=text.encode())
         code, _, place = fault.partition(" ")
         lines = told.decode().split("\n")
-        good = (status, wrote) == (1, b"") and lines[0].startswith("network: -") and lines[0].endswith(f"({code})") and said in lines[0]
+        good = (
+            (status, wrote) == (1, b"")
+            and lines[0].startswith("network: -")
+            and lines[0].endswith(f"({code})")
+            and said in lines[0]
+        )
         good = good and (f" {place}: " in lines[0] if place.startswith("line") else True)
         note(f"the fault {fault} of {text[:40]!r}", good, told)
-        note(f"another way in for {text[:40]!r}", (len(lines) == 3 and "`bin/network read -` can read it" in lines[1]) == is_read, told)
+        note(
+            f"another way in for {text[:40]!r}",
+            (len(lines) == 3 and "`bin/network read -` can read it" in lines[1]) == is_read,
+            told,
+        )
         if program:
             done = subprocess.run([program, "forests"], input=text.encode(), capture_output=True, timeout=LIMIT)
             note(f"the program's fault of {text[:40]!r}", done.stderr == f"forestplan: {fault}\n".encode(), done)
@@ -510,7 +790,11 @@ def program_rows(program):
     for text in WRITTEN:
         done = subprocess.run([program, "forests"], input=text, capture_output=True, timeout=LIMIT)
         nodes = re.search(rb"^p edge (\d+)", text, re.M).group(1)
-        if done.returncode != 0 or not done.stdout.startswith(b"forests " + nodes) or done.stdout.count(b"\n") != 1 + len(edges_of(text)):
+        if (
+            done.returncode != 0
+            or not done.stdout.startswith(b"forests " + nodes)
+            or done.stdout.count(b"\n") != 1 + len(edges_of(text))
+        ):
             wrong.append((text[:200], done.stderr))
     note(f"the program reads {len(WRITTEN)} networks that were written", len(WRITTEN) > 60 and not wrong, wrong[:1])
 
@@ -522,8 +806,16 @@ def large_rows(play):
     done = subprocess.run([play, "rounds"], input=data, capture_output=True, timeout=LIMIT)
     payloads = len(re.findall(rb"^\d+ put ", done.stdout, re.M))
     long = r"(plan|transcript) (less than a second|about \d+ (second|minute|hour)s?)"
-    note("the time of a large network", re.fullmatch(rf"{long}, {long}; by a run of [\d,]+ wires, made just now", told["time"]), told)
-    note("payloads of a large network", told["payloads"] == f"{payloads:,}; counted by `forestplay rounds`", (told, payloads))
+    note(
+        "the time of a large network",
+        re.fullmatch(rf"{long}, {long}; by a run of [\d,]+ wires, made just now", told["time"]),
+        told,
+    )
+    note(
+        "payloads of a large network",
+        told["payloads"] == f"{payloads:,}; counted by `forestplay rounds`",
+        (told, payloads),
+    )
 
 
 def main():

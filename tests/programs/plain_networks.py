@@ -1,8 +1,8 @@
 """`plain` on 800 networks, beside the definition of the colours; and that definition on plans worked by hand.
 
 The networks are the same in every run. A difference is told with its number in the family and the text of the network.
-In 300 of them lines give identifiers of up to 128 binary digits; in the others vertex V has the identifier V. In 200 of them
-lines bar channels."""
+In 300 of them lines give identifiers of up to 128 binary digits; in the others vertex V has the identifier V. In 200 of
+them lines bar channels."""
 import itertools
 import random
 import re
@@ -54,7 +54,11 @@ def worked_rows():
     after = {1: 0, 2: 2, 3: 1}
     highest_digit = Network({1: 2**127 - 1, 2: 2**128 - 1}, {(1, 2)})
     for name, got, wanted in [
-        ("three colours of the triangle", [three(triangle, f) for f in (0, 1)], [{1: 0, 2: 1, 3: 0}, {1: 1, 2: 1, 3: 0}]),
+        (
+            "three colours of the triangle",
+            [three(triangle, f) for f in (0, 1)],
+            [{1: 0, 2: 1, 3: 0}, {1: 1, 2: 1, 3: 0}],
+        ),
         ("the triangle after one forest", merge(triangle, 0, {1: 0, 2: 0, 3: 0}), {1: 0, 2: 1, 3: 0}),
         ("a bar: the first colours", first_colours(barred), {1: 0, 2: 0, 3: 1}),
         ("a bar: after one forest", merge(barred, 0, {1: 0, 2: 0, 3: 1}), after),
@@ -91,8 +95,8 @@ def family_rows(program, family, names_of=none, bars_of=none):
 
 
 def is_fit(nodes, edges, bars, plan):
-    """Whether each vertex has a channel of 1 to the greatest degree plus the greatest number of bars plus one, none has a barred
-    one, and no two neighbours have the same."""
+    """Whether each vertex has a channel of 1 to the greatest degree plus the greatest number of bars plus one, none has
+    a barred one, and no two neighbours have the same."""
     rows = [(int(v), int(channel)) for v, channel in re.findall(rb"(\d+) (\d+)\n", plan)]
     channels = dict(rows)
     greatest_degree = max(Counter(v for edge in edges for v in edge).values(), default=0)
@@ -106,22 +110,33 @@ def is_fit(nodes, edges, bars, plan):
 def long_names(source, nodes):
     """Identifiers of some vertices, great ones and small ones, no two the same."""
     while True:
-        given = {v: source.choice((source.randrange(2**128), source.randrange(2 * nodes), 2**128 - 1 - source.randrange(2 * nodes)))
-                 for v in range(1, nodes + 1) if source.random() < 0.8}
+        given = {
+            v: source.choice(
+                (source.randrange(2**128), source.randrange(2 * nodes), 2**128 - 1 - source.randrange(2 * nodes))
+            )
+            for v in range(1, nodes + 1)
+            if source.random() < 0.8
+        }
         if len({given.get(v, v) for v in range(1, nodes + 1)}) == nodes:
             return given
 
 
 def some_bars(source, nodes, most=12):
     """Channels that are barred at some vertices, low ones mostly; so many at most of a vertex."""
-    bars = {v: {source.choice((source.randint(1, 4), source.randint(1, nodes + 2), 2048)) for _ in range(source.choice((1, 1, 2, most)))}
-            for v in range(1, nodes + 1) if source.random() < 0.5}
+    bars = {
+        v: {
+            source.choice((source.randint(1, 4), source.randint(1, nodes + 2), 2048))
+            for _ in range(source.choice((1, 1, 2, most)))
+        }
+        for v in range(1, nodes + 1)
+        if source.random() < 0.5
+    }
     return bars or {1: {1}} if nodes else {}
 
 
 def text_of(source, nodes, edges, names=None, bars=None):
-    """A network text with the edges in any order and direction, some of them again from the other end, and identifiers and bars among
-    them, bars twice now and then."""
+    """A network text with the edges in any order and direction, some of them again from the other end, and identifiers
+    and bars among them, bars twice now and then."""
     lines = [pair if source.random() < 0.5 else pair[::-1] for pair in sorted(edges)]
     lines += [pair[::-1] for pair in lines if source.random() < 0.1]
     source.shuffle(lines)
@@ -154,7 +169,8 @@ def random_of(count, least, greatest):
 
 
 def shapes(source):
-    """Paths, cycles, trees, stars, two-sided and complete graphs on names in any order, among vertices without an edge."""
+    """Paths, cycles, trees, stars, two-sided and complete graphs on names in any order, among vertices without an
+    edge."""
     for shape, most in [(path, 40), (cycle, 40), (tree, 40), (star, 40), (two_sided, 40), (complete, 16)] * 8:
         nodes = source.randint(13, 40)
         names = source.sample(range(1, nodes + 1), source.randint(3, min(nodes, most)))

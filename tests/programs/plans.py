@@ -1,5 +1,5 @@
-"""`plan`, which runs the nodes on worker threads: its bytes beside those of `plain`, whatever its options are; and runs that
-stop. No time decides a result, but that a run of more than a minute has failed.
+"""`plan`, which runs the nodes on worker threads: its bytes beside those of `plain`, whatever its options are; and runs
+that stop. No time decides a result, but that a run of more than a minute has failed.
 
 That the bytes are the right ones is shown of `plain`, by plain_networks.py."""
 import itertools
@@ -16,8 +16,8 @@ MOST_TOLD = 2000
 
 PAIRS = list(itertools.product((1, 2, 4, 64), repeat=2))
 SMALL_FAMILY, SMALL_NETWORKS = "random on up to 12 nodes", 20
-# Families whose runs take seconds, and how many of their networks are played: in the first, each pair once; of those that climb, with
-# each number of parents twice, and the first.
+# Families whose runs take seconds, and how many of their networks are played: in the first, each pair once; of those
+# that climb, with each number of parents twice, and the first.
 LONG = {"random on 20 to 40 nodes": len(PAIRS), "bars on 20 to 40 nodes": len(PAIRS) // 2, "climbing on 1,000 nodes": 6,
         "climbing on 20,000 nodes": 1}
 
@@ -25,8 +25,9 @@ TRIANGLE = b"p edge 3 3\ne 1 2\ne 1 3\ne 2 3\n"
 TRIANGLE_PLAN = b"plan\n1 2\n2 3\n3 1\n"
 STOPPED = b"forestplan: stopped\n"
 
-# Capacity, looks, the entries of the triangle's nodes after so many looks of one worker, and what the links then hold, by hand: node
-# 1 greets both neighbours, and node 2 takes that greeting. On a link that holds one wire its acknowledgement has no place.
+# Capacity, looks, the entries of the triangle's nodes after so many looks of one worker, and what the links then hold,
+# by hand: node 1 greets both neighbours, and node 2 takes that greeting. On a link that holds one wire its
+# acknowledgement has no place.
 GREETED = ["1 put 2 payload 0 hello 1", "1 put 3 payload 0 hello 1"]
 TAKEN = ["2 take 1 payload 0 hello 1", "2 put 1 payload 0 hello 2"]
 FIRST_LOOKS = [
@@ -84,7 +85,8 @@ def one_row(program, words, data, *wanted):
 
 
 def family_row(program, index):
-    """Each network of a family once, or of a long one so many, the pairs of workers and capacity by turns over all families."""
+    """Each network of a family once, or of a long one so many, the pairs of workers and capacity by turns over all
+    families."""
     families = FAMILIES + BARRED
     title, _ = families[index]
     before = sum(1 for family in families[:index] for _ in played_texts(family))
@@ -124,12 +126,15 @@ def texts_of(family):
 
 
 def first_rows(program):
-    """What the first looks leave by the definition of a turn, and that each node's entries in the program's transcript begin so."""
+    """What the first looks leave by the definition of a turn, and that each node's entries in the program's transcript
+    begin so."""
     for capacity, looks, entries, held in FIRST_LOOKS:
         left = Run(network_of(TRIANGLE), capacity, looks)
         links = {at: [wire_words(wire) for wire in wires] for at, wires in left.state.link.items() if wires}
         _, whole, _ = answer_with(program, TRIANGLE, capacity, 10**9, "transcript")
-        begun = [line for v in "123" for line in of_node(v, (whole or b"").decode().splitlines())[:len(of_node(v, entries))]]
+        begun = [
+            line for v in "123" for line in of_node(v, (whole or b"").decode().splitlines())[: len(of_node(v, entries))]
+        ]
         got = [line for _, lines in sorted(left.lines.items()) for line in lines], links, begun
         yield f"the first {looks} looks of one worker with capacity {capacity}", got == (entries, held, entries), got
 
@@ -139,8 +144,8 @@ def of_node(v, lines):
 
 
 def turn_rows(program):
-    """One worker stops with one turn less than its run needs, by the definition of a turn, and with as many it has the plan. A
-    link that held another number of wires, or another number of turns, would move that limit."""
+    """One worker stops with one turn less than its run needs, by the definition of a turn, and with as many it has the
+    plan. A link that held another number of wires, or another number of turns, would move that limit."""
     for data in (TRIANGLE, b"p edge 2 0\n", b"p edge 2 1\ne 1 2\n", b"p edge 5 5\ne 1 2\ne 2 3\ne 3 4\ne 4 5\ne 1 5\n"):
         for capacity in (1, 2, 64):
             needed = Run(network_of(data), capacity).looks
@@ -150,7 +155,10 @@ def turn_rows(program):
     needed = Run(network_of(TRIANGLE), 2).looks
     words = ["plan", "--capacity=0002", "--workers=+1"]
     got = [answer_of(program, [*words, f"--turns=+0{turns}"], TRIANGLE) for turns in (needed - 1, needed)]
-    yield "numbers of options with a sign or zeros before them", got == [(3, b"", STOPPED), (0, TRIANGLE_PLAN, b"")], got
+    yield "numbers of options with a sign or zeros before them", got == [
+        (3, b"", STOPPED),
+        (0, TRIANGLE_PLAN, b""),
+    ], got
     for capacity in (1, 4):
         whole = Run(network_of(TRIANGLE), capacity)
         for command, answer in (("plan", TRIANGLE_PLAN), ("transcript", whole.text())):
@@ -159,9 +167,13 @@ def turn_rows(program):
                 got = answer_with(program, TRIANGLE, capacity, turns, command)
                 if got != ((3, b"", STOPPED) if turns < whole.looks else (0, answer, b"")):
                     wrong.append((turns, got))
-            yield f"{command} by 0 to 200 turns of one worker with capacity {capacity}: stopped, or the answer", not wrong, wrong[:3]
+            yield f"{command} by 0 to 200 turns of one worker with capacity {capacity}: stopped, or the answer", not wrong, wrong[
+                :3
+            ]
 
 
 def answer_with(program, data, capacity, turns, command="plan"):
-    words = [command, "--workers", "1", "--capacity", str(capacity), "--turns", str(turns)] + ["--edition", "1"] * (command == "transcript")
+    words = [command, "--workers", "1", "--capacity", str(capacity), "--turns", str(turns)] + ["--edition", "1"] * (
+        command == "transcript"
+    )
     return answer_of(program, words, data)

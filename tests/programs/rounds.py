@@ -1,12 +1,13 @@
 #!/usr/bin/env python3
-"""Black-box tests of `forestplay rounds`: compares whole texts with the definitions, and the payloads of the rounds with those of
-transcripts. The last line is 'N passed, M failed'.
+"""Black-box tests of `forestplay rounds`: compares whole texts with the definitions, and the payloads of the rounds
+with those of transcripts. The last line is 'N passed, M failed'.
 
   rounds.py [--program PROGRAM] [--plan PLAN]
       PROGRAM   has the command `rounds`; default: the built forestplay
       PLAN      has the command `transcript`; default: the built forestplan
 
-Expected texts are worked by hand, or come from the definitions in lab/definitions/rounds.py; none is taken from a program."""
+Expected texts are worked by hand, or come from the definitions in lab/definitions/rounds.py; none is taken from a
+program."""
 import argparse
 import glob
 import os
@@ -33,12 +34,23 @@ TALLY = {"passed": 0, "failed": 0}
 EDGE = "p edge 2 1|e 1 2|"
 TRIANGLE = "p edge 3 3|e 1 2|e 1 3|e 2 3|"
 # A network text for each kind of fault, and what is said of it.
-FAULTS = [("", "F1"), ("p edge 1 0|p edge 1 0|", "F2 line 2"), ("e 1 2|p edge 2 1|", "F3 line 1"), ("p edge 2|", "F4 line 1"),
-          ("p edge 2 1|e 1 3|", "F5 line 2"), ("p edge 2 1|e 1 1|", "F6 line 2"), ("p edge 20001 0|", "F7 line 1"),
-          (EDGE + "put 1 0|q|", "F8 line 3"), ("i 1 5|p edge 2 1|", "F10 line 1"), (f"p edge 2 1|i 1 {2**128}|", "F11 line 2"),
-          ("p edge 2 1|i 1 5|i 1 5|", "F12 line 3"), (EDGE + "b 1 2049|", "F13 line 3"),
-          ("p edge 1 0|" + "".join(f"b 1 {channel}|" for channel in range(1, 1026)), "F14 line 1026")]
-# The headline as one line of shell, as README has it: the payloads of the rounds and of a run of threads are the same lines.
+FAULTS = [
+    ("", "F1"),
+    ("p edge 1 0|p edge 1 0|", "F2 line 2"),
+    ("e 1 2|p edge 2 1|", "F3 line 1"),
+    ("p edge 2|", "F4 line 1"),
+    ("p edge 2 1|e 1 3|", "F5 line 2"),
+    ("p edge 2 1|e 1 1|", "F6 line 2"),
+    ("p edge 20001 0|", "F7 line 1"),
+    (EDGE + "put 1 0|q|", "F8 line 3"),
+    ("i 1 5|p edge 2 1|", "F10 line 1"),
+    (f"p edge 2 1|i 1 {2**128}|", "F11 line 2"),
+    ("p edge 2 1|i 1 5|i 1 5|", "F12 line 3"),
+    (EDGE + "b 1 2049|", "F13 line 3"),
+    ("p edge 1 0|" + "".join(f"b 1 {channel}|" for channel in range(1, 1026)), "F14 line 1026"),
+]
+# The headline as one line of shell, as README has it: the payloads of the rounds and of a run of threads are the same
+# lines.
 HEADLINE = """cmp <("$0" rounds < "$2" | grep put | sort) <("$1" transcript --edition 1 --workers "$3" < "$2" | grep 'put .* payload' | sort)"""
 
 
@@ -57,30 +69,49 @@ def run(words, data=b"", **given):
     return subprocess.run(words, input=data, capture_output=True, timeout=LIMIT, **given)
 
 
-# Node 2 is the root of the edge's forest: from 2 it steps to 0 and stays there, shifts to 1, then to 0, then to 1, and is never
-# dropped. Node 1 steps to 1 and stays there, and shifts to its parent's colour before. So node 1 ends with 0 and chooses at
-# step 0, node 2 ends with 1 and chooses at step 2.
+# Node 2 is the root of the edge's forest: from 2 it steps to 0 and stays there, shifts to 1, then to 0, then to 1, and
+# is never dropped. Node 1 steps to 1 and stays there, and shifts to its parent's colour before. So node 1 ends with 0
+# and chooses at step 0, node 2 ends with 1 and chooses at step 2.
 EDGE_NAMES = ["seed"] + ["step"] * 4 + ["shift", "drop"] * 3
 EDGE_COLOURS = [(1, 2), (1, 0), (1, 0), (1, 0), (1, 0), (0, 1), (0, 1), (1, 0), (1, 0), (0, 1), (0, 1)]
 EDGE_BEGINNING = (
     "pulse 0 greet|1 put 2 payload 0 hello 1|2 put 1 payload 0 hello 2|pulse 1 orient|1 put 2 payload 1 label 0|"
-    + "".join(f"pulse {p} {name}|1 colour 0 {own}|2 colour 0 {parent}|" + (f"2 put 1 payload {p} colour {parent}|" if p < 12 else "")
-              for p, (name, (own, parent)) in enumerate(zip(EDGE_NAMES, EDGE_COLOURS), 2)))
+    + "".join(
+        f"pulse {p} {name}|1 colour 0 {own}|2 colour 0 {parent}|"
+        + (f"2 put 1 payload {p} colour {parent}|" if p < 12 else "")
+        for p, (name, (own, parent)) in enumerate(zip(EDGE_NAMES, EDGE_COLOURS), 2)
+    )
+)
 EDGE_TEXT = (
-    "rounds 1 2 1 1 18|" + EDGE_BEGINNING + "pulse 13 merge 0 0 0|1 chose 0|1 put 2 payload 13 chosen 0|pulse 14 merge 0 0 1|"
-    "pulse 15 merge 0 1 0|2 chose 1|2 put 1 payload 15 chosen 1|pulse 16 merge 0 1 1|pulse 17 merge 0 2 0|pulse 18 merge 0 2 1|")
-# With channel 1 barred at node 1 the merge has nine pulses. Node 1 begins with colour 1, so it chooses at step 1, and again 1; node 2
-# begins with 0, so it chooses at step 3, and 0 is neither barred nor taken. With one bar at each end there are nine pulses, too: of
-# channel 1 at both, node 2 has heard 1 and takes 2; it chooses at step 4.
+    "rounds 1 2 1 1 18|"
+    + EDGE_BEGINNING
+    + "pulse 13 merge 0 0 0|1 chose 0|1 put 2 payload 13 chosen 0|pulse 14 merge 0 0 1|"
+    "pulse 15 merge 0 1 0|2 chose 1|2 put 1 payload 15 chosen 1|pulse 16 merge 0 1 1|pulse 17 merge 0 2 0|pulse 18 merge 0 2 1|"
+)
+# With channel 1 barred at node 1 the merge has nine pulses. Node 1 begins with colour 1, so it chooses at step 1, and
+# again 1; node 2 begins with 0, so it chooses at step 3, and 0 is neither barred nor taken. With one bar at each end
+# there are nine pulses, too: of channel 1 at both, node 2 has heard 1 and takes 2; it chooses at step 4.
 BARRED_EDGES = [
-    ("b 1 1|", "rounds 2 2 1 1 1 21|" + EDGE_BEGINNING + "pulse 13 merge 0 0 0|pulse 14 merge 0 0 1|1 chose 1|1 put 2 payload 14 chosen 1|"
-     "pulse 15 merge 0 0 2|pulse 16 merge 0 1 0|2 chose 0|2 put 1 payload 16 chosen 0|pulse 17 merge 0 1 1|pulse 18 merge 0 1 2|"
-     "pulse 19 merge 0 2 0|pulse 20 merge 0 2 1|pulse 21 merge 0 2 2|"),
-    ("b 2 1|b 1 1|b 2 1|", "rounds 2 2 1 1 1 21|" + EDGE_BEGINNING + "pulse 13 merge 0 0 0|pulse 14 merge 0 0 1|1 chose 1|1 put 2 payload 14 chosen 1|"
-     "pulse 15 merge 0 0 2|pulse 16 merge 0 1 0|pulse 17 merge 0 1 1|2 chose 2|2 put 1 payload 17 chosen 2|pulse 18 merge 0 1 2|"
-     "pulse 19 merge 0 2 0|pulse 20 merge 0 2 1|pulse 21 merge 0 2 2|"),
+    (
+        "b 1 1|",
+        "rounds 2 2 1 1 1 21|"
+        + EDGE_BEGINNING
+        + "pulse 13 merge 0 0 0|pulse 14 merge 0 0 1|1 chose 1|1 put 2 payload 14 chosen 1|"
+        "pulse 15 merge 0 0 2|pulse 16 merge 0 1 0|2 chose 0|2 put 1 payload 16 chosen 0|pulse 17 merge 0 1 1|pulse 18 merge 0 1 2|"
+        "pulse 19 merge 0 2 0|pulse 20 merge 0 2 1|pulse 21 merge 0 2 2|",
+    ),
+    (
+        "b 2 1|b 1 1|b 2 1|",
+        "rounds 2 2 1 1 1 21|"
+        + EDGE_BEGINNING
+        + "pulse 13 merge 0 0 0|pulse 14 merge 0 0 1|1 chose 1|1 put 2 payload 14 chosen 1|"
+        "pulse 15 merge 0 0 2|pulse 16 merge 0 1 0|pulse 17 merge 0 1 1|2 chose 2|2 put 1 payload 17 chosen 2|pulse 18 merge 0 1 2|"
+        "pulse 19 merge 0 2 0|pulse 20 merge 0 2 1|pulse 21 merge 0 2 2|",
+    ),
 ]
-EMPTY_TEXT = "rounds 1 0 0 0 12|pulse 0 greet|pulse 1 orient|" + "".join(f"pulse {p} {name}|" for p, name in enumerate(EDGE_NAMES, 2))
+EMPTY_TEXT = "rounds 1 0 0 0 12|pulse 0 greet|pulse 1 orient|" + "".join(
+    f"pulse {p} {name}|" for p, name in enumerate(EDGE_NAMES, 2)
+)
 
 
 def networks():
@@ -103,10 +134,13 @@ def networks():
 
 
 def text_rows(program, all_of):
-    for name, data, wanted in [("an edge", EDGE, EDGE_TEXT), ("no node", "p edge 0 0|", EMPTY_TEXT),
-                               ("a node alone", "p edge 1 0|", EMPTY_TEXT.replace("1 0 0", "1 1 0")),
-                               ("a node alone with two bars", "p edge 1 0|b 1 9|b 1 1|", EMPTY_TEXT.replace("1 0 0 0", "2 1 0 2 0")),
-                               *((f"an edge with {bars}", EDGE + bars, wanted) for bars, wanted in BARRED_EDGES)]:
+    for name, data, wanted in [
+        ("an edge", EDGE, EDGE_TEXT),
+        ("no node", "p edge 0 0|", EMPTY_TEXT),
+        ("a node alone", "p edge 1 0|", EMPTY_TEXT.replace("1 0 0", "1 1 0")),
+        ("a node alone with two bars", "p edge 1 0|b 1 9|b 1 1|", EMPTY_TEXT.replace("1 0 0 0", "2 1 0 2 0")),
+        *((f"an edge with {bars}", EDGE + bars, wanted) for bars, wanted in BARRED_EDGES),
+    ]:
         got = rounds_text(network_of(text(data)))
         note(f"the definition of {name}", got == text(wanted), got)
         done = run([program, "rounds"], text(data))
@@ -130,7 +164,11 @@ def headline_rows(program, plan, all_of):
                 file.write(data)
             for workers in WORKERS:
                 done = run_line(HEADLINE, program, plan, file_name, str(workers), limit=LIMIT)
-                note(f"the payloads of {name} with {workers} workers", (done.returncode, done.stdout, done.stderr) == (0, b"", b""), done)
+                note(
+                    f"the payloads of {name} with {workers} workers",
+                    (done.returncode, done.stdout, done.stderr) == (0, b"", b""),
+                    done,
+                )
 
 
 def fault_rows(program):
@@ -149,7 +187,10 @@ def memory_rows(program):
         note("the refusing allocator builds", failure is None, failure)
         if failure is not None:
             return
-        for data, wanted in [(EDGE, (0, text(EDGE_TEXT), b"")), ("p edge 2 1|e 1 1|", (1, b"", b"forestplay: F6 line 2\n"))]:
+        for data, wanted in [
+            (EDGE, (0, text(EDGE_TEXT), b"")),
+            ("p edge 2 1|e 1 1|", (1, b"", b"forestplay: F6 line 2\n")),
+        ]:
             row = sweep(program, front, ["rounds"], text(data), wanted, "forestplay")
             note(f"{row[0]} of {data!r}", row[1], row[2])
 

@@ -4,10 +4,10 @@
   schedules.py [--program FORESTPLAN] [--play FORESTPLAY] [--first]
   schedules.py --plant          plants mistakes in copies of the explorer, and prints each that these tests let through
 
-The programs are by default those that the gate built. The table of states and steps is compared with a second search, which
-walks over the network of lab/definitions/nodes.py, puts apart; its numbers with those of a trial written before it; its lists of
-events with what `forestplay events` makes of them; and the rounds without a rule with nodes that hear and send. `--plant`
-takes some minutes, and isn't part of the gate. The rest takes about half a minute."""
+The programs are by default those that the gate built. The table of states and steps is compared with a second search,
+which walks over the network of lab/definitions/nodes.py, puts apart; its numbers with those of a trial written before
+it; its lists of events with what `forestplay events` makes of them; and the rounds without a rule with nodes that hear
+and send. `--plant` takes some minutes, and isn't part of the gate. The rest takes about half a minute."""
 import argparse
 import gc
 import itertools
@@ -93,10 +93,16 @@ def copied_node(node):
 def node_key(node):
     """Equal for equal nodes of a vertex."""
     program = node.program
-    return (node.pulse_number, node.said, program.old, program.merged, frozenset(program.chosen),
-            *[tuple(getattr(program, name)) for name in ("roles", "colours", "before")],
-            tuple(tuple(port.out) for port in node.ports),
-            tuple((port.waits, port.safe, port.early_safe, port.closed, port.present, port.early) for port in node.ports))
+    return (
+        node.pulse_number,
+        node.said,
+        program.old,
+        program.merged,
+        frozenset(program.chosen),
+        *[tuple(getattr(program, name)) for name in ("roles", "colours", "before")],
+        tuple(tuple(port.out) for port in node.ports),
+        tuple((port.waits, port.safe, port.early_safe, port.closed, port.present, port.early) for port in node.ports),
+    )
 
 
 def net_key(state):
@@ -162,8 +168,13 @@ def table_rows(name, puts):
     steps = [s for s, key in enumerate(keys)
              if {str(event): keys[t] for event, t in space.steps(s)} != found.get(key, (None, {}))[1]]
     note(f"steps of {what}", not steps, steps[:3])
-    other = [s for s, key in enumerate(keys) if key in found and not puts
-             and {v: node[:3] for v, node in space.nodes(s).items()} != {v: shown(found[key][0], v) for v in space.vertices}]
+    other = [
+        s
+        for s, key in enumerate(keys)
+        if key in found
+        and not puts
+        and {v: node[:3] for v, node in space.nodes(s).items()} != {v: shown(found[key][0], v) for v in space.vertices}
+    ]
     note(f"what is shown of the states of {what}", not other, other[:3])
     ends = [s for s, key in enumerate(keys) if not found.get(key, (None, {}))[1]]
     note(f"ends of {what}", space.ends == ends and len(ends) == 1, (space.ends, ends))
@@ -191,7 +202,11 @@ def small_rows():
 def trial_rows():
     for name, puts, states, steps in TRIAL:
         space = Space(net_of(name), puts=puts, limit=MOST)
-        note(f"numbers of {name}", (space.count, steps and len(space.target)) == (states, steps), (space.count, len(space.target)))
+        note(
+            f"numbers of {name}",
+            (space.count, steps and len(space.target)) == (states, steps),
+            (space.count, len(space.target)),
+        )
         if not puts:
             end_rows(name, space)
 
@@ -264,9 +279,13 @@ def state_text(space, s, taken):
     """A state of the table as `forestplay events` writes it."""
     lines = []
     for v, node in space.nodes(s).items():
-        lines.append(f"node {v} pulse {node.pulse}" + (f" channel {node.colour + 1}" if node.pulse == space.last else ""))
-        lines += [f"link {v} {w} taken {taken[v, w]}" + "".join(f" {wire}" for wire in space.wires(s)[v, w])
-                  for w in space.ports[v]]
+        lines.append(
+            f"node {v} pulse {node.pulse}" + (f" channel {node.colour + 1}" if node.pulse == space.last else "")
+        )
+        lines += [
+            f"link {v} {w} taken {taken[v, w]}" + "".join(f" {wire}" for wire in space.wires(s)[v, w])
+            for w in space.ports[v]
+        ]
     return "".join(line + "\n" for line in lines).encode()
 
 
@@ -303,9 +322,9 @@ def explored(*words):
     return done.returncode, done.stdout.decode(), done.stderr.decode()
 
 
-# (network, rules, what goes wrong, the fault of `forestplay events` on that list or None): what happens to two nodes is worked
-# by hand. Without `early` the list is one that the program can play, since it keeps what comes early apart; a wire out of turn
-# is none that it can take.
+# (network, rules, what goes wrong, the fault of `forestplay events` on that list or None): what happens to two nodes is
+# worked by hand. Without `early` the list is one that the program can play, since it keeps what comes early apart; a
+# wire out of turn is none that it can take.
 BROKEN = [
     ("two", "safes", "node 2 makes pulse 2 without `label 0` from 1", 8, "NotReady"),
     ("two", "early", "node 2 makes pulse 1 with `label 0` from 1, not with `hello 1`", 16, None),
@@ -327,10 +346,19 @@ def broken_rows(play):
             _, apart, _ = explored(file.name, "--limit", str(MOST), "--without", without, "--puts")
         lines = listed.splitlines()
         first = said.split("\n")[0]
-        note(f"{name} without {without}", status == 0 and (what is None or first == f"broken after {count} events: {what}"), said)
-        note(f"the list of {name} without {without}", [line.split(":")[0] for line in said.splitlines()[1:1 + len(lines)]] == lines,
-             (said, lines))
-        note(f"{name} without {without}, puts apart: as many events", apart.split(": ")[0] == first.split(": ")[0], apart)
+        note(
+            f"{name} without {without}",
+            status == 0 and (what is None or first == f"broken after {count} events: {what}"),
+            said,
+        )
+        note(
+            f"the list of {name} without {without}",
+            [line.split(":")[0] for line in said.splitlines()[1 : 1 + len(lines)]] == lines,
+            (said, lines),
+        )
+        note(
+            f"{name} without {without}, puts apart: as many events", apart.split(": ")[0] == first.split(": ")[0], apart
+        )
         got = played(play, text_of(name), lines)
         wanted = answer_of(net_of(name), numbered(text_of(name), lines))
         note(f"forestplay on the list of {name} without {without}", got == wanted, (got, wanted))
@@ -353,10 +381,20 @@ def whole_list_rows(play, program):
         note(f"what explore says of {name}, puts apart", name != "two" or wanted in apart, apart)
         status, out, _ = played(play, text_of(name), listed.splitlines())
         channels = [line.split()[-1] for line in out.decode().splitlines() if "channel" in line]
-        plan = subprocess.run([program, "plain"], input=text_of(name).encode(), capture_output=True, timeout=LIMIT).stdout
+        plan = subprocess.run(
+            [program, "plain"], input=text_of(name).encode(), capture_output=True, timeout=LIMIT
+        ).stdout
         note(f"a whole list of {name}", status == 0 and len(channels) == len(net_of(name).neighbours), out)
-        note(f"the end of {name} is the plan", [line.split()[1] for line in plan.decode().splitlines()[1:]] == channels, plan)
-        note(f"what explore says of the end of {name}", said.endswith(f"\none end: channels {' '.join(channels)}\n"), said)
+        note(
+            f"the end of {name} is the plan",
+            [line.split()[1] for line in plan.decode().splitlines()[1:]] == channels,
+            plan,
+        )
+        note(
+            f"what explore says of the end of {name}",
+            said.endswith(f"\none end: channels {' '.join(channels)}\n"),
+            said,
+        )
 
 
 def not_broken_rows():
@@ -367,8 +405,13 @@ def not_broken_rows():
     plans = [{v: node.colour for v, node in beyond.nodes(s).items()} for s in beyond.ends]
     wrong = [plan for s, plan in zip(beyond.ends, plans) if plan != colours(beyond.net)]
     note("beyond the first fault, two without safes: neighbours far apart", beyond.farthest > 1, beyond.farthest)
-    note("only a wrong pulse leads to another plan", all(any(node.wrong for node in beyond.nodes(s).values())
-                                                         for s, plan in zip(beyond.ends, plans) if plan in wrong), wrong)
+    note(
+        "only a wrong pulse leads to another plan",
+        all(
+            any(node.wrong for node in beyond.nodes(s).values()) for s, plan in zip(beyond.ends, plans) if plan in wrong
+        ),
+        wrong,
+    )
 
 
 # The rounds without a rule, by nodes that hear and send.
@@ -411,8 +454,8 @@ class NodeWithout(Colouring):
 
 
 def goes_wrong(net, rule):
-    """Whether a node hears its own colour from a parent, or has it at the last pulse of the forests, or the plan of some forest
-    and those before it has neighbours of one colour."""
+    """Whether a node hears its own colour from a parent, or has it at the last pulse of the forests, or the plan of
+    some forest and those before it has neighbours of one colour."""
     nodes = {v: NodeWithout(net, v) for v in net.neighbours}
     for node in nodes.values():
         node.rule = rule
@@ -449,7 +492,11 @@ def rounds_rows():
     tried = [net for nodes in range(1, 5) for net in all_networks(nodes)] + source.sample(list(all_networks(5)), 100)
     for rule in [*rules.OF_ROUNDS, "none"]:
         without = () if rule == "none" else (rule,)
-        differ = [net.neighbours for net in tried if goes_wrong(net, rule) != bool(ruled_rounds.RuledRounds(net, without).clash)]
+        differ = [
+            net.neighbours
+            for net in tried
+            if goes_wrong(net, rule) != bool(ruled_rounds.RuledRounds(net, without).clash)
+        ]
         note(f"small networks without {rule}", not differ, differ[:1])
     for rule in rules.OF_ROUNDS:
         rounds, count = ruled_rounds.smallest([rule], 9)
@@ -464,7 +511,8 @@ def rounds_rows():
         smaller = [net for net in tried if len(net.neighbours) < nodes]
         smaller += [network_at_random(source, source.randrange(2, nodes)) for _ in range(60 if nodes > 2 else 0)]
         note(f"smaller networks go right without {rule}", not any(goes_wrong(net, rule) for net in smaller), count)
-    # Neighbours in the forest that was just merged never have one colour, whichever rules of the merging are left out: two are given one.
+    # Neighbours in the forest that was just merged never have one colour, whichever rules of the merging are left out:
+    # two are given one.
     rounds = ruled_rounds.RuledRounds(net_of("two"), ())
     rounds.merged.append({1: 0, 2: 0})
     clashes = [tuple(clash) for clash in rounds.merge_clashes(0)]
@@ -483,7 +531,8 @@ def network_at_random(source, nodes):
 # The words of the command.
 
 def rule_rows():
-    """Each rule has its part of docs/learn/GALLERY.md, and names a wrong body that is there, in one of the two folders."""
+    """Each rule has its part of docs/learn/GALLERY.md, and names a wrong body that is there, in one of the two
+    folders."""
     with open(os.path.join(TOP, "docs", "learn", "GALLERY.md"), encoding="utf-8") as file:
         gallery = file.read()
     for word, rule in rules.ALL.items():
@@ -501,10 +550,15 @@ FAULTS = [
     (["no.col"], 1, "explore: no.col: No such file or directory\n"),
     (["README.md"], 1, "explore: README.md line 1: `#` begins no line of a network (F8)\n"),
 ]
-REFUSED = [([], "NETWORK is missing"), (["examples/two.col", "--without", "safes,digit"], "can't be left out together"),
-           (["examples/two.col", "--without", "x"], "`x` is no rule"), (["examples/two.col", "--limit", "0"], "a number from 1 up"),
-           (["--without", "digit", "--puts"], "the rounds have no events"), (["--without", "safes"], "NETWORK is missing"),
-           (["examples/two.col", "x"], "unrecognized arguments: x")]
+REFUSED = [
+    ([], "NETWORK is missing"),
+    (["examples/two.col", "--without", "safes,digit"], "can't be left out together"),
+    (["examples/two.col", "--without", "x"], "`x` is no rule"),
+    (["examples/two.col", "--limit", "0"], "a number from 1 up"),
+    (["--without", "digit", "--puts"], "the rounds have no events"),
+    (["--without", "safes"], "NETWORK is missing"),
+    (["examples/two.col", "x"], "unrecognized arguments: x"),
+]
 
 
 def word_rows():
@@ -517,15 +571,29 @@ def word_rows():
     status, said, fault = explored("--help")
     note("explore --help", (status, fault) == (0, "") and all(f"  {word} " in said for word in rules.ALL), said)
     with open("/dev/full", "wb") as full:
-        done = subprocess.run([os.path.join(TOP, "bin", "explore"), "examples/two.col"], cwd=TOP, stdout=full, stderr=subprocess.PIPE,
-                              timeout=LIMIT)
-    note("a full device", (done.returncode, done.stderr) == (
-        1, b"explore: the output can't be written: No space left on device\n"), done)
+        done = subprocess.run(
+            [os.path.join(TOP, "bin", "explore"), "examples/two.col"],
+            cwd=TOP,
+            stdout=full,
+            stderr=subprocess.PIPE,
+            timeout=LIMIT,
+        )
+    note(
+        "a full device",
+        (done.returncode, done.stderr) == (1, b"explore: the output can't be written: No space left on device\n"),
+        done,
+    )
     with tempfile.TemporaryDirectory() as folder:
         link = os.path.join(folder, "explore")
         os.symlink(os.path.join(TOP, "bin", "explore"), link)
-        done = subprocess.run([link, os.path.join(TOP, "examples/two.col")], cwd=folder, capture_output=True, timeout=LIMIT)
-        note("explore by a link", done.returncode == 0 and done.stdout.startswith(b"every schedule of two: 281 states"), done)
+        done = subprocess.run(
+            [link, os.path.join(TOP, "examples/two.col")], cwd=folder, capture_output=True, timeout=LIMIT
+        )
+        note(
+            "explore by a link",
+            done.returncode == 0 and done.stdout.startswith(b"every schedule of two: 281 states"),
+            done,
+        )
     try:
         note("more states than the limit", Space(net_of("two"), limit=280) is None)
     except TooMany:
@@ -534,15 +602,27 @@ def word_rows():
 
 # (file of lab/schedules/, text in it, the mistake that is planted in its place)
 MISTAKES = [
-    ("space.py", "return self.content(wires[:place] + wires[place + 1:])", "return self.content(wires[:place + 1] + wires[place + 2:])"),
+    (
+        "space.py",
+        "return self.content(wires[:place] + wires[place + 1:])",
+        "return self.content(wires[:place + 1] + wires[place + 2:])",
+    ),
     ("space.py", "self.content(self.contents[c] + more)", "self.content(more + self.contents[c])"),
     ("space.py", "self.content(self.contents[c] + more)", "self.content(self.contents[c] + more[:1])"),
-    ("space.py", "if node.can_pulse():\n            j, gone", "if node.can_pulse() and node.pulse_number != 7:\n            j, gone"),
+    (
+        "space.py",
+        "if node.can_pulse():\n            j, gone",
+        "if node.can_pulse() and node.pulse_number != 7:\n            j, gone",
+    ),
     ("space.py", "len(wires) if \"fifo\" in self.without else min(1, len(wires))", "len(wires)"),
     ("space.py", "len(wires) if \"fifo\" in self.without else min(1, len(wires))", "min(1, len(wires))"),
     ("space.py", "self.depth.append(self.depth[s] + 1)", "self.depth.append(self.depth[s])"),
     ("space.py", "self.from_event.append(e)", "self.from_event.append(0)"),
-    ("space.py", "        if not some:\n", "        if not some and self.is_whole(state):\n            s = 0\n        if not some:\n"),
+    (
+        "space.py",
+        "        if not some:\n",
+        "        if not some and self.is_whole(state):\n            s = 0\n        if not some:\n",
+    ),
     ("space.py", "ways[t] += ways[s]", "ways[t] += 1"),
     ("space.py", "put_until(link, number + 1)", "put_until(link, len(sent[link]))"),
     ("space.py", "\"safe\" if waits else \"ready\"", "\"ready\" if waits else \"safe\""),
@@ -555,7 +635,11 @@ MISTAKES = [
     ("ruled_node.py", "(port.waits, port.safe, port.early_safe,", "(port.waits, port.early_safe,"),
     ("ruled_node.py", "if got is None and due is not None:", "if got is None:"),
     ("ruled_node.py", "if ahead == 0 or ahead == 1 and \"early\" in self.without:", "if ahead == 0:"),
-    ("ruled_node.py", "return self.pulse_number != self.last and self.said and self.can_take()", "return self.pulse_number != self.last"),
+    (
+        "ruled_node.py",
+        "return self.pulse_number != self.last and self.said and self.can_take()",
+        "return self.pulse_number != self.last",
+    ),
     ("ruled_node.py", "if \"acks\" in self.without:\n", "if \"acks\" in self.without and not self.pulse_number:\n"),
     ("ruled_rounds.py", "colour - colour % 2 if", "colour // 2 if"),
     ("ruled_rounds.py", "and net.parent(f, v) is None else", "and net.parent(f, v) else"),
@@ -599,8 +683,12 @@ def planted(number, name, there, instead, program, play):
                 return True
             with open(path, "w", encoding="utf-8") as file:
                 file.write(source.replace(there, instead))
-        done = subprocess.run([sys.executable, "-m", "tests.programs.schedules", "--first", "--program", program, "--play", play],
-                              cwd=folder, capture_output=True, timeout=1200)
+        done = subprocess.run(
+            [sys.executable, "-m", "tests.programs.schedules", "--first", "--program", program, "--play", play],
+            cwd=folder,
+            capture_output=True,
+            timeout=1200,
+        )
     first = (done.stdout + done.stderr).decode().strip().split("\n")
     why = first[-1] if done.stderr else first[0]
     print(f"{number}: {'caught' if done.returncode else 'passed'} ({why[:100]}): {instead}", flush=True)
@@ -619,9 +707,21 @@ def main():
     if given.plant:
         plant(program, play)
     else:
-        for rows in (rule_rows, rounds_rows, not_broken_rows, lambda: broken_rows(play), lambda: whole_list_rows(play, program),
-                     small_rows, formula_rows, schedules_rows, word_rows, lambda: walk_rows(play), trial_rows,
-                     lambda: table_rows("star", False), lambda: table_rows("triangle", False)):
+        for rows in (
+            rule_rows,
+            rounds_rows,
+            not_broken_rows,
+            lambda: broken_rows(play),
+            lambda: whole_list_rows(play, program),
+            small_rows,
+            formula_rows,
+            schedules_rows,
+            word_rows,
+            lambda: walk_rows(play),
+            trial_rows,
+            lambda: table_rows("star", False),
+            lambda: table_rows("triangle", False),
+        ):
             rows()
             if given.first and TALLY["failed"]:
                 break

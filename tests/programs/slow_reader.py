@@ -1,5 +1,6 @@
-"""What each command answers to any bytes, slow and plain: the texts are read here as docs/claim/FORMATS.md says and nowhere else, byte by
-byte; what is written of a text that has no fault comes from the other definitions beside this file.
+"""What each command answers to any bytes, slow and plain: the texts are read here as docs/claim/FORMATS.md says and
+nowhere else, byte by byte; what is written of a text that has no fault comes from the other definitions beside this
+file.
 
 An answer is (status, standard output, standard error)."""
 import functools
@@ -39,9 +40,12 @@ def answer_to(command, data):
 
 
 def rows_of(data):
-    """The fields of each line. Only a line feed ends a line, only spaces and tabs stand between fields, and one carriage return
-    at the end of a line is no part of it."""
-    return [[field for field in line.removesuffix(b"\r").replace(b"\t", b" ").split(b" ") if field] for line in data.split(b"\n")]
+    """The fields of each line. Only a line feed ends a line, only spaces and tabs stand between fields, and one
+    carriage return at the end of a line is no part of it."""
+    return [
+        [field for field in line.removesuffix(b"\r").replace(b"\t", b" ").split(b" ") if field]
+        for line in data.split(b"\n")
+    ]
 
 
 def number(field):
@@ -84,7 +88,12 @@ def network_in(rows):
     if nodes is None:
         raise Fault("F1")
     uncrowded(edges)
-    return nodes, distinct(nodes, given), frozenset(edges), tuple((v, tuple(sorted(channels))) for v, channels in sorted(bars.items()))
+    return (
+        nodes,
+        distinct(nodes, given),
+        frozenset(edges),
+        tuple((v, tuple(sorted(channels))) for v, channels in sorted(bars.items())),
+    )
 
 
 def nodes_in(line, fields, nodes):
@@ -162,7 +171,11 @@ def distinct(nodes, given):
 
 def definition_of(nodes, given, edges, bars):
     named = dict(given)
-    return Network({v: named.get(v, v) for v in range(1, nodes + 1)}, edges, {v: [channel - 1 for channel in of_v] for v, of_v in bars})
+    return Network(
+        {v: named.get(v, v) for v in range(1, nodes + 1)},
+        edges,
+        {v: [channel - 1 for channel in of_v] for v, of_v in bars},
+    )
 
 
 def split(rows, is_first):
@@ -275,5 +288,13 @@ def transcript(rows):
     return b"transcript 2 0\n"
 
 
-ANSWERS = {"forests": forests, "plain": plain, "plan": plain, "transcript": transcript, "check": check, "events": events, "replay": replay,
-           "rounds": rounds}
+ANSWERS = {
+    "forests": forests,
+    "plain": plain,
+    "plan": plain,
+    "transcript": transcript,
+    "check": check,
+    "events": events,
+    "replay": replay,
+    "rounds": rounds,
+}

@@ -1,12 +1,13 @@
 #!/usr/bin/env python3
-"""Tests of `bin/check-transcript` and `bin/replay` with transcripts of edition 1; and by the first, of those of the built program. Those of edition 2
-are in merged.py. The last line is 'N passed, M failed'.
+"""Tests of `bin/check-transcript` and `bin/replay` with transcripts of edition 1; and by the first, of those of the
+built program. Those of edition 2 are in merged.py. The last line is 'N passed, M failed'.
 
   transcripts.py [--program PROGRAM] [--play PLAY]
       PROGRAM   has the command `transcript`
       PLAY      has the command `replay`; the rows of a program that isn't named are left out
 
-Expected verdicts are worked by hand, or come from the definitions in lab/definitions/nodes.py; none is taken from a program."""
+Expected verdicts are worked by hand, or come from the definitions in lab/definitions/nodes.py; none is taken from a
+program."""
 import argparse
 import os
 import pickle
@@ -43,17 +44,30 @@ def text(lines):
 
 
 EDGE = "p edge 2 1|e 1 2|"
-# What the two nodes of EDGE send each other at which pulse. Node 2 is the root of the one forest: its colours there are 2, 0
-# after each of the four bit steps, then 1, 1, 0, 0, 1, 1; those of node 1 are 1, then 1 after each bit step, then 0, 0, 1, 1,
-# 0, 0. So node 1 chooses at pulse 13 and node 2 at pulse 15, of the pulses 13 to 18.
+# What the two nodes of EDGE send each other at which pulse. Node 2 is the root of the one forest: its colours there are
+# 2, 0 after each of the four bit steps, then 1, 1, 0, 0, 1, 1; those of node 1 are 1, then 1 after each bit step, then
+# 0, 0, 1, 1, 0, 0. So node 1 chooses at pulse 13 and node 2 at pulse 15, of the pulses 13 to 18.
 EDGE_SENT = {
     1: {0: "hello 1", 1: "label 0", 13: "chosen 0"},
-    2: {0: "hello 2", 2: "colour 2", 3: "colour 0", 4: "colour 0", 5: "colour 0", 6: "colour 0", 7: "colour 1", 8: "colour 1",
-        9: "colour 0", 10: "colour 0", 11: "colour 1", 15: "chosen 1"},
+    2: {
+        0: "hello 2",
+        2: "colour 2",
+        3: "colour 0",
+        4: "colour 0",
+        5: "colour 0",
+        6: "colour 0",
+        7: "colour 1",
+        8: "colour 1",
+        9: "colour 0",
+        10: "colour 0",
+        11: "colour 1",
+        15: "chosen 1",
+    },
 }
 EDGE_LAST = 18
-# What a node does in a pulse, by whether it sends a payload, and whether one comes: the other's wires come in the order in which
-# that one puts them, and the node's safe goes out at once if it sends no payload, and otherwise behind the acknowledgement.
+# What a node does in a pulse, by whether it sends a payload, and whether one comes: the other's wires come in the order
+# in which that one puts them, and the node's safe goes out at once if it sends no payload, and otherwise behind the
+# acknowledgement.
 EDGE_PULSE = {
     (True, True): "put payload|take payload|put ack|take ack|put safe|take safe",
     (True, False): "put payload|take safe|take ack|put safe",
@@ -74,46 +88,107 @@ def edge_lines(v, w):
     return lines + [f"{v} put {w} close", f"{v} take {w} close"]
 
 
-# 3 payloads of node 1 and 12 of node 2; an acknowledgement of each; 18 safes and a closing mark each: 68 wires, each put and
-# taken; and 18 pulses of each node.
+# 3 payloads of node 1 and 12 of node 2; an acknowledgement of each; 18 safes and a closing mark each: 68 wires, each
+# put and taken; and 18 pulses of each node.
 EDGE_LINES = {1: edge_lines(1, 2), 2: edge_lines(2, 1)}
 EDGE_WHOLE = "whole run of 2 nodes, 172 entries, 15 payloads, 68 wires"
 HELLO_1, HELLO_2 = "payload 0 hello 1", "payload 0 hello 2"
 APART = "transcript 1 2|" + "".join(f"{v} pulse {p}|" for v in (1, 2) for p in range(1, 13))
 
 # (network, transcript, what is said, up to the second colon of a refusal), in which '|' stands for a line feed
-WORKED = [
-    ("p edge 0 0|", "transcript 1 0|", "whole run of 0 nodes, 0 entries, 0 payloads, 0 wires"),
-    ("p edge 2 0|", APART, "whole run of 2 nodes, 24 entries, 0 payloads, 0 wires"),
-    ("p edge 2 0|", "| \t\r|\ttranscript 01 2|", "line 3: X1"), ("p edge 2 0|", "\r| transcript\t1  002\r|" + APART[15:-1],
-     "whole run of 2 nodes, 24 entries, 0 payloads, 0 wires"),
-    ("p edge 2 0|", APART + "2 pulse 13|", "line 26: NotReady"), ("p edge 2 0|", APART[:-11], "line 24: NotWhole"),
-    ("p edge 2 0|", APART.replace("2 pulse 3|", ""), "line 16: WrongWire"), ("p edge 2 0|", "transcript 1 2|", "line 1: NotWhole"),
-    ("p edge 2 0|", "transcript 1 3|" + APART[15:], "line 1: Nodes"), ("p edge 2 0|", APART + "1 put 2 close|", "line 26: NoSuch"),
-    # the reading
-    (EDGE, "", "line 1: X1"), (EDGE, "| |", "line 1: X1"), (EDGE, "|1 put 2 close|", "line 2: X1"), (EDGE, "transcript 2 2|", "line 1: NotWhole"), (EDGE, "transcript 3 2|", "line 1: X1"),
-    (EDGE, "transcript 1|", "line 1: X1"), (EDGE, "transcript 1 2 2|", "line 1: X1"), (EDGE, "transcript 1 4294967296|", "line 1: X1"),
-    (EDGE, "transcript 1 4294967295|", "line 1: Nodes"), (EDGE, "transcript 1 -2|", "line 1: X1"), (EDGE, "c|transcript 1 2|", "line 1: X1"),
-] + [(EDGE, f"transcript 1 2||{entry}|1 pulse 1|", "line 3: X1") for entry in (
-    "1", "1 pulse", "1 pulse 1 1", "1 pulse x", "1 pulse -1", "1 pulse 4294967296", "4294967296 pulse 1", "pulse 1", "c", "transcript 1 2",
-    "1 put 2", "1 put close", "1 put 2 close 0", "1 Put 2 close", "1 put 2 ack", "1 put 2 ack 0 0", "1 take 2 safe 4294967296", "1 take x close",
-    "1 take 2 payload 0 hello", "1 take 2 payload 0 hello 340282366920938463463374607431768211456", "1 take 2 payload 0 best 1", "1 take 2 payload 0 Hello 1",
-    "1 put 2 payload 1 label 65536", "1 put 2 payload 13 chosen 65536", "1 put 2 payload 2 colour 340282366920938463463374607431768211456",
-    "1 put 2 payload 4294967296 hello 1", "1 put 2 payload 0 hello 1 1", "1 put 2 payload 0 hello \xb2", "1\x0bpulse 1", "1 pulse 1\r\r")] + [
-    # the search
-    (EDGE, "transcript 1 2|1 take 2 close|", "line 2: LinkEmpty"), (EDGE, "transcript 1 2|1 put 2 safe 0|", "line 2: WrongWire"),
-    (EDGE, "transcript 1 2|1 put 3 close|", "line 2: NoSuch"), (EDGE, "transcript 1 2|1 pulse 1|", "line 2: NotReady"),
-    (EDGE, "transcript 1 2|0 pulse 1|", "line 2: NoSuch"), (EDGE, "transcript 1 2|3 take 1 close|", "line 2: NoSuch"),
-    (EDGE, "transcript 1 2|1 put 1 close|", "line 2: NoSuch"), (EDGE, "transcript 1 2|1 put 2 payload 0 colour 1|", "line 2: WrongWire"),
-    (EDGE, f"transcript 1 2|1 put 2 {HELLO_1}|1 put 2 safe 0|", "line 3: NothingToPut"),
-    (EDGE, f"transcript 1 2|1 put 2 {HELLO_1}|2 put 1 {HELLO_2}|1 take 2 {HELLO_1}|", "line 4: WrongWire"),
-    (EDGE, f"transcript 1 2|1 take 2 {HELLO_2}|1 put 2 {HELLO_1}|2 put 1 {HELLO_2}|", "line 3: NotWhole"),
-    # each takes before it puts: the first of two that wait for each other
-    (EDGE, f"transcript 1 2|2 take 1 {HELLO_1}|1 take 2 {HELLO_2}|1 put 2 {HELLO_1}|2 put 1 {HELLO_2}|", "line 2: LinkEmpty"),
-    # one that never can comes before one that waits, and one that waits for a node which is through before the others
-    (EDGE, f"transcript 1 2|2 take 1 {HELLO_1}|1 pulse 1|1 put 2 {HELLO_1}|", "line 3: NotReady"),
-    ("p edge 3 2|e 1 2|e 2 3|", f"transcript 1 3|1 take 2 {HELLO_2}|2 take 3 payload 0 hello 3|", "line 3: LinkEmpty"),
-]
+WORKED = (
+    [
+        ("p edge 0 0|", "transcript 1 0|", "whole run of 0 nodes, 0 entries, 0 payloads, 0 wires"),
+        ("p edge 2 0|", APART, "whole run of 2 nodes, 24 entries, 0 payloads, 0 wires"),
+        ("p edge 2 0|", "| \t\r|\ttranscript 01 2|", "line 3: X1"),
+        (
+            "p edge 2 0|",
+            "\r| transcript\t1  002\r|" + APART[15:-1],
+            "whole run of 2 nodes, 24 entries, 0 payloads, 0 wires",
+        ),
+        ("p edge 2 0|", APART + "2 pulse 13|", "line 26: NotReady"),
+        ("p edge 2 0|", APART[:-11], "line 24: NotWhole"),
+        ("p edge 2 0|", APART.replace("2 pulse 3|", ""), "line 16: WrongWire"),
+        ("p edge 2 0|", "transcript 1 2|", "line 1: NotWhole"),
+        ("p edge 2 0|", "transcript 1 3|" + APART[15:], "line 1: Nodes"),
+        ("p edge 2 0|", APART + "1 put 2 close|", "line 26: NoSuch"),
+        # the reading
+        (EDGE, "", "line 1: X1"),
+        (EDGE, "| |", "line 1: X1"),
+        (EDGE, "|1 put 2 close|", "line 2: X1"),
+        (EDGE, "transcript 2 2|", "line 1: NotWhole"),
+        (EDGE, "transcript 3 2|", "line 1: X1"),
+        (EDGE, "transcript 1|", "line 1: X1"),
+        (EDGE, "transcript 1 2 2|", "line 1: X1"),
+        (EDGE, "transcript 1 4294967296|", "line 1: X1"),
+        (EDGE, "transcript 1 4294967295|", "line 1: Nodes"),
+        (EDGE, "transcript 1 -2|", "line 1: X1"),
+        (EDGE, "c|transcript 1 2|", "line 1: X1"),
+    ]
+    + [
+        (EDGE, f"transcript 1 2||{entry}|1 pulse 1|", "line 3: X1")
+        for entry in (
+            "1",
+            "1 pulse",
+            "1 pulse 1 1",
+            "1 pulse x",
+            "1 pulse -1",
+            "1 pulse 4294967296",
+            "4294967296 pulse 1",
+            "pulse 1",
+            "c",
+            "transcript 1 2",
+            "1 put 2",
+            "1 put close",
+            "1 put 2 close 0",
+            "1 Put 2 close",
+            "1 put 2 ack",
+            "1 put 2 ack 0 0",
+            "1 take 2 safe 4294967296",
+            "1 take x close",
+            "1 take 2 payload 0 hello",
+            "1 take 2 payload 0 hello 340282366920938463463374607431768211456",
+            "1 take 2 payload 0 best 1",
+            "1 take 2 payload 0 Hello 1",
+            "1 put 2 payload 1 label 65536",
+            "1 put 2 payload 13 chosen 65536",
+            "1 put 2 payload 2 colour 340282366920938463463374607431768211456",
+            "1 put 2 payload 4294967296 hello 1",
+            "1 put 2 payload 0 hello 1 1",
+            "1 put 2 payload 0 hello \xb2",
+            "1\x0bpulse 1",
+            "1 pulse 1\r\r",
+        )
+    ]
+    + [
+        # the search
+        (EDGE, "transcript 1 2|1 take 2 close|", "line 2: LinkEmpty"),
+        (EDGE, "transcript 1 2|1 put 2 safe 0|", "line 2: WrongWire"),
+        (EDGE, "transcript 1 2|1 put 3 close|", "line 2: NoSuch"),
+        (EDGE, "transcript 1 2|1 pulse 1|", "line 2: NotReady"),
+        (EDGE, "transcript 1 2|0 pulse 1|", "line 2: NoSuch"),
+        (EDGE, "transcript 1 2|3 take 1 close|", "line 2: NoSuch"),
+        (EDGE, "transcript 1 2|1 put 1 close|", "line 2: NoSuch"),
+        (EDGE, "transcript 1 2|1 put 2 payload 0 colour 1|", "line 2: WrongWire"),
+        (EDGE, f"transcript 1 2|1 put 2 {HELLO_1}|1 put 2 safe 0|", "line 3: NothingToPut"),
+        (EDGE, f"transcript 1 2|1 put 2 {HELLO_1}|2 put 1 {HELLO_2}|1 take 2 {HELLO_1}|", "line 4: WrongWire"),
+        (EDGE, f"transcript 1 2|1 take 2 {HELLO_2}|1 put 2 {HELLO_1}|2 put 1 {HELLO_2}|", "line 3: NotWhole"),
+        # each takes before it puts: the first of two that wait for each other
+        (
+            EDGE,
+            f"transcript 1 2|2 take 1 {HELLO_1}|1 take 2 {HELLO_2}|1 put 2 {HELLO_1}|2 put 1 {HELLO_2}|",
+            "line 2: LinkEmpty",
+        ),
+        # one that never can comes before one that waits, and one that waits for a node which is through before the
+        # others
+        (EDGE, f"transcript 1 2|2 take 1 {HELLO_1}|1 pulse 1|1 put 2 {HELLO_1}|", "line 3: NotReady"),
+        (
+            "p edge 3 2|e 1 2|e 2 3|",
+            f"transcript 1 3|1 take 2 {HELLO_2}|2 take 3 payload 0 hello 3|",
+            "line 3: LinkEmpty",
+        ),
+    ]
+)
 
 
 def said_of(net, data):
@@ -133,13 +208,13 @@ def worked_rows():
     note("a run of an edge worked by hand", said_of(edge, whole)[0] == EDGE_WHOLE, said_of(edge, whole))
     lines = whole.split(b"\n")
     for at in range(len(lines) - 1):
-        got = said_of(edge, b"\n".join(lines[:at] + lines[at + 1:]))
+        got = said_of(edge, b"\n".join(lines[:at] + lines[at + 1 :]))
         note(f"a run of an edge without line {at + 1}", not got[0].startswith("whole"), got)
 
 
 def networks():
-    """Each as its text and what it is: all on up to 4 nodes, random ones on up to 6, shapes on up to 8 of 12, and random ones on up to
-    6 nodes with barred channels."""
+    """Each as its text and what it is: all on up to 4 nodes, random ones on up to 6, shapes on up to 8 of 12, and
+    random ones on up to 6 nodes with barred channels."""
     source = random.Random(SEED)
     pairs = list(all_small(source)) + list(random_of(60, 0, 6)(source))
     for shape in [path, cycle, tree, star, two_sided] * 8:
@@ -147,13 +222,17 @@ def networks():
         names = source.sample(range(1, nodes + 1), source.randint(3, min(nodes, 8)))
         pairs.append((nodes, {(min(pair), max(pair)) for pair in shape(source, names)}))
     texts = [text_of(source, nodes, edges) for nodes, edges in pairs]
-    texts += [text_of(source, nodes, edges, bars=some_bars(source, nodes, 3)) for nodes, edges in random_of(24, 1, 6)(source)]
+    texts += [
+        text_of(source, nodes, edges, bars=some_bars(source, nodes, 3)) for nodes, edges in random_of(24, 1, 6)(source)
+    ]
     return [(data, network_of(data)) for data in texts]
 
 
 def is_counted(net, data, said):
-    """Whether the verdict's numbers are those of every whole run with the payloads of the text: each payload is acknowledged,
-    there is a safe of each pulse below the last and a closing mark for each direction of an edge, and all of it is taken."""
+    """Whether the verdict's numbers are those of every whole run with the payloads of the text: each payload is
+    acknowledged, there is a safe of each pulse below the last and a closing mark for each direction of an edge, and all
+    of it is taken.
+    """
     nodes, last = len(net.neighbours), last_pulse(net)
     payloads = len(re.findall(rb"put\s+\d+\s+payload", data))
     wires = 2 * payloads + sum(map(len, net.neighbours.values())) * (last + 1)
@@ -221,10 +300,14 @@ def replayed(net, data):
 
 
 def replayed_by(play, network, net, data):
-    """The same by `PLAY replay`: this function alone knows how its answer is read. With status 0 it writes the state; that is
-    of a whole run if all nodes are at the last pulse, all closing marks were put, and no link holds a wire."""
+    """The same by `PLAY replay`: this function alone knows how its answer is read. With status 0 it writes the state;
+    that is of a whole run if all nodes are at the last pulse, all closing marks were put, and no link holds a wire."""
     done = subprocess.run([play, "replay"], input=network + data, capture_output=True, timeout=LIMIT)
-    if done.returncode == 1 and done.stdout == b"" and (fault := re.fullmatch(rb"forestplay: (\w+) line \d+(: [ -~]+)?\n", done.stderr)):
+    if (
+        done.returncode == 1
+        and done.stdout == b""
+        and (fault := re.fullmatch(rb"forestplay: (\w+) line \d+(: [ -~]+)?\n", done.stderr))
+    ):
         return fault.group(1).decode()
     if (done.returncode, done.stderr) != (0, b""):
         return f"status {done.returncode}, {done.stdout[:200]!r}, {done.stderr[:200]!r}"
@@ -236,7 +319,8 @@ def replayed_by(play, network, net, data):
 
 
 def mistake_rows(play):
-    """Each refused transcript is refused at the entry that the search names, each accepted one is a run in the order found."""
+    """Each refused transcript is refused at the entry that the search names, each accepted one is a run in the order
+    found."""
     wrong, accepted, codes = [], dict.fromkeys(MISTAKES, 0), set()
     for mistake, network, net, data in mistaken(100):
         code, ordered = found_in(net, data)
@@ -250,18 +334,23 @@ def mistake_rows(play):
     note("400 transcripts with a mistake, beside a replay", not wrong, f"{len(wrong)}: {wrong[:1]}")
     note("all but swapped entries are refused", [accepted[mistake] for mistake in MISTAKES[:3]] == [0, 0, 0], accepted)
     note("swapped entries are refused or not", 0 < accepted["swapped"] < 100, accepted)
-    note("refusals of each kind", codes == {None, "X1", "NotReady", "NothingToPut", "LinkEmpty", "WrongWire", "NotWhole"}, codes)
+    note(
+        "refusals of each kind",
+        codes == {None, "X1", "NotReady", "NothingToPut", "LinkEmpty", "WrongWire", "NotWhole"},
+        codes,
+    )
 
 
 def every_order(net, entries):
-    """How many of each node's entries were made after any order whatever: all that can be reached, one event at a time."""
+    """How many of each node's entries were made after any order whatever: all that can be reached, one event at a
+    time."""
     own = {v: [entry for entry in entries if entry.vertex == v] for v in net.neighbours}
     start = tuple(0 for _ in own)
     reached, work = {start}, [(start, pickle.dumps(NetState(net)))]
     while work:
         counts, kept = work.pop()
         for at, v in enumerate(own):
-            after = counts[:at] + (counts[at] + 1,) + counts[at + 1:]
+            after = counts[:at] + (counts[at] + 1,) + counts[at + 1 :]
             if after in reached or counts[at] == len(own[v]):
                 continue
             state = pickle.loads(kept)
@@ -275,7 +364,8 @@ def every_order(net, entries):
 
 
 def order_rows():
-    """On an edge, of runs and of transcripts with a mistake: no order of the entries gets further than the search does."""
+    """On an edge, of runs and of transcripts with a mistake: no order of the entries gets further than the search
+    does."""
     source, wrong, net = random.Random(SEED), [], network_of(text(EDGE))
     for i in range(24):
         lines = EDGE_LINES if i == 0 else made_transcript(source, net, CAPACITIES[i % 3])
@@ -301,33 +391,66 @@ def command_rows():
             with open(name, "wb") as file:
                 file.write(data)
         said = (0, EDGE_WHOLE.encode() + b"\n", b"")
-        note("a transcript in a file", command([network, transcript], b"x") == said, command([network, transcript], b"x"))
+        note(
+            "a transcript in a file", command([network, transcript], b"x") == said, command([network, transcript], b"x")
+        )
         note("a transcript as standard input", command([network], whole) == said, command([network], whole))
         status, ordered, fault = command(["--order", network], whole)
-        note("an order that is a run", (status, fault, replayed(network_of(text(EDGE)), ordered)) == (0, b"", None), (status, fault))
+        note(
+            "an order that is a run",
+            (status, fault, replayed(network_of(text(EDGE)), ordered)) == (0, b"", None),
+            (status, fault),
+        )
         note("its lines are the transcript's", sorted(ordered.split(b"\n")) == sorted(whole.split(b"\n")), ordered)
         line = b"line 2: LinkEmpty: node 1 takes close from 2, which never puts it; node 2 has no entry (is the text cut?)\n"
         done = command(["--order", network], b"transcript 1 2\n1 take 2 close\n")
         note("a refusal", done == (1, b"", line), done)
         status, told, fault = command(["--help"], b"")
         note("help", (status, fault) == (0, b"") and b"forestplan transcript" in told, (status, told, fault))
-        for data in (b"", whole, b"p edge\n", b"p edge 2 1\ne 1 1\n", b"p edge 2 1\ne 1 3\n", b"p edge 2 1\ne 1 x\n", b"p a 1 0\np a 1 0\n"):
+        for data in (
+            b"",
+            whole,
+            b"p edge\n",
+            b"p edge 2 1\ne 1 1\n",
+            b"p edge 2 1\ne 1 3\n",
+            b"p edge 2 1\ne 1 x\n",
+            b"p a 1 0\np a 1 0\n",
+        ):
             with open(network + "x", "wb") as file:
                 file.write(data)
             status, told, fault = command([network + "x", transcript], b"")
             line = rb"check-transcript: [^\n]*edge\.colx[^\n]* \(F\d\)\n"
-            note(f"the network {data[:30]}", (status, told) == (2, b"") and re.fullmatch(line, fault), (status, told, fault))
+            note(
+                f"the network {data[:30]}",
+                (status, told) == (2, b"") and re.fullmatch(line, fault),
+                (status, told, fault),
+            )
         for words in ([transcript + "x"], [network, transcript + "x"]):
             line = f"check-transcript: {transcript}x: No such file or directory\n".encode()
-            note(f"a file that isn't there, {len(words)} words", command(words, b"") == (2, b"", line), command(words, b""))
-        for words in ([], [folder], [network, folder], [network, transcript, "x"], ["--orders", network], [transcript + "x"]):
+            note(
+                f"a file that isn't there, {len(words)} words",
+                command(words, b"") == (2, b"", line),
+                command(words, b""),
+            )
+        for words in (
+            [],
+            [folder],
+            [network, folder],
+            [network, transcript, "x"],
+            ["--orders", network],
+            [transcript + "x"],
+        ):
             status, told, _ = command(words, whole)
             note(f"the words {words}", (status, told) == (2, b""), (status, told))
 
 
 ROW = "p edge 4 3|e 1 2|e 2 3|e 3 4|"
 # (the nodes of a row of four whose entries are left, which ones have none)
-LEFT = [((1, 2, 3), "node 4 has no entry"), ((1, 2), "nodes 3 and 4 have no entry"), ((1,), "nodes 2 to 4 have no entry")]
+LEFT = [
+    ((1, 2, 3), "node 4 has no entry"),
+    ((1, 2), "nodes 3 and 4 have no entry"),
+    ((1,), "nodes 2 to 4 have no entry"),
+]
 
 
 def cut_rows():
@@ -362,14 +485,18 @@ def script_rows(play):
         note("bin/check-transcript through a link", done == (0, EDGE_WHOLE.encode() + b"\n", b""), done)
         for words in ([], ["edge.col", "x", "y"], ["--order", "edge.col"], ["edge.col", "nowhere"]):
             done = script(folder, ["bin/replay", *words], whole)
-            note(f"bin/replay {words}", done[:2] == (2, b"") and re.match(b"replay: |check-transcript: ", done[2]), done)
+            note(
+                f"bin/replay {words}", done[:2] == (2, b"") and re.match(b"replay: |check-transcript: ", done[2]), done
+            )
         done = script(folder, ["bin/replay", "--help"], b"")
         note("bin/replay --help", done[0] == 0 and done[2] == b"" and b"  ./forestplan transcript" in done[1], done)
         done = script(folder, ["bin/replay", "edge.col"], whole[:100])
         note("bin/replay of a cut text", done[:2] == (1, b"") and b"cut" in done[2], done)
         if play:
             taken = {v: sum(f" take {v} " in line for line in EDGE_LINES[3 - v]) for v in (1, 2)}
-            wanted = "".join(f"node {v} pulse {EDGE_LAST} channel {v}\nlink {v} {3 - v} taken {taken[v]}\n" for v in (1, 2)).encode()
+            wanted = "".join(
+                f"node {v} pulse {EDGE_LAST} channel {v}\nlink {v} {3 - v} taken {taken[v]}\n" for v in (1, 2)
+            ).encode()
             done = script(folder, ["bin/replay", "edge.col"], whole)
             note("bin/replay of a run", done == (0, wanted, b""), done)
 
@@ -385,11 +512,14 @@ def command(words, data):
 
 
 def large_rows():
-    """Long transcripts, each read and searched in one go: 60,000 entries of few nodes, or of nodes with many neighbours."""
+    """Long transcripts, each read and searched in one go: 60,000 entries of few nodes, or of nodes with many
+    neighbours."""
     source = random.Random(SEED)
-    for name, nodes, edges in [("a star", 41, {(v, 41) for v in range(1, 41)}),
-                               ("all joined", 8, {(v, w) for w in range(1, 9) for v in range(1, w)}),
-                               ("a long path", 300, {(v, v + 1) for v in range(1, 300)})]:
+    for name, nodes, edges in [
+        ("a star", 41, {(v, 41) for v in range(1, 41)}),
+        ("all joined", 8, {(v, w) for w in range(1, 9) for v in range(1, w)}),
+        ("a long path", 300, {(v, v + 1) for v in range(1, 300)}),
+    ]:
         net = network_of(text_of(source, nodes, edges))
         data = transcript_text(nodes, made_transcript(source, net, 4))
         note(f"the transcript of {name}", is_counted(net, data, said_of(net, data)[0]), said_of(net, data))
@@ -420,7 +550,9 @@ def one_worker_rows(program):
         done = transcript_by(program, ["--edition", "1", "--workers", "1", "--capacity", str(capacity)], network)
         if done != (0, Run(net, capacity).text(), b""):
             wrong.append((network, capacity, done))
-    note(f"the transcripts of one worker of {count} networks, by the definition", not wrong, f"{len(wrong)}: {wrong[:1]}")
+    note(
+        f"the transcripts of one worker of {count} networks, by the definition", not wrong, f"{len(wrong)}: {wrong[:1]}"
+    )
 
 
 def transcript_by(program, words, network):
@@ -433,7 +565,11 @@ def written_anew(data):
     head, entries = read(data)
     lines = {v: [] for v in range(1, head.nodes + 1)}
     for entry in entries:
-        what = f"pulse {entry.what}" if entry.kind == "Pulse" else f"{entry.kind.lower()} {entry.neighbour} {wire_words(entry.what)}"
+        what = (
+            f"pulse {entry.what}"
+            if entry.kind == "Pulse"
+            else f"{entry.kind.lower()} {entry.neighbour} {wire_words(entry.what)}"
+        )
         lines[entry.vertex].append(f"{entry.vertex} {what}")
     return transcript_text(head.nodes, lines)
 

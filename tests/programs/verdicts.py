@@ -1,5 +1,5 @@
-"""`check` on worked plans, on every beginning of a valid input, on random plans beside a plain definition of the verdict,
-on the plans that `plain` writes for the examples, and on 20,000 shuffled rows."""
+"""`check` on worked plans, on every beginning of a valid input, on random plans beside a plain definition of the
+verdict, on the plans that `plain` writes for the examples, and on 20,000 shuffled rows."""
 import os
 import random
 import re
@@ -39,7 +39,9 @@ WORKED_VERDICTS = [
     (TRIANGLE + "\t plan \r|\r||3 01|1 2\t|2  3", "proper 3"),
     (TRIANGLE + "plan plan|1 2|2 3|3 1|", "C6 line 1"),
     (TRIANGLE + "plan|1 2|2 3|3 1|plan|", "C6 line 5"),
-    (TRIANGLE + "plan|1 2 3|", "C6 line 2"), (TRIANGLE + "plan|1|", "C6 line 2"), (TRIANGLE + "plan|1 -2|", "C6 line 2"),
+    (TRIANGLE + "plan|1 2 3|", "C6 line 2"),
+    (TRIANGLE + "plan|1|", "C6 line 2"),
+    (TRIANGLE + "plan|1 -2|", "C6 line 2"),
     (TRIANGLE + "|c plan|  plan|1 2|2 3|3 1|", "proper 3"),
     # a network that doesn't end in a line feed has the plan's first line as fields past the last that it needs
     (TRIANGLE[:-1] + "plan|1 2|", "F4 line 4"), (TRIANGLE[:-1] + " plan|1 2|", "F8 line 5"),
@@ -52,14 +54,23 @@ WORKED_VERDICTS = [
     (BARRED + "plan|1 2|2 3|3 1|", "C8 vertex 3"), (BARRED + "plan|1 1|2 3|3 2|", "proper 3"),
     (BARRED + "plan|1 1|2 3|3 4|", "proper 4"), (BARRED + "plan|1 1|2 3|3 5|", "C5 vertex 3"),
     (BARRED + "plan|1 1|2 4|3 2|", "proper 4"), (BARRED + "plan|1 5|2 3|3 2|", "C5 vertex 1"),
-    # row by row: a barred channel before a later row's fault, after an earlier one's, and before missing vertices and clashes
-    (BARRED + "plan|3 1|1 5|", "C8 vertex 3"), (BARRED + "plan|1 5|3 1|", "C5 vertex 1"), (BARRED + "plan|3 1|4 1|", "C8 vertex 3"),
-    (BARRED + "plan|4 1|3 1|", "C2 vertex 4"), (BARRED + "plan|3 2|3 1|", "C3 vertex 3"), (BARRED + "plan|3 1|", "C8 vertex 3"),
-    (BARRED + "plan|1 2|2 2|3 1|", "C8 vertex 3"), (BARRED + "plan|3 0|3 1|", "C6 line 2"),
+    # row by row: a barred channel before a later row's fault, after an earlier one's, and before missing vertices and
+    # clashes
+    (BARRED + "plan|3 1|1 5|", "C8 vertex 3"),
+    (BARRED + "plan|1 5|3 1|", "C5 vertex 1"),
+    (BARRED + "plan|3 1|4 1|", "C8 vertex 3"),
+    (BARRED + "plan|4 1|3 1|", "C2 vertex 4"),
+    (BARRED + "plan|3 2|3 1|", "C3 vertex 3"),
+    (BARRED + "plan|3 1|", "C8 vertex 3"),
+    (BARRED + "plan|1 2|2 2|3 1|", "C8 vertex 3"),
+    (BARRED + "plan|3 0|3 1|", "C6 line 2"),
     # a channel that is barred and above the greatest that is allowed: 1 for the degree and the one bar, and 1
-    ("p edge 2 0|b 1 9|plan|1 9|2 1|", "C5 vertex 1"), ("p edge 2 0|b 1 2|plan|1 2|2 1|", "C8 vertex 1"),
-    ("p edge 2 0|b 1 2|b 1 2|plan|1 3|2 1|", "C5 vertex 1"), ("p edge 2 0|b 1 2|b 1 1|plan|1 3|2 1|", "proper 3"),
-    ("p edge 2 0|b 1 1|b 1 2|b 2 2|plan|1 3|2 1|", "proper 3"), ("p edge 2 0|b 1 1|b 1 2|b 2 2|plan|1 3|2 2|", "C8 vertex 2"),
+    ("p edge 2 0|b 1 9|plan|1 9|2 1|", "C5 vertex 1"),
+    ("p edge 2 0|b 1 2|plan|1 2|2 1|", "C8 vertex 1"),
+    ("p edge 2 0|b 1 2|b 1 2|plan|1 3|2 1|", "C5 vertex 1"),
+    ("p edge 2 0|b 1 2|b 1 1|plan|1 3|2 1|", "proper 3"),
+    ("p edge 2 0|b 1 1|b 1 2|b 2 2|plan|1 3|2 1|", "proper 3"),
+    ("p edge 2 0|b 1 1|b 1 2|b 2 2|plan|1 3|2 2|", "C8 vertex 2"),
     # faults of bars come first; `b` is no row of a plan
     (TRIANGLE + "b 3 0|plan|x|", "F13 line 5"), (TRIANGLE + "plan|b 3 1|1 2|2 3|3 1|", "C6 line 2"),
 ]
@@ -99,7 +110,9 @@ def verdict_of(data):
     for line in lines[:start]:
         if line[:1] == [b"b"]:
             bars.setdefault(int(line[1]), set()).add(int(line[2]))
-    return wrong_line(lines[start:]) or wrong_plan(nodes, edges, [tuple(map(int, line)) for line in lines[start + 1:] if line], bars)
+    return wrong_line(lines[start:]) or wrong_plan(
+        nodes, edges, [tuple(map(int, line)) for line in lines[start + 1 :] if line], bars
+    )
 
 
 def wrong_line(lines):
@@ -115,7 +128,11 @@ def wrong_line(lines):
 
 def wrong_plan(nodes, edges, plan, bars):
     """Of a plan the first fault, or that it is proper; `bars` are the channels that are barred at some vertices."""
-    most = max((sum(v in edge for edge in edges) for v in range(1, nodes + 1)), default=0) + max(map(len, bars.values()), default=0) + 1
+    most = (
+        max((sum(v in edge for edge in edges) for v in range(1, nodes + 1)), default=0)
+        + max(map(len, bars.values()), default=0)
+        + 1
+    )
     channels = {}
     for v, channel in plan:
         if not 1 <= v <= nodes:
@@ -153,7 +170,11 @@ def random_plans(program):
         edges = [(v, w) for v in range(1, nodes + 1) for w in range(1, v) if source.random() < 0.4]
         plan = [(v, source.randint(1, 4)) for v in range(1, nodes + 1)]
         source.shuffle(plan)
-        bars = [(source.randint(1, nodes), source.randint(1, 4)) for _ in range(source.choice((0, 0, 1, 3)))] if nodes else []
+        bars = (
+            [(source.randint(1, nodes), source.randint(1, 4)) for _ in range(source.choice((0, 0, 1, 3)))]
+            if nodes
+            else []
+        )
         for _ in range(source.choice((0, 0, 1, 2))):
             plan.insert(source.randint(0, len(plan)), (source.randint(0, nodes + 1), source.randint(0, 5)))
         plan = plan[source.choice((0, 0, 0, 1)):]
@@ -208,5 +229,11 @@ def stream_rows(program, data):
     with open("/dev/full", "wb") as full:
         done = subprocess.run([program, "check"], input=data, stdout=full, stderr=subprocess.PIPE, timeout=LIMIT)
     closed = subprocess.run(["bash", "-c", '"$0" check <&-', program], capture_output=True, timeout=LIMIT)
-    return [("check to a full device", (done.returncode, done.stderr) == (4, line), done),
-            ("check of a closed standard input", (closed.returncode, closed.stdout, closed.stderr) == (4, b"", line), closed)]
+    return [
+        ("check to a full device", (done.returncode, done.stderr) == (4, line), done),
+        (
+            "check of a closed standard input",
+            (closed.returncode, closed.stdout, closed.stderr) == (4, b"", line),
+            closed,
+        ),
+    ]
