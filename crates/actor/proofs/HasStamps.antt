@@ -23,7 +23,7 @@ use Rattle.actor.specs.declared.aside.WhyAside.TheVariants.{StampFull}
 use Rattle.actor.specs.HasStamps.{HasStamps, IsFullAside}
 use Rattle.actor.specs.Node.{by_port, reacted_to}
 use Rattle.actor.specs.Written.{IsTranscript, IsWritten, Leads, takes_in}
-use Rattle.actor.proofs.Lists.{none_at, one_more_stamped, same_all}
+use Rattle.actor.proofs.Lists.{none_at, one_more_stamped}
 use Rattle.actor.proofs.StampedEntries.{wires_taken}
 
 -- what follows from what a result that is no refusal says
@@ -124,34 +124,16 @@ module _ {S M E X Y : Type 0} (program : Program S M E) (net : Net) (put : X →
   Wrote node xs ys aside es =
       IsTranscript program net v t node (by_port (map (λ x. wires_of (put x)) xs)) (by_port (reacted_to aside (map (λ y. wires_of (taken y)) ys))) es
 
-  -- nothing was taken, and nothing put
-  pub has_none_taken : (counter : ℕ) (xs : List X) (ys : List Y) (i : ℕ) (x y : Y) (es es' : List (Entry M)) (st st' : List (StampedEntry M))
-      → x ≡ get_or ys i x → taken y ≡ taken x → es' ≡ es → st' ≡ st → Has counter xs ys es st → Has counter xs (set ys i y) es' st'
-  has_none_taken counter xs ys i x y es es' st st' is same room room_st h =
-      subst (λ l. HasStamps net v t counter (by_port (map put xs)) (by_port l) es' st') (sym (same_all taken ys i x y is same))
-      (subst (λ l. Has counter xs ys l st') (sym room) (subst (λ l. Has counter xs ys es l) (sym room_st) h))
-
-  pub has_none_put : (counter : ℕ) (xs : List X) (ys : List Y) (i : ℕ) (x y : X) (es es' : List (Entry M)) (st st' : List (StampedEntry M))
-      → x ≡ get_or xs i x → put y ≡ put x → es' ≡ es → st' ≡ st → Has counter xs ys es st → Has counter (set xs i y) ys es' st'
-  has_none_put counter xs ys i x y es es' st st' is same room room_st h =
-      subst (λ l. HasStamps net v t counter (by_port l) (by_port (map taken ys)) es' st') (sym (same_all put xs i x y is same))
-      (subst (λ l. Has counter xs ys l st') (sym room) (subst (λ l. Has counter xs ys es l) (sym room_st) h))
-
-  -- room for an entry was made
-  pub has_room : (counter : ℕ) (xs : List X) (ys : List Y) (es es' : List (Entry M)) (st st' : List (StampedEntry M)) → es' ≡ es → st' ≡ st
-      → Has counter xs ys es st → Has counter xs ys es' st'
-  has_room counter xs ys es es' st st' room room_st h = subst (λ l. Has counter xs ys l st') (sym room) (subst (λ l. Has counter xs ys es l) (sym room_st) h)
-
   module _ (ok : IsNetwork net) (vertex : IsVertex net v) where
     -- a wire was taken and set aside
     pub has_aside : (node : Node S M) (counter : ℕ) (xs : List X) (ys : List Y) (aside : Option (Aside M)) (i : ℕ) (x y : Y) (item : Stamped M)
-        (es es' : List (Entry M)) (st st' : List (StampedEntry M)) → length ys ≡ degree_of net v → i < degree_of net v → aside ≡ None → x ≡ get_or ys i x
-        → taken y ≡ taken x ++ (item ∷ []) → es' ≡ es → st' ≡ st → Wrote node xs ys aside es → Has counter xs ys es st → Has counter xs (set ys i y) es' st'
-    has_aside node counter xs ys aside i x y item es es' st st' count lt going is more room room_st wrote h =
+        (es : List (Entry M)) (st : List (StampedEntry M)) → length ys ≡ degree_of net v → i < degree_of net v → aside ≡ None → x ≡ get_or ys i x
+        → taken y ≡ taken x ++ (item ∷ []) → Wrote node xs ys aside es → Has counter xs ys es st → Has counter xs (set ys i y) es st
+    has_aside node counter xs ys aside i x y item es st count lt going is more wrote h =
         let within : i < length ys = omega arith in
         let wrote' : Wrote node xs ys None es = subst (λ a. Wrote node xs ys a es) going wrote in
         let grown = one_more_stamped taken ys i x y item within is more in
-        has_room counter xs (set ys i y) es es' st st' room room_st record {
+        record {
           keeps = λ yes.
               let written = wrote'.written yes in
               let has = has_taken_all program net v taken ys node (by_port (map (λ x. wires_of (put x)) xs)) es st h.same written in
@@ -164,51 +146,49 @@ module _ {S M E X Y : Type 0} (program : Program S M E) (net : Net) (put : X →
 
     -- a wire was taken, and the node reacted
     pub has_taken : (node : Node S M) (counter counter' k n : ℕ) (xs : List X) (ys : List Y) (aside : Option (Aside M)) (i : ℕ) (x y : Y) (item : Stamped M)
-        (es es' es'' : List (Entry M)) (st st' st'' : List (StampedEntry M)) → length ys ≡ degree_of net v → i < degree_of net v → aside ≡ None
-        → x ≡ get_or ys i x → taken y ≡ taken x ++ (item ∷ []) → es' ≡ es → st' ≡ st → n ≡ neighbour_of net v i → counter' ≡ max counter item.stamp + 1 → k ≡ counter'
-        → es'' ≡ (if t then es' ++ (Take n item.wire ∷ []) else es') → st'' ≡ (if t then st' ++ ((counter', Take n item.wire) ∷ []) else st')
-        → Wrote node xs ys aside es → Has counter xs ys es st → Has k xs (set ys i y) es'' st''
-    has_taken node counter counter' k n xs ys aside i x y item es es' es'' st st' st'' count lt going is more room room_st neighbour next moved es_are st_are wrote h =
+        (es es' : List (Entry M)) (st st' : List (StampedEntry M)) → length ys ≡ degree_of net v → i < degree_of net v → aside ≡ None
+        → x ≡ get_or ys i x → taken y ≡ taken x ++ (item ∷ []) → n ≡ neighbour_of net v i → counter' ≡ max counter item.stamp + 1 → k ≡ counter'
+        → es' ≡ (if t then es ++ (Take n item.wire ∷ []) else es) → st' ≡ (if t then st ++ ((counter', Take n item.wire) ∷ []) else st)
+        → Wrote node xs ys aside es → Has counter xs ys es st → Has k xs (set ys i y) es' st'
+    has_taken node counter counter' k n xs ys aside i x y item es es' st st' count lt going is more neighbour next moved es_are st_are wrote h =
         let within : i < length ys = omega arith in
         let s = max counter item.stamp + 1 in
         let e : StampedEntry M = (s, Take (neighbour_of net v i) item.wire) in
         let wrote' : Wrote node xs ys None es = subst (λ a. Wrote node xs ys a es) going wrote in
         let grown = one_more_stamped taken ys i x y item within is more in
-        let es_more : es'' ≡ (if t then es' ++ (e.1 ∷ []) else es') = es_are ∙ ap (λ k. if t then es' ++ (Take k item.wire ∷ []) else es') neighbour in
-        let st_more : st'' ≡ (if t then st' ++ (e ∷ []) else st') =
-        st_are ∙ ap₂ (λ c k. if t then st' ++ ((c, Take k item.wire) ∷ []) else st') next neighbour in
-        subst (λ c. Has c xs (set ys i y) es'' st'') (sym (moved ∙ next))
-        (next_stamps net v t counter s (by_port (map put xs)) (by_port (map put xs)) (by_port (map taken ys)) (by_port (map taken (set ys i y))) es' es'' st' st''
-        e es_more st_more (has_room counter xs ys es es' st st' room room_st h)
+        let es_more : es' ≡ (if t then es ++ (e.1 ∷ []) else es) = es_are ∙ ap (λ k. if t then es ++ (Take k item.wire ∷ []) else es) neighbour in
+        let st_more : st' ≡ (if t then st ++ (e ∷ []) else st) = st_are ∙ ap₂ (λ c k. if t then st ++ ((c, Take k item.wire) ∷ []) else st) next neighbour in
+        subst (λ c. Has c xs (set ys i y) es' st') (sym (moved ∙ next))
+        (next_stamps net v t counter s (by_port (map put xs)) (by_port (map put xs)) (by_port (map taken ys)) (by_port (map taken (set ys i y))) es es' st st'
+        e es_more st_more h
         (λ yes kept.
         let written = wrote'.written yes in
         let kept' : KeepsStamps net v counter (by_port (map put xs)) (by_port (map taken ys)) st = h.keeps yes in
         let has = has_taken_all program net v taken ys node (by_port (map (λ x. wires_of (put x)) xs)) es st h.same written in
         let by = by_ports program net v taken ys node (by_port (map (λ x. wires_of (put x)) xs)) es st h.same written in
         let all = counts program net v taken ys node (by_port (map (λ x. wires_of (put x)) xs)) es st h.same written i lt in
-        subst (λ l. KeepsStamps net v s (by_port (map put xs)) (by_port (map taken (set ys i y))) (l ++ (e ∷ []))) (sym room_st)
-        ((keeps net ok v vertex).takes i counter item (by_port (map put xs)) (by_port (map taken ys)) (by_port (map taken (set ys i y))) st lt kept' has all by
-        grown))
+        (keeps net ok v vertex).takes i counter item (by_port (map put xs)) (by_port (map taken ys)) (by_port (map taken (set ys i y))) st lt kept' has all by
+        grown)
         (λ j. let le = h.below j in omega (arith, le)))
 
     -- the oldest wire of an out-list was put
     pub has_put : (counter counter' k n : ℕ) (xs : List X) (ys : List Y) (i : ℕ) (x y : X) (w : Wire M)
-        (es es' es'' : List (Entry M)) (st st' st'' : List (StampedEntry M)) → length xs ≡ degree_of net v → i < degree_of net v
-        → x ≡ get_or xs i x → put y ≡ put x ++ (stamped counter' w ∷ []) → es' ≡ es → st' ≡ st → n ≡ neighbour_of net v i → counter' ≡ counter + 1 → k ≡ counter'
-        → es'' ≡ (if t then es' ++ (Put n w ∷ []) else es') → st'' ≡ (if t then st' ++ ((counter', Put n w) ∷ []) else st')
-        → Has counter xs ys es st → Has k (set xs i y) ys es'' st''
-    has_put counter counter' k n xs ys i x y w es es' es'' st st' st'' count lt is more room room_st neighbour next moved es_are st_are h =
+        (es es' : List (Entry M)) (st st' : List (StampedEntry M)) → length xs ≡ degree_of net v → i < degree_of net v
+        → x ≡ get_or xs i x → put y ≡ put x ++ (stamped counter' w ∷ []) → n ≡ neighbour_of net v i → counter' ≡ counter + 1 → k ≡ counter'
+        → es' ≡ (if t then es ++ (Put n w ∷ []) else es) → st' ≡ (if t then st ++ ((counter', Put n w) ∷ []) else st)
+        → Has counter xs ys es st → Has k (set xs i y) ys es' st'
+    has_put counter counter' k n xs ys i x y w es es' st st' count lt is more neighbour next moved es_are st_are h =
         let within : i < length xs = omega arith in
         let s = counter + 1 in
         let e : StampedEntry M = (s, Put (neighbour_of net v i) w) in
         let more' : put y ≡ put x ++ (stamped s w ∷ []) = more ∙ ap (λ c. put x ++ (stamped c w ∷ [])) next in
         let grown = one_more_stamped put xs i x y (stamped s w) within is more' in
-        let es_more : es'' ≡ (if t then es' ++ (e.1 ∷ []) else es') = es_are ∙ ap (λ k. if t then es' ++ (Put k w ∷ []) else es') neighbour in
-        let st_more : st'' ≡ (if t then st' ++ (e ∷ []) else st') = st_are ∙ ap₂ (λ c k. if t then st' ++ ((c, Put k w) ∷ []) else st') next neighbour in
-        subst (λ c. Has c (set xs i y) ys es'' st'') (sym (moved ∙ next))
-        (next_stamps net v t counter s (by_port (map put xs)) (by_port (map put (set xs i y))) (by_port (map taken ys)) (by_port (map taken ys)) es' es'' st' st''
-        e es_more st_more (has_room counter xs ys es es' st st' room room_st h)
-        (λ yes kept. (keeps net ok v vertex).puts i counter w (by_port (map put xs)) (by_port (map put (set xs i y))) (by_port (map taken ys)) st' lt kept grown)
+        let es_more : es' ≡ (if t then es ++ (e.1 ∷ []) else es) = es_are ∙ ap (λ k. if t then es ++ (Put k w ∷ []) else es) neighbour in
+        let st_more : st' ≡ (if t then st ++ (e ∷ []) else st) = st_are ∙ ap₂ (λ c k. if t then st ++ ((c, Put k w) ∷ []) else st) next neighbour in
+        subst (λ c. Has c (set xs i y) ys es' st') (sym (moved ∙ next))
+        (next_stamps net v t counter s (by_port (map put xs)) (by_port (map put (set xs i y))) (by_port (map taken ys)) (by_port (map taken ys)) es es' st st'
+        e es_more st_more h
+        (λ yes kept. (keeps net ok v vertex).puts i counter w (by_port (map put xs)) (by_port (map put (set xs i y))) (by_port (map taken ys)) st lt kept grown)
         (λ j. ⊎_elim
         (λ here.
         let last : last_stamp (by_port (map put (set xs i y)) j) ≡ s = ap (λ k. last_stamp (by_port (map put (set xs i y)) k)) here ∙ ap (λ l. last_stamp l) grown.here
@@ -218,17 +198,17 @@ module _ {S M E X Y : Type 0} (program : Program S M E) (net : Net) (put : X →
         (cases_eq j i)))
 
     -- a pulse was made
-    pub has_pulsed : (counter counter' k p : ℕ) (xs : List X) (ys : List Y) (es es' es'' : List (Entry M)) (st st' st'' : List (StampedEntry M)) → es' ≡ es → st' ≡ st
-        → counter' ≡ counter + 1 → k ≡ counter' → es'' ≡ (if t then es' ++ (Pulse p ∷ []) else es') → st'' ≡ (if t then st' ++ ((counter', Pulse p) ∷ []) else st')
-        → Has counter xs ys es st → Has k xs ys es'' st''
-    has_pulsed counter counter' k p xs ys es es' es'' st st' st'' room room_st next moved es_are st_are h =
+    pub has_pulsed : (counter counter' k p : ℕ) (xs : List X) (ys : List Y) (es es' : List (Entry M)) (st st' : List (StampedEntry M))
+        → counter' ≡ counter + 1 → k ≡ counter' → es' ≡ (if t then es ++ (Pulse p ∷ []) else es) → st' ≡ (if t then st ++ ((counter', Pulse p) ∷ []) else st)
+        → Has counter xs ys es st → Has k xs ys es' st'
+    has_pulsed counter counter' k p xs ys es es' st st' next moved es_are st_are h =
         let s = counter + 1 in
         let e : StampedEntry M = (s, Pulse p) in
-        let st_more : st'' ≡ (if t then st' ++ (e ∷ []) else st') = st_are ∙ ap (λ c. if t then st' ++ ((c, Pulse p) ∷ []) else st') next in
-        subst (λ c. Has c xs ys es'' st'') (sym (moved ∙ next))
-        (next_stamps net v t counter s (by_port (map put xs)) (by_port (map put xs)) (by_port (map taken ys)) (by_port (map taken ys)) es' es'' st' st''
-        e es_are st_more (has_room counter xs ys es es' st st' room room_st h)
-        (λ yes kept. (keeps net ok v vertex).pulses p counter (by_port (map put xs)) (by_port (map taken ys)) st' kept)
+        let st_more : st' ≡ (if t then st ++ (e ∷ []) else st) = st_are ∙ ap (λ c. if t then st ++ ((c, Pulse p) ∷ []) else st) next in
+        subst (λ c. Has c xs ys es' st') (sym (moved ∙ next))
+        (next_stamps net v t counter s (by_port (map put xs)) (by_port (map put xs)) (by_port (map taken ys)) (by_port (map taken ys)) es es' st st'
+        e es_are st_more h
+        (λ yes kept. (keeps net ok v vertex).pulses p counter (by_port (map put xs)) (by_port (map taken ys)) st kept)
         (λ j. let le = h.below j in omega (arith, le)))
 
 -- the wire that was taken last, and was set aside, came with the stamp for which it was

@@ -6,9 +6,11 @@ pub mod Written
 pub mod Writes
 pub mod Refusals
 pub mod Unmoved
+pub mod Stepping
 pub mod Rows
 pub mod alpha_core
 pub mod StampedEntries
 pub mod HasStamps
+pub mod Keeping
 pub mod stamps
 pub mod worker_deques

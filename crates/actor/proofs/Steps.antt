@@ -18,23 +18,12 @@ use Rattle.alpha_laws.proofs.Runs.{runs}
 use Rattle.actor.specs.declared.aside.Aside.{Aside}
 use Rattle.actor.specs.declared.aside.WhyAside.TheVariants.{Refused, StampFull}
 use Rattle.actor.specs.Node.{by_port, reacted_to, all_but_last, IsAside}
-use Rattle.actor.proofs.Lists.{same_all, get_map, one_more, set_aside, but_last-more, first_is}
+use Rattle.actor.proofs.Lists.{get_map, one_more, set_aside, but_last-more, first_is}
 use Rattle.actor.proofs.Kept.{not_due}
 
 module _ {S M R X Y : Type 0} (program : Program S M R) (net : Net) (put : X → List (Wire M)) (taken : Y → List (Wire M)) where
   abbrev Keeps : ℕ → Node S M → List X → List Y → Option (Aside M) → Type 0
   Keeps v node xs ys aside = NodeKept program net v node (by_port (map put xs)) (by_port (reacted_to aside (map taken ys)))
-
-  -- nothing was taken, and nothing put
-  pub took_none : (v : ℕ) (node : Node S M) (xs : List X) (ys : List Y) (aside : Option (Aside M)) (i : ℕ) (x y : Y) → x ≡ get_or ys i x → taken y ≡ taken x
-      → Keeps v node xs ys aside → Keeps v node xs (set ys i y) aside
-  took_none v node xs ys aside i x y is same kept =
-      subst (λ l. NodeKept program net v node (by_port (map put xs)) (by_port (reacted_to aside l))) (sym (same_all taken ys i x y is same)) kept
-
-  pub put_none : (v : ℕ) (node : Node S M) (xs : List X) (ys : List Y) (aside : Option (Aside M)) (i : ℕ) (x y : X) → x ≡ get_or xs i x → put y ≡ put x
-      → Keeps v node xs ys aside → Keeps v node (set xs i y) ys aside
-  put_none v node xs ys aside i x y is same kept =
-      subst (λ l. NodeKept program net v node (by_port l) (by_port (reacted_to aside (map taken ys)))) (sym (same_all put xs i x y is same)) kept
 
   -- a wire was taken, and the node reacted
   pub took_one : (v : ℕ) (node new : Node S M) (xs : List X) (ys : List Y) (aside : Option (Aside M)) (i : ℕ) (x y : Y) (w : Wire M) (last : ℕ)

@@ -1,6 +1,8 @@
 pub mod Written
 pub mod HasStamps
 pub mod Blocked
+pub mod Stepped
+pub mod Kept
 pub mod Props
 pub mod Node
 pub mod Tables

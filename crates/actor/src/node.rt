@@ -1,17 +1,13 @@
 //! A node with its ends.
 
-ghost use Rattle.std.specs.Prelude.{◌≡◌, ◌<◌, [], All, IfOk, Some, map};
+ghost use Rattle.std.specs.Prelude.{◌≡◌, ◌<◌, [], All, IfOk, map};
 ghost use Rattle.std.proofs.Props.{props};
-ghost use Rattle.alpha_laws.specs.interference.Net.{IsNetwork, IsVertex, degree_of};
-ghost use Rattle.alpha_laws.specs.node_api.Program.{last_pulse_on};
+ghost use Rattle.alpha_laws.specs.interference.Net.{IsVertex};
 ghost use Rattle.alpha_laws.specs.alpha_core.Program.{start_node};
-ghost use Rattle.alpha_laws.specs.Kept.{NodeKept};
-ghost use Rattle.link_queue.specs.Ends.{put_list, put_stamped, taken_list, taken_stamped};
-ghost use Rattle.actor.specs.declared.aside.Aside.{Aside};
-ghost use Rattle.actor.specs.HasStamps.{HasStamps, IsFullAside};
-ghost use Rattle.actor.specs.Node.{IsAside, by_port, links_in, links_out, reacted_to};
+ghost use Rattle.link_queue.specs.Ends.{put_list, taken_list};
+ghost use Rattle.actor.specs.Kept.{IsKept};
+ghost use Rattle.actor.specs.Node.{links_in, links_out};
 ghost use Rattle.actor.specs.Props.{Follows-prop, HasStamps-prop, Leads-prop};
-ghost use Rattle.actor.specs.Written.{IsTranscript};
 
 use crate::aside::Aside;
 use crate::wired::{WiredPut, WiredTake};
@@ -34,33 +30,9 @@ pub struct Node<J: Wiring, P: NodeProgram> {
     pub entries: Entries<P::Payload>,
     /// From which its events and the wires that it puts have their stamps.
     pub counter: Counter,
-    // It is a vertex of the network, with an end that puts and one that takes for each port, and writes down what it
-    // does if the run's nodes do.
-    pub ghost network: { IsNetwork J.net },
-    pub ghost is_vertex: { IsVertex J.net vertex },
-    pub ghost recorded: { transcript ≡ J.transcript },
-    pub ghost ports: { degree ≡ degree_of J.net vertex },
-    pub ghost outs: { map (λ e. (e.vertex, e.port)) puts.items ≡ links_out J.net vertex },
-    pub ghost ins: { map (λ e. (e.vertex, e.port)) takes.items ≡ links_in J.net vertex },
-    // It keeps its links, with the lists that its ends put and took, but for the wire that it set aside.
-    pub ghost last: { alpha.last ≡ last_pulse_on P.program J.net },
-    pub ghost keeps: { NodeKept P.program J.net vertex alpha.node (by_port (map (λ e. put_list e.end) puts.items))
-        (by_port (reacted_to aside
-        (map (λ e. taken_list e.end) takes.items))) } by { Prim.hlevel (props, Follows-prop) },
-    pub ghost set_aside: { (a : Aside P.Payload) → aside ≡ Some a →
-        IsAside (last_pulse_on P.program J.net) alpha.node.view (map (λ e. taken_list e.end) takes.items) a },
-    // With a transcript, its entries are all that it did, and those lists.
-    pub ghost writes: { IsTranscript P.program J.net vertex transcript alpha.node
-        (by_port (map (λ e. put_list e.end) puts.items))
-        (by_port (reacted_to aside (map (λ e. taken_list e.end) takes.items)))
-        entries.items } by { Prim.hlevel (props, Leads-prop) },
-    // With a transcript, its entries have the stamps that the counter gives them.
-    pub ghost stamps: { HasStamps J.net vertex transcript counter
-        (by_port (map (λ e. put_stamped e.end) puts.items)) (by_port (map (λ e. taken_stamped e.end) takes.items))
-        entries.items entries.stamped } by { Prim.hlevel (props, HasStamps-prop) },
-    // A wire that it set aside for its stamp came with that stamp.
-    pub ghost full: { (a : Aside P.Payload) → aside ≡ Some a →
-        IsFullAside (by_port (map (λ e. taken_stamped e.end) takes.items)) a },
+    /// It keeps its links, and writes down what it does, if the run's nodes do.
+    pub ghost kept: { IsKept P.program vertex degree transcript aside alpha.last alpha.node puts.items takes.items
+        entries.items entries.stamped counter } by { Prim.hlevel (props, Follows-prop, Leads-prop, HasStamps-prop) },
 }
 
 impl<J: Wiring, P: NodeProgram> Node<J, P> {

@@ -2,8 +2,10 @@
 
 ghost use Rattle.std.specs.Prelude.{◌≡◌, ◌<◌, ◌≤◌, ◌+◌, ◌^◌, max, IfErr, IfOk, IsSome, IsTrue, None, false};
 ghost use Rattle.alpha_laws.specs.alpha_core.View.{can_pulse, can_take};
+ghost use Rattle.link_queue.specs.Queued.{stamped_of};
 ghost use Rattle.actor.specs.Blocked.{IsUnmoved};
 ghost use Rattle.actor.specs.HasStamps.{aside_stamp};
+ghost use Rattle.actor.specs.Stepped.{Stepped};
 ghost use Rattle.actor.specs.declared.refused.TurnRefused.TheVariants as turn;
 
 use crate::aside::{Aside, WhyAside};
@@ -12,9 +14,10 @@ use crate::links::Links;
 use crate::node::Node;
 use crate::refused::TurnRefused;
 use crate::wiring::Wiring;
-use crate::writing::{keep_room, write_pulse, write_put, write_take};
+use crate::writing::{keep_room, write};
 use alpha_laws::{NodeProgram, Stamped, Wire};
 use link_queue::Queued;
+use stamps::Entry;
 use std::sync::Wait;
 
 // How many wires a node takes by one port in a turn, at most.
@@ -22,6 +25,18 @@ const TAKES: u32 = 4;
 
 // How many wires it puts by one port in a turn, at most: as many as an out-list has.
 const PUTS: u32 = 4;
+
+// The wire that the queue of a link held, without its stamp.
+fn wire_of<T>(item: Queued<T>) -> Wire<T>
+    ensures wire { result ≡ (stamped_of item).wire }
+{
+    match item {
+        Queued::Payload(pulse, _, payload) => Wire::Payload(pulse, payload),
+        Queued::Ack(pulse, _) => Wire::Ack(pulse),
+        Queued::Safe(pulse, _) => Wire::Safe(pulse),
+        Queued::Close(_) => Wire::Close,
+    }
+}
 
 impl<J: Wiring, P: NodeProgram> Node<J, P> {
     // Takes a wire by a port, if there is one, and reacts to it. Returns whether there was one.
@@ -34,11 +49,7 @@ impl<J: Wiring, P: NodeProgram> Node<J, P> {
         requires port { port < self.old.degree }
         requires going { self.old.aside ≡ None }
         requires room { IsTrue (can_take self.old.alpha.node.view) }
-        ensures same { (self.new.vertex ≡ self.old.vertex) × (self.new.degree ≡ self.old.degree) }
-        ensures unmoved { IfOk result (λ did. did ≡ false → IsUnmoved self.old self.new) }
-        ensures refused { IfErr result (λ error. error ≡ turn.Memory → IsTrue J.transcript) }
-        ensures full { IfErr result (λ error. error ≡ turn.StampFull
-            → 2 ^ 64 ≤ max self.new.counter (aside_stamp self.new.aside) + 1) }
+        ensures stepped { Stepped self.old self.new result }
     {
         keep_room(self.transcript, &mut self.entries)?;
         let end = &mut self.takes[port as usize];
@@ -46,12 +57,7 @@ impl<J: Wiring, P: NodeProgram> Node<J, P> {
             None => Ok(false),
             Some(item) => {
                 let stamp = item.stamp();
-                let wire = match item {
-                    Queued::Payload(pulse, _, payload) => Wire::Payload(pulse, payload),
-                    Queued::Ack(pulse, _) => Wire::Ack(pulse),
-                    Queued::Safe(pulse, _) => Wire::Safe(pulse),
-                    Queued::Close(_) => Wire::Close,
-                };
+                let wire = wire_of(item);
                 let Ok(next) = self.counter.peek_past(stamp) else {
                     let why = WhyAside::StampFull(stamp);
                     self.aside = Some(Aside { port, wire, why });
@@ -60,7 +66,8 @@ impl<J: Wiring, P: NodeProgram> Node<J, P> {
                 match self.alpha.on_wire(port, wire) {
                     Ok(()) => {
                         self.counter.advance(next);
-                        write_take(self.transcript, &mut self.entries, next, end, wire);
+                        let entry = Entry::Take(end.vertex, wire);
+                        write(self.transcript, &mut self.entries, next, entry);
                     }
                     Err(_) => {
                         let why = WhyAside::Refused;
@@ -80,12 +87,8 @@ impl<J: Wiring, P: NodeProgram> Node<J, P> {
         port: u32,
     ) -> Result<bool, TurnRefused>
         requires port { port < self.old.degree }
-        ensures same { (self.new.vertex ≡ self.old.vertex) × (self.new.degree ≡ self.old.degree) }
-        ensures unmoved { IfOk result (λ did. did ≡ false → IsUnmoved self.old self.new) }
+        ensures stepped { Stepped self.old self.new result }
         ensures stopped { IfOk result (λ did. IsSome self.old.aside → did ≡ false) }
-        ensures refused { IfErr result (λ error. error ≡ turn.Memory → IsTrue J.transcript) }
-        ensures full { IfErr result (λ error. error ≡ turn.StampFull
-            → 2 ^ 64 ≤ max self.new.counter (aside_stamp self.new.aside) + 1) }
     {
         let mut took = false;
         for _ in 0..TAKES {
@@ -102,12 +105,8 @@ impl<J: Wiring, P: NodeProgram> Node<J, P> {
 
     // Takes by each port, ascending. Returns whether it took a wire.
     fn take_all<R: Wait>(&mut self, rt: &R, links: &Links<J, P>) -> Result<bool, TurnRefused>
-        ensures same { (self.new.vertex ≡ self.old.vertex) × (self.new.degree ≡ self.old.degree) }
-        ensures unmoved { IfOk result (λ did. did ≡ false → IsUnmoved self.old self.new) }
+        ensures stepped { Stepped self.old self.new result }
         ensures stopped { IfOk result (λ did. IsSome self.old.aside → did ≡ false) }
-        ensures refused { IfErr result (λ error. error ≡ turn.Memory → IsTrue J.transcript) }
-        ensures full { IfErr result (λ error. error ≡ turn.StampFull
-            → 2 ^ 64 ≤ max self.new.counter (aside_stamp self.new.aside) + 1) }
     {
         let mut took = false;
         for port in 0..self.degree {
@@ -121,13 +120,9 @@ impl<J: Wiring, P: NodeProgram> Node<J, P> {
     // Makes the next pulse, if the node can; its program doesn't refuse it. Returns whether it made one.
     fn pulse(&mut self) -> Result<bool, TurnRefused>
         requires going { self.old.aside ≡ None }
-        ensures same { (self.new.vertex ≡ self.old.vertex) × (self.new.degree ≡ self.old.degree) }
-        ensures unmoved { IfOk result (λ did. did ≡ false → IsUnmoved self.old self.new) }
+        ensures stepped { Stepped self.old self.new result }
         ensures blocked { IfOk result
             (λ did. did ≡ false → can_pulse self.new.alpha.last self.new.alpha.node.view ≡ false) }
-        ensures refused { IfErr result (λ error. error ≡ turn.Memory → IsTrue J.transcript) }
-        ensures full { IfErr result (λ error. error ≡ turn.StampFull
-            → 2 ^ 64 ≤ max self.new.counter (aside_stamp self.new.aside) + 1) }
         ensures going { self.new.aside ≡ None }
     {
         if !self.alpha.can_pulse() {
@@ -139,7 +134,12 @@ impl<J: Wiring, P: NodeProgram> Node<J, P> {
             Ok(()) => {
                 self.counter.advance(stamp);
                 let number = self.alpha.pulse_number();
-                write_pulse(self.transcript, &mut self.entries, stamp, number);
+                write(
+                    self.transcript,
+                    &mut self.entries,
+                    stamp,
+                    Entry::Pulse(number),
+                );
                 Ok(true)
             }
             Err(_) => unreachable!(),
@@ -155,11 +155,7 @@ impl<J: Wiring, P: NodeProgram> Node<J, P> {
     ) -> Result<bool, TurnRefused>
         requires port { port < self.old.degree }
         requires going { self.old.aside ≡ None }
-        ensures same { (self.new.vertex ≡ self.old.vertex) × (self.new.degree ≡ self.old.degree) }
-        ensures unmoved { IfOk result (λ did. did ≡ false → IsUnmoved self.old self.new) }
-        ensures refused { IfErr result (λ error. error ≡ turn.Memory → IsTrue J.transcript) }
-        ensures full { IfErr result (λ error. error ≡ turn.StampFull
-            → 2 ^ 64 ≤ max self.new.counter (aside_stamp self.new.aside) + 1) }
+        ensures stepped { Stepped self.old self.new result }
         ensures going { self.new.aside ≡ None }
     {
         let Some(wire) = self.alpha.front(port) else {
@@ -173,7 +169,8 @@ impl<J: Wiring, P: NodeProgram> Node<J, P> {
                 self.alpha.put_done(port);
                 self.counter.advance(stamp);
                 let neighbour = &self.takes[port as usize];
-                write_put(self.transcript, &mut self.entries, stamp, neighbour, wire);
+                let entry = Entry::Put(neighbour.vertex, wire);
+                write(self.transcript, &mut self.entries, stamp, entry);
                 Ok(true)
             }
         }
@@ -188,11 +185,7 @@ impl<J: Wiring, P: NodeProgram> Node<J, P> {
     ) -> Result<bool, TurnRefused>
         requires port { port < self.old.degree }
         requires going { self.old.aside ≡ None }
-        ensures same { (self.new.vertex ≡ self.old.vertex) × (self.new.degree ≡ self.old.degree) }
-        ensures unmoved { IfOk result (λ did. did ≡ false → IsUnmoved self.old self.new) }
-        ensures refused { IfErr result (λ error. error ≡ turn.Memory → IsTrue J.transcript) }
-        ensures full { IfErr result (λ error. error ≡ turn.StampFull
-            → 2 ^ 64 ≤ max self.new.counter (aside_stamp self.new.aside) + 1) }
+        ensures stepped { Stepped self.old self.new result }
         ensures going { self.new.aside ≡ None }
     {
         let mut put = false;
@@ -208,11 +201,7 @@ impl<J: Wiring, P: NodeProgram> Node<J, P> {
     // Puts by each port, ascending. Returns whether it put a wire.
     fn put_all<R: Wait>(&mut self, rt: &R, links: &Links<J, P>) -> Result<bool, TurnRefused>
         requires going { self.old.aside ≡ None }
-        ensures same { (self.new.vertex ≡ self.old.vertex) × (self.new.degree ≡ self.old.degree) }
-        ensures unmoved { IfOk result (λ did. did ≡ false → IsUnmoved self.old self.new) }
-        ensures refused { IfErr result (λ error. error ≡ turn.Memory → IsTrue J.transcript) }
-        ensures full { IfErr result (λ error. error ≡ turn.StampFull
-            → 2 ^ 64 ≤ max self.new.counter (aside_stamp self.new.aside) + 1) }
+        ensures stepped { Stepped self.old self.new result }
         ensures going { self.new.aside ≡ None }
     {
         let mut put = false;

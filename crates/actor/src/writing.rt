@@ -2,9 +2,7 @@
 
 ghost use Rattle.std.specs.Prelude.{◌≡◌, ◌<◌, ◌++◌, ◌∷◌, [], IsTrue, IfErr, OnOk, if◌then◌else◌};
 
-use crate::wired::WiredTake;
-use crate::wiring::Wiring;
-use alpha_laws::{Memory, Wire};
+use alpha_laws::Memory;
 use stamps::{Entries, Entry};
 
 // Room for one entry more, if entries are written down at all.
@@ -20,58 +18,20 @@ pub(crate) fn keep_room<T>(transcript: bool, entries: &mut Entries<T>) -> Result
     Ok(())
 }
 
-// Writes a pulse down with its stamp, if entries are written down at all.
-pub(crate) fn write_pulse<T: Copy>(
+// Writes an entry down with its stamp, if entries are written down at all.
+pub(crate) fn write<T: Copy>(
     transcript: bool,
     entries: &mut Entries<T>,
     stamp: u64,
-    pulse: u32,
+    entry: Entry<T>,
 )
     requires room { IsTrue transcript → 0 < entries.old.room }
     ensures entries { entries.new.items ≡
-        (if transcript then entries.old.items ++ Entry.Pulse pulse ∷ [] else entries.old.items) }
-    ensures stamped { entries.new.stamped ≡ (if transcript
-        then entries.old.stamped ++ (stamp, Entry.Pulse pulse) ∷ [] else entries.old.stamped) }
+        (if transcript then entries.old.items ++ entry ∷ [] else entries.old.items) }
+    ensures stamped { entries.new.stamped ≡
+        (if transcript then entries.old.stamped ++ (stamp, entry) ∷ [] else entries.old.stamped) }
 {
     if transcript {
-        entries.push_reserved(stamp, Entry::Pulse(pulse));
-    }
-}
-
-// Writes a put down with its stamp, if entries are written down at all; the end that takes from the neighbour names it.
-pub(crate) fn write_put<J: Wiring, T: Copy>(
-    transcript: bool,
-    entries: &mut Entries<T>,
-    stamp: u64,
-    neighbour: &WiredTake<J, T>,
-    wire: Wire<T>,
-)
-    requires room { IsTrue transcript → 0 < entries.old.room }
-    ensures entries { entries.new.items ≡
-        (if transcript then entries.old.items ++ Entry.Put neighbour.now.vertex wire ∷ [] else entries.old.items) }
-    ensures stamped { entries.new.stamped ≡ (if transcript
-        then entries.old.stamped ++ (stamp, Entry.Put neighbour.now.vertex wire) ∷ [] else entries.old.stamped) }
-{
-    if transcript {
-        entries.push_reserved(stamp, Entry::Put(neighbour.vertex, wire));
-    }
-}
-
-// Writes a take down with its stamp, if entries are written down at all; the end that took names the neighbour.
-pub(crate) fn write_take<J: Wiring, T: Copy>(
-    transcript: bool,
-    entries: &mut Entries<T>,
-    stamp: u64,
-    neighbour: &WiredTake<J, T>,
-    wire: Wire<T>,
-)
-    requires room { IsTrue transcript → 0 < entries.old.room }
-    ensures entries { entries.new.items ≡
-        (if transcript then entries.old.items ++ Entry.Take neighbour.now.vertex wire ∷ [] else entries.old.items) }
-    ensures stamped { entries.new.stamped ≡ (if transcript
-        then entries.old.stamped ++ (stamp, Entry.Take neighbour.now.vertex wire) ∷ [] else entries.old.stamped) }
-{
-    if transcript {
-        entries.push_reserved(stamp, Entry::Take(neighbour.vertex, wire));
+        entries.push_reserved(stamp, entry);
     }
 }

@@ -35,7 +35,7 @@ pub use verdict::check_bytes;
 // What crates above name of lower ones.
 pub use alpha_core::{Memory, Network, Refused, Wire};
 pub use channel_plan::plan_text;
-pub use colour_program::{Colouring, Payload, laws};
+pub use colour_program::{Colouring, Long, Payload, laws};
 pub use dimacs_col::ColFault;
 pub use event_texts::EventFault;
 pub use pool::PoolFault;

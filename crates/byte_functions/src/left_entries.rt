@@ -6,7 +6,6 @@ ghost use Rattle.byte_functions.specs.Merge.{starts_at};
 use answers::Payload;
 use stamps::{Entry, StampedIter};
 use std::marker::Model;
-use std::mem;
 
 /// The entries that a node has left, by value, seen as their list. The first of them is read ahead, so that its stamp
 /// is known while it is left.
@@ -51,6 +50,9 @@ impl<'a> LeftEntries<'a> {
     pub fn take(&mut self) -> Option<(u64, Entry<Payload>)>
         ensures { MatchOption result (self.old ≡ []) (λ first. self.old ≡ first ∷ self.new) }
     {
-        mem::replace(&mut self.first, self.behind.next())
+        let next = self.behind.next();
+        let first = self.first.take();
+        self.first = next;
+        first
     }
 }

@@ -33,8 +33,8 @@ pub use workers::plan_bytes;
 
 // What crates above name of lower ones.
 pub use answers::{
-    Colouring, Network, Payload, PoolFault, ReplayRefused, WholeRefused, Wire, read_transcript,
-    replay, replay_whole, stamped_text,
+    Colouring, Long, Network, Payload, PoolFault, ReplayRefused, WholeRefused, Wire,
+    read_transcript, replay, replay_whole, stamped_text,
 };
 pub use node_pool::{Gate, OpenGate, Options, Outcome, run_workers};
 pub use run_options::Edition;

@@ -6,20 +6,22 @@ ghost use Rattle.alpha_core.specs.node_api.Boxes.{nothing, unread};
 ghost use Rattle.colour_program.specs.colour_rules.Node.{ports};
 
 use crate::networks::edge;
+use crate::told::Told;
 use alpha_core::{Inbox, Network, Outbox, PayloadText};
 use colour_program::{ColourNode, IdlePulses, Payload, Phase, Reduction};
 use std::alloc::Global;
 
-static TEXTS: [(Payload, &str, u128); 4] = [
-    (Payload::Hello(u128::MAX), "hello", u128::MAX),
-    (Payload::Label(65535), "label", 65535),
-    (Payload::Colour(u128::MAX), "colour", u128::MAX),
-    (Payload::Chosen(65535), "chosen", 65535),
+static TEXTS: [(Told, &str, u128); 4] = [
+    (Told::Hello(u128::MAX), "hello", u128::MAX),
+    (Told::Label(65535), "label", 65535),
+    (Told::Colour(u128::MAX), "colour", u128::MAX),
+    (Told::Chosen(65535), "chosen", 65535),
 ];
 
 // Whether a payload has this word and number, and is read from them.
-fn has_text(payload: Payload, word: &str, number: u128) -> bool {
-    payload.words() == (word, number) && Payload::from_words(word, number) == Some(payload)
+fn has_text(told: Told, word: &str, number: u128) -> bool {
+    told.payload().words() == (word, number)
+        && Payload::from_words(word, number) == Some(told.payload())
 }
 
 fn refuses_one_beyond() -> bool {
@@ -30,8 +32,8 @@ fn refuses_one_beyond() -> bool {
 
 #[test]
 fn payloads_have_their_text(rt: HostRuntime) {
-    for (payload, word, number) in &TEXTS {
-        assert!(rt; has_text(*payload, *word, *number), "{word}");
+    for (told, word, number) in &TEXTS {
+        assert!(rt; has_text(*told, *word, *number), "{word}");
     }
     assert!(rt; refuses_one_beyond());
 }
@@ -67,8 +69,10 @@ fn begins(node: &mut ColourNode, inbox: &mut Inbox<Payload>, out: &mut Outbox<Pa
     requires out { out.old ≡ nothing 1 }
 {
     node.greet(out);
-    let greets = out.get(0) == Some(Payload::Hello(1)) && node.colour() == 0 && has_phases(node);
-    inbox.put(0, Payload::Hello(2));
+    let greets = out.get(0) == Some(Told::Hello(1).payload())
+        && node.colour() == 0
+        && has_phases(node);
+    inbox.put(0, Told::Hello(2).payload());
     out.clear();
     greets && node.pulse(1, inbox, out) == Ok(IdlePulses::none())
 }

@@ -41,4 +41,6 @@ mod shift_down_checks;
 #[cfg(test)]
 mod sync_rounds_checks;
 #[cfg(test)]
+mod told;
+#[cfg(test)]
 mod whole_streams_checks;

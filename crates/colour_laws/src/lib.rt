@@ -20,5 +20,5 @@ pub mod laws;
 
 // What crates above name of lower ones.
 pub use colour_rules::{
-    ColourNode, FIRST_MERGE, IdlePulses, Payload, Phase, Reduction, Schedule, rules,
+    ColourNode, FIRST_MERGE, IdlePulses, Long, Payload, Phase, Reduction, Schedule, Short, rules,
 };

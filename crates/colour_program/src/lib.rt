@@ -19,4 +19,6 @@ mod colouring;
 pub use colouring::Colouring;
 
 // What crates above name of lower ones.
-pub use colour_laws::{ColourNode, IdlePulses, Payload, Phase, Reduction, Schedule, laws, rules};
+pub use colour_laws::{
+    ColourNode, IdlePulses, Long, Payload, Phase, Reduction, Schedule, Short, laws, rules,
+};

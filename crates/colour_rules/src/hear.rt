@@ -88,7 +88,7 @@ impl ColourNode {
         let payload = inbox.next();
         let port = inbox.sender();
         match payload {
-            Payload::Chosen(colour) if self.takes(forest, port, colour) => Some(colour),
+            Payload::Chosen(colour) if self.takes(forest, port, colour.get()) => Some(colour.get()),
             _ => None,
         }
     }

@@ -28,6 +28,7 @@ mod idle;
 pub mod laws;
 mod merge;
 mod node;
+mod numbers;
 mod payload;
 mod phase;
 mod ports;
@@ -41,5 +42,6 @@ mod work;
 
 pub use idle::IdlePulses;
 pub use node::ColourNode;
+pub use numbers::{Long, Short};
 pub use payload::Payload;
 pub use phase::{FIRST_MERGE, Phase, Reduction, Schedule};

@@ -25,7 +25,7 @@ pub(crate) fn add_chosen<const N: usize>(chosen: &mut ColourSet<N>, inbox: &mut 
 {
     while inbox.has_next() {
         if let Payload::Chosen(colour) = inbox.next() {
-            chosen.add(colour);
+            chosen.add(colour.get());
         }
     }
 }

@@ -6,6 +6,7 @@ ghost use Rattle.node_api.specs.Program.{own_of};
 ghost use Rattle.colour_rules.specs.Node.{greet, made, ports};
 
 use crate::colours::InForests;
+use crate::numbers::Long;
 use crate::payload::Payload;
 use crate::taken::TakenColours;
 use cole_vishkin::Identifier;
@@ -113,7 +114,7 @@ impl ColourNode {
         requires { out.old ≡ nothing (ports self.old) }
         ensures { (self.new, out.new) ≡ greet self.old }
     {
-        out.broadcast(Payload::Hello(self.id));
+        out.broadcast(Payload::Hello(Long::new(self.id)));
     }
 
     /// The node's colour so far: the least that isn't barred before its first choice, and its colour once the

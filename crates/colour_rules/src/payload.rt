@@ -1,20 +1,20 @@
 //! What the nodes of the colouring tell one another, and its text.
 
-use cole_vishkin::Identifier;
+use crate::numbers::{Long, Short};
 use node_api::PayloadText;
 
-///! What the nodes of the colouring tell one another. Its words are `hello`, `label`, `colour` and
+/// What the nodes of the colouring tell one another. Its words are `hello`, `label`, `colour` and
 /// `chosen`.
 #[derive(Debug, Clone, Copy, PartialEq, Eq)]
 pub enum Payload {
     /// The sender's identifier.
-    Hello(Identifier),
+    Hello(Long),
     /// The receiver is the sender's parent in this forest.
-    Label(u16),
+    Label(Short),
     /// The sender's colour in the forest in which it is the receiver's parent.
-    Colour(Identifier),
+    Colour(Long),
     /// The colour that the sender chose in the merge.
-    Chosen(u16),
+    Chosen(Short),
 }
 
 impl PayloadText for Payload {
@@ -35,23 +35,23 @@ impl PayloadText for Payload {
 
     fn words(self) -> (&'static str, u128) {
         match self {
-            Payload::Hello(id) => ("hello", id),
-            Payload::Label(forest) => ("label", u128::from(forest)),
-            Payload::Colour(colour) => ("colour", colour),
-            Payload::Chosen(colour) => ("chosen", u128::from(colour)),
+            Payload::Hello(id) => ("hello", id.get()),
+            Payload::Label(forest) => ("label", u128::from(forest.get())),
+            Payload::Colour(colour) => ("colour", colour.get()),
+            Payload::Chosen(colour) => ("chosen", u128::from(colour.get())),
         }
     }
 
     fn from_words(word: &str, number: u128) -> Option<Self> {
         let is_short = number <= u128::from(u16::MAX);
         if word == "hello" {
-            Some(Payload::Hello(number))
+            Some(Payload::Hello(Long::new(number)))
         } else if word == "label" && is_short {
-            Some(Payload::Label(number as u16))
+            Some(Payload::Label(Short::new(number as u16)))
         } else if word == "colour" {
-            Some(Payload::Colour(number))
+            Some(Payload::Colour(Long::new(number)))
         } else if word == "chosen" && is_short {
-            Some(Payload::Chosen(number as u16))
+            Some(Payload::Chosen(Short::new(number as u16)))
         } else {
             None
         }

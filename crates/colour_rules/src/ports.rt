@@ -1,11 +1,13 @@
 //! The first rule that a port breaks.
-ghost use Rattle.std.specs.Prelude.{◌≡◌, ◌≤◌, ◌<◌, IfOk, MatchResult, None, Some, false, length, take, ℕ};
+ghost use Rattle.std.specs.Prelude.{◌≡◌, ◌==◌, ◌≤◌, ◌<◌, IfOk, MatchResult, None, Some, false, if◌then◌else◌, length, take, ℕ};
 ghost use Rattle.std.specs.Prelude.{slice_index_or};
+ghost use Rattle.forest_merge.specs.Free.{is_among};
 ghost use Rattle.node_api.specs.Boxes.{HasFrom, unread};
 ghost use Rattle.forests.specs.declared.numbering.Role.{Role};
 ghost use Rattle.forests.specs.declared.numbering.Role.TheVariants.{Unknown};
 ghost use Rattle.colour_rules.specs.declared.payload.Payload.TheVariants.{Hello};
 ghost use Rattle.colour_rules.specs.declared.phase.Phase.TheVariants.{Orient};
+ghost use Rattle.colour_rules.specs.declared.rules.TheConstants.{COLOUR_RANGE};
 ghost use Rattle.colour_rules.specs.Node.{IsIn, ports};
 ghost use Rattle.colour_rules.specs.Table.{is_above, is_due, is_merged, value_rule};
 ghost use Rattle.colour_rules.specs.Refusals.{AreUndue, IsFirstMissing, Looked};
@@ -60,6 +62,14 @@ fn waits(phase: Phase) -> bool
 }
 
 impl ColourNode {
+    // The rule that an identifier breaks if it is the node's own, or one of those that the ports before brought.
+    fn identifier_rule(&self, earlier: &[Identifier], id: Identifier) -> Option<u16>
+        ensures { result ≡ (if id == self.now.id then Some COLOUR_RANGE
+            else if is_among earlier.now id then Some COLOUR_RANGE else None) }
+    {
+        (id == self.id || earlier.contains(&id)).then_some(COLOUR_RANGE)
+    }
+
     // The rule that a due payload breaks by its value; `earlier` are the identifiers that the ports
     // before brought.
     fn value_rule(
@@ -67,19 +77,18 @@ impl ColourNode {
         phase: Phase,
         earlier: &[Identifier],
         role: Role,
-        payload: Payload,
+        payload: &Payload,
     ) -> Option<u16>
         requires { IsIn self.now.sizes.forests role }
-        ensures { result ≡ value_rule self.now earlier.now phase role payload }
+        ensures { result ≡ value_rule self.now earlier.now phase role payload.now }
     {
         match (phase, role, payload) {
-            (Phase::Orient, _, Payload::Hello(id)) => {
-                (id == self.id || earlier.contains(&id)).then_some(COLOUR_RANGE)
-            }
+            (Phase::Orient, _, Payload::Hello(id)) => { self.identifier_rule(earlier, id.get()) }
             (Phase::Seed, _, Payload::Label(forest)) => {
-                (self.forests <= forest).then_some(FOREST_RANGE)
+                (self.forests <= forest.get()).then_some(FOREST_RANGE)
             }
             (Phase::Work(reduction), Role::Up(forest), Payload::Colour(colour)) => {
+                let colour = colour.get();
                 let own = self.colours.own(self.id, forest);
                 (is_above(reduction, colour) || colour == own).then_some(COLOUR_RANGE)
             }
@@ -87,7 +96,7 @@ impl ColourNode {
                 if step == 0 || !is_merged(forest, role) {
                     Some(FOREST_RANGE)
                 } else {
-                    (self.span() < colour).then_some(COLOUR_RANGE)
+                    (self.span() < colour.get()).then_some(COLOUR_RANGE)
                 }
             }
             _ => None,
@@ -100,11 +109,11 @@ impl ColourNode {
         phase: Phase,
         earlier: &[Identifier],
         port: u32,
-        payload: Payload,
+        payload: &Payload,
     ) -> Result<(), Refused>
         requires { port < ports self.now }
         ensures { let role = slice_index_or self.now.roles port Unknown in
-            let rule = port_rule self.now earlier.now phase role (Some payload) in
+            let rule = port_rule self.now earlier.now phase role (Some payload.now) in
             MatchResult result
             (λ _. rule ≡ None)
             (λ refused. (rule ≡ Some refused.rule) × (refused.port ≡ Some port)) }
@@ -163,7 +172,7 @@ impl ColourNode {
         let payload = inbox.next();
         let port = inbox.sender();
         self.none_due(phase, from, port)?;
-        self.look_at(phase, earlier, port, payload)?;
+        self.look_at(phase, earlier, port, &payload)?;
         Ok(payload)
     }
 
@@ -192,7 +201,7 @@ impl ColourNode {
         while inbox.has_next() {
             let payload = self.look_at_next(phase, from, &identifiers[..count], inbox)?;
             if let Payload::Hello(id) = payload {
-                identifiers[count] = id;
+                identifiers[count] = id.get();
                 count += 1;
             }
             from = inbox.sender() + 1;

@@ -39,8 +39,8 @@ macro_rules! table {
 
 // The rule that a payload breaks by its kind, from a port of this role in this phase; none if it is
 // due.
-pub(crate) fn cell(phase: Phase, payload: Payload, role: Role) -> Option<u16>
-    ensures { result ≡ cell phase role payload }
+pub(crate) fn cell(phase: Phase, payload: &Payload, role: Role) -> Option<u16>
+    ensures { result ≡ cell phase role payload.now }
 {
     // Each row: from a port that is Unknown, Up, Down.
     table! { (phase, payload, role) {

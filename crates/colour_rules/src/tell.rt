@@ -7,6 +7,7 @@ ghost use Rattle.colour_rules.specs.Program.{tells_chosen, tells_colour, tells_l
 ghost use Rattle.colour_rules.specs.Table.{is_merged};
 
 use crate::node::ColourNode;
+use crate::numbers::{Long, Short};
 use crate::payload::Payload;
 use crate::ports::is_merged;
 use forests::Role;
@@ -20,7 +21,7 @@ impl ColourNode {
     {
         for port in 0..self.roles.len() {
             if let Role::Up(forest) = self.roles[port] {
-                out.send(port as u32, Payload::Label(forest));
+                out.send(port as u32, Payload::Label(Short::new(forest)));
             }
         }
     }
@@ -34,7 +35,7 @@ impl ColourNode {
             if let Role::Down(forest) = self.roles[port] {
                 out.send(
                     port as u32,
-                    Payload::Colour(self.colours.own(self.id, forest)),
+                    Payload::Colour(Long::new(self.colours.own(self.id, forest))),
                 );
             }
         }
@@ -47,7 +48,7 @@ impl ColourNode {
     {
         // In the last forests these are all neighbours, and a broadcast costs no walk over the ports later on.
         if are_merged(forest, &self.roles) {
-            out.broadcast(Payload::Chosen(self.merged));
+            out.broadcast(Payload::Chosen(Short::new(self.merged)));
         } else {
             self.tell_merged(forest, out);
         }
@@ -60,7 +61,7 @@ impl ColourNode {
     {
         for port in 0..self.roles.len() {
             if is_merged(forest, self.roles[port]) {
-                out.send(port as u32, Payload::Chosen(self.merged));
+                out.send(port as u32, Payload::Chosen(Short::new(self.merged)));
             }
         }
     }

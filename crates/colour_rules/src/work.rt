@@ -179,7 +179,7 @@ fn labelled(role: Role, payload: Payload) -> Role
     ensures { result ≡ labelled role (Some payload) }
 {
     match (role, payload) {
-        (Role::Unknown, Payload::Label(forest)) => Role::Down(forest),
+        (Role::Unknown, Payload::Label(forest)) => Role::Down(forest.get()),
         _ => role,
     }
 }
@@ -189,7 +189,7 @@ fn colour_of(payload: Payload) -> Option<Identifier>
     ensures { result ≡ colour_in (Some payload) }
 {
     match payload {
-        Payload::Colour(colour) => Some(colour),
+        Payload::Colour(colour) => Some(colour.get()),
         _ => None,
     }
 }

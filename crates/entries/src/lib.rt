@@ -7,7 +7,7 @@
 //! ```text
 //! let mut entries = Entries::new(alloc);
 //! entries.reserve()?;                                             // room for one more, of any kind
-//! entries.push_reserved(1, Entry::Put(2, Wire::Payload(0, Payload::Hello(1))));  // can't be refused
+//! entries.push_reserved(1, Entry::Put(2, Wire::Payload(0, Payload::Hello(Long::new(1)))));  // can't be refused
 //! for entry in entries.iter() { .. }                              // each by value, from the first
 //! for (stamp, entry) in entries.stamped() { .. }
 //! ```

@@ -3,7 +3,7 @@
 //! `event_texts` writes the wires that a link holds with it, and `transcripts` the wires of entries.
 //!
 //! ```text
-//! push_wire(&mut text, Wire::Payload(0, Payload::Hello(1)))?;      // appends " payload 0 hello 1"
+//! push_wire(&mut text, Wire::Payload(0, Payload::Hello(Long::new(1))))?;      // appends " payload 0 hello 1"
 //! ```
 #![tactic(auto)]
 

@@ -5,7 +5,8 @@ ghost use Rattle.byte_functions.specs.interference.Net.{IsVertex, degree_of, ver
 ghost use Rattle.byte_functions.specs.gather_laws.Outcome.{row_in};
 
 use byte_functions::{
-    Colouring, Network, OpenGate, Options, Outcome, Payload, PoolFault, Stamped, run_workers,
+    Colouring, Long, Network, OpenGate, Options, Outcome, Payload, PoolFault, Stamped, Wire,
+    run_workers,
 };
 use std::alloc::Global;
 use std::sync::Wait;
@@ -131,12 +132,32 @@ pub fn ends_with<const D: u32, R: Threads + Wait + Sync>(
     }
 }
 
+/// The same wire, of a greeting from this identifier.
+pub fn greeted(wire: Wire<u128>) -> Wire<Payload> {
+    match wire {
+        Wire::Payload(pulse, id) => Wire::Payload(pulse, Payload::Hello(Long::new(id))),
+        Wire::Ack(pulse) => Wire::Ack(pulse),
+        Wire::Safe(pulse) => Wire::Safe(pulse),
+        Wire::Close => Wire::Close,
+    }
+}
+
+// Whether these are the same wires and stamps, of greetings from these identifiers.
+fn are_greetings(held: &[Stamped<Payload>], wanted: &[Stamped<u128>]) -> bool {
+    for (one, other) in held.iter().zip(wanted) {
+        if one.stamp != other.stamp || one.wire != greeted(other.wire) {
+            return false;
+        }
+    }
+    held.len() == wanted.len()
+}
+
 /// Whether the links out of a vertex hold just these wires after a run of the colouring, by port, each with its stamp.
 pub fn holds(
     net: &Network,
     outcome: &Outcome<Colouring>,
     vertex: u32,
-    by_port: &[&[Stamped<Payload>]],
+    by_port: &[&[Stamped<u128>]],
 ) -> bool
     requires vertex { IsVertex net.now vertex }
     requires rows { length outcome.now.links ≡ length (vertices net.now) }
@@ -144,8 +165,9 @@ pub fn holds(
 {
     for port in 0..net.degree(vertex) {
         let held = outcome.link(vertex, port).held();
-        if by_port.get(port as usize) != Some(&held) {
-            return false;
+        match by_port.get(port as usize) {
+            Some(wanted) if are_greetings(held, *wanted) => (),
+            _ => return false,
         }
     }
     true

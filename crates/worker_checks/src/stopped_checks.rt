@@ -5,7 +5,7 @@ ghost use Rattle.std.specs.Prelude.{◌≡◌, ℕ, length};
 ghost use Rattle.byte_functions.specs.interference.Net.{IsVertex, degree_of, vertices};
 ghost use Rattle.byte_functions.specs.gather_laws.Outcome.{row_in};
 
-use crate::runs::{holds, of_one, run_of_one, triangle};
+use crate::runs::{greeted, holds, of_one, run_of_one, triangle};
 use byte_functions::{
     Colouring, Entries, Entry, Network, OpenGate, Options, Outcome, Payload, Stamped, Wire,
     run_workers,
@@ -14,11 +14,12 @@ use std::alloc::Global;
 use std::sync::Wait;
 use std::thread::Threads;
 
-const FROM_1: Wire<Payload> = Wire::Payload(0, Payload::Hello(1));
+// A constant has the identifier of a greeting in place of the payload, whose number has a model.
+const FROM_1: Wire<u128> = Wire::Payload(0, 1);
 
-const FROM_2: Wire<Payload> = Wire::Payload(0, Payload::Hello(2));
+const FROM_2: Wire<u128> = Wire::Payload(0, 2);
 
-type StampedEntry = (u64, Entry<Payload>);
+type StampedEntry = (u64, Entry<u128>);
 
 // What nodes 1 and 2 of the triangle did by the first and by the second look, and node 2 over links that hold one wire.
 const FIRST: &[StampedEntry] = &[(1, Entry::Put(2, FROM_1)), (2, Entry::Put(3, FROM_1))];
@@ -37,39 +38,52 @@ const SECOND_OF_ONE: &[StampedEntry] = &[
 ];
 
 // What they have put, by stamp.
-const PUT_1: Stamped<Payload> = Stamped {
+const PUT_1: Stamped<u128> = Stamped {
     stamp: 1,
     wire: FROM_1,
 };
 
-const PUT_2: Stamped<Payload> = Stamped {
+const PUT_2: Stamped<u128> = Stamped {
     stamp: 2,
     wire: FROM_1,
 };
 
-const PUT_3: Stamped<Payload> = Stamped {
+const PUT_3: Stamped<u128> = Stamped {
     stamp: 3,
     wire: FROM_2,
 };
 
-const ACK_4: Stamped<Payload> = Stamped {
+const ACK_4: Stamped<u128> = Stamped {
     stamp: 4,
     wire: Wire::Ack(0),
 };
 
-const PUT_4: Stamped<Payload> = Stamped {
+const PUT_4: Stamped<u128> = Stamped {
     stamp: 4,
     wire: FROM_2,
 };
 
-const PUT_5: Stamped<Payload> = Stamped {
+const PUT_5: Stamped<u128> = Stamped {
     stamp: 5,
     wire: FROM_2,
 };
 
+// The same entry, of greetings.
+fn greeted_entry(entry: Entry<u128>) -> Entry<Payload> {
+    match entry {
+        Entry::Pulse(pulse) => Entry::Pulse(pulse),
+        Entry::Put(to, wire) => Entry::Put(to, greeted(wire)),
+        Entry::Take(from, wire) => Entry::Take(from, greeted(wire)),
+    }
+}
+
 // Whether these are the entries of a node.
 fn are(entries: &Entries<Payload>, wanted: &[StampedEntry]) -> bool {
-    entries.stamped().eq(wanted.iter().copied())
+    entries.stamped().eq(
+        wanted
+            .iter()
+            .map(|(stamp, entry)| (*stamp, greeted_entry(*entry))),
+    )
 }
 
 // Whether the node with this index is at its start, with these entries.
@@ -95,7 +109,7 @@ fn have_entries(outcome: &Outcome<Colouring>, entries: &[&[StampedEntry]]) -> bo
 }
 
 // Whether the links hold these wires, by node and port, each with its stamp.
-fn hold(net: &Network, outcome: &Outcome<Colouring>, links: &[[&[Stamped<Payload>]; 2]]) -> bool
+fn hold(net: &Network, outcome: &Outcome<Colouring>, links: &[[&[Stamped<u128>]; 2]]) -> bool
     requires rows { length outcome.now.links ≡ length (vertices net.now) }
     requires row { (v : ℕ) → IsVertex net.now v → length (row_in outcome.now v) ≡ degree_of net.now v }
 {
@@ -115,7 +129,7 @@ struct Left {
     // By node.
     entries: &'static [&'static [StampedEntry]],
     // By node and port.
-    links: &'static [[&'static [Stamped<Payload>]; 2]],
+    links: &'static [[&'static [Stamped<u128>]; 2]],
 }
 
 // What the first looks leave, over links that hold four wires and over links that hold one. The worker looks at nodes

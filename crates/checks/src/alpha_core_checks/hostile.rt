@@ -6,11 +6,23 @@ ghost use Rattle.alpha_core.specs.interference.Net.{IsVertex, degree_of};
 
 use crate::alpha_core_checks::alone::{Act, Played, leaf, play};
 use crate::networks::edge;
+use crate::told::Told;
 use alpha_core::{AlphaNode, AlphaRefused, Network, Refused, Wire};
 use colour_program::{Colouring, Payload};
 use std::alloc::Global;
 
-const LABEL: Act<Payload> = Act::Take(Wire::Payload(1, Payload::Label(0)));
+// What comes to a node of a payload, and what it puts of one.
+fn comes(pulse: u32, told: Told) -> Act<Payload> {
+    Act::Take(Wire::Payload(pulse, told.payload()))
+}
+
+fn put(pulse: u32, told: Told) -> Wire<Payload> {
+    Wire::Payload(pulse, told.payload())
+}
+
+fn label() -> Act<Payload> {
+    comes(1, Told::Label(0))
+}
 
 const TAKEN: Option<Result<(), AlphaRefused>> = Some(Ok(()));
 
@@ -23,20 +35,22 @@ const MISSING: Option<Result<(), AlphaRefused>> = Some(Err(AlphaRefused::Program
 })));
 
 // What comes to vertex 1 of an edge from its start, and the next pulse.
-static HOSTILE: [Act<Payload>; 12] = [
-    LABEL,
-    Act::Take(Wire::Safe(0)),
-    LABEL,
-    Act::Take(Wire::Ack(0)),
-    LABEL,
-    LABEL,
-    Act::Take(Wire::Ack(0)),
-    Act::Take(Wire::Safe(0)),
-    Act::Take(Wire::Close),
-    Act::Take(Wire::Safe(1)),
-    Act::Take(Wire::Safe(2)),
-    Act::Pulse,
-];
+fn hostile() -> [Act<Payload>; 12] {
+    [
+        label(),
+        Act::Take(Wire::Safe(0)),
+        label(),
+        Act::Take(Wire::Ack(0)),
+        label(),
+        label(),
+        Act::Take(Wire::Ack(0)),
+        Act::Take(Wire::Safe(0)),
+        Act::Take(Wire::Close),
+        Act::Take(Wire::Safe(1)),
+        Act::Take(Wire::Safe(2)),
+        Act::Pulse,
+    ]
+}
 
 // What it returns to each.
 static ANSWERS: [Option<Result<(), AlphaRefused>>; 12] = [
@@ -55,67 +69,75 @@ static ANSWERS: [Option<Result<(), AlphaRefused>>; 12] = [
 ];
 
 // Those that it takes, what its twin returns that gets only these, and what both put.
-static ONLY_TAKEN: [Act<Payload>; 5] = [
-    Act::Take(Wire::Safe(0)),
-    Act::Take(Wire::Ack(0)),
-    LABEL,
-    Act::Take(Wire::Safe(1)),
-    Act::Pulse,
-];
+fn only_taken() -> [Act<Payload>; 5] {
+    [
+        Act::Take(Wire::Safe(0)),
+        Act::Take(Wire::Ack(0)),
+        label(),
+        Act::Take(Wire::Safe(1)),
+        Act::Pulse,
+    ]
+}
 
 static ONLY_TAKEN_ANSWERS: [Option<Result<(), AlphaRefused>>; 5] = [
     TAKEN, TAKEN, TAKEN, TAKEN, MISSING,
 ];
 
-static BOTH_PUT: [Wire<Payload>; 3] = [
-    Wire::Payload(0, Payload::Hello(1)),
-    Wire::Safe(0),
-    Wire::Ack(1),
-];
+fn both_put() -> [Wire<Payload>; 3] {
+    [put(0, Told::Hello(1)), Wire::Safe(0), Wire::Ack(1)]
+}
 
 // What comes to vertex 1 as it makes two pulses, and what it puts.
-static TWO_PULSES: [Act<Payload>; 7] = [
-    Act::Take(Wire::Payload(0, Payload::Hello(2))),
-    Act::Take(Wire::Ack(0)),
-    Act::Take(Wire::Safe(0)),
-    Act::Pulse,
-    Act::Take(Wire::Ack(1)),
-    Act::Take(Wire::Safe(1)),
-    Act::Pulse,
-];
+fn two_pulses() -> [Act<Payload>; 7] {
+    [
+        comes(0, Told::Hello(2)),
+        Act::Take(Wire::Ack(0)),
+        Act::Take(Wire::Safe(0)),
+        Act::Pulse,
+        Act::Take(Wire::Ack(1)),
+        Act::Take(Wire::Safe(1)),
+        Act::Pulse,
+    ]
+}
 
 static ALL_TAKEN: [Option<Result<(), AlphaRefused>>; 7] = [TAKEN; 7];
 
-static TWO_PULSES_PUT: [Wire<Payload>; 6] = [
-    Wire::Payload(0, Payload::Hello(1)),
-    Wire::Ack(0),
-    Wire::Safe(0),
-    Wire::Payload(1, Payload::Label(0)),
-    Wire::Safe(1),
-    Wire::Safe(2),
-];
+fn two_pulses_put() -> [Wire<Payload>; 6] {
+    [
+        put(0, Told::Hello(1)),
+        Wire::Ack(0),
+        Wire::Safe(0),
+        put(1, Told::Label(0)),
+        Wire::Safe(1),
+        Wire::Safe(2),
+    ]
+}
 
 // What comes to vertex 2, which has no parent: at pulse 1 it sends nothing, and so is safe at once. At pulse 2 the
 // label of its child is due.
-static UNLABELLED: [Act<Payload>; 6] = [
-    Act::Take(Wire::Payload(0, Payload::Hello(1))),
-    Act::Take(Wire::Ack(0)),
-    Act::Take(Wire::Safe(0)),
-    Act::Pulse,
-    Act::Take(Wire::Safe(1)),
-    Act::Pulse,
-];
+fn unlabelled() -> [Act<Payload>; 6] {
+    [
+        comes(0, Told::Hello(1)),
+        Act::Take(Wire::Ack(0)),
+        Act::Take(Wire::Safe(0)),
+        Act::Pulse,
+        Act::Take(Wire::Safe(1)),
+        Act::Pulse,
+    ]
+}
 
 static UNLABELLED_ANSWERS: [Option<Result<(), AlphaRefused>>; 6] = [
     TAKEN, TAKEN, TAKEN, TAKEN, TAKEN, MISSING,
 ];
 
-static UNLABELLED_PUT: [Wire<Payload>; 4] = [
-    Wire::Payload(0, Payload::Hello(2)),
-    Wire::Ack(0),
-    Wire::Safe(0),
-    Wire::Safe(1),
-];
+fn unlabelled_put() -> [Wire<Payload>; 4] {
+    [
+        put(0, Told::Hello(2)),
+        Wire::Ack(0),
+        Wire::Safe(0),
+        Wire::Safe(1),
+    ]
+}
 
 // Whether a node returns this to these acts, puts these wires, and is at this pulse then.
 fn plays_so(
@@ -159,17 +181,25 @@ fn first_plays(alloc: Global, net: &Network) -> bool
     requires vertex { IsVertex net.now 1 }
     requires one { degree_of net.now 1 ≡ 1 }
 {
-    plays(alloc, net, 1, &HOSTILE, &ANSWERS, &BOTH_PUT, 0)
+    plays(alloc, net, 1, &hostile(), &ANSWERS, &both_put(), 0)
         && plays(
             alloc,
             net,
             1,
-            &ONLY_TAKEN,
+            &only_taken(),
             &ONLY_TAKEN_ANSWERS,
-            &BOTH_PUT,
+            &both_put(),
             0,
         )
-        && plays(alloc, net, 1, &TWO_PULSES, &ALL_TAKEN, &TWO_PULSES_PUT, 2)
+        && plays(
+            alloc,
+            net,
+            1,
+            &two_pulses(),
+            &ALL_TAKEN,
+            &two_pulses_put(),
+            2,
+        )
 }
 
 fn second_plays(alloc: Global, net: &Network) -> bool
@@ -180,9 +210,9 @@ fn second_plays(alloc: Global, net: &Network) -> bool
         alloc,
         net,
         2,
-        &UNLABELLED,
+        &unlabelled(),
         &UNLABELLED_ANSWERS,
-        &UNLABELLED_PUT,
+        &unlabelled_put(),
         1,
     )
 }

@@ -7,22 +7,23 @@ use crate::colour_program_checks::asked::{Asked, holds_at};
 use crate::colour_program_checks::fed::{show, takes};
 use crate::colour_program_checks::twins::go_on_alike;
 use crate::networks::edge;
+use crate::told::Told;
 use alpha_core::{Network, Refused};
+use colour_program::Colouring;
 use colour_program::rules::{AFTER_HALT, WRONG_KIND, WRONG_ROLE};
-use colour_program::{Colouring, Payload};
 use std::alloc::Global;
 use std::process::Abort;
 
 // Two nodes with identifiers 1 and 2 and an edge. No rule forbids these payloads by their value.
-const HELLO: Payload = Payload::Hello(3);
+const HELLO: Told = Told::Hello(3);
 
-const LOWER_HELLO: Payload = Payload::Hello(1);
+const LOWER_HELLO: Told = Told::Hello(1);
 
-const LABEL: Payload = Payload::Label(0);
+const LABEL: Told = Told::Label(0);
 
-const COLOUR: Payload = Payload::Colour(3);
+const COLOUR: Told = Told::Colour(3);
 
-const CHOSEN: Payload = Payload::Chosen(0);
+const CHOSEN: Told = Told::Chosen(0);
 
 // The rule that a cell breaks.
 const DUE: Option<u16> = None;
@@ -34,7 +35,7 @@ const P2: Option<u16> = Some(WRONG_ROLE);
 const P6: Option<u16> = Some(AFTER_HALT);
 
 // Pulse, payload, and what it breaks from a port that is Unknown, Up and Down.
-type Row = (u32, Payload, Option<u16>, Option<u16>, Option<u16>);
+type Row = (u32, Told, Option<u16>, Option<u16>, Option<u16>);
 
 static TABLE: [Row; 32] = [
     // Greet
@@ -80,12 +81,7 @@ static TABLE: [Row; 32] = [
 ];
 
 // Whether two nodes take these payloads at the pulses from 1 on.
-fn both_take(
-    alloc: Global,
-    node: &mut Colouring,
-    twin: &mut Colouring,
-    payloads: &[Payload],
-) -> bool
+fn both_take(alloc: Global, node: &mut Colouring, twin: &mut Colouring, payloads: &[Told]) -> bool
     requires ports { (ports node.old ≡ 1) × (ports twin.old ≡ 1) }
     ensures ports { (ports node.new ≡ 1) × (ports twin.new ≡ 1) }
 {
@@ -103,9 +99,9 @@ fn both_take(
 /// What a node returns on a payload at a pulse, once others came at the pulses from 1 on.
 #[derive(Clone, Copy)]
 pub struct Cell<'a> {
-    earlier: &'a [Payload],
+    earlier: &'a [Told],
     pulse: u32,
-    payload: Payload,
+    payload: Told,
     due: Result<(), Refused>,
 }
 
@@ -147,9 +143,9 @@ fn returns(
     alloc: Global,
     net: &Network,
     v: u32,
-    earlier: &[Payload],
+    earlier: &[Told],
     pulse: u32,
-    payload: Payload,
+    payload: Told,
     broken: Option<u16>,
 ) -> bool {
     let cell = Cell {

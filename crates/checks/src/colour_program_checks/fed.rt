@@ -5,6 +5,7 @@ ghost use Rattle.alpha_core.specs.interference.Net.{IsVertex, degree_of};
 ghost use Rattle.alpha_core.specs.node_api.Boxes.{nothing};
 ghost use Rattle.colour_program.specs.colour_rules.Node.{ports};
 
+use crate::told::Told;
 use alpha_core::{Inbox, MAX_DEGREE, Memory, Network, NodeProgram, Outbox, Refused};
 use colour_program::{ColourNode, Colouring, Payload};
 use std::alloc::Global;
@@ -82,7 +83,7 @@ pub fn show(
     alloc: Global,
     node: &mut Colouring,
     pulse: u32,
-    payloads: &[Option<Payload>],
+    payloads: &[Option<Told>],
 ) -> Option<Shown>
     requires ports { length payloads.now ≡ ports node.old }
     requires few { length payloads.now ≤ MAX_DEGREE }
@@ -95,7 +96,7 @@ pub fn show(
 }
 
 /// Whether a node takes these payloads.
-pub fn takes(alloc: Global, node: &mut Colouring, pulse: u32, payloads: &[Option<Payload>]) -> bool
+pub fn takes(alloc: Global, node: &mut Colouring, pulse: u32, payloads: &[Option<Told>]) -> bool
     requires ports { length payloads.now ≡ ports node.old }
     requires few { length payloads.now ≤ MAX_DEGREE }
     ensures ports { ports node.new ≡ ports node.old }
@@ -112,7 +113,7 @@ pub fn show_alike(
     one: &mut Colouring,
     other: &mut Colouring,
     pulse: u32,
-    payloads: &[Option<Payload>],
+    payloads: &[Option<Told>],
 ) -> bool
     requires one { length payloads.now ≡ ports one.old }
     requires other { length payloads.now ≡ ports other.old }
@@ -125,7 +126,7 @@ pub fn show_alike(
 }
 
 // An inbox of these payloads.
-fn inbox_of(alloc: Global, payloads: &[Option<Payload>]) -> Result<Inbox<Payload>, Memory>
+fn inbox_of(alloc: Global, payloads: &[Option<Told>]) -> Result<Inbox<Payload>, Memory>
     requires few { length payloads.now ≤ MAX_DEGREE }
     ensures ports { IfOk result (λ inbox. length inbox.slots ≡ length payloads.now) }
     ensures rewound { IfOk result (λ inbox. inbox.cursor ≡ 0) }
@@ -133,9 +134,9 @@ fn inbox_of(alloc: Global, payloads: &[Option<Payload>]) -> Result<Inbox<Payload
     let degree = payloads.len() as u32;
     let mut inbox = Inbox::new(alloc, degree)?;
     for port in 0..degree {
-        if let Some(payload) = payloads[port as usize] {
+        if let Some(told) = payloads[port as usize] {
             if inbox.is_empty(port) {
-                inbox.put(port, payload);
+                inbox.put(port, told.payload());
             }
         }
     }

@@ -3,7 +3,7 @@
 use Rattle.std.proofs.Common.{◌≡◌, ◌-◌, ◌*◌, ◌<◌, ℕ, List, refl, ap, sym, ◌∙◌, arith}
 use Rattle.std.specs.Prelude.{Option, Some, IsTrue, false}
 use Rattle.std.specs.Ordering.{nat_cmp}
-use Rattle.std.specs.FinSet.{FinSet}
+use Rattle.std.specs.FinSet.{FinSet, insert}
 use Rattle.node_api.specs.Boxes.{at_port, fold_rest}
 use Rattle.node_api.proofs.Reading.{fold_rest-read, fold_rest-end}
 use Rattle.colour_rules.specs.declared.payload.Payload.{Payload}
@@ -36,7 +36,7 @@ loop-inbox-preserved-in-Chosen g c =
     record {
       same = c.next.ensures.reads.same ∙ l.invariant.same;
       rest =
-          ap (λ (set : FinSet nat_cmp). fold_rest taken_in set c.next.new.self) (c.add.ensures ∙ ap (taken_in l.chosen port) (sym c.in-Chosen.is))
+          ap (λ (set : FinSet nat_cmp). fold_rest taken_in set c.next.new.self) (c.add.ensures ∙ ap (λ (n : ℕ). insert l.chosen n) c.get.ensures.number ∙ ap (taken_in l.chosen port) (sym c.in-Chosen.is))
           ∙ (sym (fold_rest-read taken_in l.inbox c.next.result c.next.new.self l.chosen c.next.ensures.reads) ∙ l.invariant.rest);
     }
 

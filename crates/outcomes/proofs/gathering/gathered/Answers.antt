@@ -31,7 +31,7 @@ crossed-requires g c =
     record {
       shape = subst (λ rows. HasShape c.args.net.now rows) (sym c.in_ok-actors.ensures.takes)
           (subst (λ net. HasShape net (map (λ n. n.takes.items) nodes)) c.requires.network
-          (shape_of net (λ n. n.vertex) nodes c.requires.nodes (λ n. n.takes.items) (λ n. as_long _ _ n.takes.items _ n.ins)));
+          (shape_of net (λ n. n.vertex) nodes c.requires.nodes (λ n. n.takes.items) (λ n. as_long _ _ n.takes.items _ n.kept.ins)));
     }
 
 pub meet_rows-requires-clause-links : goal.meet_rows-requires-clause-links
@@ -41,7 +41,7 @@ meet_rows-requires-clause-links g c κs within =
     let nodes = c.args.nodes.items in
     let ok = subst IsNetwork (sym c.requires.network) c.is_network.ensures in
     of_items (λ row. row.items) c.in_ok-actors.field-0.puts.items (λ e. table_at tables e.vertex e.port) _ c.in_ok-actors.ensures.puts
-    ∙ links_meet net ok (λ n. n.vertex) nodes c.requires.nodes (λ n. n.puts.items) (λ e. (e.vertex, e.port)) (λ n. n.outs) tables table_of
+    ∙ links_meet net ok (λ n. n.vertex) nodes c.requires.nodes (λ n. n.puts.items) (λ e. (e.vertex, e.port)) (λ n. n.kept.outs) tables table_of
     (map (λ row. row.items) c.args.links.items) (sym c.requires.tables)
     (subst (λ net. HasShape net (map (λ row. row.items) c.args.links.items)) (sym c.requires.network) c.requires.shape)
     ∙ sym (of_items (λ row. row.items) c.args.links.items (λ link. Some (table_of link)) _ refl)
@@ -56,8 +56,8 @@ meet_rows-requires-clause-takes g c κs within =
     (subst (λ net. AreCrossed net (map (λ row. row.items) c.in_ok-actors.field-0.takes.items) crossed) (sym c.requires.network)
     c.in_ok-takes.ensures.crossed) in
     of_items (λ row. row.items) c.in_ok-takes.takes.items (λ e. (e.vertex, e.port)) _ refl
-    ∙ ends_meet net ok (λ n. n.vertex) nodes c.requires.nodes (λ n. n.puts.items) (λ e. (e.vertex, e.port)) (λ n. n.outs)
-    (λ n. n.takes.items) (λ e. (e.vertex, e.port)) (λ n. n.ins) crossed crosses
+    ∙ ends_meet net ok (λ n. n.vertex) nodes c.requires.nodes (λ n. n.puts.items) (λ e. (e.vertex, e.port)) (λ n. n.kept.outs)
+    (λ n. n.takes.items) (λ e. (e.vertex, e.port)) (λ n. n.kept.ins) crossed crosses
     ∙ sym (of_items (λ row. row.items) c.in_ok-actors.field-0.puts.items (λ e. (e.vertex, e.port)) _ c.in_ok-actors.ensures.puts)
 
 module _ {T : Type 0} where
@@ -92,15 +92,15 @@ returns g c =
     let splits = all_by (λ mets. All (λ met. put_of met ≡ taken_of met ++ held_stamped met) mets) (λ row. row.items) mets met.splits in
     let gathered : AreGathered program net nodes (λ n. n.vertex) (λ n. n.alpha) (λ n. n.aside) (λ n. map (λ e. put_list e.end) n.puts.items)
     (λ n. n.takes.items) (λ e. taken_list e.end) crossed g.J.Wiring.transcript (λ n. n.entries.items) outcome = record {
-      last = λ n. n.last;
-      keeps = λ n. n.keeps;
-      set_aside = λ n x e. n.set_aside x e;
+      last = λ n. n.kept.last_is;
+      keeps = λ n. n.kept.keeps;
+      set_aside = λ n x e. n.kept.set_aside x e;
       by_refusal = all_refused (λ n. n.aside) nodes c.requires.stamps;
       writes = λ n.
           subst (λ t. IsTranscript program net n.vertex t n.alpha.node (by_port (map (λ e. put_list e.end) n.puts.items))
-          (by_port (reacted_to n.aside (map (λ e. taken_list e.end) n.takes.items))) n.entries.items) n.recorded n.writes;
-      outs = λ n. length-map n.puts.items (λ e. put_list e.end) ∙ as_long _ _ n.puts.items _ n.outs;
-      ins = λ n. as_long _ _ n.takes.items _ n.ins;
+          (by_port (reacted_to n.aside (map (λ e. taken_list e.end) n.takes.items))) n.entries.items) n.kept.recorded n.kept.writes;
+      outs = λ n. length-map n.puts.items (λ e. put_list e.end) ∙ as_long _ _ n.puts.items _ n.kept.outs;
+      ins = λ n. as_long _ _ n.takes.items _ n.kept.ins;
       order = c.requires.nodes;
       crosses = crosses;
       vertices_are = map-twice (λ g. g.vertex) gathered_of actors ∙ c.in_ok-actors.ensures.vertices;
@@ -119,10 +119,10 @@ returns g c =
     (λ e. taken_stamped e.end) crossed g.J.Wiring.transcript (λ n. n.entries.items) (λ n. n.entries.stamped) linked outcome = record {
       order = c.requires.nodes;
       crosses = crosses;
-      outs = λ n. length-map n.puts.items (λ e. put_stamped e.end) ∙ as_long _ _ n.puts.items _ n.outs;
+      outs = λ n. length-map n.puts.items (λ e. put_stamped e.end) ∙ as_long _ _ n.puts.items _ n.kept.outs;
       stamps = λ n.
           subst (λ t. HasStamps net n.vertex t n.counter (by_port (map (λ e. put_stamped e.end) n.puts.items))
-          (by_port (map (λ e. taken_stamped e.end) n.takes.items)) n.entries.items n.entries.stamped) n.recorded n.stamps;
+          (by_port (map (λ e. taken_stamped e.end) n.takes.items)) n.entries.items n.entries.stamped) n.kept.recorded n.kept.stamps;
       entries_are = map-twice (λ g. g.entries) gathered_of actors ∙ c.in_ok-actors.ensures.entries;
       stamped_are = map-twice (λ g. g.stamped) gathered_of actors ∙ c.in_ok-actors.ensures.stamped;
       links_are = sym (of_fields (λ row. row.items) mets stamped_history_of history_of ∙ map-twice (λ row. map history_of_met row) (λ row. row.items) mets);

@@ -99,4 +99,4 @@ returns-clause-order g c =
     let many = many_nodes (λ b. b.value.vertex) nodes.items n c.requires.nodes in
     let count = c.len-count.ensures in
     ok_says c.gather_told.result
-    (λ all order. from_one (λ n. n.vertex) (λ n. n.is_vertex.0) all.items n c.len-count.result (omega (arith, nodes.ok.0)) order) c.gather_told.ensures.order
+    (λ all order. from_one (λ n. n.vertex) (λ n. n.kept.is_vertex.0) all.items n c.len-count.result (omega (arith, nodes.ok.0)) order) c.gather_told.ensures.order

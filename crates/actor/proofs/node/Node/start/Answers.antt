@@ -26,24 +26,26 @@ invariant_of-result g c =
     sent taken (λ i lt. none_at (λ e. put_list e.end) c.args.puts.items c.requires.nothing_put i)
     (λ i lt. none_at (λ e. taken_list e.end) c.args.takes.items c.requires.nothing_taken i) fresh in
     record {
-      network = subst (λ net. IsNetwork net) same c.is_network.ensures;
-      is_vertex = subst (λ net. IsVertex net c.args.vertex) same c.requires.vertex;
-      recorded = sym c.requires.transcript;
-      ports = c.degree.ensures.value ∙ ap (λ net. degree_of net c.args.vertex) same;
-      outs = c.requires.outs ∙ ap (λ net. links_out net c.args.vertex) same;
-      ins = c.requires.ins ∙ ap (λ net. links_in net c.args.vertex) same;
-      last = c.in_ok-alpha.ensures.last ∙ ap (λ net. last_pulse_on program net) same;
-      keeps = subst (λ net. NodeKept program net c.args.vertex c.in_ok-alpha.alpha.node sent
-          taken) same (subst (λ n. NodeKept program c.args.net.now c.args.vertex n sent
-          taken) (sym c.in_ok-alpha.ensures.node) kept);
-      set_aside = λ a none. absurd cc;
-      writes = subst (λ net. IsTranscript program net c.args.vertex c.args.transcript c.in_ok-alpha.alpha.node sent taken c.new.result.items) same
-          (subst (λ n. IsTranscript program c.args.net.now c.args.vertex c.args.transcript n sent taken c.new.result.items) (sym c.in_ok-alpha.ensures.node)
-          (starts_transcript program c.args.net.now c.args.vertex c.args.transcript sent taken c.new.result.items
-          (none_at (λ e. put_list e.end) c.args.puts.items c.requires.nothing_put)
-          (none_at (λ e. taken_list e.end) c.args.takes.items c.requires.nothing_taken) c.new.ensures.items));
-      stamps = has_at_start g.J.Wiring.net c.args.vertex c.args.transcript c.new-2.result (by_port (map (λ e. put_stamped e.end) c.args.puts.items))
-          (by_port (map (λ e. taken_stamped e.end) c.args.takes.items)) c.new.result.items c.new.result.stamped c.new-2.ensures.zero
-          (none_stamped_at (λ e. put_stamped e.end) c.args.puts.items c.requires.nothing_put) c.new.ensures.items c.new.ensures.stamped;
-      full = λ a none. absurd cc;
+      kept = record {
+        network = subst (λ net. IsNetwork net) same c.is_network.ensures;
+        is_vertex = subst (λ net. IsVertex net c.args.vertex) same c.requires.vertex;
+        recorded = sym c.requires.transcript;
+        ports = c.degree.ensures.value ∙ ap (λ net. degree_of net c.args.vertex) same;
+        outs = c.requires.outs ∙ ap (λ net. links_out net c.args.vertex) same;
+        ins = c.requires.ins ∙ ap (λ net. links_in net c.args.vertex) same;
+        last_is = c.in_ok-alpha.ensures.last ∙ ap (λ net. last_pulse_on program net) same;
+        keeps = subst (λ net. NodeKept program net c.args.vertex c.in_ok-alpha.alpha.node sent
+            taken) same (subst (λ n. NodeKept program c.args.net.now c.args.vertex n sent
+            taken) (sym c.in_ok-alpha.ensures.node) kept);
+        set_aside = λ a none. absurd cc;
+        writes = subst (λ net. IsTranscript program net c.args.vertex c.args.transcript c.in_ok-alpha.alpha.node sent taken c.new.result.items) same
+            (subst (λ n. IsTranscript program c.args.net.now c.args.vertex c.args.transcript n sent taken c.new.result.items) (sym c.in_ok-alpha.ensures.node)
+            (starts_transcript program c.args.net.now c.args.vertex c.args.transcript sent taken c.new.result.items
+            (none_at (λ e. put_list e.end) c.args.puts.items c.requires.nothing_put)
+            (none_at (λ e. taken_list e.end) c.args.takes.items c.requires.nothing_taken) c.new.ensures.items));
+        stamps = has_at_start g.J.Wiring.net c.args.vertex c.args.transcript c.new-2.result (by_port (map (λ e. put_stamped e.end) c.args.puts.items))
+            (by_port (map (λ e. taken_stamped e.end) c.args.takes.items)) c.new.result.items c.new.result.stamped c.new-2.ensures.zero
+            (none_stamped_at (λ e. put_stamped e.end) c.args.puts.items c.requires.nothing_put) c.new.ensures.items c.new.ensures.stamped;
+        full = λ a none. absurd cc;
+      };
     }

@@ -1,4 +1,5 @@
-use Rattle.std.proofs.Common.{refl, subst}
+use Rattle.std.proofs.Common.{ℕ, ◌≤◌, refl, subst, sym, arith}
+use Rattle.node_api.specs.Program.{span}
 use Rattle.node_api.specs.Boxes.{Reads}
 use Rattle.colour_rules.specs.declared.payload.Payload.{Payload}
 use Rattle.colour_rules.specs.declared.payload.Payload.TheVariants.{Chosen}
@@ -9,9 +10,10 @@ pub returns-in-Chosen-clause-taken : goal.returns-in-Chosen-clause-taken
 returns-in-Chosen-clause-taken c =
     let reads : Reads c.args.inbox.now (Chosen c.in-Chosen.colour) c.next-payload.new.self =
     subst (λ (payload : Payload). Reads c.args.inbox.now payload c.next-payload.new.self) c.in-Chosen.is c.next-payload.ensures.reads in
+    let low : c.in-Chosen.colour ≤ span c.args.self.now.sizes = omega (arith, c.get.ensures.number, c.if-takes.ensures.low refl) in
     record {
-      reads = reads;
-      low = c.if-takes.ensures.low refl;
+      reads = subst (λ (n : ℕ). Reads c.args.inbox.now (Chosen n) c.next-payload.new.self) (sym c.get-in-Chosen.ensures.number) reads;
+      low = omega (arith, c.get-in-Chosen.ensures.number, low);
       passed = passed-more c.args.self.now c.args.forest c.args.inbox.now.slots c.requires.ports c.args.inbox.now c.next-payload.new.self c.sender-port.result
-          c.in-Chosen.colour refl c.sender-port.ensures.port reads (c.if-takes.ensures.low refl) (c.if-takes.ensures.merged refl) c.requires.passed;
+          c.in-Chosen.colour refl c.sender-port.ensures.port reads low (c.if-takes.ensures.merged refl) c.requires.passed;
     }

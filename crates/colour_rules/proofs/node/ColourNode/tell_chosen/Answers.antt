@@ -12,5 +12,6 @@ returns-then-are_merged c =
     let roles : c.deref.result.now ≡ node.roles = c.deref.ensures.value ∙ ap (λ (n : Node). n.roles) c.self.view_is in
     let all : list_all (is_merged c.args.forest) node.roles ≡ true =
     ap (λ (rs : List Role). list_all (is_merged c.args.forest) rs) (sym roles) ∙ (sym c.are_merged.ensures ∙ c.if-are_merged.true) in
-    told-by-broadcast node c.args.forest c.self.inside.merged c.args.out.now c.broadcast.new.self (ap (λ (n : Node). n.merged) c.self.view_is)
+    told-by-broadcast node c.args.forest c.new.result c.args.out.now c.broadcast.new.self
+    (c.new.ensures.number ∙ ap (λ (n : Node). n.merged) c.self.view_is)
     c.requires c.broadcast.ensures.sent all

@@ -1,0 +1,247 @@
+-- What a node with its ends keeps, event by event: each exit of a part of a turn is one of these.
+use Rattle.std.proofs.Common.{◌≡◌, ℕ, ◌+◌, ◌<◌, [], ◌∷◌, ◌++◌, List, Some, None, Ok, Err, length, set, get_or, map, if◌then◌else◌, refl, sym, ap, ◌∙◌, subst, slice_get}
+use Rattle.std.proofs.lemmas.List.{map-append}
+use Rattle.std.specs.Prelude.{Bool, Option, IsTrue, max}
+use Rattle.alpha_laws.specs.interference.Net.{degree_of, neighbour_of, back_port_of}
+use Rattle.alpha_laws.specs.node_api.Program.{Program, last_pulse_on}
+use Rattle.alpha_laws.specs.node_api.Laws.{IsProgram}
+use Rattle.alpha_laws.specs.alpha_core.Alpha.{pulse, put_done, reaction}
+use Rattle.alpha_laws.specs.alpha_core.AlphaRefused.{AlphaRefused}
+use Rattle.alpha_laws.specs.alpha_core.StampedWires.{stamped, wires_of}
+use Rattle.alpha_laws.specs.alpha_core.View.{Node, can_pulse, port_at}
+use Rattle.alpha_laws.specs.alpha_core.Wire.{Wire}
+use Rattle.link_queue.specs.Ends.{put_list, put_stamped, take_name, taken_list, taken_stamped}
+use Rattle.link_queue.specs.Queued.{stamped_of}
+use Rattle.link_queue.specs.declared.queued.Queued.{Queued}
+use Rattle.link_queue.specs.link_rule.Legal.{IsLegalOn, LegalFor}
+use Rattle.stamps.specs.Stamps.{StampedEntry}
+use Rattle.stamps.specs.entries.Entry.{Entry}
+use Rattle.stamps.specs.entries.Entry.TheVariants.{Pulse, Put, Take}
+use Rattle.actor.specs.Kept.{IsKept}
+use Rattle.alpha_laws.specs.Kept.{NodeKept}
+use Rattle.actor.specs.HasStamps.{HasStamps}
+use Rattle.actor.specs.Node.{IsAside, by_port, reacted_to}
+use Rattle.actor.specs.Written.{IsTranscript}
+use Rattle.actor.specs.declared.aside.Aside.{Aside}
+use Rattle.actor.specs.declared.aside.WhyAside.TheVariants.{Refused, StampFull}
+use Rattle.actor.specs.declared.wired.WiredPut.{WiredPut}
+use Rattle.actor.specs.declared.wired.WiredTake.{WiredTake}
+use Rattle.actor.specs.declared.wiring.Wiring as wiring
+use Rattle.actor.proofs.HasStamps.{full_aside, has_aside, has_pulsed, has_put, has_taken}
+use Rattle.actor.proofs.Kept.{legal_of_name}
+use Rattle.actor.proofs.Lists.{as_long, at_place, below_as_many, below_same, same_all}
+use Rattle.actor.proofs.Queued.{parts_of}
+use Rattle.actor.proofs.Steps.{aside_is, full_not_refused, full_stamp, none_and_some, pulsed, put_one, refused_is, refused_not_full, took_one, took_refused}
+use Rattle.actor.proofs.Writes.{wrote_one_put, wrote_pulsed, wrote_refused, wrote_taken}
+
+module _ {J M : Type 0} {j : wiring.Ghosts J} where
+  -- The end x, of port i, is y now: it took the wire w with stamp s, or nothing.
+  pub record Came (takes : List (WiredTake J M j)) (i : ℕ) (x y : WiredTake J M j) (s : ℕ) (w : Wire M) : Type 0 where
+    pub is : x ≡ get_or takes i x
+    pub place : (y.vertex ≡ x.vertex) × (y.port ≡ x.port)
+    pub more : taken_stamped y.end ≡ taken_stamped x.end ++ (stamped s w ∷ [])
+
+  pub record NoneCame (takes : List (WiredTake J M j)) (i : ℕ) (x y : WiredTake J M j) : Type 0 where
+    pub is : x ≡ get_or takes i x
+    pub place : (y.vertex ≡ x.vertex) × (y.port ≡ x.port)
+    pub same : taken_stamped y.end ≡ taken_stamped x.end
+
+  -- The end x, of port i, is y now: it put the wire w with stamp s, or nothing.
+  pub record Went (puts : List (WiredPut J M j)) (i : ℕ) (x y : WiredPut J M j) (s : ℕ) (w : Wire M) : Type 0 where
+    pub is : x ≡ get_or puts i x
+    pub place : (y.vertex ≡ x.vertex) × (y.port ≡ x.port)
+    pub more : put_stamped y.end ≡ put_stamped x.end ++ (stamped s w ∷ [])
+
+  pub record NoneWent (puts : List (WiredPut J M j)) (i : ℕ) (x y : WiredPut J M j) : Type 0 where
+    pub is : x ≡ get_or puts i x
+    pub place : (y.vertex ≡ x.vertex) × (y.port ≡ x.port)
+    pub same : put_stamped y.end ≡ put_stamped x.end
+
+  pub came : {takes : List (WiredTake J M j)} {i : ℕ} {x y : WiredTake J M j} {s : ℕ} {w : Wire M} (item : Queued M) → x ≡ get_or takes i x
+      → (y.vertex ≡ x.vertex) × (y.port ≡ x.port) → taken_stamped y.end ≡ taken_stamped x.end ++ (stamped_of item ∷ [])
+      → s ≡ (stamped_of item).stamp → w ≡ (stamped_of item).wire → Came takes i x y s w
+  came {takes} {i} {x} {y} {s} {w} item is place more stamp wire = record {
+    is = is;
+    place = place;
+    more = more ∙ ap (λ q. taken_stamped x.end ++ (q ∷ [])) (parts_of item s w stamp (sym wire));
+  }
+
+  -- the lists without stamps
+  wires_came : {takes : List (WiredTake J M j)} {i : ℕ} {x y : WiredTake J M j} {s : ℕ} {w : Wire M} → Came takes i x y s w
+      → taken_list y.end ≡ taken_list x.end ++ (w ∷ [])
+  wires_came {takes} {i} {x} {y} {s} {w} c = ap (λ l. wires_of l) c.more ∙ map-append (λ q. q.wire) (taken_stamped x.end) (stamped s w ∷ [])
+
+  wires_went : {puts : List (WiredPut J M j)} {i : ℕ} {x y : WiredPut J M j} {s : ℕ} {w : Wire M} → Went puts i x y s w
+      → put_list y.end ≡ put_list x.end ++ (w ∷ [])
+  wires_went {puts} {i} {x} {y} {s} {w} c = ap (λ l. wires_of l) c.more ∙ map-append (λ q. q.wire) (put_stamped x.end) (stamped s w ∷ [])
+
+module _ {J S M E : Type 0} {j : wiring.Ghosts J} {program : Program S M E} {v degree last counter : ℕ} {t : Bool} {aside : Option (Aside M)}
+    {node : Node S M} {puts : List (WiredPut J M j)} {takes : List (WiredTake J M j)} {es : List (Entry M)} {st : List (StampedEntry M)}
+    (old : IsKept program v degree t aside last node puts takes es st counter) where
+  -- an end for each port
+  pub count_puts : length puts ≡ degree_of j.net v
+  count_puts = as_long (λ e. (e.vertex, e.port)) (λ i. (v, i)) puts (degree_of j.net v) old.outs
+
+  pub count_takes : length takes ≡ degree_of j.net v
+  count_takes = as_long (λ e. (e.vertex, e.port)) (λ i. (neighbour_of j.net v i, back_port_of j.net v i)) takes (degree_of j.net v) old.ins
+
+  pub port_below : (i : ℕ) → i < degree → i < degree_of j.net v
+  port_below i lt = below_same i degree (degree_of j.net v) old.ports lt
+
+  takes_within : (i : ℕ) → i < degree → i < length takes
+  takes_within i lt = below_as_many i (length takes) (degree_of j.net v) count_takes (port_below i lt)
+
+  from_neighbour : (i : ℕ) (x : WiredTake J M j) → i < degree → x ≡ get_or takes i x
+      → ◌≡◌ {A = ℕ × ℕ} (x.vertex, x.port) (neighbour_of j.net v i, back_port_of j.net v i)
+  from_neighbour i x lt is = at_place (λ e. (e.vertex, e.port)) (λ i. (neighbour_of j.net v i, back_port_of j.net v i)) takes (degree_of j.net v) i x
+      old.ins (port_below i lt) is
+
+  -- room for an entry was made
+  pub kept-room : {es' : List (Entry M)} {st' : List (StampedEntry M)} → es' ≡ es → st' ≡ st
+      → IsKept program v degree t aside last node puts takes es' st' counter
+  kept-room {es'} {st'} room room_st = subst (λ l. IsKept program v degree t aside last node puts takes l st' counter) (sym room)
+      (subst (λ l. IsKept program v degree t aside last node puts takes es l counter) (sym room_st) old)
+
+  -- an event, after which nothing is set aside: what it changes
+  kept-by : {new : Node S M} {last' counter' : ℕ} {puts' : List (WiredPut J M j)} {takes' : List (WiredTake J M j)} {es' : List (Entry M)}
+      {st' : List (StampedEntry M)} → aside ≡ None → map {B = ℕ × ℕ} (λ e. (e.vertex, e.port)) puts' ≡ map {B = ℕ × ℕ} (λ e. (e.vertex, e.port)) puts
+      → map {B = ℕ × ℕ} (λ e. (e.vertex, e.port)) takes' ≡ map {B = ℕ × ℕ} (λ e. (e.vertex, e.port)) takes → last' ≡ last
+      → NodeKept program j.net v new (by_port (map (λ e. put_list e.end) puts')) (by_port (reacted_to aside (map (λ e. taken_list e.end) takes')))
+      → IsTranscript program j.net v t new (by_port (map (λ e. put_list e.end) puts'))
+      (by_port (reacted_to aside (map (λ e. taken_list e.end) takes'))) es'
+      → HasStamps j.net v t counter' (by_port (map (λ e. put_stamped e.end) puts')) (by_port (map (λ e. taken_stamped e.end) takes')) es' st'
+      → IsKept program v degree t aside last' new puts' takes' es' st' counter'
+  kept-by going outs ins same keeps writes stamps = record {
+    network = old.network;
+    is_vertex = old.is_vertex;
+    recorded = old.recorded;
+    ports = old.ports;
+    outs = outs ∙ old.outs;
+    ins = ins ∙ old.ins;
+    last_is = same ∙ old.last_is;
+    keeps = keeps;
+    set_aside = λ a e. absurd (none_and_some aside a going e);
+    writes = writes;
+    stamps = stamps;
+    full = λ a e. absurd (none_and_some aside a going e);
+  }
+
+  -- nothing came by port i
+  pub kept-none-came : {i : ℕ} {x y : WiredTake J M j} → aside ≡ None → NoneCame takes i x y
+      → IsKept program v degree t aside last node puts (set takes i y) es st counter
+  kept-none-came {i} {x} {y} going c =
+      let wires = sym (same_all (λ e. taken_list e.end) takes i x y c.is (ap (λ l. wires_of l) c.same)) in
+      let sent = by_port (map (λ e. put_list e.end) puts) in
+      kept-by going refl (same_all (λ e. (e.vertex, e.port)) takes i x y c.is (λ k. (c.place.0 k, c.place.1 k))) refl
+      (subst (λ l. NodeKept program j.net v node sent (by_port (reacted_to aside l))) wires old.keeps)
+      (subst (λ l. IsTranscript program j.net v t node sent (by_port (reacted_to aside l)) es) wires old.writes)
+      (subst (λ l. HasStamps j.net v t counter (by_port (map (λ e. put_stamped e.end) puts)) (by_port l) es st)
+      (sym (same_all (λ e. taken_stamped e.end) takes i x y c.is c.same)) old.stamps)
+
+  -- a wire came, and the node reacted
+  pub kept-took : {new : Node S M} {last' counter' next : ℕ} {es' : List (Entry M)} {st' : List (StampedEntry M)} {i : ℕ}
+      {x y : WiredTake J M j} {s : ℕ} {w : Wire M} → aside ≡ None → i < degree → Came takes i x y s w
+      → LegalFor (IsLegalOn program) (take_name x.end) (taken_list y.end) → reaction last node.view i w ≡ Ok new.view → new.state ≡ node.state
+      → last' ≡ last → next ≡ max counter s + 1 → counter' ≡ next
+      → es' ≡ (if t then es ++ (Take y.vertex w ∷ []) else es) → st' ≡ (if t then st ++ ((next, Take y.vertex w) ∷ []) else st)
+      → IsKept program v degree t aside last' new puts (set takes i y) es' st' counter'
+  kept-took {new} {last'} {counter'} {next} {es'} {st'} {i} {x} {y} {s} {w} going port c legal reacts state same stamp moved wrote wrote_st =
+      let lt = port_below i port in
+      let at = from_neighbour i x port c.is in
+      let from = c.place.0 ∙ ap (λ (p : ℕ × ℕ). p.0) at in
+      let legal' = legal_of_name program j.net old.network v i x.vertex x.port (take_name x.end) (taken_list y.end) old.is_vertex lt x.place.named at legal in
+      kept-by going refl (same_all (λ e. (e.vertex, e.port)) takes i x y c.is (λ k. (c.place.0 k, c.place.1 k))) same
+      (took_one program j.net (λ e. put_list e.end) (λ e. taken_list e.end) v node new puts takes aside i x y w last old.last_is count_takes lt going
+      c.is (wires_came c) legal' reacts state old.keeps)
+      (wrote_taken program j.net (λ e. put_list e.end) (λ e. taken_list e.end) v t old.network old.is_vertex node new puts takes aside i x y w last
+      y.vertex es es' old.last_is count_takes lt going c.is (wires_came c) reacts state from wrote old.writes)
+      (has_taken program j.net (λ e. put_stamped e.end) (λ e. taken_stamped e.end) v t old.network old.is_vertex node counter next counter' y.vertex
+      puts takes aside i x y (stamped s w) es es' st st' count_takes lt going c.is c.more from stamp moved wrote wrote_st old.writes old.stamps)
+
+  -- a wire came, and was set aside: the node refused it, or its stamp would be too great
+  kept-aside : {new : Node S M} {last' : ℕ} {i : ℕ} {x y : WiredTake J M j} {s : ℕ} {w : Wire M} (a : Aside M) → a.port ≡ i
+      → ((k : ℕ) → a.why ≡ StampFull k → s ≡ k)
+      → ((b : Aside M) → Some a ≡ Some b → IsAside (last_pulse_on program j.net) new.view (map (λ e. taken_list e.end) (set takes i y)) b)
+      → aside ≡ None → i < degree → Came takes i x y s w → new ≡ node → last' ≡ last
+      → IsKept program v degree t (Some a) last' new puts (set takes i y) es st counter
+  kept-aside {new} {last'} {i} {x} {y} {s} {w} a at full is_aside going port c same_node same =
+      let lt = port_below i port in
+      record {
+        network = old.network;
+        is_vertex = old.is_vertex;
+        recorded = old.recorded;
+        ports = old.ports;
+        outs = old.outs;
+        ins = same_all (λ e. (e.vertex, e.port)) takes i x y c.is (λ k. (c.place.0 k, c.place.1 k)) ∙ old.ins;
+        last_is = same ∙ old.last_is;
+        keeps = took_refused program j.net (λ e. put_list e.end) (λ e. taken_list e.end) v node new puts takes aside i x y w a at count_takes lt going
+            c.is (wires_came c) same_node old.keeps;
+        set_aside = is_aside;
+        writes = wrote_refused program j.net (λ e. put_list e.end) (λ e. taken_list e.end) v t node new puts takes aside i x y w a es at count_takes lt going
+            c.is (wires_came c) same_node old.writes;
+        stamps = has_aside program j.net (λ e. put_stamped e.end) (λ e. taken_stamped e.end) v t old.network old.is_vertex node counter puts takes aside i x y
+            (stamped s w) es st count_takes lt going c.is c.more old.writes old.stamps;
+        full = full_aside (λ e. taken_stamped e.end) takes i x y (stamped s w) a (takes_within i port) c.is c.more at full;
+      }
+
+  pub kept-refused : {new : Node S M} {last' : ℕ} {i : ℕ} {x y : WiredTake J M j} {s : ℕ} {w : Wire M} {e : AlphaRefused} → aside ≡ None → i < degree
+      → Came takes i x y s w → reaction last node.view i w ≡ Err e → new ≡ node → last' ≡ last
+      → IsKept program v degree t (Some record { port = i; wire = w; why = Refused }) last' new puts (set takes i y) es st counter
+  kept-refused {new} {last'} {i} {x} {y} {s} {w} {e} going port c refused same_node same =
+      let a : Aside M = record { port = i; wire = w; why = Refused } in
+      kept-aside a refl (λ k is. absurd (refused_not_full k is))
+      (refused_is program j.net (λ e. taken_list e.end) node new takes i x y w a e last old.last_is refl refl (takes_within i port) c.is (wires_came c) same_node
+      refused) going port c same_node same
+
+  pub kept-full : {i : ℕ} {x y : WiredTake J M j} {s : ℕ} {w : Wire M} → aside ≡ None → i < degree → Came takes i x y s w
+      → IsKept program v degree t (Some record { port = i; wire = w; why = StampFull s }) last node puts (set takes i y) es st counter
+  kept-full {i} {x} {y} {s} {w} going port c =
+      let a : Aside M = record { port = i; wire = w; why = StampFull s } in
+      kept-aside a refl (λ k is. full_stamp s k is)
+      (aside_is program j.net (λ e. taken_list e.end) node node takes i x y w a refl refl (takes_within i port) c.is (wires_came c) refl
+      (λ why. absurd (full_not_refused s why))) going port c refl refl
+
+  -- nothing was put by port i
+  pub kept-none-put : {i : ℕ} {x y : WiredPut J M j} → aside ≡ None → NoneWent puts i x y
+      → IsKept program v degree t aside last node (set puts i y) takes es st counter
+  kept-none-put {i} {x} {y} going c =
+      let wires = sym (same_all (λ e. put_list e.end) puts i x y c.is (ap (λ l. wires_of l) c.same)) in
+      let taken = by_port (reacted_to aside (map (λ e. taken_list e.end) takes)) in
+      kept-by going (same_all (λ e. (e.vertex, e.port)) puts i x y c.is (λ k. (c.place.0 k, c.place.1 k))) refl refl
+      (subst (λ l. NodeKept program j.net v node (by_port l) taken) wires old.keeps)
+      (subst (λ l. IsTranscript program j.net v t node (by_port l) taken es) wires old.writes)
+      (subst (λ l. HasStamps j.net v t counter (by_port l) (by_port (map (λ e. taken_stamped e.end) takes)) es st)
+      (sym (same_all (λ e. put_stamped e.end) puts i x y c.is c.same)) old.stamps)
+
+  -- the oldest wire of the out-list of port i was put; z is the end that takes from the neighbour
+  pub kept-put : {new : Node S M} {last' counter' next : ℕ} {es' : List (Entry M)} {st' : List (StampedEntry M)} {i : ℕ}
+      {x y : WiredPut J M j} {z : WiredTake J M j} {w : Wire M} → aside ≡ None → i < degree → Went puts i x y next w → z ≡ get_or takes i z
+      → slice_get (port_at node.view i).out 0 ≡ Some w → new.view ≡ put_done node.view i → new.state ≡ node.state
+      → last' ≡ last → next ≡ counter + 1 → counter' ≡ next
+      → es' ≡ (if t then es ++ (Put z.vertex w ∷ []) else es) → st' ≡ (if t then st ++ ((next, Put z.vertex w) ∷ []) else st)
+      → IsKept program v degree t aside last' new (set puts i y) takes es' st' counter'
+  kept-put {new} {last'} {counter'} {next} {es'} {st'} {i} {x} {y} {z} {w} going port c is oldest view state same stamp moved wrote wrote_st =
+      let lt = port_below i port in
+      let to = ap (λ (p : ℕ × ℕ). p.0) (from_neighbour i z port is) in
+      kept-by going (same_all (λ e. (e.vertex, e.port)) puts i x y c.is (λ k. (c.place.0 k, c.place.1 k))) refl same
+      (put_one program j.net (λ e. put_list e.end) (λ e. taken_list e.end) v node new puts takes aside i x y w count_puts lt c.is (wires_went c) oldest
+      view state old.keeps)
+      (wrote_one_put program j.net (λ e. put_list e.end) (λ e. taken_list e.end) v t old.network old.is_vertex node new puts takes aside i x y w
+      z.vertex es es' count_puts lt c.is (wires_went c) oldest view state to wrote old.writes)
+      (has_put program j.net (λ e. put_stamped e.end) (λ e. taken_stamped e.end) v t old.network old.is_vertex counter next counter' z.vertex puts takes
+      i x y w es es' st st' count_puts lt c.is c.more to stamp moved wrote wrote_st old.stamps)
+
+  -- a pulse was made
+  pub kept-pulsed : {new : Node S M} {last' counter' next number : ℕ} {es' : List (Entry M)} {st' : List (StampedEntry M)} → IsProgram program
+      → aside ≡ None → IsTrue (can_pulse last node.view) → pulse program.next last node ≡ Ok new → number ≡ new.view.pulse
+      → last' ≡ last → next ≡ counter + 1 → counter' ≡ next
+      → es' ≡ (if t then es ++ (Pulse number ∷ []) else es) → st' ≡ (if t then st ++ ((next, Pulse number) ∷ []) else st)
+      → IsKept program v degree t aside last' new puts takes es' st' counter'
+  kept-pulsed {new} {last'} {counter'} {next} {number} {es'} {st'} laws going can made is same stamp moved wrote wrote_st =
+      let sent = by_port (map (λ e. put_list e.end) puts) in
+      let taken = by_port (reacted_to aside (map (λ e. taken_list e.end) takes)) in
+      kept-by going refl refl same
+      (pulsed program j.net laws old.network v node new sent taken last old.last_is old.is_vertex can made old.keeps)
+      (wrote_pulsed program j.net v t node new sent taken last number es es' old.last_is can made is wrote old.writes)
+      (has_pulsed program j.net (λ e. put_stamped e.end) (λ e. taken_stamped e.end) v t old.network old.is_vertex counter next counter' number puts takes
+      es es' st st' stamp moved wrote wrote_st old.stamps)

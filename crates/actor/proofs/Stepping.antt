@@ -1,0 +1,59 @@
+-- What a part of a turn leaves, exit by exit.
+use Rattle.std.proofs.Common.{◌≡◌, ◌≤◌, ◌+◌, ◌^◌, true, false, Ok, Err, sym, ◌∙◌, true≢false}
+use Rattle.std.specs.Prelude.{Bool, Result, IsErrAnd, IsTrue, max}
+use Rattle.std.specs.declared.cmp.PartialEq as equality
+use Rattle.alpha_laws.specs.declared.NodeProgram as program
+use Rattle.alpha_laws.specs.declared.PayloadText as text
+use Rattle.actor.specs.Blocked.{IsUnmoved}
+use Rattle.actor.specs.HasStamps.{aside_stamp}
+use Rattle.actor.specs.Stepped.{Stepped}
+use Rattle.actor.specs.declared.wiring.Wiring as wiring
+use Rattle.actor.specs.declared.node.Node.{Node}
+use Rattle.actor.specs.declared.refused.TurnRefused.{TurnRefused}
+use Rattle.actor.specs.declared.refused.TurnRefused.TheVariants.{Memory, StampFull}
+use Rattle.actor.proofs.Refusals.{full-isnt_memory, memory-isnt_full}
+
+module _ {J P T : Type 0} {j : wiring.Ghosts J} {p : program.Ghosts P T} {t : text.Ghosts T} {q : equality.Ghosts T} where
+  -- it did something
+  pub stepped-did : {old new : Node J P T j p t q} → new.vertex ≡ old.vertex → new.degree ≡ old.degree → Stepped old new (Ok true)
+  stepped-did vertex degree = record {
+    vertex = vertex;
+    degree = degree;
+    unmoved = λ did. absurd (true≢false did);
+    refused = tt;
+    full = tt;
+  }
+
+  -- it did nothing
+  pub stepped-not : {old new : Node J P T j p t q} → new.vertex ≡ old.vertex → new.degree ≡ old.degree → IsUnmoved old new → Stepped old new (Ok false)
+  stepped-not vertex degree unmoved = record {
+    vertex = vertex;
+    degree = degree;
+    unmoved = λ did. unmoved;
+    refused = tt;
+    full = tt;
+  }
+
+  -- memory was refused
+  pub stepped-memory : {old new : Node J P T j p t q} {r : Result Bool TurnRefused} → IsErrAnd r (λ error. error ≡ Memory) → new.vertex ≡ old.vertex
+      → new.degree ≡ old.degree → IsTrue j.transcript → Stepped old new r
+  stepped-memory {r = Ok did} is vertex degree transcript = absurd is
+  stepped-memory {r = Err error} is vertex degree transcript = record {
+    vertex = vertex;
+    degree = degree;
+    unmoved = tt;
+    refused = λ memory. transcript;
+    full = λ full. absurd (memory-isnt_full (sym is ∙ full));
+  }
+
+  -- a stamp would be too great
+  pub stepped-full : {old new : Node J P T j p t q} {r : Result Bool TurnRefused} → IsErrAnd r (λ error. error ≡ StampFull) → new.vertex ≡ old.vertex
+      → new.degree ≡ old.degree → 2 ^ 64 ≤ max new.counter (aside_stamp new.aside) + 1 → Stepped old new r
+  stepped-full {r = Ok did} is vertex degree le = absurd is
+  stepped-full {r = Err error} is vertex degree le = record {
+    vertex = vertex;
+    degree = degree;
+    unmoved = tt;
+    refused = λ memory. absurd (full-isnt_memory (sym is ∙ memory));
+    full = λ full. le;
+  }

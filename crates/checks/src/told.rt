@@ -1,0 +1,25 @@
+//! Payloads of the colouring as the tables of the tests have them: a static can't hold a payload, whose numbers have
+//! a model.
+
+use colour_program::{Long, Payload, Short};
+
+/// What a node tells.
+#[derive(Clone, Copy)]
+pub enum Told {
+    Hello(u128),
+    Label(u16),
+    Colour(u128),
+    Chosen(u16),
+}
+
+impl Told {
+    /// The payload that tells it.
+    pub fn payload(self) -> Payload {
+        match self {
+            Told::Hello(id) => Payload::Hello(Long::new(id)),
+            Told::Label(forest) => Payload::Label(Short::new(forest)),
+            Told::Colour(colour) => Payload::Colour(Long::new(colour)),
+            Told::Chosen(colour) => Payload::Chosen(Short::new(colour)),
+        }
+    }
+}
