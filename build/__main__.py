@@ -8,6 +8,7 @@ MODULES = {
     "prove-crate": "prove_crate",
     "install": "install",
     "paths": "paths",
+    "promises": "promises",
     "wrong-bodies": "wrong_bodies",
 }
 

@@ -15,7 +15,7 @@
   stands for lines that are left out.
 - Each wrong body of crates/NAME/must-fail/ and crates/NAME/wrong-bodies/ still applies (edits_apply.py).
 - No crate is reached along more paths through crates.txt than build/paths.py allows.
-- README.md or docs/work/LAYERS.md names each crate, and README.md is at most 120 lines. No line of a page is wider than
+- README.md or docs/work/LAYERS.md names each crate. No line of a page is wider than
   150 columns.
 - Each file named in backquotes exists, each link leads to a page and a heading, and each function and clause that
   docs/claim/PROMISES.md names is in the code. It names each public law.
@@ -39,7 +39,7 @@ PAGES = ["README.md"] + sorted(
     os.path.relpath(path, TOP) for path in glob.glob(os.path.join(TOP, "docs", "**", "*.md"), recursive=True)
 )
 LIMIT = 300
-WIDEST, LONGEST_README = 150, 120
+WIDEST = 150
 TALLY = {"passed": 0, "failed": 0}
 
 
@@ -305,8 +305,6 @@ def check_crates():
 def check_lengths():
     wide = [f"{page}:{number}" for page in PAGES for number, line in enumerate(lines_of(page), 1) if len(line) > WIDEST]
     note(f"lines of pages wider than {WIDEST} columns", not wide, wide[:5])
-    length = len(lines_of("README.md")) - 1
-    note("length of README.md", length <= LONGEST_README, f"{length} lines")
 
 
 def check_paths():

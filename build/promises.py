@@ -1,0 +1,95 @@
+#!/usr/bin/env python3
+"""Writes the index of docs/claim/PROMISES.md, "Bytes to bytes": each public function of the crates from bytes to bytes,
+with its clauses and the first sentence of its comment, as the sources have them now.
+
+  promises.py            writes the index into the page
+  promises.py --print    prints it
+
+tests/pages/index.py refuses a page whose index differs.
+"""
+import argparse
+import os
+import re
+import textwrap
+
+TOP = os.path.dirname(os.path.dirname(os.path.abspath(__file__)))
+PAGE = os.path.join(TOP, "docs", "claim", "PROMISES.md")
+BEGIN, END = "<!-- index: python3 build promises -->", "<!-- end of the index -->"
+WIDTH = 148
+# From the program down to the texts.
+CRATES = (
+    "serving", "byte_functions", "answers", "command_line", "whole_streams", "channel_plan", "transcripts",
+    "round_texts", "event_texts", "wire_texts", "number_rows",
+)
+
+
+def text_of(*parts):
+    with open(os.path.join(TOP, *parts), encoding="utf-8") as file:
+        return file.read()
+
+
+def exported(crate):
+    """The names that `lib.rt` exports of the crate's own modules: (module, name), in the order of its lines; of a
+    public module each function."""
+    lib = text_of("crates", crate, "src", "lib.rt")
+    for module in re.findall(r"^pub mod (\w+);", lib, re.M):
+        for name in re.findall(r"^pub fn (\w+)", text_of("crates", crate, "src", f"{module}.rt"), re.M):
+            yield module, name, f"{crate}::{module}::{name}"
+    for found in re.finditer(r"^pub use (\w+)::(\{[^}]*\}|\w+);", lib, re.M):
+        module, names = found.groups()
+        if os.path.isfile(os.path.join(TOP, "crates", crate, "src", f"{module}.rt")):
+            for name in re.findall(r"\w+", names):
+                yield module, name, f"{crate}::{name}"
+
+
+def function(crate, module, name):
+    """The first sentence of a public function's comment, and the names of its clauses; None for what is no function."""
+    source = text_of("crates", crate, "src", f"{module}.rt")
+    attributes = r"(?:^#\[[^\n]*\n(?:^ [^\n]*\n|^\)\][^\n]*\n)*)*"
+    found = re.search(rf"((?:^///[^\n]*\n)*){attributes}^pub fn {name}\b(.*?)^\{{", source, re.M | re.S)
+    if not found:
+        return None
+    comment, head = found.groups()
+    words = " ".join(line[3:].strip() for line in comment.splitlines()).split(" # Errors")[0]
+    sentence = re.match(r".*?[.](?= |$)", words.strip() + " ")
+    clauses = re.findall(r"^\s+ensures (\w+) \{", head, re.M)
+    return (sentence.group(0).strip() if sentence else words.strip()), clauses
+
+
+def index():
+    lines = []
+    for crate in CRATES:
+        rows = [(path, function(crate, module, name)) for module, name, path in exported(crate)]
+        for path, found in rows:
+            if found:
+                sentence, clauses = found
+                named = ": " + ", ".join(f"`{clause}`" for clause in clauses) if clauses else ""
+                lines += textwrap.wrap(
+                    f"`{path}`{named}. {sentence}", WIDTH, initial_indent="- ", subsequent_indent="  ",
+                    break_on_hyphens=False, break_long_words=False,
+                )
+    return "\n".join(lines)
+
+
+def page_with(text):
+    """The page with this index."""
+    page = text_of("docs", "claim", "PROMISES.md")
+    before, _, rest = page.partition(BEGIN)
+    _, _, behind = rest.partition(END)
+    return f"{before}{BEGIN}\n\n{text}\n\n{END}{behind}"
+
+
+def main():
+    parser = argparse.ArgumentParser(description=__doc__.split("\n\n")[0])
+    parser.add_argument("--print", action="store_true", help="print the index, and change nothing")
+    if parser.parse_args().print:
+        print(index())
+        return 0
+    page = page_with(index())
+    with open(PAGE, "w", encoding="utf-8") as file:
+        file.write(page)
+    return 0
+
+
+if __name__ == "__main__":
+    raise SystemExit(main())

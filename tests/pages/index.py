@@ -1,0 +1,191 @@
+#!/usr/bin/env python3
+"""Checks pages against what they are made from. The last line is 'N passed, M failed'.
+
+  index.py [NAME ..]       all tests, or those of these names, as `index.py test_readme`
+
+Nothing is built or run. What pages show and link is checked by pages.py beside this.
+"""
+import glob
+import os
+import re
+import sys
+import unittest
+
+from build import promises
+from tests import TOP
+
+README_WORDS, README_COLUMNS = 900, 120
+
+
+def text_of(*parts):
+    with open(os.path.join(TOP, *parts), encoding="utf-8") as file:
+        return file.read()
+
+
+def pages():
+    """Each page with its text, README first."""
+    found = sorted(glob.glob(os.path.join(TOP, "docs", "**", "*.md"), recursive=True))
+    return [(os.path.relpath(path, TOP), text_of(path)) for path in [os.path.join(TOP, "README.md")] + found]
+
+
+def one_line(text):
+    return re.sub(r"\s+", " ", text)
+
+
+def members():
+    """The fields of each record of specs/, and the ghost fields and fields of each struct of src/, by its name."""
+    found = {}
+    for path in glob.glob(os.path.join(TOP, "crates", "*", "specs", "**", "*.antt"), recursive=True):
+        for name, body in re.findall(r"^\s*(?:pub )?record (\w+)\b(.*?)(?=^\S|\Z)", text_of(path), re.M | re.S):
+            found.setdefault(name, set()).update(re.findall(r"^\s+pub (\w+)\b", body, re.M))
+    for path in glob.glob(os.path.join(TOP, "crates", "*", "src", "**", "*.rt"), recursive=True):
+        for name, body in re.findall(r"^\s*(?:pub )?(?:struct|trait) (\w+)\b(.*?)^\}", text_of(path), re.M | re.S):
+            found.setdefault(name, set()).update(re.findall(r"^\s+(?:pub )?(?:ghost )?(\w+)\s*[:=]", body, re.M))
+    return found
+
+
+class Pages(unittest.TestCase):
+    def test_readme(self):
+        text = text_of("README.md")
+        self.assertLessEqual(len(text.split()), README_WORDS, "words of README.md")
+        wide = [number for number, line in enumerate(text.split("\n"), 1) if len(line) > README_COLUMNS]
+        self.assertEqual(wide, [], f"lines of README.md above {README_COLUMNS} columns")
+        before, _, after = text.partition("## The claim")
+        self.assertEqual((before.count("!["), after.count("![")), (1, 0), "one picture, before the claim")
+
+    def test_readme_has_each_command(self):
+        """Each script of bin/ that users call, and each command of the programs, is in a row of the table."""
+        rows = re.findall(r"^\| `([^`]*)`", text_of("README.md"), re.M)
+        scripts = set(os.listdir(os.path.join(TOP, "bin"))) - {"forestplan", "forestplay", "install", "wrong-bodies"}
+        named = {name for row in rows for name in re.findall(r"bin/([\w-]+)", row)} - {"forestplay"}
+        self.assertEqual(scripts - named, set(), "scripts of bin/ without a row")
+        line = text_of("crates", "command_line", "src", "request.rt")
+        commands = set(re.findall(r'"(\w+)"\s*=>', line)) | set(re.findall(r"^\s+\"(\w+)\"", line, re.M))
+        words = {row.split()[1] for row in rows if row.startswith(("./forestplan ", "bin/forestplay "))}
+        self.assertGreater(len(commands), 7, "commands of the programs")
+        self.assertEqual(words, commands, "commands of the programs in README's table")
+
+    def test_index_of_promises(self):
+        page, index = text_of("docs", "claim", "PROMISES.md"), promises.index()
+        self.assertGreater(index.count("\n- "), 40, "functions of the index")
+        self.assertEqual(page, promises.page_with(index), "the index is old: run `python3 build promises`")
+
+    def test_fields(self):
+        """Each field that a page names, as in "the fields `a` and `b` of `Record`", is a field of it."""
+        known, count = members(), 0
+        for page, text in pages():
+            for names, record in re.findall(
+                r"\bfields? ((?:`\w+`(?:, | and |, and )?)+) of (?:the type )?`(?:\w+::)?(\w+)`", one_line(text)
+            ):
+                for name in re.findall(r"`(\w+)`", names):
+                    count += 1
+                    with self.subTest(page=page, field=f"{name} of {record}"):
+                        self.assertIn(name, known.get(record, set()))
+        self.assertGreater(count, 5, "fields that pages name")
+
+    def test_names_in_files(self):
+        """Each name that a page gives with its file, as in "`crates/pool/src/run.rt`: `start`, `join_all`" or in two
+        cells of a row, is there; a file without a folder is beside the one named before it in the line."""
+        count = 0
+        for page, text in pages():
+            for number, line in enumerate(text.split("\n"), 1):
+                folder = ""
+                for path, names in re.findall(r"`([\w/-]+\.(?:rt|antt))`(?::| \|) ((?:`\w+`(?:, | and |))*)", line):
+                    folder = os.path.dirname(path) or folder
+                    file = os.path.join(TOP, folder, os.path.basename(path))
+                    for name in re.findall(r"`(\w+)`", names):
+                        count += 1
+                        with self.subTest(page=f"{page}:{number}", name=name, path=path):
+                            self.assertTrue(re.search(rf"\b{name}\b", text_of(file)), "isn't there")
+        self.assertGreater(count, 50, "names with their files")
+
+    def test_synopsis(self):
+        """FORMATS shows each option of a command that takes options, as its help lists them."""
+        page = text_of("docs", "claim", "FORMATS.md")
+        for command in ("plan", "transcript"):
+            line = next(line for line in page.split("\n") if line.startswith(f"    forestplan {command} "))
+            options = set(re.findall(r"^\s+(?:-\w, )?(--\w+)", text_of("build", "help", f"{command}_help.txt"), re.M))
+            with self.subTest(command=command):
+                self.assertGreater(len(options), 3)
+                self.assertEqual(set(re.findall(r"--\w+", line)), options - {"--help"})
+
+    def test_limits(self):
+        """The pages have the numbers of the constants."""
+        files = ("dimacs_col/src/limits.rt", "interference/src/limits.rt", "run_options/src/lib.rt")
+        limits = {
+            name: int(number.replace("_", ""))
+            for file in files
+            for name, number in re.findall(r"^pub const (MAX_\w+): \w+ = ([\d_]+);", text_of("crates", file), re.M)
+        }
+        readme, definitions = one_line(text_of("README.md")), one_line(text_of("docs", "claim", "DEFINITIONS.md"))
+        for name, words in (
+            ("MAX_NODES", "nodes"), ("MAX_EDGES", "edges"), ("MAX_DEGREE", "neighbours"), ("MAX_BARS", "barred"),
+            ("MAX_WORKERS", "threads"),
+        ):
+            with self.subTest(page="README.md", limit=name):
+                self.assertIn(f"{limits[name]:,} {words}", readme)
+        for name in ("MAX_NODES", "MAX_EDGES", "MAX_CHANNEL", "MAX_BARS", "MAX_DEGREE", "MAX_WORKERS", "MAX_CAPACITY"):
+            with self.subTest(page="DEFINITIONS", limit=name):
+                self.assertIn(f"`{name}`, {limits[name]:,}", definitions)
+        promises_page = one_line(text_of("docs", "claim", "PROMISES.md"))
+        for name, words in (
+            ("MAX_NODES", "vertices"), ("MAX_EDGES", "edges"), ("MAX_DEGREE", "neighbours"), ("MAX_WORKERS", "workers"),
+        ):
+            with self.subTest(page="PROMISES", limit=name):
+                self.assertIn(f"{limits[name]:,} {words}", promises_page)
+        page = text_of("docs", "claim", "FORMATS.md")
+        for code, name, more in (
+            ("F7", "MAX_NODES", 0), ("F7", "MAX_EDGES", 1), ("F13", "MAX_CHANNEL", 0), ("F14", "MAX_BARS", 1),
+            ("N1", "MAX_DEGREE", 0),
+        ):
+            with self.subTest(page="FORMATS", code=code, limit=name):
+                self.assertRegex(page, rf"\| {code} \| .*\b{limits[name] + more:,}\b")
+        for option, name in (("workers", "MAX_WORKERS"), ("capacity", "MAX_CAPACITY"), ("turns", "MAX_TURNS")):
+            with self.subTest(page="FORMATS", limit=name):
+                self.assertRegex(page, rf"\| `--{option}` \| \d \| {limits[name]} \|")
+
+    def test_stored_transcript(self):
+        """FORMATS says how many bytes a line of the stored transcript takes."""
+        transcript = text_of("docs", "pictures", "petersen.transcript")
+        average = round(len(transcript) / transcript.count("\n"))
+        self.assertIn(f"takes {average} bytes a line", one_line(text_of("docs", "claim", "FORMATS.md")))
+
+
+class Counted(unittest.TestResult):
+    """Counts each row of a test, and prints what fails."""
+
+    def __init__(self):
+        super().__init__()
+        self.rows = {True: 0, False: 0}
+
+    def note(self, test, error):
+        self.rows[error is None] += 1
+        if error:
+            print(f"FAILED {test}: {error[1]}")
+
+    def addSuccess(self, test):
+        self.note(test, None)
+
+    def addFailure(self, test, err):
+        self.note(test, err)
+
+    def addError(self, test, err):
+        self.note(test, err)
+
+    def addSubTest(self, test, subtest, err):
+        self.note(subtest, err)
+
+
+def main():
+    if sys.argv[1:] in (["--help"], ["-h"]):
+        print(__doc__.strip())
+        return 0
+    result = Counted()
+    names = sys.argv[1:] or unittest.TestLoader().getTestCaseNames(Pages)
+    unittest.TestSuite(Pages(name) for name in names).run(result)
+    print(f"{result.rows[True]} passed, {result.rows[False]} failed")
+    return 1 if result.rows[False] else 0
+
+
+if __name__ == "__main__":
+    sys.exit(main())
