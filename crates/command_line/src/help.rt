@@ -15,18 +15,18 @@ pub const FORESTPLAN: Help = Help {
     about: "Plans channels for transmitters: no two that interfere share one",
     long_about: "Plans channels for transmitters: no two that interfere share one.
 
-The program reads a graph from standard input, in which transmitters are the
-vertices and edges join those that interfere, and writes its answer to standard
-output. A fault of the input is one line on standard error, a refused command
-line is several, and standard output then stays empty. If a write fails,
-standard output holds a beginning of the answer.",
+The program reads a graph from standard input and no named file: `plan < FILE`.
+The graph's vertices are transmitters, and its edges join those that interfere.
+The answer goes to standard output. A fault of the input is one line on standard
+error, a refused command line is several, and standard output then stays empty.
+If a write fails, standard output holds a beginning of the answer.",
     format: "Input: a graph in the DIMACS format, a line each
   p edge NODES EDGES   before any e line: the number of vertices; any number
   e V W                an edge between two different vertices from 1 to NODES
   i V NUMBER           the identifier of vertex V, below 2^128; else it is V
   b V CHANNEL          a channel from 1 to 2048 that vertex V must not have
-Skipped are empty lines and those whose first field begins with c, or is one of
-n, d, v and x.
+Empty lines are skipped, and lines whose first field begins with c or is n, d, v
+or x.
 
 Faults of the input, reported as `forestplan: F6 line 2`, F1 without a line:
   F1  no p line                    F5  a vertex is 0 or above NODES
@@ -57,8 +57,8 @@ Example: three transmitters, each in reach of the other two
 };
 
 pub const FORESTS: Help = Help {
-    about: "Prints the forests into which the edges are parted",
-    long_about: "Prints the forests into which the edges are parted.
+    about: "Prints the forests into which the edges are split",
+    long_about: "Prints the forests into which the edges are split.
 
 Every vertex numbers its neighbours of higher identifier, ascending, from 0. The
 edges with number F are forest F, in which the end of higher identifier is the
@@ -87,7 +87,8 @@ Channels count from 1. No vertex gets one that is barred at it, and none is abov
 the greatest number of neighbours plus the greatest number of barred channels of
 a vertex, plus one. The vertices find them by messages to their neighbours, round
 by round on one thread: each forest gets three colours, and the forests are merged
-one by one. The plan depends on the graph alone.",
+one by one. The plan depends on the graph alone. To have a plan, use this command:
+`forestplan plan` prints the same bytes and takes far longer.",
     format: "Input: a graph in the DIMACS format, as `p edge NODES EDGES` and then `e V W`.
 
 Output, a line each:
@@ -107,20 +108,24 @@ pub const PLAN: Help = Help {
     about: "Prints the plan of plain, found by threads without a common clock",
     long_about: "Prints the plan of plain, found by threads without a common clock.
 
-It is the very plan that `forestplan plain` prints, whatever the options are and
-whichever thread is faster. The nodes have no common clock: worker threads run
-them in any order, and Awerbuch's synchroniser alpha keeps each in step with its
-neighbours. A node makes its next round, here called a pulse, once all that it
-sent at this one has been taken and each neighbour has said the same of its own.
+It is the plan that `forestplan plain` prints, whatever the options are and
+whichever thread is faster. On large graphs it takes hundreds of times as long as
+plain: it is here to show the run, not to save time. The nodes have no common
+clock: worker threads run them in any order, and Awerbuch's synchroniser alpha
+keeps each in step with its neighbours. A node makes its next round, here called a
+pulse, once all that it sent in this pulse has been taken and each neighbour has
+said that the same is true for it.
 
   worker   a thread; it looks for a node that no other worker has, makes one turn
            of it, and looks for the next
   turn     the node takes up to four wires from each neighbour, makes a pulse if
            it can, and puts what it has for them on its links
-  wire     what goes to a neighbour: a message of a pulse, that one was taken,
-           that all messages of a pulse were, or that nothing more comes
+  wire     what a node sends to a neighbour: a message of a pulse, or the news
+           that a message was taken, that all its messages of a pulse were
+           taken, or that nothing more comes
   link     leads from a node to one neighbour, and keeps the order of the wires;
-           its capacity is how many it holds, and what finds no room waits
+           its capacity is how many wires it has room for, and a wire that finds
+           no room waits
 
 A long run is silent until the plan is found.",
     format: "Input: a graph in the DIMACS format, as `p edge NODES EDGES` and then `e V W`.
@@ -134,15 +139,19 @@ as often as they may before all nodes were done. Give more --turns, up to
 1000000000000. A look that finds no node counts too, so that workers which wait
 for each other use up their turns.
 
-More workers are not faster on a small network: there is too little to do at
-once, and they wait for each other. A run grows with its rounds. With D as the
-greatest number of neighbours of a vertex, B as that of its barred channels, and U
-as that of its neighbours of higher identifier, plain and plan make
+Use no more workers than the machine has processors. More workers are not faster
+on a small network: there is too little to do at once, and they wait for each
+other. A link never holds more than two wires, so a capacity above 2 takes memory
+and buys nothing; with a capacity of 1 some wires have to wait.
+
+A run grows with its rounds. With D as the greatest number of neighbours of a
+vertex, B as the greatest number of its barred channels, and U as the greatest
+number of its neighbours of higher identifier, plain and plan make
   R = 12 + 3 U (D + B + 1)
-rounds, and plan sends for P messages on E edges in all
+rounds. For P messages on E edges, plan sends
   2 P + 2 E (R + 1)
-wires. On the complete graph of 100 nodes R is 29712, and that is 296 million
-wires.
+wires in all. On the complete graph of 100 nodes R is 29712, and plan sends 296
+million wires.
 
 Example: the triangle
   printf 'p edge 3 3\\ne 1 2\\ne 1 3\\ne 2 3\\n' | forestplan plan --workers 2
@@ -163,11 +172,11 @@ pub const TRANSCRIPT: Help = Help {
     about: "Prints what each node did while plan found its channel",
     long_about: "Prints what each node did while plan found its channel.
 
-The nodes run as by `forestplan plan`, on threads without a common clock, and
+The nodes run as in `forestplan plan`, on threads without a common clock, and
 each writes down what it puts on its links, what it takes from them, and the
-pulses that it makes. `forestplan plan --help` says what these are. Transcripts
-differ from run to run, since now one thread is faster and now another. With
-`--workers 1` they do not: then two runs on one graph print the same bytes.
+pulses that it makes. `forestplan plan --help` explains these words. Transcripts
+differ from run to run, since the threads are not equally fast each time. With
+`--workers 1` they do not differ: two runs on one graph print the same bytes.
 
 A long run is silent until all nodes are done.",
     format: "Input: a graph in the DIMACS format, as `p edge NODES EDGES` and then `e V W`.
@@ -188,18 +197,19 @@ the link, before its first pulse.
 S is a stamp, from Lamport's clock: a node adds one to its count for a put and for
 a pulse, and a take gets one more than the greater of the count and the stamp of
 the put. So each wire is taken at a greater stamp than it was put at. The lines
-are in ascending order by stamp, then by vertex. This order is one run, which
-`forestplay replay` accepts; it is not the order of real time.
+are in ascending order by stamp, then by vertex. In this order they are one run,
+which `forestplay replay` accepts; it is not the order of real time.
 
 With --edition 1 the first line is `transcript 1 NODES`, the lines have no stamp,
-and all lines of node 1 come first, then those of node 2, and so on. They do not
-say what two nodes did first.
+and all lines of node 1 come first, then all lines of node 2, and so on. They do
+not say which of two nodes did something first.
 
-Each wire has two lines, one where it was put and one where it was taken, and
-each node a line for each pulse. With D as the greatest number of neighbours of
-a vertex, B as that of its barred channels, U as that of its neighbours of higher
-identifier, N nodes and P messages on E edges make behind the first line
+Each wire has two lines, one for its put and one for its take, and each node has a
+line for each pulse. With D as the greatest number of neighbours of a vertex, B as
+the greatest number of its barred channels, and U as the greatest number of its
+neighbours of higher identifier, N nodes and P messages on E edges make
   2 (2 P + 2 E (R + 1)) + N R    lines, where R = 12 + 3 U (D + B + 1)
+after the first line.
 On the complete graph of 100 nodes that is 594 million lines, of 13 GB in
 edition 1.
 A run that is cut off by --turns prints none: it reports `forestplan: stopped`
@@ -223,7 +233,7 @@ Example: where the run leads
 
 pub const WORKERS: &'static str = "How many threads run the nodes, 1 to 64";
 
-pub const CAPACITY: &'static str = "How many wires a link holds, 1 to 64";
+pub const CAPACITY: &'static str = "Room of a link, 1 to 64 wires; 2 are enough";
 
 pub const TURNS: &'static str = "How often a worker looks for a node";
 
@@ -236,13 +246,13 @@ pub const CHECK: Help = Help {
 A plan is proper if every vertex has one line, no line has another vertex, no
 channel is barred at its vertex, or above the greatest number of neighbours plus
 the greatest number of barred channels of a vertex, plus one, and no two
-neighbours share a channel. It does not matter who made the plan.",
+neighbours share a channel. Anyone may have made the plan.",
     format: "Input: a graph in the DIMACS format, as `p edge NODES EDGES` and then `e V W`, and
-behind it a plan, a line each:
+then a plan, a line each:
   plan                 the first line
   V CHANNEL            a vertex and its channel, from 1; in any order
-The plan begins at the first line whose first field is `plan`. So where two texts
-are joined, as by cat, the graph has to end in a line feed.
+The plan begins at the first line whose first field is `plan`. So if two texts are
+joined, as by cat, the graph has to end in a line feed.
 
 Output: `proper G`, where G is the greatest channel, or 0 for no vertices.
 
@@ -251,8 +261,8 @@ Faults of the plan, reported once the graph has none, each as
   C6  line N           line 1 isn't `plan` alone, or a later one not V CHANNEL
   C2  vertex V         a line of vertex 0 or of one above NODES
   C3  vertex V         a second line of a vertex
-  C5  vertex V         a channel above D + B + 1, where D is the greatest number
-                       of neighbours of a vertex, and B that of its barred channels
+  C5  vertex V         a channel above D + B + 1: D is the greatest number of
+                       neighbours of a vertex, B of its barred channels
   C8  vertex V         a channel that is barred at the vertex
   C1  vertex V         a vertex without a line
   C4  vertices V W     two neighbours that share a channel
@@ -270,12 +280,12 @@ pub const FORESTPLAY: Help = Help {
     about: "Plays what nodes do to find a channel plan, for lessons",
     long_about: "Plays what nodes do to find a channel plan, for lessons.
 
-The program reads a graph from standard input, in which the nodes are the
-vertices, and but for `rounds` behind it what happens, and writes where that
-leads. A fault of the input is one line on standard error, a refused command line
-is several, and standard output then stays empty. If a write fails, standard
-output holds a beginning of the answer.",
-    format: "The graph is read as by forestplan, and its faults are the same, reported as
+The program reads a graph from standard input, whose vertices are the nodes, and
+after it, except for `rounds`, what happens; it writes where this leads. A fault
+of the input is one line on standard error, a refused command line is several, and
+standard output then stays empty. If a write fails, standard output holds a
+beginning of the answer.",
+    format: "The graph is read as forestplan reads it, with the same faults, reported as
 `forestplay: F6 line 2`: see `forestplan --help`.
 
 Status: 0 done, 1 input refused, 2 command line refused, 4 memory ran out, or
@@ -295,18 +305,18 @@ The nodes look for the channels that `forestplan plain` prints, but without a
 common clock, by Awerbuch's synchroniser alpha. At the start each node is at
 pulse 0, and has a greeting for each neighbour in the out-list of the
 neighbour's port. An event is a step of one node; events are played in the order
-in which they stand.",
+of their lines.",
     format: "Input: a graph in the DIMACS format, as `p edge NODES EDGES` and then `e V W`, and
-behind it events, a line each:
+then events, a line each:
   pulse V              node V makes its next pulse
   put V PORT           V puts the oldest wire of the port's out-list on the link
   take V PORT          V takes the oldest wire that waits for it at the port
 The ports of a node count from 0, by ascending neighbour. The events begin at
 the first line whose first field is one of the three words. From there empty
-lines are skipped, and those whose first field begins with c.
+lines are skipped, and lines whose first field begins with c.
 
 Output, for each node V, ascending, a line each:
-  node V pulse P           its pulse; behind its last one ` channel C`
+  node V pulse P           its pulse; at its last one followed by ` channel C`
   link V W taken N WIRES   for each neighbour W, ascending: the number of wires
                            that W has taken from this link, and the wires that
                            wait on it, the oldest first, as
@@ -317,15 +327,15 @@ Output, for each node V, ascending, a line each:
 
 Faults of the events, reported once the graph has none, each as
 `forestplay: NotReady line 5: safe 0 of 2 and 3`, where lines count from the first
-of the graph. Behind the line is what is missing:
-  NoEvent       the line is no event, and not skipped
+of the graph. The words after the line say what is missing:
+  NoEvent       the line is not an event, and not skipped
   NoSuch        there is no such node or port
   NotReady      the node cannot make its next pulse yet: the wires that are still
                 to come for it, and from whom; or it has made the last pulse
   NothingToPut  the out-list is empty: whose, and for whom
   LinkEmpty     no wire waits at the port: from whom, and to whom
-The first line that is no event is looked for first. If there is none, the first
-event that is not possible is reported.
+The first line that is not an event is reported; if all lines are events, the
+first event that is not possible.
 
 Example: node 1 greets node 2, which takes it and greets back
   printf 'p edge 2 1\\ne 1 2\\nput 1 0\\ntake 2 0\\nput 2 0\\n' | forestplay events
@@ -341,13 +351,13 @@ pub const REPLAY: Help = Help {
     long_about: "Replays a transcript, and prints where it leads.
 
 `forestplan transcript` writes what each node did in a run of worker threads. Such
-entries, whoever wrote them, are played here in the order in which they stand, by
-the machine that plays events. Nothing is taken on trust: each entry has to be
-possible, and its pulse or wire has to be the one that the node comes to there.
-Of edition 2 each stamp has to be right too, and all nodes have to be done at the
+entries, whoever wrote them, are played here in the order of their lines, by the
+machine that plays events. Nothing is taken on trust: each entry has to be
+possible, and its pulse or wire has to be the one that the node comes to there. In
+edition 2 each stamp has to be right too, and all nodes have to be done at the
 end.",
     format: "Input: a graph in the DIMACS format, as `p edge NODES EDGES` and then `e V W`, and
-behind it a transcript, a line each:
+then a transcript, a line each:
   transcript 2 NODES   the first line
   S V pulse P          node V made pulse P
   S V put W WIRE       V put a wire on its link to its neighbour W
@@ -358,29 +368,28 @@ stamp, as `forestplan transcript --help` says. The first line of edition 1 is
 first line whose first field is `transcript`. From there empty lines are skipped.
 NODES is not compared with the graph.
 
-A transcript of edition 1 lists all entries of node 1, then those of node 2, and
-so on. If two nodes are neighbours that is no order in which they are possible;
-`./replay NETWORK TRANSCRIPT`, a script beside this program, puts them into one and
-replays them.
+A transcript of edition 1 lists all entries of node 1, then all entries of node 2,
+and so on. If two nodes are neighbours, the entries are not possible in this
+order; `bin/replay NETWORK TRANSCRIPT`, a script that comes with this program,
+puts them into an order that is possible, and replays them.
 
 Output: the state, as `forestplay events` prints it.
 
 Faults of the transcript, reported once the graph has none, each as
 `forestplay: LinkEmpty line 5: link from 2 to 1`, where lines count from the first
-of the graph. Behind the line is what is missing, as `forestplay events --help`
-says, or what was expected:
-  X1            the line is none of a transcript, or, as line 1, there is none
-  NoSuch        there is no such node, or the other is no neighbour
+of the graph. The words after the line say what is missing, as for `forestplay
+events`, or what was expected:
+  X1            not a line of a transcript, or, as line 1, no transcript
+  NoSuch        there is no such node, or the other is not a neighbour
   NotReady      the node cannot make its next pulse yet
   NothingToPut  the out-list is empty
   LinkEmpty     no wire of the neighbour waits
   WrongWire     the node comes to another pulse or wire than the entry has
-  WrongStamp    the entry has another stamp than its node comes to, or is behind
-                one that it has to come before
+  WrongStamp    the entry has another stamp than its node comes to, or comes after
+                an entry that it has to precede
   NotWhole      the last line: a node is not done, or a wire was not taken
-The last two are of edition 2. The first line that is X1 is looked for first. If
-there is none, the first entry that is refused is reported, and if there is none,
-NotWhole.
+The last two are of edition 2. The first line that is X1 is reported; if there is
+no such line, the first entry that is refused; and if no entry is, NotWhole.
 
 Example: node 1 puts its greeting for node 2
   printf 'p edge 2 1\\ne 1 2\\ntranscript 1 2\\n1 put 2 payload 0 hello 1\\n' |
@@ -403,15 +412,16 @@ whatever the threads do: see `forestplan transcript`.",
     format: "Input: a graph in the DIMACS format, as `p edge NODES EDGES` and then `e V W`.
 
 Output, a line each:
-  rounds 1 N DELTA U R   how many vertices there are, neighbours of one at most,
-                         and forests, and the last pulse; if a channel is barred
-                         it is rounds 2 N DELTA BARS U R, where BARS is the
-                         greatest number of barred channels of a vertex
+  rounds 1 N DELTA U R   the numbers of vertices, of neighbours of one at most,
+                         and of forests, and the last pulse; if a channel is
+                         barred, the line is rounds 2 N DELTA BARS U R, where
+                         BARS is the greatest number of barred channels of a
+                         vertex
   pulse P PHASE          for each pulse from 0 to R: greet, orient, seed, step,
-                         shift or drop, and from pulse 13 on merge F K J: now
-                         those choose whose colour in forest F is K, and who had
-                         colour J before this forest
-and behind the line of a pulse, for each vertex V, ascending:
+                         shift or drop, and from pulse 13 on merge F K J: the
+                         vertices choose whose colour in forest F is K, and
+                         whose colour was J before this forest
+and after the line of a pulse, for each vertex V, ascending:
   V colour F C           at pulses 2 to 12, for each forest F: V's colour in it
   V chose C              V has chosen colour C, which is channel C + 1
   V put W payload P WORD NUMBER
