@@ -1,18 +1,11 @@
-/* Refuses every growth that a thread asks for which the program started, gives all others on, and at the end writes to the file
-   COUNT how many it refused. So that such a thread stops where a scheduler seldom stops it, a signal stops it for STOP
-   microseconds again and again, each time after up to twice as many of its own; it spins then, since a thread that sleeps is
-   woken late. Without STOP none is stopped. Both are words of the environment. For LD_PRELOAD. */
-#define _GNU_SOURCE
-#include <dlfcn.h>
-#include <fcntl.h>
-#include <pthread.h>
+/* Refuses every growth that a thread asks for which the program started, gives all others on, and at the end writes to
+   the file COUNT how many it refused. So that such a thread stops where a scheduler seldom stops it, a signal stops it
+   for STOP microseconds again and again, each time after up to twice as many of its own; it spins then, since a thread
+   that sleeps is woken late. Without STOP none is stopped. */
+#include "preload.h"
+
 #include <signal.h>
-#include <stdatomic.h>
-#include <stddef.h>
-#include <stdio.h>
-#include <stdlib.h>
 #include <time.h>
-#include <unistd.h>
 
 #ifndef sigev_notify_thread_id
 #define sigev_notify_thread_id _sigev_un._tid
@@ -31,7 +24,8 @@ static __thread int is_started __attribute__((tls_model("initial-exec")));
 static __thread timer_t timer __attribute__((tls_model("initial-exec")));
 static __thread unsigned drawn __attribute__((tls_model("initial-exec")));
 
-static int is_refused(void) {
+static int is_refused(size_t size) {
+    (void)size;
     if (is_started) refused++;
     return is_started;
 }
@@ -56,27 +50,13 @@ static void stop_a_while(int signal) {
 
 __attribute__((constructor)) static void begin(void) {
     struct sigaction action = {.sa_handler = stop_a_while, .sa_flags = SA_RESTART};
-    const char *word = getenv("STOP");
-    stop = word ? atol(word) * MICROSECOND : 0;
+    stop = number_of("STOP", 0) * MICROSECOND;
     sigaction(SIGUSR1, &action, NULL);
 }
 
-__attribute__((destructor)) static void write_count(void) {
-    const char *name = getenv("COUNT");
-    int file = name ? open(name, O_WRONLY | O_CREAT | O_TRUNC, 0644) : -1;
-    if (file >= 0) {
-        dprintf(file, "%ld\n", (long)refused);
-        close(file);
-    }
-}
+static void write_count(void) { write_line("COUNT", "%ld\n", (long)refused); }
 
-/* A program that has started threads ends here, and no destructor runs. */
-__attribute__((noreturn)) void _exit(int status) {
-    void (*real)(int) = dlsym(RTLD_NEXT, "_exit");
-    write_count();
-    real(status);
-    __builtin_unreachable();
-}
+AT_THE_END(write_count)
 
 static void *run(void *at) {
     long number = (long)at;
@@ -93,34 +73,11 @@ static void *run(void *at) {
 }
 
 int pthread_create(pthread_t *thread, const pthread_attr_t *attributes, void *(*start)(void *), void *argument) {
-    int (*real)(pthread_t *, const pthread_attr_t *, void *(*)(void *), void *) = dlsym(RTLD_NEXT, "pthread_create");
     long number = asked++;
     if (number >= MOST) abort();
     threads[number].start = start;
     threads[number].argument = argument;
-    return real(thread, attributes, run, (void *)number);
+    return REAL(pthread_create)(thread, attributes, run, (void *)number);
 }
 
-void *malloc(size_t size) {
-    static void *(*real)(size_t);
-    if (!real) real = dlsym(RTLD_NEXT, "malloc");
-    return is_refused() ? NULL : real(size);
-}
-
-void *realloc(void *old, size_t size) {
-    static void *(*real)(void *, size_t);
-    if (!real) real = dlsym(RTLD_NEXT, "realloc");
-    return is_refused() ? NULL : real(old, size);
-}
-
-void *aligned_alloc(size_t place, size_t size) {
-    static void *(*real)(size_t, size_t);
-    if (!real) real = dlsym(RTLD_NEXT, "aligned_alloc");
-    return is_refused() ? NULL : real(place, size);
-}
-
-int posix_memalign(void **to, size_t place, size_t size) {
-    static int (*real)(void **, size_t, size_t);
-    if (!real) real = dlsym(RTLD_NEXT, "posix_memalign");
-    return is_refused() ? 12 : real(to, place, size);
-}
+EACH_GROWTH(is_refused)

@@ -1,18 +1,16 @@
-/* Runs the program on many texts, each in a process of its own that is forked just before main: the program is loaded once,
-   so a text takes a fraction of a millisecond. For LD_PRELOAD. The words TEXTS and ANSWERS of the environment are two open
-   descriptors.
+/* Runs the program on many texts, each in a process of its own that is forked just before main: the program is loaded
+   once, so a text takes a fraction of a millisecond. TEXTS and ANSWERS are two open descriptors.
 
-   TEXTS is a file of texts, each behind its length. For each text this writes to ANSWERS the status (or minus the signal), the
-   lengths of standard output and standard error, and both. Numbers have 32 bits in the machine's own order. */
-#define _GNU_SOURCE
+   TEXTS is a file of texts, each after its length. For each text this writes to ANSWERS the status (or minus the
+   signal), the lengths of standard output and standard error, and both. Numbers have 32 bits in the machine's own
+   order. */
+#include "preload.h"
+
 #include <stdint.h>
-#include <stdio.h>
-#include <stdlib.h>
 #include <string.h>
 #include <sys/mman.h>
 #include <sys/stat.h>
 #include <sys/wait.h>
-#include <unistd.h>
 
 enum { SECONDS = 60 };
 
