@@ -31,7 +31,8 @@ from by_turns import TOP, build_peak
 
 sys.path.insert(1, TOP)
 
-from tests.programs.slow_reader import PROGRAM_OF, answer_to
+from tests.commands import PROGRAM_OF
+from tests.programs.slow_reader import answer_to
 
 MEBIBYTE = 2**20
 LINES = {"blank": b"\n", "return": b"\r\n", "comment": b"c\n", "long": b"c" * (MEBIBYTE - 1) + b" "}

@@ -1,4 +1,4 @@
-"""The tests of the built programs, of the Python package and of the pages."""
+"""The tests of the built programs, of the Python package and of the pages. `python3 -m tests` runs them."""
 import os
 
 TOP = os.path.dirname(os.path.dirname(os.path.abspath(__file__)))

@@ -8,9 +8,8 @@ import subprocess
 def run_line(line, *words, limit, **given):
     """What bash makes of a line and its words, `$0` onwards. The line has a process group of its own, which is killed
     as a whole: if bash alone were, the programs of a pipeline would go on."""
-    with subprocess.Popen(
-        ["bash", "-c", line, *words], stdout=subprocess.PIPE, stderr=subprocess.PIPE, start_new_session=True, **given
-    ) as started:
+    with subprocess.Popen(["bash", "-c", line, *words], stdout=subprocess.PIPE, stderr=subprocess.PIPE,
+                          start_new_session=True, **given) as started:
         try:
             out, err = started.communicate(timeout=limit)
         except BaseException:

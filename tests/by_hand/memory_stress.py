@@ -1,14 +1,15 @@
-#!/usr/bin/env python3
 """Runs `forestplan plan` and `transcript` with 2 to 64 workers over and over, with too little memory, most often
 refused once threads run. It is no part of the gate. The last line is 'N passed, M failed', over the runs.
 
-  memory_stress.py [--runs N] [--first K] [--minutes M] [--seed SEED] [--jobs J] [--program PROGRAM]
-      N         how many runs; default 1000 K         the number of the first run; default 1. What is printed on the way
-      says how to go on after an interruption M         stop after so many minutes, if N runs take longer SEED      of
-      networks, workers and limits, with the number of the run; default 2026. Which growth of which thread is refused is
-                another one in each run
-      J         how many runs there are side by side; default: half the processors
-      PROGRAM   default: the built forestplan
+  python3 -m tests.by_hand.memory_stress [options]
+      --runs N           how many runs; default 1000
+      --first K          the number of the first run; default 1. What is printed on the way says how to go on after an
+                         interruption
+      --minutes M        stop after so many minutes, if N runs take longer
+      --seed SEED        of networks, workers and limits, with the number of the run; default 2026. Which growth of
+                         which thread is refused is another one in each run
+      --jobs J           how many runs there are side by side; default: half the processors
+      --program PROGRAM  default: the built forestplan
 
 Of four runs one has a limit of address space from its start, as `ulimit -v` sets it. The others get one once their last
 thread has been started, of address space or of data: what they have at that time, and at most a little more. A run
@@ -88,12 +89,8 @@ class Run:
             network, output, errors = [files.enter_context(tempfile.TemporaryFile(dir=folder)) for _ in range(3)]
             network.write(self.data)
             network.seek(0)
-            given = {
-                "LD_PRELOAD": ":".join(fronts),
-                "COUNT_THREADS": name,
-                "STARTED": str(to_loaded),
-                "LIMITED": str(to_limited),
-            }
+            given = {"LD_PRELOAD": ":".join(fronts), "COUNT_THREADS": name, "STARTED": str(to_loaded),
+                     "LIMITED": str(to_limited)}
             if not self.is_from_start:
                 given.update(THREADS=str(self.workers), AFTER=str(self.after), KIND=self.kind, MORE=str(self.more))
             with os.fdopen(to_loaded, "wb"), os.fdopen(to_limited, "wb"):
@@ -108,11 +105,8 @@ class Run:
             is_loaded, is_limited = [bool(mark.read(1)) for mark in marks]
             output.seek(0)
             errors.seek(0)
-            return (
-                (started.returncode, output.read(), errors.read()) if is_loaded else None,
-                is_limited,
-                counts_in(name),
-            )
+            return ((started.returncode, output.read(), errors.read()) if is_loaded else None, is_limited,
+                    counts_in(name))
 
     def limit_at_start(self):
         if self.is_from_start:
@@ -150,10 +144,8 @@ class Run:
             said = "right answer"
         else:
             return "wrong", f"{answer[0]}, {answer[1][:300]!r}, {answer[2][:300]!r}"
-        return (
-            f"{when}: {said}",
-            None if started == ended else f"{said}, but of {asked} threads {started} started and {ended} ended",
-        )
+        return (f"{when}: {said}",
+                None if started == ended else f"{said}, but of {asked} threads {started} started and {ended} ended")
 
 
 def counts_in(name):
@@ -199,9 +191,8 @@ def main():
     words.add_argument("--minutes", type=float, default=None)
     words.add_argument("--seed", default="2026")
     words.add_argument("--jobs", type=int, default=max(1, len(os.sched_getaffinity(0)) // 2))
-    words.add_argument(
-        "--program", type=os.path.abspath, default=os.path.join(TOP, "crates", "forestplan", "out", "forestplan")
-    )
+    words.add_argument("--program", type=os.path.abspath,
+                       default=os.path.join(TOP, "crates", "forestplan", "out", "forestplan"))
     given = words.parse_args()
     with tempfile.TemporaryDirectory() as folder:
         fronts = [build_front(folder, name) for name in FRONTS]

@@ -1,9 +1,8 @@
-#!/usr/bin/env python3
 """Clicks through the page of `bin/picture player` in a real browser. The last line is 'N passed, M failed'.
 
-  player_in_browser.py [--browser BROWSER] [--shots FOLDER]
-      BROWSER   Chromium or Chrome (Debian: `apt-get install chromium`); chromium if it isn't named
-      FOLDER    where a screenshot of each page and size is kept
+  python3 -m tests.by_hand.player_in_browser [options]
+      --browser BROWSER  Chromium or Chrome (Debian: `apt-get install chromium`); chromium if it isn't named
+      --shots FOLDER     where a screenshot of each page and size is kept
 
 It needs a browser, and so it is no part of ./test. Each page gets a script of its own (below) that presses its buttons
 and keys and writes down what it sees; the browser prints the page as it is then."""
@@ -17,7 +16,8 @@ import tempfile
 
 from lab.definitions.colours import colours, network_of
 from lab.definitions.rounds import rounds_text
-from tests.pictures.base import TALLY, call, examples, note
+from tests.by_hand.tally import last_line, note
+from tests.pictures.base import call, examples
 
 # A screen of 1024 by 768 leaves about 625 rows to a page; the other size is a projector's.
 SIZES = ((1024, 768), (1024, 625), (1920, 1080))
@@ -30,11 +30,15 @@ CLICKS = """<script>
   function see(name) {
     var now = shown();
     seen.push([name, now.length, now[0].getAttribute("data-pulse"), by("pulse").value, location.hash,
-               now[0].querySelector("svg").getAttribute("viewBox"), by("said").textContent.split(" \\u00b7 ")[0]].join("|"));
+               now[0].querySelector("svg").getAttribute("viewBox"),
+               by("said").textContent.split(" \\u00b7 ")[0]].join("|"));
   }
-  function key(name, on) { (on || document.body).dispatchEvent(new KeyboardEvent("keydown", {key: name, bubbles: true})); }
+  function key(name, on) {
+    (on || document.body).dispatchEvent(new KeyboardEvent("keydown", {key: name, bubbles: true}));
+  }
   function inside(name, box) {
-    var good = box.width > 40 && box.left >= 0 && box.top >= 0 && box.right <= innerWidth + 0.5 && box.bottom <= innerHeight + 0.5;
+    var good = box.width > 40 && box.left >= 0 && box.top >= 0 && box.right <= innerWidth + 0.5 &&
+               box.bottom <= innerHeight + 0.5;
     seen.push(["inside", name, good, [box.left, box.top, box.right, box.bottom].map(Math.round).join(" ")].join("|"));
   }
   function boxes() {
@@ -55,7 +59,8 @@ CLICKS = """<script>
   if (panel) {
     panel.dispatchEvent(new MouseEvent("click", {bubbles: true})); see("forest 1 clicked");
     by("next").click(); see("next, enlarged");
-    shown()[0].querySelector(".panel[data-forest='1'] use").dispatchEvent(new MouseEvent("click", {bubbles: true})); see("clicked again");
+    shown()[0].querySelector(".panel[data-forest='1'] use").dispatchEvent(new MouseEvent("click", {bubbles: true}));
+    see("clicked again");
   }
   by("pulse").value = frames.length - 1; by("pulse").dispatchEvent(new Event("input")); see("slid to the end");
   boxes();
@@ -71,7 +76,8 @@ CLICKS = """<script>
         seen.push("held|" + (by("pulse").value === held));
         by("pulse").value = frames.length - 1; by("pulse").dispatchEvent(new Event("input"));
         by("play").click(); see("played from the end"); by("play").click();
-        var told = document.createElement("pre"); told.id = "seen"; told.textContent = seen.join("\\n"); document.body.appendChild(told);
+        var told = document.createElement("pre"); told.id = "seen";
+        told.textContent = seen.join("\\n"); document.body.appendChild(told);
       }, 2500);
     }, 2600);
   }, 50);
@@ -80,17 +86,8 @@ CLICKS = """<script>
 
 
 def in_browser(browser, path, link, size, *more):
-    words = [
-        browser,
-        "--headless",
-        "--no-sandbox",
-        "--disable-gpu",
-        "--hide-scrollbars",
-        f"--window-size={size[0]},{size[1]}",
-        "--virtual-time-budget=20000",
-        *more,
-        f"file://{path}{link}",
-    ]
+    words = [browser, "--headless", "--no-sandbox", "--disable-gpu", "--hide-scrollbars",
+             f"--window-size={size[0]},{size[1]}", "--virtual-time-budget=20000", *more, f"file://{path}{link}"]
     return subprocess.run(words, capture_output=True, timeout=120).stdout.decode("utf-8", "replace")
 
 
@@ -98,11 +95,8 @@ def page_rows(given, folder, name, network, size):
     """What each click shows, beside what the pulses say."""
     label = f"{name} at {size[0]} by {size[1]}"
     net = network_of(network)
-    at = {
-        "net": os.path.join(folder, "net.col"),
-        "text": os.path.join(folder, "text"),
-        "page": os.path.join(folder, "page.html"),
-    }
+    at = {"net": os.path.join(folder, "net.col"), "text": os.path.join(folder, "text"),
+          "page": os.path.join(folder, "page.html")}
     for key, data in (("net", network), ("text", rounds_text(net))):
         with open(at[key], "wb") as file:
             file.write(data)
@@ -143,7 +137,8 @@ def page_rows(given, folder, name, network, size):
         if row[0] == "inside":
             note(f"{label}: {row[1]} is on the screen", row[2] == "true", row[3])
     note(f"{label}: eight boxes were looked at", sum(row[0] == "inside" for row in seen) == 8)
-    note(f"{label}: the play button", [row[1:] for row in seen if row[0] == "button"] == [["❚❚ stop"], ["▶ play"]])
+    said = [row[1:] for row in seen if row[0] == "button"]
+    note(f"{label}: the play button", said == [["❚❚ stop"], ["▶ play"]], said)
     note(f"{label}: stopped", ["held", "true"] in seen)
     with open(at["page"], "wb") as file:
         file.write(page)
@@ -151,11 +146,8 @@ def page_rows(given, folder, name, network, size):
     for link, frame in (("#pulse-9999", last), ("#pulse-x", 0), ("", 0)):
         told = in_browser(given.browser, at["page"], link, size, "--dump-dom")
         seen_now = re.findall(r'<figure class="frame" data-pulse="(\d+)">(.*?)</figure>', told, re.S)
-        note(
-            f"{label}: opened at {link or 'no link'}",
-            [pulse for pulse, _ in seen_now] == [str(frame)],
-            [pulse for pulse, _ in seen_now],
-        )
+        note(f"{label}: opened at {link or 'no link'}", [pulse for pulse, _ in seen_now] == [str(frame)],
+             [pulse for pulse, _ in seen_now])
         if frame == last and seen_now:
             channels = re.findall(r'class="channel"></circle>\s*<text[^>]*>(\d+)<', seen_now[0][1])
             note(f"{label}: the last frame has the plan", channels == plan, channels)
@@ -175,8 +167,7 @@ def main():
         for name, network in (NETWORKS | {name: examples()[name] for name in ("petersen", "triangle")}).items():
             for size in SIZES:
                 page_rows(given, folder, name, network, size)
-    print(f"{TALLY['passed']} passed, {TALLY['failed']} failed")
-    return 1 if TALLY["failed"] else 0
+    return last_line()
 
 
 if __name__ == "__main__":

@@ -1,16 +1,17 @@
-#!/usr/bin/env python3
 """Runs `forestplan transcript` over and over on small networks while processors are taken away from its threads, and
 checks each transcript. It is no part of the gate. The last line is 'N passed, M failed', over the runs.
 
-  stress.py [--runs N] [--first K] [--minutes M] [--limit S] [--seed SEED] [--jobs J] [--program PROGRAM] [--play PLAY]
-      N         how many runs; default 1000 K         the number of the first run; default 1. What is printed on the way
-      says how to go on after an interruption M         stop after so many minutes, if N runs take longer S         how
-      many seconds a run may take; default 300. A run that takes longer is killed, and has failed SEED      of networks
-      and options, with the number of the run; default 2026. Which thread does what, and when, is another
-                thing in each run
-      J         how many runs there are side by side; default: the number of processors
-      PROGRAM   default: the built forestplan
-      PLAY      default: the built forestplay
+  python3 -m tests.by_hand.stress [options]
+      --runs N           how many runs; default 1000
+      --first K          the number of the first run; default 1. What is printed on the way says how to go on after an
+                         interruption
+      --minutes M        stop after so many minutes, if N runs take longer
+      --limit S          how many seconds a run may take; default 300. A run that takes longer is killed, and has failed
+      --seed SEED        of networks and options, with the number of the run; default 2026. Which thread does what, and
+                         when, is another thing in each run
+      --jobs J           how many runs there are side by side; default: the number of processors
+      --program PROGRAM  default: the built forestplan
+      --play PLAY        default: the built forestplay
 
 Each run is of a network of 2 to 40 nodes, with 1 to 64 workers and a capacity of 1 to 64. Meanwhile its threads are
 moved to other processors, some of the time all to one, every millisecond or so, and in some runs a busy loop beside
@@ -163,8 +164,8 @@ def main():
     given = words.parse_args()
     counts = all_runs(given)
     print(
-        f"seed {given.seed}, runs {given.first} to {given.first + counts['runs'] - 1}: {counts['entries']} entries in all, "
-        f"threads moved {counts['moves']} times"
+        f"seed {given.seed}, runs {given.first} to {given.first + counts['runs'] - 1}: {counts['entries']} entries in "
+        f"all, threads moved {counts['moves']} times"
     )
     print(f"{counts['runs'] - counts['failed']} passed, {counts['failed']} failed")
     return 1 if counts["failed"] or not counts["runs"] else 0

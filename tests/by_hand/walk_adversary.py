@@ -1,15 +1,12 @@
-#!/usr/bin/env python3
 """Walks through the adversary's page in a real browser, at 1024 by 768 and at a phone's width, with mouse and keyboard.
 It is outside the gate. The last line is 'N passed, M failed'.
 
-  walk_adversary.py [--browser CHROMIUM] [--play PLAY] [--shots FOLDER]
-      CHROMIUM  the browser (default: chromium, of Debian's package `chromium`); it is spoken to through a pipe, by the
-      DevTools
-                protocol, so no other package is needed
-      PLAY      the built `forestplay`, which has to accept each list of events (default:
-      crates/forestplay/out/forestplay;
-                without it those rows are left out)
-      FOLDER    where pictures of the page are written, to look at"""
+  python3 -m tests.by_hand.walk_adversary [options]
+      --browser CHROMIUM  the browser (default: chromium, of Debian's package `chromium`); it is spoken to through a
+                          pipe, by the DevTools protocol, so no other package is needed
+      --play PLAY         the built `forestplay`, which has to accept each list of events (default:
+                          crates/forestplay/out/forestplay; without it those rows are left out)
+      --shots FOLDER      where pictures of the page are written, to look at"""
 import argparse
 import base64
 import json
@@ -18,7 +15,9 @@ import subprocess
 import sys
 import tempfile
 
-from tests.pictures.base import LIMIT, TALLY, TOP, call, note
+from tests import TOP
+from tests.by_hand.tally import last_line, note
+from tests.pictures.base import LIMIT, call
 
 SIZES = {"wide": (1024, 768), "phone": (390, 844)}
 NETWORKS = {
@@ -38,31 +37,15 @@ class Browser:
     def __init__(self, program, folder):
         ours_in, theirs_out = os.pipe()
         theirs_in, ours_out = os.pipe()
-        words = [
-            program,
-            "--headless",
-            "--no-sandbox",
-            "--disable-gpu",
-            "--hide-scrollbars",
-            "--remote-debugging-pipe",
-            f"--user-data-dir={folder}",
-            "about:blank",
-        ]
-        self.process = subprocess.Popen(
-            ["sh", "-c", f'exec "$@" 3<&{theirs_in} 4>&{theirs_out}', "sh", *words],
-            pass_fds=(theirs_in, theirs_out),
-            stdout=subprocess.DEVNULL,
-            stderr=subprocess.DEVNULL,
-        )
+        words = [program, "--headless", "--no-sandbox", "--disable-gpu", "--hide-scrollbars", "--remote-debugging-pipe",
+                 f"--user-data-dir={folder}", "about:blank"]
+        self.process = subprocess.Popen(["sh", "-c", f'exec "$@" 3<&{theirs_in} 4>&{theirs_out}', "sh", *words],
+                                        pass_fds=(theirs_in, theirs_out), stdout=subprocess.DEVNULL,
+                                        stderr=subprocess.DEVNULL)
         os.close(theirs_in)
         os.close(theirs_out)
-        self.reading, self.writing, self.left, self.number, self.session = (
-            os.fdopen(ours_in, "rb"),
-            ours_out,
-            b"",
-            0,
-            None,
-        )
+        self.reading, self.writing, self.left, self.number, self.session = (os.fdopen(ours_in, "rb"), ours_out, b"", 0,
+                                                                            None)
         self.told = []
         target = self.ask("Target.createTarget", url="about:blank")["targetId"]
         self.session = self.ask("Target.attachToTarget", targetId=target, flatten=True)["sessionId"]
@@ -94,9 +77,8 @@ class Browser:
 
     def open(self, path, width, height):
         self.told.clear()
-        self.ask(
-            "Emulation.setDeviceMetricsOverride", width=width, height=height, deviceScaleFactor=1, mobile=width < 600
-        )
+        self.ask("Emulation.setDeviceMetricsOverride", width=width, height=height, deviceScaleFactor=1,
+                 mobile=width < 600)
         self.ask("Page.navigate", url=f"file://{path}")
         while not any(said.get("method") == "Page.loadEventFired" for said in self.told):
             self.told.append(self.read())
@@ -113,7 +95,8 @@ class Browser:
     def click(self, script):
         """Presses the mouse in the middle of what the script finds."""
         x, y = self.value(
-            f"(function () {{ var e = {script}; e.scrollIntoView({{block: 'center'}}); var r = e.getBoundingClientRect();"
+            f"(function () {{ var e = {script}; e.scrollIntoView({{block: 'center'}});"
+            " var r = e.getBoundingClientRect();"
             " return [r.x + r.width / 2, r.y + r.height / 2]; })()"
         )
         for kind in ("mousePressed", "mouseReleased"):
@@ -138,10 +121,8 @@ class Browser:
 
 
 EVENTS = "run.length - 1"
-FREE_TOKEN, READY_DISC = (
-    "document.querySelector('.token:not(.behind):not(.held)')",
-    "document.querySelector('.disc:not(.dim)')",
-)
+FREE_TOKEN, READY_DISC = ("document.querySelector('.token:not(.behind):not(.held)')",
+                          "document.querySelector('.disc:not(.dim)')")
 
 
 def look_rows(browser, name, width, height):
@@ -149,14 +130,13 @@ def look_rows(browser, name, width, height):
     for events in (0, 40):
         for _ in range(events):
             browser.key("r")
-        note(
-            f"{name}: no wider than the window after {events} events",
-            browser.value("document.documentElement.scrollWidth") <= width,
-            browser.value("document.documentElement.scrollWidth"),
-        )
+        note(f"{name}: no wider than the window after {events} events",
+             browser.value("document.documentElement.scrollWidth") <= width,
+             browser.value("document.documentElement.scrollWidth"))
         cut = browser.value(
             """Array.from(document.querySelectorAll('#map text, #map rect')).filter(function (e) { var b = e.getBBox(),
-            v = map.viewBox.baseVal; return b.x < -1 || b.y < -1 || b.x + b.width > v.width + 1 || b.y + b.height > v.height + 1; })
+            v = map.viewBox.baseVal;
+            return b.x < -1 || b.y < -1 || b.x + b.width > v.width + 1 || b.y + b.height > v.height + 1; })
             .map(function (e) { return e.textContent || e.outerHTML; })""")
         note(f"{name}: the map's texts and messages are in it after {events} events", not cut, cut)
     if width > 600:
@@ -187,11 +167,8 @@ def mouse_rows(browser, name):
     before = browser.value("pulses().join()")
     browser.click(READY_DISC + ".querySelector('circle')")
     after = browser.value("pulses().join()")
-    note(
-        f"{name}: a node that is clicked makes its pulse",
-        after != before and not browser.value("now().step.take"),
-        after,
-    )
+    note(f"{name}: a node that is clicked makes its pulse", after != before and not browser.value("now().step.take"),
+         after)
 
 
 def key_rows(browser, name):
@@ -227,10 +204,8 @@ def freeze_rows(browser, name):
     said = browser.value("by('said').textContent")
     note(f"{name}: nothing comes over it", held and "frozen" in said, said)
     browser.click("document.querySelector('#freeze button')")
-    note(
-        f"{name}: its button thaws it",
-        not browser.value(f"frozen['{edge}']") and browser.value("possible().length") > 0,
-    )
+    note(f"{name}: its button thaws it",
+         not browser.value(f"frozen['{edge}']") and browser.value("possible().length") > 0)
 
 
 def played(browser, network, play):
@@ -267,8 +242,13 @@ def broken_rows(browser, name, network, play):
       while (queue.length) {
         var s = queue.shift(), steps = stepsOf(s);
         for (var k = 0; k < steps.length; k++) {
-          var key = (steps[k].take ? "take " + steps[k].v + " " + steps[k].port + " " + steps[k].place : "pulse " + steps[k].v);
-          if (steps[k].fault) { var keys = [key]; while (from[s]) { keys.unshift(from[s][1]); s = from[s][0]; } return keys; }
+          var v = steps[k].v;
+          var key = (steps[k].take ? "take " + v + " " + steps[k].port + " " + steps[k].place : "pulse " + v);
+          if (steps[k].fault) {
+            var keys = [key];
+            while (from[s]) { keys.unshift(from[s][1]); s = from[s][0]; }
+            return keys;
+          }
           if (!(steps[k].to in from)) { from[steps[k].to] = [s, key]; queue.push(steps[k].to); }
         }
       } })()""")
@@ -281,11 +261,8 @@ def broken_rows(browser, name, network, play):
         done = played(browser, network, play)
         if name.startswith("two without early"):
             # The proved machine keeps what comes early apart, so these events are possible there, and go right.
-            note(
-                f"{name}: forestplay accepts the list",
-                done.returncode == 0 and done.stdout.startswith(b"node 1 pulse 1\n"),
-                done,
-            )
+            note(f"{name}: forestplay accepts the list",
+                 done.returncode == 0 and done.stdout.startswith(b"node 1 pulse 1\n"), done)
         else:
             note(f"{name}: forestplay refuses the list", done.returncode == 1 and b" line " in done.stderr, done)
 
@@ -343,8 +320,7 @@ def main():
             for size in SIZES:
                 walk(browser, name, network, options, size, given)
         browser.end()
-    print(f"{TALLY['passed']} passed, {TALLY['failed']} failed")
-    return 1 if TALLY["failed"] else 0
+    return last_line()
 
 
 if __name__ == "__main__":

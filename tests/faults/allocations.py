@@ -6,7 +6,9 @@ runs that differ in their pulses alone are compared; and the bytes of runs that 
 import os
 import tempfile
 
-from tests.faults.refused_memory import TESTS, build_front, count, count_and_bytes
+from tests.cases import Case
+from tests.faults.refused_memory import build_front, count, count_and_bytes
+from tests.settings import CRATE_TESTS, PLAN
 
 # Six nodes, five edges and the degrees 1 and 5 each. With the greatest vertex in the middle there is one forest, and 30
 # rounds; with the least there are five, and 102 rounds.
@@ -31,19 +33,15 @@ def allocation_rows(program):
         rows = [row("plain allocates as often in 102 rounds as in 30", rounds),
                 row("plan with one worker allocates as often in 102 rounds as in 30", plans),
                 capacity_row(program, front, folder)]
-        if not os.path.isfile(TESTS):
-            return rows + [("the tests of crates/checks are built", False, f"no file {TESTS}")]
+        if not os.path.isfile(CRATE_TESTS):
+            return rows + [("the tests of crates/checks are built", False, f"no file {CRATE_TESTS}")]
         links = [f"sync_rounds_checks::greatest_within_{links}" for links in ("1_link", "50_links")]
         pulses = [f"alpha_core_checks::runs::a_node_of_{pulses}" for pulses in ("1_pulse", "50_pulses")]
         return rows + [
-            row(
-                "run_rounds allocates as often in 50 pulses as in 1",
-                [count(front, folder, [TESTS, name]) for name in links],
-            ),
-            row(
-                "a node under the synchroniser allocates as often in 50 pulses as in 1",
-                [count(front, folder, [TESTS, name]) for name in pulses],
-            ),
+            row("run_rounds allocates as often in 50 pulses as in 1",
+                [count(front, folder, [CRATE_TESTS, name]) for name in links]),
+            row("a node under the synchroniser allocates as often in 50 pulses as in 1",
+                [count(front, folder, [CRATE_TESTS, name]) for name in pulses]),
         ]
 
 
@@ -52,9 +50,8 @@ def capacity_row(program, front, folder):
     name, places = "each wire of the capacity takes the same memory in each direction of a link", {}
     for directions, network in ((2, EDGE), (6, TRIANGLE)):
         asked = [
-            count_and_bytes(
-                front, folder, [program] + PLAN_WORDS + ["--turns", "0", "--capacity", str(capacity)], network, status=3
-            )
+            count_and_bytes(front, folder, [program] + PLAN_WORDS + ["--turns", "0", "--capacity", str(capacity)],
+                            network, status=3)
             for capacity in CAPACITIES
         ]
         if None in asked or len({calls for calls, _ in asked}) != 1:
@@ -68,3 +65,8 @@ def capacity_row(program, front, folder):
 
 def row(name, counts):
     return name, None not in counts and 0 < counts[0] == counts[1], f"allocations: {counts}"
+
+
+class Allocations(Case):
+    def test_allocations(self):
+        self.note_all(allocation_rows(PLAN))

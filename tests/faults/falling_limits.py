@@ -7,9 +7,12 @@ import tempfile
 from lab.definitions.colours import network_of, plan_text
 from lab.definitions.nodes import ports_of
 from lab.transcripts.check import Wrong, in_order, whole_run
+from tests.cases import Case
+from tests.commands import PROGRAM_OF
 from tests.faults.refused_memory import build_front
 from tests.programs.one_worker import Run
-from tests.programs.slow_reader import PROGRAM_OF, answer_to
+from tests.programs.slow_reader import answer_to
+from tests.settings import PLAN, PLAY
 
 LIMIT = 60
 MOST, LEAST, FINE_STEPS = 2**30, 2**20, 40
@@ -105,3 +108,9 @@ def is_whole(data, answer):
         return (answer[0], answer[2]) == (0, b"") and bool(whole_run(network_of(data), answer[1]))
     except Wrong:
         return False
+
+
+class FallingLimits(Case):
+    def test_address_space(self):
+        self.note("each command is played", {words[0] for words, _ in runs()} == set(PROGRAM_OF))
+        self.note_all(falling_limit_rows({"forestplan": PLAN, "forestplay": PLAY}))

@@ -4,14 +4,12 @@ import subprocess
 import tempfile
 
 from lab.definitions.colours import plan_text
-from tests import TOP
+from tests.cases import Case, text
+from tests.commands import COMMANDS
+from tests.settings import CRATE_TESTS, PLAN, PLAY
 
 HERE = os.path.dirname(os.path.abspath(__file__))
-
-
-# The tests of `checks`, built by `rt ci`, or by `rt test` in that crate.
-TESTS = os.path.join(TOP, "crates", "checks", "out", "checks_tests")
-# Tests that try again what memory is refused to once.
+# Tests of `checks`, which `rt ci` builds, or `rt test` in that crate, that try again what memory is refused to once.
 TRIED_AGAIN = ("net_core_checks::a_state_goes_on_after_a_refused_growth",
                "net_core_checks::a_list_runs_again_after_a_refused_growth",
                "link_queue_checks::a_link_meets_again_after_a_refused_growth")
@@ -45,23 +43,21 @@ def refused_memory_rows(program, network, answer):
         rows.append(sweep(program, front, ["forests"], b"q\n", (1, b"", b"forestplan: F8 line 1\n")))
         rows.append(sweep(program, front, ["nothing"], b"", None))
         rows.append(sweep(program, front, ["--help"], b"", None))
-        if not os.path.isfile(TESTS):
-            return rows + [("the tests of crates/checks are built", False, f"no file {TESTS}")]
+        if not os.path.isfile(CRATE_TESTS):
+            return rows + [("the tests of crates/checks are built", False, f"no file {CRATE_TESTS}")]
         return rows + [tried_again(front, folder, name) for name in TRIED_AGAIN]
 
 
 def barred_networks(network):
     """With identifiers and bars; and with so many bars that the nodes' sets of colours have boxes of their own."""
-    return [
-        network + b"i 1 9\nb 3 1\nb 3 7\nb 1 2\ni 2 0\n",
-        network + b"".join(b"b 1 %d\n" % channel for channel in range(1, 131)),
-    ]
+    return [network + b"i 1 9\nb 3 1\nb 3 7\nb 1 2\ni 2 0\n",
+            network + b"".join(b"b 1 %d\n" % channel for channel in range(1, 131))]
 
 
 def tried_again(front, folder, name):
     """Refuses each growth of a test in turn: it passes, and then asks more often for memory than if nothing is
     refused."""
-    words = [TESTS, name]
+    words = [CRATE_TESTS, name]
     ample = count(front, folder, words) or 0
     counts = [count(front, folder, words, refused=refused) for refused in range(1, ample + 1)]
     wrong = [k for k, made in enumerate(counts, 1) if made is None or made <= ample]
@@ -112,3 +108,19 @@ def answer_of(program, front, words, data, number):
 def run(front, words, data, **given):
     return subprocess.run(words, input=data, capture_output=True, timeout=60,
                           env={"PATH": os.environ.get("PATH", ""), "LD_PRELOAD": front, **given})
+
+
+class RefusedMemory(Case):
+    def test_each_command(self):
+        with tempfile.TemporaryDirectory() as folder:
+            front, failure = build_front(folder)
+            self.note("the refusing allocator builds", failure is None, failure)
+            for it in COMMANDS:
+                path, answer = {"forestplan": PLAN, "forestplay": PLAY}[it.program], (0, text(it.answer), b"")
+                threads = (4, b"", f"{it.program}: threads\n".encode()) if "workers" in it.options else None
+                row = sweep(path, front, it.line_of_one, text(it.data), answer, it.program, threads)
+                self.note(f"{row[0]}, of the table of commands", *row[1:])
+
+    def test_growths(self):
+        triangle = b"p edge 3 3\ne 1 2\ne 1 3\ne 2 3\n"
+        self.note_all(refused_memory_rows(PLAN, triangle, b"forests 3 2\n0 1 2\n0 2 3\n1 1 3\n"))

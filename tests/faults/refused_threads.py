@@ -8,8 +8,11 @@ import time
 
 from lab.definitions.colours import network_of, plan_text
 from lab.transcripts.check import Wrong, whole_run
+from tests import TOP
+from tests.cases import Case
 from tests.faults.refused_memory import build_front, sweep
 from tests.programs.one_worker import Run
+from tests.settings import PLAN
 
 LIMIT = 60
 MOST_WORKERS = 64
@@ -47,14 +50,8 @@ class Counted:
     def run(self, words, data, growth=0, thread=0):
         """The answer; how many growths were asked for; and how many threads were, how many started, and how many
         ended."""
-        given = {
-            "PATH": os.environ.get("PATH", ""),
-            "LD_PRELOAD": self.front,
-            "REFUSE": str(growth),
-            "REFUSE_THREAD": str(thread),
-            "COUNT": self.growths,
-            "COUNT_THREADS": self.threads,
-        }
+        given = {"PATH": os.environ.get("PATH", ""), "LD_PRELOAD": self.front, "REFUSE": str(growth),
+                 "REFUSE_THREAD": str(thread), "COUNT": self.growths, "COUNT_THREADS": self.threads}
         try:
             done = subprocess.run([self.program, *words], input=data, capture_output=True, timeout=LIMIT, env=given)
         except subprocess.TimeoutExpired:
@@ -84,11 +81,8 @@ def each_thread(counted, title, data, numbers):
             refused += thread > 0
             if (answer, threads) != wanted:
                 wrong.append((workers, thread, answer, threads))
-    return (
-        f"each of 1 to {max(numbers)} threads refused in turn: plan of {title}, {refused} refusals",
-        not wrong,
-        wrong[:3],
-    )
+    return (f"each of 1 to {max(numbers)} threads refused in turn: plan of {title}, {refused} refusals", not wrong,
+            wrong[:3])
 
 
 def signed_number(counted):
@@ -100,11 +94,8 @@ def growths_of_one_worker(program, growths):
     """With one worker a run is the same each time, by the definition of looks and turns. To start a thread takes memory
     of the system's own; if that is refused, the thread is."""
     run = Run(network_of(TRIANGLE), 4)
-    for words, wanted in [
-        (["plan"], plan_text(TRIANGLE)),
-        (["transcript"], run.merged()),
-        (["transcript", "--edition", "1"], run.text()),
-    ]:
+    for words, wanted in [(["plan"], plan_text(TRIANGLE)), (["transcript"], run.merged()),
+                          (["transcript", "--edition", "1"], run.text())]:
         yield sweep(program, growths, [*words, "--workers", "1"], TRIANGLE, (0, wanted, b""), or_else=THREADS)
 
 
@@ -124,21 +115,16 @@ def growths_of_workers(counted, command):
                 wrong.append((workers, growth, answer, started, ended))
     late_enough = late > 0 or command == "plan"
     return (
-        f"each growth refused in turn: {command} with 2, 4 and 16 workers, {late} of them once all threads were started",
+        f"each growth refused in turn: {command} with 2, 4 and 16 workers, {late} of them once all threads were "
+        "started",
         not wrong and whole > 0 and late_enough,
         wrong[:3] or (late, whole),
     )
 
 
 # Network, workers, and how many microseconds a worker is stopped at a time.
-STOPPED = [
-    (ONE_EDGE, 4, 5),
-    (TRIANGLE, 4, 5),
-    (TRIANGLE, 4, 20),
-    (ONE_EDGE, 3, 200),
-    (TRIANGLE, 8, 20),
-    (TRIANGLE, 1, 5),
-]
+STOPPED = [(ONE_EDGE, 4, 5), (TRIANGLE, 4, 5), (TRIANGLE, 4, 20), (ONE_EDGE, 3, 200), (TRIANGLE, 8, 20),
+           (TRIANGLE, 1, 5)]
 
 
 def refused_pushes(program, folder, enough=8, patience=5 * LIMIT):
@@ -161,7 +147,8 @@ def refused_pushes(program, folder, enough=8, patience=5 * LIMIT):
             if answer != (0, plan_text(data), b"") or (workers == 1 and count > 0):
                 wrong.append((data, workers, stop, answer, count))
     return (
-        f"pushes refused in the middle of a run: in {runs[1]} of {runs[0]} runs of plan with up to 8 workers, {refused} refusals",
+        f"pushes refused in the middle of a run: in {runs[1]} of {runs[0]} runs of plan with up to 8 workers, "
+        f"{refused} refusals",
         not wrong and runs[1] > 0,
         wrong[:3] or f"no run in {patience} seconds was refused memory",
     )
@@ -172,9 +159,8 @@ def refused_in_threads(program, front, folder, workers, data, stop):
     name = os.path.join(folder, "refused")
     given = {"PATH": os.environ.get("PATH", ""), "LD_PRELOAD": front, "STOP": str(stop), "COUNT": name}
     try:
-        done = subprocess.run(
-            [program, "plan", "--workers", str(workers)], input=data, capture_output=True, timeout=LIMIT, env=given
-        )
+        done = subprocess.run([program, "plan", "--workers", str(workers)], input=data, capture_output=True,
+                              timeout=LIMIT, env=given)
     except subprocess.TimeoutExpired:
         return "no end", 0
     # A run that a signal ends writes no count.
@@ -191,3 +177,9 @@ def is_right(command, answer):
         return whole_run(network_of(TRIANGLE), output)[1].startswith("whole run")
     except Wrong:
         return False
+
+
+class RefusedThreads(Case):
+    def test_threads_and_growths(self):
+        with open(os.path.join(TOP, "examples", "queen5_5.col"), "rb") as file:
+            self.note_all(refused_thread_rows(PLAN, file.read()))

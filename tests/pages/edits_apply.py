@@ -1,8 +1,4 @@
-#!/usr/bin/env python3
 """Checks that each wrong body still applies: those of crates/NAME/must-fail/ and of crates/NAME/wrong-bodies/.
-tests/pages/pages.py calls it.
-
-  edits_apply.py
 
 Nothing is compiled. By the text alone, of each edit:
 
@@ -11,14 +7,12 @@ Nothing is compiled. By the text alone, of each edit:
 - a path `name::item` of a `new:` text of code begins with a word that the file knows: a crate that crates.txt lists for
   this one, a module, an import or a type of the file, or one of the language. If it is a crate of this repository, its
   `src/lib.rt` names the item.
-
-The last line is 'N passed, M failed'.
 """
-import argparse
 import os
 import re
 
 from tests import TOP
+from tests.cases import Case
 
 # What a path may begin with anywhere.
 LANGUAGE = set(
@@ -118,18 +112,11 @@ def faults():
     return [(path, fault_of(crate, os.path.join(TOP, path), listed)) for crate, path in edits()]
 
 
-def main():
-    summary, _, more = __doc__.partition("\n")
-    argparse.ArgumentParser(
-        description=summary, epilog=more, formatter_class=argparse.RawDescriptionHelpFormatter
-    ).parse_args()
-    found = faults()
-    wrong = [(path, fault) for path, fault in found if fault]
-    for path, fault in wrong:
-        print(f"FAILED {path}: {fault}")
-    print(f"{len(found) - len(wrong)} passed, {len(wrong)} failed")
-    return 1 if wrong or not found else 0
+class EditsApply(Case):
+    needs_programs = False
 
-
-if __name__ == "__main__":
-    raise SystemExit(main())
+    def test_edits(self):
+        found = faults()
+        self.note("there are edits", found, "no edit is found")
+        for path, fault in found:
+            self.note(path, not fault, fault)

@@ -1,18 +1,14 @@
-#!/usr/bin/env python3
-"""Checks pages against what they are made from. The last line is 'N passed, M failed'.
-
-  index.py [NAME ..]       all tests, or those of these names, as `index.py test_readme`
+"""Checks pages against what they are made from.
 
 Nothing is built or run. What pages show and link is checked by pages.py beside this.
 """
 import glob
 import os
 import re
-import sys
-import unittest
 
 from build import promises
 from tests import TOP
+from tests.cases import Case
 
 README_WORDS, README_COLUMNS = 900, 120
 
@@ -44,7 +40,9 @@ def members():
     return found
 
 
-class Pages(unittest.TestCase):
+class Index(Case):
+    needs_programs = False
+
     def test_readme(self):
         text = text_of("README.md")
         self.assertLessEqual(len(text.split()), README_WORDS, "words of README.md")
@@ -149,43 +147,3 @@ class Pages(unittest.TestCase):
         transcript = text_of("docs", "pictures", "petersen.transcript")
         average = round(len(transcript) / transcript.count("\n"))
         self.assertIn(f"takes {average} bytes a line", one_line(text_of("docs", "claim", "FORMATS.md")))
-
-
-class Counted(unittest.TestResult):
-    """Counts each row of a test, and prints what fails."""
-
-    def __init__(self):
-        super().__init__()
-        self.rows = {True: 0, False: 0}
-
-    def note(self, test, error):
-        self.rows[error is None] += 1
-        if error:
-            print(f"FAILED {test}: {error[1]}")
-
-    def addSuccess(self, test):
-        self.note(test, None)
-
-    def addFailure(self, test, err):
-        self.note(test, err)
-
-    def addError(self, test, err):
-        self.note(test, err)
-
-    def addSubTest(self, test, subtest, err):
-        self.note(subtest, err)
-
-
-def main():
-    if sys.argv[1:] in (["--help"], ["-h"]):
-        print(__doc__.strip())
-        return 0
-    result = Counted()
-    names = sys.argv[1:] or unittest.TestLoader().getTestCaseNames(Pages)
-    unittest.TestSuite(Pages(name) for name in names).run(result)
-    print(f"{result.rows[True]} passed, {result.rows[False]} failed")
-    return 1 if result.rows[False] else 0
-
-
-if __name__ == "__main__":
-    sys.exit(main())

@@ -1,22 +1,14 @@
-#!/usr/bin/env python3
-"""Checks what the pages README.md and docs/ show and name. The last line is 'N passed, M failed'.
+"""Checks what the pages README.md and docs/ show and name.
 
-  pages.py [PROGRAM PLAY]      default: the programs as `bin/forestplan` and `bin/forestplay` build them
-
-- Each command shown, a line `$ ..`, is run at the top of the repository, by bash; what stands under it, in the same
-  columns,
-  has to be its output (notes behind two blanks are left out), or its refusal.
+- Each command shown, a line `$ ..`, is run at the top of the repository, by bash; what is under it, in the same
+  columns, has to be its output (notes after two blanks are left out), or its refusal.
 - Each table of docs/learn/TUTORIAL.md is worked out from the definitions (lab/definitions/colours.py,
-  lab/definitions/nodes.py), not from
-  the program; and so is what it says of small networks, of rows, and of nodes that break a rule (tutorial_facts.py).
+  lab/definitions/nodes.py), not from the program. tutorial_facts.py has the rest of what it says.
 - These definitions fit together: on small networks the rounds, and any order of events, end with the colours.
 - Each excerpt of code, a fence whose first line names its file, has its lines in that file, in this order; a comment
-  `..`
-  stands for lines that are left out.
-- Each wrong body of crates/NAME/must-fail/ and crates/NAME/wrong-bodies/ still applies (edits_apply.py).
+  `..` stands for lines that are left out.
 - No crate is reached along more paths through crates.txt than build/paths.py allows.
-- README.md or docs/work/LAYERS.md names each crate. No line of a page is wider than
-  150 columns.
+- README.md or docs/work/LAYERS.md names each crate. No line of a page is wider than 150 columns.
 - Each file named in backquotes exists, each link leads to a page and a heading, and each function and clause that
   docs/claim/PROMISES.md names is in the code. It names each public law.
 """
@@ -24,29 +16,22 @@ import glob
 import os
 import random
 import re
-import subprocess
-import sys
 
 from build.paths import MOST, paths
 from lab.definitions.colours import Network, colours, merge, three
 from lab.definitions.nodes import NetState, synchronous_run, text_of_wire
 from tests import TOP
-from tests.pages import edits_apply
-from tests.pages.tutorial_facts import channels_of, dropped, example, fact_rows, pulses_of
+from tests.cases import Case, run_program
+from tests.pages.tutorial_facts import channels_of, dropped, example, pulses_of
+from tests.settings import PLAN, PLAY
 from tests.shell import run_line
 
 PAGES = ["README.md"] + sorted(
     os.path.relpath(path, TOP) for path in glob.glob(os.path.join(TOP, "docs", "**", "*.md"), recursive=True)
 )
 LIMIT = 300
+PROGRAMS = {"forestplan": PLAN, "forestplay": PLAY}
 WIDEST = 150
-TALLY = {"passed": 0, "failed": 0}
-
-
-def note(name, good, what=""):
-    TALLY["passed" if good else "failed"] += 1
-    if not good:
-        print(f"FAILED {name}: {what}")
 
 
 def lines_of(page):
@@ -66,19 +51,6 @@ def shown_commands(lines):
                 break
             shown.append(re.split(r" {2,}", below[column:].rstrip())[0])
         yield number + 1, re.split(r" {2,}", found.group(2))[0], shown
-
-
-def check_commands(page, programs):
-    for number, command, shown in shown_commands(lines_of(page)):
-        words = command.replace("./forestplan", programs[0]).replace("bin/forestplay", programs[1])
-        done = run_line(words, limit=LIMIT, cwd=TOP)
-        wanted = "".join(line + "\n" for line in shown)
-        good = [(0, wanted.encode(), b"")] + [(status, b"", wanted.encode()) for status in (1, 3) if wanted]
-        note(
-            f"{page}:{number} {command}",
-            (done.returncode, done.stdout, done.stderr) in good,
-            f"shown {wanted!r}, got {done}",
-        )
 
 
 def tables_of(lines):
@@ -116,26 +88,6 @@ def played(net, rows):
         pulses = ", ".join(str(node.pulse_number) for _, node in sorted(state.nodes.items()))
         wanted.append([row[1], " ".join(wires), pulses])
     return wanted
-
-
-def check_definitions():
-    """On small networks the rounds, and any order of events, end with the colours: so the pages' definitions fit
-    together."""
-    source, wrong = random.Random(2026), []
-    for _ in range(40):
-        nodes = source.randrange(0, 7)
-        pairs = [(v, w) for v in range(1, nodes + 1) for w in range(v + 1, nodes + 1)]
-        net = Network({v: v for v in range(1, nodes + 1)}, {pair for pair in pairs if source.random() < 0.5})
-        rounds, state = synchronous_run(net), NetState(net)
-        while events := list(state.possible()):
-            state.step(*source.choice(events))
-        ends = [
-            {v: node.merged for v, node in rounds.items()},
-            {v: node.program.merged for v, node in state.nodes.items()},
-        ]
-        if ends != [colours(net)] * 2 or not all(node.drained() for node in state.nodes.values()):
-            wrong.append(net.neighbours)
-    note("rounds and events of 40 small networks end with the colours", not wrong, wrong[:1])
 
 
 def greatest_colours(digits):
@@ -179,58 +131,9 @@ def tutorial_table(title, rows):
     return None
 
 
-def check_tutorial():
-    count = 0
-    for number, title, rows in tables_of(lines_of("docs/learn/TUTORIAL.md")):
-        wanted = tutorial_table(title, rows)
-        if wanted is not None:
-            count += 1
-            got = [row[1:1 + len(wanted[0])] for row in rows[:1] + rows[2:]]
-            note(f"docs/learn/TUTORIAL.md:{number}", got == wanted, f"wanted {wanted}")
-    note("tables of the tutorial", count == 6, count)
-    for name, good, what in fact_rows():
-        note(name, good, what)
-
-
 def heading_anchor(line):
     text = re.sub(r"[`*,.:;()?/+·']", "", line.lstrip("#").strip().lower())
     return text.replace(" ", "-")
-
-
-def check_names(page):
-    lines = lines_of(page)
-    for number, line in enumerate(lines, 1):
-        for name in re.findall(r"`((?:crates|docs|tests|lab|build|bin|bench|examples)/[\w./-]+)`", line):
-            if "NAME" not in name:
-                note(f"{page}:{number} {name}", os.path.exists(os.path.join(TOP, name)), "there is no such file")
-        for target in re.findall(r"\]\(([^)]*)\)", line):
-            if re.match(r"https?:", target):
-                continue
-            path, _, anchor = target.partition("#")
-            path = os.path.normpath(os.path.join(os.path.dirname(page), path)) if path else page
-            good = os.path.exists(os.path.join(TOP, path))
-            if good and anchor:
-                good = anchor in {heading_anchor(head) for head in lines_of(path) if head.startswith("#")}
-            note(f"{page}:{number} {target}", good, "the link leads nowhere")
-
-
-def check_excerpts(page):
-    """Excerpts leave lines out, so their lines are looked for one after another."""
-    lines = iter(enumerate(lines_of(page), 1))
-    for _, line in lines:
-        if line.strip() not in ("```rust", "```antt"):
-            continue
-        number, head = next(lines)
-        path = head.strip().removeprefix("// ").removeprefix("-- ")
-        excerpt = []
-        for _, line in lines:
-            if line.strip() == "```":
-                break
-            if line.strip() not in ("// ..", "-- .."):
-                excerpt.append(line.strip())
-        source = iter([line.strip() for line in lines_of(path)])
-        missing = [line for line in excerpt if line not in source]
-        note(f"{page}:{number} excerpt of {path}", not missing, f"not there, or not in this order: {missing}")
 
 
 def clauses_of_crate(crate):
@@ -272,77 +175,130 @@ def laws_of_crates():
     return found
 
 
-def check_promises():
-    """A promise is written as `crate::function`: `clause`, `clause`; it may go on in the next line."""
-    crates, text = {}, " ".join(line.strip() for line in lines_of("docs/claim/PROMISES.md"))
-    promises = re.findall(r"`((?!crate::)[a-z_]+(?:::\w+)+)`(?:: ((?:`\w+`(?:, |))+))?", text)
-    for path, clauses in promises:
-        parts = path.split("::")
-        crate = crates.setdefault(parts[0], clauses_of_crate(parts[0]))
-        name = parts[-1]
-        missing = [] if name in crate else [name]
-        for clause in re.findall(r"`(\w+)`", clauses):
-            if clause not in crate.get(name, set()) and clause not in crate.get("ghost", set()):
-                missing.append(clause)
-        note(f"docs/claim/PROMISES.md {path}", not missing, f"not in the code: {missing}")
-    laws = laws_of_crates()
-    missing = sorted(laws - {path for path, _ in promises})
-    note(
-        "laws in docs/claim/PROMISES.md", len(laws) > 50 and not missing, f"{len(laws)} are found, not named: {missing}"
-    )
-    note("promises of docs/claim/PROMISES.md", len(promises) > 200, f"{len(promises)} are found")
+class Pages(Case):
+    def test_builds(self):
+        """The scripts build the programs, or find them built."""
+        for name, command in (("forestplan", "plain"), ("forestplay", "events")):
+            built = run_program(os.path.join(TOP, "bin", name), [command], b"p edge 0 0\n")
+            self.note(f"{name} builds", built.returncode == 0, built)
 
+    def test_commands(self):
+        for page in PAGES:
+            self.check_commands(page)
 
-def check_crates():
-    """README or LAYERS names each crate of crates.txt, and each crate of the toolchain that it lists."""
-    pages, names = "\n".join(lines_of("README.md") + lines_of("docs/work/LAYERS.md")), set()
-    for line in lines_of("crates.txt"):
-        names |= set(line.partition("#")[0].replace(":", " ").split())
-    missing = sorted(name for name in names if f"`{name}`" not in pages)
-    note("crates in README.md and docs/work/LAYERS.md", not missing, f"not named: {missing}")
+    def test_names(self):
+        for page in PAGES:
+            self.check_names(page)
 
+    def test_excerpts(self):
+        for page in PAGES:
+            self.check_excerpts(page)
 
-def check_lengths():
-    wide = [f"{page}:{number}" for page in PAGES for number, line in enumerate(lines_of(page), 1) if len(line) > WIDEST]
-    note(f"lines of pages wider than {WIDEST} columns", not wide, wide[:5])
+    def check_commands(self, page):
+        for number, command, shown in shown_commands(lines_of(page)):
+            words = re.sub(r"(?:\./|\bbin/)(forestplan|forestplay)\b", lambda found: PROGRAMS[found.group(1)], command)
+            done = run_line(words, limit=LIMIT, cwd=TOP)
+            wanted = "".join(line + "\n" for line in shown)
+            good = [(0, wanted.encode(), b"")] + [(status, b"", wanted.encode()) for status in (1, 3) if wanted]
+            self.note(f"{page}:{number} {command}", (done.returncode, done.stdout, done.stderr) in good,
+                      f"shown {wanted!r}, got {done}")
 
+    def test_definitions(self):
+        """On small networks the rounds, and any order of events, end with the colours: so the pages' definitions fit
+        together."""
+        source, wrong = random.Random(2026), []
+        for _ in range(40):
+            nodes = source.randrange(0, 7)
+            pairs = [(v, w) for v in range(1, nodes + 1) for w in range(v + 1, nodes + 1)]
+            net = Network({v: v for v in range(1, nodes + 1)}, {pair for pair in pairs if source.random() < 0.5})
+            rounds, state = synchronous_run(net), NetState(net)
+            while events := list(state.possible()):
+                state.step(*source.choice(events))
+            ends = [{v: node.merged for v, node in rounds.items()},
+                    {v: node.program.merged for v, node in state.nodes.items()}]
+            if ends != [colours(net)] * 2 or not all(node.drained() for node in state.nodes.values()):
+                wrong.append(net.neighbours)
+        self.note("rounds and events of 40 small networks end with the colours", not wrong, wrong[:1])
 
-def check_paths():
-    """No crate has more paths through crates.txt than build/paths.py allows."""
-    found = paths()
-    note("paths in crates.txt", max(found.values()) <= MOST, max(found, key=found.get))
+    def test_tutorial(self):
+        count = 0
+        for number, title, rows in tables_of(lines_of("docs/learn/TUTORIAL.md")):
+            wanted = tutorial_table(title, rows)
+            if wanted is not None:
+                count += 1
+                got = [row[1:1 + len(wanted[0])] for row in rows[:1] + rows[2:]]
+                self.note(f"docs/learn/TUTORIAL.md:{number}", got == wanted, f"wanted {wanted}")
+        self.note("tables of the tutorial", count == 6, count)
 
+    def check_names(self, page):
+        lines = lines_of(page)
+        for number, line in enumerate(lines, 1):
+            for name in re.findall(r"`((?:crates|docs|tests|lab|build|bin|bench|examples)/[\w./-]+)`", line):
+                if "NAME" not in name:
+                    self.note(f"{page}:{number} {name}", os.path.exists(os.path.join(TOP, name)),
+                              "there is no such file")
+            for target in re.findall(r"\]\(([^)]*)\)", line):
+                if re.match(r"https?:", target):
+                    continue
+                path, _, anchor = target.partition("#")
+                path = os.path.normpath(os.path.join(os.path.dirname(page), path)) if path else page
+                good = os.path.exists(os.path.join(TOP, path))
+                if good and anchor:
+                    good = anchor in {heading_anchor(head) for head in lines_of(path) if head.startswith("#")}
+                self.note(f"{page}:{number} {target}", good, "the link leads nowhere")
 
-def check_edits():
-    for path, fault in edits_apply.faults():
-        note(path, not fault, fault)
+    def check_excerpts(self, page):
+        """Excerpts leave lines out, so their lines are looked for one after another."""
+        lines = iter(enumerate(lines_of(page), 1))
+        for _, line in lines:
+            if line.strip() not in ("```rust", "```antt"):
+                continue
+            number, head = next(lines)
+            path = head.strip().removeprefix("// ").removeprefix("-- ")
+            excerpt = []
+            for _, line in lines:
+                if line.strip() == "```":
+                    break
+                if line.strip() not in ("// ..", "-- .."):
+                    excerpt.append(line.strip())
+            source = iter([line.strip() for line in lines_of(path)])
+            missing = [line for line in excerpt if line not in source]
+            self.note(f"{page}:{number} excerpt of {path}", not missing, f"not there, or not in this order: {missing}")
 
+    def test_promises(self):
+        """A promise is written as `crate::function`: `clause`, `clause`; it may go on in the next line."""
+        crates, text = {}, " ".join(line.strip() for line in lines_of("docs/claim/PROMISES.md"))
+        promises = re.findall(r"`((?!crate::)[a-z_]+(?:::\w+)+)`(?:: ((?:`\w+`(?:, |))+))?", text)
+        for path, clauses in promises:
+            parts = path.split("::")
+            crate = crates.setdefault(parts[0], clauses_of_crate(parts[0]))
+            name = parts[-1]
+            missing = [] if name in crate else [name]
+            for clause in re.findall(r"`(\w+)`", clauses):
+                if clause not in crate.get(name, set()) and clause not in crate.get("ghost", set()):
+                    missing.append(clause)
+            self.note(f"docs/claim/PROMISES.md {path}", not missing, f"not in the code: {missing}")
+        laws = laws_of_crates()
+        missing = sorted(laws - {path for path, _ in promises})
+        self.note("laws in docs/claim/PROMISES.md", len(laws) > 50 and not missing,
+                  f"{len(laws)} are found, not named: {missing}")
+        self.note("promises of docs/claim/PROMISES.md", len(promises) > 200, f"{len(promises)} are found")
 
-def main():
-    if sys.argv[1:] in (["--help"], ["-h"]):
-        print(__doc__.strip())
-        return 0
-    programs = [os.path.join(TOP, "crates", name, "out", name) for name in ("forestplan", "forestplay")]
-    if len(sys.argv) > 2:
-        programs = [os.path.abspath(word) for word in sys.argv[1:3]]
-    else:
-        for name in ("forestplan", "forestplay"):
-            built = subprocess.run([os.path.join(TOP, "bin", name), "--help"], stdout=subprocess.DEVNULL)
-            note(f"{name} builds", built.returncode == 0, built)
-    for page in PAGES:
-        check_commands(page, programs)
-        check_names(page)
-        check_excerpts(page)
-    check_crates()
-    check_lengths()
-    check_paths()
-    check_edits()
-    check_tutorial()
-    check_definitions()
-    check_promises()
-    print(f"{TALLY['passed']} passed, {TALLY['failed']} failed")
-    return 1 if TALLY["failed"] else 0
+    def test_crates(self):
+        """README or LAYERS names each crate of crates.txt, and each crate of the toolchain that it lists."""
+        pages, names = "\n".join(lines_of("README.md") + lines_of("docs/work/LAYERS.md")), set()
+        for line in lines_of("crates.txt"):
+            names |= set(line.partition("#")[0].replace(":", " ").split())
+        missing = sorted(name for name in names if f"`{name}`" not in pages)
+        self.note("crates in README.md and docs/work/LAYERS.md", not missing, f"not named: {missing}")
 
+    def test_lengths(self):
+        wide = [
+            f"{page}:{number}" for page in PAGES for number, line in enumerate(lines_of(page), 1) if len(line) > WIDEST
+        ]
+        self.note(f"lines of pages wider than {WIDEST} columns", not wide, wide[:5])
 
-if __name__ == "__main__":
-    sys.exit(main())
+    def test_paths(self):
+        """No crate has more paths through crates.txt than build/paths.py allows."""
+        found = paths()
+        self.note("paths in crates.txt", max(found.values()) <= MOST, max(found, key=found.get))

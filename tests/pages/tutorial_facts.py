@@ -7,10 +7,7 @@ import os
 from lab.definitions.colours import Network, bit, colours, drop, first_colours, merge, network_of, shift, three
 from lab.definitions.nodes import AlphaNode, Colouring, NetState, last_pulse, ports_of
 from tests import TOP
-
-
-def fact_rows():
-    return [too_many_row(), row_of_six_row(), *order_rows(), *drop_rows(), *bar_rows(), *acknowledgement_rows()]
+from tests.cases import Case
 
 
 def example(name):
@@ -122,10 +119,8 @@ def bar_rows():
     star = example("examples/star.col")
     barred = Network(star.identifiers, star.number, {9: {0}})
     found = [colours(net) for net in (star, barred)]
-    yield "the star with a bar", found == [
-        {v: 1 for v in range(1, 9)} | {9: 0},
-        {v: 0 for v in range(1, 9)} | {9: 1},
-    ], found
+    yield "the star with a bar", found == [{v: 1 for v in range(1, 9)} | {9: 0},
+                                           {v: 0 for v in range(1, 9)} | {9: 1}], found
 
 
 class Hasty(AlphaNode):
@@ -216,3 +211,23 @@ def frozen(thing):
     if isinstance(thing, set):
         return frozenset(thing)
     return frozen(vars(thing)) if hasattr(thing, "__dict__") else thing
+
+
+class TutorialFacts(Case):
+    needs_programs = False
+
+    def test_facts(self):
+        self.note(*too_many_row())
+        self.note(*row_of_six_row())
+
+    def test_orders(self):
+        self.note_all(order_rows())
+
+    def test_drops(self):
+        self.note_all(drop_rows())
+
+    def test_bars(self):
+        self.note_all(bar_rows())
+
+    def test_acknowledgements(self):
+        self.note_all(acknowledgement_rows())

@@ -8,7 +8,8 @@ import subprocess
 from lab.definitions.colours import bit, drop, merge, network_of, shift, three
 from lab.schedules import rules
 from lab.schedules.ruled_rounds import RuledRounds, smallest
-from tests.pictures.base import LIMIT, TOP, note
+from tests import TOP
+from tests.pictures.base import LIMIT, PictureCase
 from tests.pictures.marks import SVG, centre, ends, marks, nearest, number, numbered, parsed, texts
 
 MOST = {rule: 12 if rule in rules.OF_FORESTS else 5 for rule in rules.OF_ROUNDS}
@@ -38,86 +39,6 @@ def squares_of(group):
     return [[said for _, said in sorted(row)] for _, row in sorted(rows.items())]
 
 
-def words_row(name, root, said):
-    """The sentences of bin/explore are in the picture's, with its own quotes."""
-    shown = " ".join(texts(root))
-    missing = [
-        line for line in said if line and not line.startswith("wrong body") and line[1:].replace("'", "’") not in shown
-    ]
-    note(f"{name}: the words", not missing, missing)
-
-
-def forest_row(name, root, rounds):
-    """The rows are the node that goes wrong and those above it; the squares are the colours; the frame is around two
-    equal ones."""
-    clash, net = rounds.clash, rounds.net
-    chain, v = [clash.v], clash.v
-    while len(chain) < clash.pulse - 1 and (v := net.parent(clash.forest, v)):
-        chain.insert(0, v)
-    circles = sorted(
-        zip([centre(mark)[1] for mark in marks(root, "node")], [int(said) for _, _, said in numbered(root, "node")])
-    )
-    note(f"{name}: its nodes", [v for _, v in circles] == chain, (circles, chain))
-    groups = [marks(root, "without")[0], marks(root, "with")[0]]
-    wanted = [rounds.colours[clash.forest], colours_by_definition(net, clash.forest, clash.pulse)]
-    for group, lists in zip(groups, wanted):
-        shown = squares_of(group)
-        note(f"{name}: the colours {group.get('class')}", shown == [[c[v] for c in lists] for v in chain], shown)
-    (frame,), (x, y) = marks(root, "wrong"), centre(marks(root, "wrong")[0])
-    half = number(frame, "width") / 2, number(frame, "height") / 2
-    inside = [said for mark, (_, _, said) in zip(marks(groups[0], "colour"), numbered(groups[0], "colour"))
-              if abs(centre(mark)[0] - x) < half[0] and abs(centre(mark)[1] - y) < half[1]]
-    note(f"{name}: the red frame", inside == [str(clash.colour)] * 2 and len(marks(groups[1], "wrong")) == 0, inside)
-
-
-def merge_row(name, root, rounds):
-    """Three panels each; red are the edges of the forests merged whose ends have one channel, and no others."""
-    clash, net = rounds.clash, rounds.net
-    f, vertices = clash.forest, sorted(rounds.net.neighbours)
-    for kind, (before, colours, after) in {
-        "without": (rounds.merged[f], rounds.colours[f][-1], rounds.merged[f + 1]),
-        "with": (merged_by_definition(net, f), three(net, f), merged_by_definition(net, f + 1)),
-    }.items():
-        group = marks(root, kind)[0]
-        shown = [int(said) for _, _, said in numbered(group, "channel")]
-        wanted = [c[v] + 1 for c in (before, after) for v in vertices]
-        note(f"{name}: the channels {kind}", shown == wanted, (shown, wanted))
-        squares = [int(said) for _, _, said in numbered(group, "colour")]
-        note(f"{name}: the colours {kind}", squares == [colours[v] for v in vertices], squares)
-        places = dict(zip(vertices, [centre(mark) for mark in marks(group, "channel")][len(vertices):]))
-        red = sorted(tuple(sorted(nearest(places, end) for end in ends(mark))) for mark in marks(group, "wrong"))
-        same = sorted(
-            tuple(sorted(edge))
-            for edge, forest in net.number.items()
-            if forest <= f and len({after[v] for v in edge}) == 1
-        )
-        note(f"{name}: what is red {kind}", red == same and bool(red) == (kind == "without"), (red, same))
-        takes = {int(v): int(c) - 1 for v, c in re.findall(r"node (\d+), turn [\d, ]+: takes channel (\d+)",
-                                                           "\n".join(mark.text for mark in marks(group, "chooses")))}
-        note(f"{name}: who takes what {kind}", takes == {v: after[v] for v in (clash.v, clash.w)}, takes)
-        said = "\n".join(mark.text for mark in marks(group, "chooses"))
-        heard = {int(v): {int(w): int(c) for c, w in re.findall(r"(\d+) of (\d+)", words)}
-                 for v, words in re.findall(r"node (\d+), turn .*\n\(it has heard (.*)\)", said)}
-        left_out = rounds.without if kind == "without" else ()
-        turn = {v: (colours[v],) if "pair" in left_out else (colours[v], before[v]) for v in vertices}
-        told = {
-            v: {
-                w: after[w] + 1
-                for w in net.neighbours[v]
-                if turn[w] < turn[v]
-                and (
-                    net.number[frozenset((v, w))] == f
-                    or net.number[frozenset((v, w))] < f
-                    and "earlier" not in left_out
-                )
-            }
-            for v in (clash.v, clash.w)
-        }
-        note(f"{name}: who has heard what {kind}", heard == told, (heard, told))
-        arrows = len(marks(group, "arrow"))
-        note(f"{name}: the forest's edges {kind}", arrows == sum(forest == f for forest in net.number.values()), arrows)
-
-
 def merged_by_definition(net, forests):
     c = dict.fromkeys(net.neighbours, 0)
     for f in range(forests):
@@ -125,34 +46,121 @@ def merged_by_definition(net, forests):
     return c
 
 
-def edge_row(name, root):
-    """Nothing is cut at the right edge: a letter takes some 0.54 of its size."""
-    width = float(root.get("viewBox").split()[2])
-    cut = [element.text for element in root.iter(f"{SVG}text") if not element.get("text-anchor")
-           and number(element, "x") + 0.54 * number(element, "font-size") * len(element.text) > width]
-    note(f"{name}: within its edges", not cut, cut)
+class Broken(PictureCase):
+    needs_programs = False
 
+    def words_row(self, name, root, said):
+        """The sentences of bin/explore are in the picture's, with its own quotes."""
+        shown = " ".join(texts(root))
+        missing = [
+            line
+            for line in said
+            if line and not line.startswith("wrong body") and line[1:].replace("'", "’") not in shown
+        ]
+        self.note(f"{name}: the words", not missing, missing)
 
-def broken_row(painter, name, words, rounds):
-    status, picture, fault = painter(["broken", *words])
-    note(f"{name}: it is drawn", (status, fault) == (0, b""), fault)
-    root = parsed(picture.decode())
-    (forest_row if rounds.clash.pulse else merge_row)(name, root, rounds)
-    words_row(name, root, explored(*words)[1:])
-    edge_row(name, root)
+    def forest_row(self, name, root, rounds):
+        """The rows are the node that goes wrong and those above it; the squares are the colours; the frame is around
+        two equal ones."""
+        clash, net = rounds.clash, rounds.net
+        chain, v = [clash.v], clash.v
+        while len(chain) < clash.pulse - 1 and (v := net.parent(clash.forest, v)):
+            chain.insert(0, v)
+        circles = sorted(
+            zip([centre(mark)[1] for mark in marks(root, "node")], [int(said) for _, _, said in numbered(root, "node")])
+        )
+        self.note(f"{name}: its nodes", [v for _, v in circles] == chain, (circles, chain))
+        groups = [marks(root, "without")[0], marks(root, "with")[0]]
+        wanted = [rounds.colours[clash.forest], colours_by_definition(net, clash.forest, clash.pulse)]
+        for group, lists in zip(groups, wanted):
+            shown = squares_of(group)
+            self.note(f"{name}: the colours {group.get('class')}", shown == [[c[v] for c in lists] for v in chain],
+                      shown)
+        (frame,), (x, y) = marks(root, "wrong"), centre(marks(root, "wrong")[0])
+        half = number(frame, "width") / 2, number(frame, "height") / 2
+        inside = [
+            said
+            for mark, (_, _, said) in zip(marks(groups[0], "colour"), numbered(groups[0], "colour"))
+            if abs(centre(mark)[0] - x) < half[0] and abs(centre(mark)[1] - y) < half[1]
+        ]
+        self.note(f"{name}: the red frame", inside == [str(clash.colour)] * 2 and len(marks(groups[1], "wrong")) == 0,
+                  inside)
 
+    def merge_row(self, name, root, rounds):
+        """Three panels each; red are the edges of the forests merged whose ends have one channel, and no others."""
+        clash, net = rounds.clash, rounds.net
+        f, vertices = clash.forest, sorted(rounds.net.neighbours)
+        for kind, (before, colours, after) in {
+            "without": (rounds.merged[f], rounds.colours[f][-1], rounds.merged[f + 1]),
+            "with": (merged_by_definition(net, f), three(net, f), merged_by_definition(net, f + 1)),
+        }.items():
+            group = marks(root, kind)[0]
+            shown = [int(said) for _, _, said in numbered(group, "channel")]
+            wanted = [c[v] + 1 for c in (before, after) for v in vertices]
+            self.note(f"{name}: the channels {kind}", shown == wanted, (shown, wanted))
+            squares = [int(said) for _, _, said in numbered(group, "colour")]
+            self.note(f"{name}: the colours {kind}", squares == [colours[v] for v in vertices], squares)
+            places = dict(zip(vertices, [centre(mark) for mark in marks(group, "channel")][len(vertices):]))
+            red = sorted(tuple(sorted(nearest(places, end) for end in ends(mark))) for mark in marks(group, "wrong"))
+            same = sorted(
+                tuple(sorted(edge))
+                for edge, forest in net.number.items()
+                if forest <= f and len({after[v] for v in edge}) == 1
+            )
+            self.note(f"{name}: what is red {kind}", red == same and bool(red) == (kind == "without"), (red, same))
+            takes = {
+                int(v): int(c) - 1
+                for v, c in re.findall(r"node (\d+), turn [\d, ]+: takes channel (\d+)",
+                                       "\n".join(mark.text for mark in marks(group, "chooses")))
+            }
+            self.note(f"{name}: who takes what {kind}", takes == {v: after[v] for v in (clash.v, clash.w)}, takes)
+            said = "\n".join(mark.text for mark in marks(group, "chooses"))
+            heard = {int(v): {int(w): int(c) for c, w in re.findall(r"(\d+) of (\d+)", words)}
+                     for v, words in re.findall(r"node (\d+), turn .*\n\(it has heard (.*)\)", said)}
+            left_out = rounds.without if kind == "without" else ()
+            turn = {v: (colours[v],) if "pair" in left_out else (colours[v], before[v]) for v in vertices}
+            told = {
+                v: {
+                    w: after[w] + 1
+                    for w in net.neighbours[v]
+                    if turn[w] < turn[v]
+                    and (
+                        net.number[frozenset((v, w))] == f
+                        or net.number[frozenset((v, w))] < f
+                        and "earlier" not in left_out
+                    )
+                }
+                for v in (clash.v, clash.w)
+            }
+            self.note(f"{name}: who has heard what {kind}", heard == told, (heard, told))
+            arrows = len(marks(group, "arrow"))
+            self.note(f"{name}: the forest's edges {kind}",
+                      arrows == sum(forest == f for forest in net.number.values()), arrows)
 
-def broken_rows(painter, all_of):
-    for rule in rules.OF_ROUNDS:
-        broken_row(painter, f"broken without {rule}", ["--without", rule], smallest([rule], MOST[rule])[0])
-    for name, rule in (("petersen", "pair"), ("drops", "parent"), ("disk100", "children"), ("queen5_5", "earlier")):
-        rounds = RuledRounds(network_of(all_of[name]), [rule])
-        broken_row(painter, f"broken {name} without {rule}", [f"examples/{name}.col", "--without", rule], rounds)
-    for name, rule, said in (
-        ("disk100", "pair", b"at most 40 nodes of a merge"),
-        ("chain6", "shift", b"not broken: the rounds of chain6 go"),
-    ):
-        status, picture, fault = painter(["broken", f"examples/{name}.col", "--without", rule])
-        note(f"refused: {name} without {rule}", (status, picture) == (1, b"") and said in fault, fault)
-    both = painter(["broken", "--without", "pair,earlier"])
-    note("broken without two rules", both[0] == 0 and "pair’ and ‘earlier" in both[1].decode(), both[2])
+    def edge_row(self, name, root):
+        """Nothing is cut at the right edge: a letter takes some 0.54 of its size."""
+        width = float(root.get("viewBox").split()[2])
+        cut = [element.text for element in root.iter(f"{SVG}text") if not element.get("text-anchor")
+               and number(element, "x") + 0.54 * number(element, "font-size") * len(element.text) > width]
+        self.note(f"{name}: within its edges", not cut, cut)
+
+    def broken_row(self, name, words, rounds):
+        status, picture, fault = self.painter(["broken", *words])
+        self.note(f"{name}: it is drawn", (status, fault) == (0, b""), fault)
+        root = parsed(picture.decode())
+        (self.forest_row if rounds.clash.pulse else self.merge_row)(name, root, rounds)
+        self.words_row(name, root, explored(*words)[1:])
+        self.edge_row(name, root)
+
+    def test_broken(self):
+        for rule in rules.OF_ROUNDS:
+            self.broken_row(f"broken without {rule}", ["--without", rule], smallest([rule], MOST[rule])[0])
+        for name, rule in (("petersen", "pair"), ("drops", "parent"), ("disk100", "children"), ("queen5_5", "earlier")):
+            rounds = RuledRounds(network_of(self.examples[name]), [rule])
+            self.broken_row(f"broken {name} without {rule}", [f"examples/{name}.col", "--without", rule], rounds)
+        for name, rule, said in (("disk100", "pair", b"at most 40 nodes of a merge"),
+                                 ("chain6", "shift", b"not broken: the rounds of chain6 go")):
+            status, picture, fault = self.painter(["broken", f"examples/{name}.col", "--without", rule])
+            self.note(f"refused: {name} without {rule}", (status, picture) == (1, b"") and said in fault, fault)
+        both = self.painter(["broken", "--without", "pair,earlier"])
+        self.note("broken without two rules", both[0] == 0 and "pair’ and ‘earlier" in both[1].decode(), both[2])

@@ -4,7 +4,7 @@ from itertools import combinations
 
 from lab.definitions.colours import network_of, plan_text
 from lab.definitions.rounds import rounds_text
-from tests.pictures.base import note, transcript
+from tests.pictures.base import PictureCase, transcript
 from tests.pictures.marks import centre, marks, number, parsed, texts
 
 NAMED = ("c name 1 Ulm\nc name 2 Frankfurt am Main\nc name 3 Köln & <Bonn>\nc name 5 a\x1bb\nc name 9 nobody\n"
@@ -31,57 +31,59 @@ def depth_in_box(one, other):
     return min(min(one[1], other[1]) - max(one[0], other[0]), min(one[3], other[3]) - max(one[2], other[2]))
 
 
-def label_rows(name, picture, deepest):
-    """No number covers a circle, another number or the picture's edge, but for so many pixels."""
-    root = parsed(picture)
-    labels, circles = marks(root, "number"), marks(root, "channel")
-    width, height = (float(side) for side in root.get("viewBox").split()[2:])
-    boxes = [box_of(label) for label in labels]
-    cut = [
-        label.text for label, box in zip(labels, boxes) if box[0] < 0 or box[1] > width or box[2] < 0 or box[3] > height
-    ]
-    note(f"{name}: no number is cut", not cut, cut)
-    on = [
-        (label.text, round(depth_in_circle(box, circle), 1))
-        for label, box in zip(labels, boxes)
-        for circle in circles
-        if depth_in_circle(box, circle) > deepest
-    ]
-    note(f"{name}: no number is on a circle", not on, on)
-    touch = [
-        (a.text, b.text)
-        for (a, box), (b, other) in combinations(list(zip(labels, boxes)), 2)
-        if depth_in_box(box, other) > deepest
-    ]
-    note(f"{name}: no number is on another", not touch, touch)
+class Names(PictureCase):
+    needs_programs = False
 
-
-def name_rows(draw, all_of):
-    net = network_of(NAMED)
-    plan, rounds, run = plan_text(NAMED), rounds_text(net), transcript(NAMED, "names")
-    picture = draw("plan", NAMED, plan)
-    shown = [label.text for label in marks(parsed(picture), "number")]
-    note("names in a plan", shown == LABELS, shown)
-    label_rows("a plan with names", picture, 0.5)
-    for frame in ("0", "5", "13"):
-        shown = texts(parsed(draw("player", NAMED, rounds, "--frame", frame)))
-        note(f"names in frame {frame} of a player", all(label in shown for label in LABELS), shown)
-    page = draw("player", NAMED, rounds)
-    note(
-        "names in a player are escaped", "3 Köln &amp; &lt;Bon…<" in page and "<Bon" not in page and "\x1b" not in page
-    )
-    for kind, names, times in (
-        ("run", ["Ulm", "Frankfu…", "Köln &…", "a\ufffdb"], 2),
-        ("overview", ["Ulm", "Frankfurt a…", "Köln & <Bon…", "a\ufffdb"], 1),
-    ):
-        root = parsed(draw(kind, NAMED, run))
-        shown = [mark.text for mark in marks(root, "vertex-name")]
-        note(f"names in {kind}", shown == names * times, shown)
+    def label_rows(self, name, picture, deepest):
+        """No number covers a circle, another number or the picture's edge, but for so many pixels."""
+        root = parsed(picture)
+        labels, circles = marks(root, "number"), marks(root, "channel")
+        width, height = (float(side) for side in root.get("viewBox").split()[2:])
+        boxes = [box_of(label) for label in labels]
         cut = [
-            mark.text
-            for mark in marks(root, "vertex-name")
-            if number(mark, "x") - LETTER * number(mark, "font-size") * len(mark.text) < 0
+            label.text
+            for label, box in zip(labels, boxes)
+            if box[0] < 0 or box[1] > width or box[2] < 0 or box[3] > height
         ]
-        note(f"names in {kind}: none is cut", not cut, cut)
-    for name in ("disk100", "petersen", "queen5_5", "drops"):
-        label_rows(f"plan of {name}", draw("plan", all_of[name], plan_text(all_of[name])), 0.5)
+        self.note(f"{name}: no number is cut", not cut, cut)
+        on = [
+            (label.text, round(depth_in_circle(box, circle), 1))
+            for label, box in zip(labels, boxes)
+            for circle in circles
+            if depth_in_circle(box, circle) > deepest
+        ]
+        self.note(f"{name}: no number is on a circle", not on, on)
+        touch = [
+            (a.text, b.text)
+            for (a, box), (b, other) in combinations(list(zip(labels, boxes)), 2)
+            if depth_in_box(box, other) > deepest
+        ]
+        self.note(f"{name}: no number is on another", not touch, touch)
+
+    def test_names(self):
+        net = network_of(NAMED)
+        plan, rounds, run = plan_text(NAMED), rounds_text(net), transcript(NAMED, "names")
+        picture = self.draw("plan", NAMED, plan)
+        shown = [label.text for label in marks(parsed(picture), "number")]
+        self.note("names in a plan", shown == LABELS, shown)
+        self.label_rows("a plan with names", picture, 0.5)
+        for frame in ("0", "5", "13"):
+            shown = texts(parsed(self.draw("player", NAMED, rounds, "--frame", frame)))
+            self.note(f"names in frame {frame} of a player", all(label in shown for label in LABELS), shown)
+        page = self.draw("player", NAMED, rounds)
+        self.note("names in a player are escaped",
+                  "3 Köln &amp; &lt;Bon…<" in page and "<Bon" not in page and "\x1b" not in page)
+        for kind, names, times in (("run", ["Ulm", "Frankfu…", "Köln &…", "a\ufffdb"], 2),
+                                   ("overview", ["Ulm", "Frankfurt a…", "Köln & <Bon…", "a\ufffdb"], 1)):
+            root = parsed(self.draw(kind, NAMED, run))
+            shown = [mark.text for mark in marks(root, "vertex-name")]
+            self.note(f"names in {kind}", shown == names * times, shown)
+            cut = [
+                mark.text
+                for mark in marks(root, "vertex-name")
+                if number(mark, "x") - LETTER * number(mark, "font-size") * len(mark.text) < 0
+            ]
+            self.note(f"names in {kind}: none is cut", not cut, cut)
+        for name in ("disk100", "petersen", "queen5_5", "drops"):
+            self.label_rows(f"plan of {name}", self.draw("plan", self.examples[name], plan_text(self.examples[name])),
+                            0.5)

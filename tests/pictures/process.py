@@ -36,13 +36,8 @@ class Painter:
     def __call__(self, words, data=b""):
         with open(self.input, "wb") as file:
             file.write(data)
-        request = {
-            "words": words,
-            "input": self.input,
-            "output": self.output,
-            "errors": self.errors,
-            "limit": self.limit,
-        }
+        request = {"words": words, "input": self.input, "output": self.output, "errors": self.errors,
+                   "limit": self.limit}
         print(json.dumps(request), file=self.process.stdin, flush=True)
         status = int(self.process.stdout.readline())
         with open(self.output, "rb") as output, open(self.errors, "rb") as errors:

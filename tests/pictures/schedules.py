@@ -11,14 +11,12 @@ from collections import Counter
 from lab.definitions.colours import colours, network_of
 from lab.definitions.nodes import NetState, last_pulse, wire_words
 from lab.schedules.space import Space
-from tests.pictures.base import LIMIT, SEED, note
+from tests.pictures.base import LIMIT, SEED, PictureCase
 from tests.pictures.marks import centre, ends, marks, parsed, texts, title, titles
+from tests.settings import PLAY
 
-TWO, ROW_OF_FOUR, STAR = (
-    b"p edge 2 1\ne 1 2\n",
-    b"p edge 4 3\ne 1 2\ne 2 3\ne 3 4\n",
-    b"p edge 4 3\ne 1 4\ne 2 4\ne 3 4\n",
-)
+TWO, ROW_OF_FOUR, STAR = (b"p edge 2 1\ne 1 2\n", b"p edge 4 3\ne 1 2\ne 2 3\ne 3 4\n",
+                          b"p edge 4 3\ne 1 4\ne 2 4\ne 3 4\n")
 ALL_OF_FOUR, FIVE = b"p edge 4 6\ne 1 2\ne 1 3\ne 1 4\ne 2 3\ne 2 4\ne 3 4\n", b"p edge 5 1\ne 1 2\n"
 WALKS = 100
 
@@ -88,43 +86,6 @@ def plain(words):
     return words.replace("`", "").replace("‘", "").replace("’", "")
 
 
-def table_rows(painter, name, network, without=()):
-    """The table against the explorer's space, state by state and step by step."""
-    table = table_of(painter, network, *(["--without", ",".join(without)] if without else []))
-    net = network_of(network)
-    space = Space(net, without, beyond=bool(without))
-    wrong = [
-        s
-        for s in range(space.count)
-        if [row[0] for row in table.nodes(s)] != [node.pulse for node in space.nodes(s).values()]
-        or [row[3] for row in table.nodes(s)] != [node.wrong for node in space.nodes(s).values()]
-        or table.wires(s) != space.wires(s)
-    ]
-    note(f"table of {name}: each state", len(table.node[0][1]) == space.count and not wrong, wrong[:3])
-    ports = [
-        (v, w, net_port_to(net, v, w), net_port_to(net, w, v))
-        for v in net.neighbours
-        for w in sorted(net.neighbours[v])
-    ]
-    shown = [(link["from"], link["to"], link["put"], link["take"]) for link in table.data["links"]]
-    note(f"table of {name}: its links and ports", shown == ports, shown)
-    wrong = [s for s in range(space.count)
-             if table.steps[s] != [((event.kind, event.v, event.port, event.place), t) for event, t in space.steps(s)]]
-    note(f"table of {name}: each step", len(table.steps) == space.count and not wrong, wrong[:3])
-    faults = {(s, e): plain(words) for (s, e), words in space.faults.items()}
-    shown = {
-        (int(s), None if e == "-1" else int(e)): plain(table.data["sentences"][k])
-        for s, row in table.data["faults"].items()
-        for e, k in row.items()
-    }
-    note(
-        f"table of {name}: what goes wrong",
-        shown == faults and bool(faults) == (without not in [(), ("acks",)]),
-        list(shown.items())[:3],
-    )
-    return table
-
-
 def waits_of(net, v, node):
     """What a node waits for, by the definition of its ports."""
     p, ports = node.pulse_number, list(zip(sorted(net.neighbours[v]), node.ports))
@@ -157,95 +118,12 @@ def shown_state(table, s, taken):
     return "".join(f"{line}\n" for line in lines).encode()
 
 
-def walk_rows(name, network, table, play, walks):
-    """Random walks over the table: the definitions allow the same at each state, and what they wait for is said; the
-    list that a walk makes is accepted by `forestplay`, which shows the walk's last state."""
-    net, source = network_of(network), random.Random(f"{SEED} {name}")
-    wrong, played = [], []
-    for walk in range(walks):
-        state, s, lines, taken = NetState(net), 0, [], Counter()
-        put_all(net, state, lines)
-        stop = source.randrange(1, 700)
-        while True:
-            nodes = [
-                (
-                    node.pulse_number,
-                    waits_of(net, v, node),
-                    node.program.merged + 1 if node.pulse_number == last_pulse(net) else 0,
-                )
-                for v, node in state.nodes.items()
-            ]
-            links = {
-                (v, net_port(net, v, port)): [wire_words(wire) for wire in wires]
-                for (v, port), wires in state.link.items()
-            }
-            events = {(kind.lower(), v, port, 0) for kind, v, port in state.possible()}
-            if ([row[:3] for row in table.nodes(s)], table.wires(s), {event for event, _ in table.steps[s]}) != (
-                nodes,
-                links,
-                events,
-            ):
-                wrong.append((s, nodes, table.nodes(s)))
-                break
-            if not table.steps[s] or stop == 0:
-                break
-            stop -= 1
-            (kind, v, port, _), s = source.choice(table.steps[s])
-            state.step(kind.capitalize(), v, port)
-            lines.append(f"{kind} {v}" if port is None else f"{kind} {v} {port}")
-            if kind == "take":
-                taken[sorted(net.neighbours[v])[port], v] += 1
-            put_all(net, state, lines)
-        if play:
-            done = subprocess.run(
-                [play, "events"], input=network + "\n".join(lines).encode() + b"\n", capture_output=True, timeout=LIMIT
-            )
-            if (done.returncode, done.stdout) != (0, shown_state(table, s, taken)):
-                played.append((lines[-3:], done))
-    note(f"{walks} walks over the table of {name}: each state is the definitions'", not wrong, wrong[:1])
-    if play:
-        note(f"{walks} walks over the table of {name}: forestplay shows the same", not played, played[:1])
-
-
 def net_port(net, v, port):
     return sorted(net.neighbours[v])[port]
 
 
 def net_port_to(net, v, w):
     return sorted(net.neighbours[v]).index(w)
-
-
-def page_rows(painter, name, network):
-    """The page has the table that --text writes, and needs nothing from elsewhere."""
-    page = drawn(painter, "adversary", network)
-    note(f"page of {name}: its table", f"var T = {drawn(painter, 'adversary', network, '--text').strip()};" in page)
-    note(f"page of {name}: nothing from elsewhere", not re.search(r"(src|href)=|@import|url\(|fetch\(|XMLHttp", page)
-         and set(re.findall(r"https?://[^\"' ]+", page)) == {"http://www.w3.org/2000/svg"})
-    return json.loads(re.search(r"^var P = (.*);$", page, re.M).group(1))
-
-
-def dare_rows(name, network, table, plan, answers):
-    """What the page says of its dares, counted in the table; `answers` are the numbers that it has to say."""
-    depth = table.depths()
-    pulses = {s: [row[0] for row in table.nodes(s)] for s in depth}
-    dares = plan["dares"]
-    note(
-        f"dares of {name}: what they say",
-        [re.findall(r"\d[\d,]*", dare["answer"])[:2] for dare in dares] == answers,
-        dares,
-    )
-    for dare in dares:
-        if dare["kind"] == "few":
-            best = min(depth[s] for s in depth if pulses[s][dare["node"] - 1] >= 1)
-            note(f"dares of {name}: as few events as can be", dare["best"] == best, (dare, best))
-        elif dare["kind"] == "plan":
-            wanted = [c + 1 for _, c in sorted(colours(network_of(network)).items())]
-            note(f"dares of {name}: the plan", dare["plan"] == wanted, dare)
-        elif dare["kind"] == "apart":
-            apart = {s: max(abs(pulses[s][v - 1] - pulses[s][w - 1]) for v, w in dare["pairs"]) for s in depth}
-            can = [depth[s] for s in depth if apart[s] >= dare["least"]]
-            note(f"dares of {name}: {dare['words']}", dare["answer"].startswith("No") == (not can)
-                 and (not can or f"with {min(can)} event" in dare["answer"]), dare)
 
 
 def columns_of(root):
@@ -255,163 +133,267 @@ def columns_of(root):
     return [counts[x] for x in sorted(counts)]
 
 
-def lattice_rows(painter, name, network, table, low, high, *options):
-    """The picture of a whole space: its columns, its steps, and a bold run from column to column."""
-    window = [] if high is None else ["--events", f"{low}..{high}"]
-    root = parsed(drawn(painter, "schedules", network, *window, *options))
-    depth = table.depths()
-    counts = Counter(depth.values())
-    shown = columns_of(root)
-    high = len(shown) - 1 if high is None else high
-    note(f"lattice of {name}: its columns", shown == [counts[d] for d in range(low, high + 1)], shown)
-    steps = Counter(depth[s] for s in depth for _ in table.steps[s])
-    lines = [len(marks(root, mark)) for mark in ("step", "bold")]
-    note(
-        f"lattice of {name}: its steps",
-        sum(lines) == sum(steps[d] for d in range(low, high)) and lines[1] == high - low,
-        lines,
-    )
-    run = sorted(ends(line) for group in marks(root, "bold") for line in list(group)[1:2])
-    note(f"lattice of {name}: the bold run is one", all(a[1] == b[0] for a, b in zip(run, run[1:])), run[:3])
-    bold = {ends(list(group)[1])[0] for group in marks(root, "bold") if title(group).startswith("pulse")}
-    takes = {ends(list(group)[1])[0] for group in marks(root, "step") if title(group).startswith("take")}
-    note(f"lattice of {name}: the bold run takes before it pulses", bold and not bold & takes, bold & takes)
-    kinds = Counter(
-        words.split(":")[1].split()[0] if ":" in words else "pulse"
-        for words in titles(root, "step") + titles(root, "bold")
-    )
-    wanted = Counter()
-    for s in depth:
-        for (kind, v, port, _), _ in table.steps[s]:
-            if low <= depth[s] < high:
-                w = None if port is None else sorted(network_of(network).neighbours[v])[port]
-                wanted["pulse" if port is None else table.wires(s)[w, v][0].split()[0]] += 1
-    note(f"lattice of {name}: what its steps are", kinds == wanted, (kinds, wanted))
-    return root
+class Schedules(PictureCase):
+    @classmethod
+    def setUpClass(cls):
+        super().setUpClass()
+        cls.networks = {"two": TWO, "path": cls.examples["path"], "triangle": cls.examples["triangle"]}
+        cls.tables = {name: table_of(cls.painter, network) for name, network in cls.networks.items()}
 
+    def test_tables(self):
+        for name, network in self.networks.items():
+            self.table_rows(name, network)
+        for without in (("safes",), ("acks",), ("early",), ("fifo",)):
+            self.table_rows(f"two without {without[0]}", TWO, without)
 
-def broken_rows(painter, name, network, without):
-    """The picture up to the first events that go wrong: as many red marks, and a bold run that ends in one."""
-    space = Space(network_of(network), without)
-    root = parsed(drawn(painter, "schedules", network, "--without", ",".join(without)))
-    (s, e), said = next(iter(space.faults.items()))
-    last = space.depth[s] + (e is not None)
-    red = len(marks(root, "state wrong"))
-    refused = sum(e is not None and space.steps(s)[e][1] is None for s, e in space.faults)
-    wrong = {space.steps(s)[e][1] if e is not None else s for s, e in space.faults} - {None}
-    note(f"{name} without {without}: red marks", red == refused + len(wrong) and red > 0, (red, refused, len(wrong)))
-    note(f"{name} without {without}: a shortest run is bold", len(marks(root, "bold")) == last
-         and max(x for group in marks(root, "bold") for x, _ in ends(list(group)[1])) == max(
-             centre(list(group)[1])[0] for group in marks(root, "state wrong")), len(marks(root, "bold")))
-    words = " ".join(texts(root))
-    good = f"{last} events are enough to go wrong" in words and plain(said) in plain(words)
-    note(f"{name} without {without}: its words", good, words[:400])
+    def test_walks(self):
+        for name, walks in (("two", WALKS // 4), ("path", WALKS // 4), ("triangle", WALKS // 2)):
+            self.walk_rows(name, self.networks[name], self.tables[name], walks)
 
+    def test_dares(self):
+        for name, answers in (("two", [["281"], ["281"], ["281"], ["6"]]),
+                              ("path", [["3,551"], ["3,551"], ["3,551"], ["2", "17"], ["11"]])):
+            network = self.networks[name]
+            self.dare_rows(name, network, self.tables[name], self.page_rows(name, network), answers)
 
-def beyond_rows(painter, network, without, low, high):
-    """With --events, what comes behind the first event that goes wrong is there too: a node that has made a wrong pulse
-    is red."""
-    space = Space(network_of(network), without, beyond=True)
-    root = parsed(drawn(painter, "schedules", network, "--without", ",".join(without), "--events", f"{low}..{high}"))
-    wrong = sum(
-        low <= space.depth[s] <= high and any(node.wrong for node in space.nodes(s).values())
-        for s in range(space.count)
-    )
-    refused = sum(
-        e is not None and low <= space.depth[s] < high and space.steps(s)[e][1] is None for s, e in space.faults
-    )
-    red = len(marks(root, "state wrong"))
-    note(
-        f"two without {without}, {low} to {high} events: red marks",
-        red == wrong + refused and wrong + refused > 0,
-        (red, wrong, refused),
-    )
-    right = sum(low <= space.depth[s] <= high for s in range(space.count)) - wrong
-    shown = len(marks(root, "state"))
-    note(f"two without {without}, {low} to {high} events: other marks", shown == right, (shown, right))
+    def test_lattices(self):
+        self.lattice_rows("two", TWO, self.tables["two"], 0, 104)
+        self.lattice_rows("two, its first columns", TWO, self.tables["two"], 0, None)
+        self.lattice_rows("path", self.networks["path"], self.tables["path"], 0, 20)
+        self.lattice_rows("triangle, its end", self.networks["triangle"], self.tables["triangle"], 364, 374)
 
+    def test_broken(self):
+        for without in (("safes",), ("early",), ("fifo",), ("acks", "fifo")):
+            self.broken_rows("two", TWO, without)
+        self.broken_rows("triangle", self.networks["triangle"], ("safes",))
 
-def given_run_rows(painter, folder, table):
-    """The run of a list of events, as the page writes it, is the bold one."""
-    source, net, state, s, lines, takes = random.Random(SEED), network_of(TWO), NetState(network_of(TWO)), 0, [], []
-    put_all(net, state, lines)
-    while table.steps[s]:
-        (kind, v, port, _), s = source.choice(table.steps[s])
-        state.step(kind.capitalize(), v, port)
-        takes.append(f"{kind} {v}" if port is None else f"{kind} {v} {port}")
-        lines.append(takes[-1])
-        put_all(net, state, lines)
-    path = os.path.join(folder, "run.events")
-    with open(path, "w", encoding="utf-8") as file:
-        file.write("\n".join(lines) + "\n")
-    root = parsed(drawn(painter, "schedules", TWO, "--events", "0..40", "--run", path))
-    bold = sorted((ends(list(group)[1])[0][0], title(group).split(":")[0]) for group in marks(root, "bold"))
-    note("the run that is given is bold", [words for _, words in bold] == takes[:40], bold[:5])
-    with open(path, "w", encoding="utf-8") as file:
-        file.write("c a run\nput 1 0\ntake 2 0\ntake 2 0\n")
-    refused(
-        painter,
-        "a run that is none",
-        "schedules",
-        TWO,
-        "--run",
-        path,
-        words=b"line 4: `take 2 0` is not possible there",
-    )
+    def test_beyond(self):
+        for without, low, high in ((("safes",), 0, 24), (("safes",), 72, 84), (("early",), 0, 30)):
+            self.beyond_rows(TWO, without, low, high)
 
+    def test_given_run(self):
+        self.given_run_rows(self.tables["two"])
 
-def refused(painter, name, kind, network, *options, words=b"", status=1):
-    done = painter([kind, "-", *options], network)
-    good = done[:2] == (status, b"") and words in done[2]
-    note(f"refused: {name}", good and (status == 2 or re.fullmatch(rb"picture: [^\n]+\n", done[2])), done)
+    def table_rows(self, name, network, without=()):
+        """The table against the explorer's space, state by state and step by step."""
+        table = table_of(self.painter, network, *(["--without", ",".join(without)] if without else []))
+        net = network_of(network)
+        space = Space(net, without, beyond=bool(without))
+        wrong = [
+            s
+            for s in range(space.count)
+            if [row[0] for row in table.nodes(s)] != [node.pulse for node in space.nodes(s).values()]
+            or [row[3] for row in table.nodes(s)] != [node.wrong for node in space.nodes(s).values()]
+            or table.wires(s) != space.wires(s)
+        ]
+        self.note(f"table of {name}: each state", len(table.node[0][1]) == space.count and not wrong, wrong[:3])
+        ports = [
+            (v, w, net_port_to(net, v, w), net_port_to(net, w, v))
+            for v in net.neighbours
+            for w in sorted(net.neighbours[v])
+        ]
+        shown = [(link["from"], link["to"], link["put"], link["take"]) for link in table.data["links"]]
+        self.note(f"table of {name}: its links and ports", shown == ports, shown)
+        wrong = [
+            s
+            for s in range(space.count)
+            if table.steps[s] != [((event.kind, event.v, event.port, event.place), t) for event, t in space.steps(s)]
+        ]
+        self.note(f"table of {name}: each step", len(table.steps) == space.count and not wrong, wrong[:3])
+        faults = {(s, e): plain(words) for (s, e), words in space.faults.items()}
+        shown = {
+            (int(s), None if e == "-1" else int(e)): plain(table.data["sentences"][k])
+            for s, row in table.data["faults"].items()
+            for e, k in row.items()
+        }
+        self.note(f"table of {name}: what goes wrong",
+                  shown == faults and bool(faults) == (without not in [(), ("acks",)]), list(shown.items())[:3])
+        return table
 
+    def walk_rows(self, name, network, table, walks):
+        """Random walks over the table: the definitions allow the same at each state, and what they wait for is said;
+        the list that a walk makes is accepted by `forestplay`, which shows the walk's last state."""
+        net, source = network_of(network), random.Random(f"{SEED} {name}")
+        wrong, played = [], []
+        for walk in range(walks):
+            state, s, lines, taken = NetState(net), 0, [], Counter()
+            put_all(net, state, lines)
+            stop = source.randrange(1, 700)
+            while True:
+                nodes = [
+                    (node.pulse_number, waits_of(net, v, node),
+                     node.program.merged + 1 if node.pulse_number == last_pulse(net) else 0)
+                    for v, node in state.nodes.items()
+                ]
+                links = {
+                    (v, net_port(net, v, port)): [wire_words(wire) for wire in wires]
+                    for (v, port), wires in state.link.items()
+                }
+                events = {(kind.lower(), v, port, 0) for kind, v, port in state.possible()}
+                if ([row[:3] for row in table.nodes(s)], table.wires(s), {event for event, _ in table.steps[s]}) != (
+                    nodes,
+                    links,
+                    events,
+                ):
+                    wrong.append((s, nodes, table.nodes(s)))
+                    break
+                if not table.steps[s] or stop == 0:
+                    break
+                stop -= 1
+                (kind, v, port, _), s = source.choice(table.steps[s])
+                state.step(kind.capitalize(), v, port)
+                lines.append(f"{kind} {v}" if port is None else f"{kind} {v} {port}")
+                if kind == "take":
+                    taken[sorted(net.neighbours[v])[port], v] += 1
+                put_all(net, state, lines)
+            if PLAY:
+                done = subprocess.run([PLAY, "events"], input=network + "\n".join(lines).encode() + b"\n",
+                                      capture_output=True, timeout=LIMIT)
+                if (done.returncode, done.stdout) != (0, shown_state(table, s, taken)):
+                    played.append((lines[-3:], done))
+        self.note(f"{walks} walks over the table of {name}: each state is the definitions'", not wrong, wrong[:1])
+        if PLAY:
+            self.note(f"{walks} walks over the table of {name}: forestplay shows the same", not played, played[:1])
 
-def refused_rows(painter):
-    for kind in ("schedules", "adversary"):
-        refused(painter, f"{kind} of five nodes", kind, FIVE, words=b"at most 4 nodes")
-        refused(painter, f"{kind} without nonsense", kind, TWO, "--without", "safe", words=b"safes", status=2)
-    refused(painter, "schedules of all of four", "schedules", ALL_OF_FOUR, words=b"at most 200,000 states")
-    for window, words in (("0..105", b"0 to 104"), ("3..2", b"0 to 104"), ("0..9,", b"two numbers")):
-        refused(
-            painter,
-            f"schedules of events {window}",
-            "schedules",
-            TWO,
-            "--events",
-            window,
-            words=words,
-            status=2 if "," in window else 1,
+    def page_rows(self, name, network):
+        """The page has the table that --text writes, and needs nothing from elsewhere."""
+        page = drawn(self.painter, "adversary", network)
+        self.note(f"page of {name}: its table",
+                  f"var T = {drawn(self.painter, 'adversary', network, '--text').strip()};" in page)
+        self.note(
+            f"page of {name}: nothing from elsewhere",
+            not re.search(r"(src|href)=|@import|url\(|fetch\(|XMLHttp", page)
+            and set(re.findall(r"https?://[^\"' ]+", page)) == {"http://www.w3.org/2000/svg"},
         )
-    refused(painter, "schedules of 109 events", "schedules", STAR, "--events", "0..109", words=b"at most 108 events")
-    refused(painter, "schedules of too many steps", "schedules", STAR, "--events", "0..108", words=b"draw fewer events")
+        return json.loads(re.search(r"^var P = (.*);$", page, re.M).group(1))
 
+    def dare_rows(self, name, network, table, plan, answers):
+        """What the page says of its dares, counted in the table; `answers` are the numbers that it has to say."""
+        depth = table.depths()
+        pulses = {s: [row[0] for row in table.nodes(s)] for s in depth}
+        dares = plan["dares"]
+        self.note(f"dares of {name}: what they say",
+                  [re.findall(r"\d[\d,]*", dare["answer"])[:2] for dare in dares] == answers, dares)
+        for dare in dares:
+            if dare["kind"] == "few":
+                best = min(depth[s] for s in depth if pulses[s][dare["node"] - 1] >= 1)
+                self.note(f"dares of {name}: as few events as can be", dare["best"] == best, (dare, best))
+            elif dare["kind"] == "plan":
+                wanted = [c + 1 for _, c in sorted(colours(network_of(network)).items())]
+                self.note(f"dares of {name}: the plan", dare["plan"] == wanted, dare)
+            elif dare["kind"] == "apart":
+                apart = {s: max(abs(pulses[s][v - 1] - pulses[s][w - 1]) for v, w in dare["pairs"]) for s in depth}
+                can = [depth[s] for s in depth if apart[s] >= dare["least"]]
+                self.note(f"dares of {name}: {dare['words']}", dare["answer"].startswith("No") == (not can)
+                     and (not can or f"with {min(can)} event" in dare["answer"]), dare)
 
-def schedule_rows(painter, folder, examples, play):
-    path, triangle = examples["path"], examples["triangle"]
-    tables = {
-        name: table_rows(painter, name, network)
-        for name, network in (("two", TWO), ("path", path), ("triangle", triangle))
-    }
-    for without in (("safes",), ("acks",), ("early",), ("fifo",)):
-        table_rows(painter, f"two without {without[0]}", TWO, without)
-    for name, walks in (("two", WALKS // 4), ("path", WALKS // 4), ("triangle", WALKS // 2)):
-        walk_rows(name, examples.get(name, TWO), tables[name], play, walks)
-    dare_rows("two", TWO, tables["two"], page_rows(painter, "two", TWO), [["281"], ["281"], ["281"], ["6"]])
-    dare_rows(
-        "path",
-        path,
-        tables["path"],
-        page_rows(painter, "path", path),
-        [["3,551"], ["3,551"], ["3,551"], ["2", "17"], ["11"]],
-    )
-    lattice_rows(painter, "two", TWO, tables["two"], 0, 104)
-    lattice_rows(painter, "two, its first columns", TWO, tables["two"], 0, None)
-    lattice_rows(painter, "path", path, tables["path"], 0, 20)
-    lattice_rows(painter, "triangle, its end", triangle, tables["triangle"], 364, 374)
-    for without in (("safes",), ("early",), ("fifo",), ("acks", "fifo")):
-        broken_rows(painter, "two", TWO, without)
-    broken_rows(painter, "triangle", triangle, ("safes",))
-    for without, low, high in ((("safes",), 0, 24), (("safes",), 72, 84), (("early",), 0, 30)):
-        beyond_rows(painter, TWO, without, low, high)
-    given_run_rows(painter, folder, tables["two"])
-    refused_rows(painter)
+    def lattice_rows(self, name, network, table, low, high, *options):
+        """The picture of a whole space: its columns, its steps, and a bold run from column to column."""
+        window = [] if high is None else ["--events", f"{low}..{high}"]
+        root = parsed(drawn(self.painter, "schedules", network, *window, *options))
+        depth = table.depths()
+        counts = Counter(depth.values())
+        shown = columns_of(root)
+        high = len(shown) - 1 if high is None else high
+        self.note(f"lattice of {name}: its columns", shown == [counts[d] for d in range(low, high + 1)], shown)
+        steps = Counter(depth[s] for s in depth for _ in table.steps[s])
+        lines = [len(marks(root, mark)) for mark in ("step", "bold")]
+        self.note(f"lattice of {name}: its steps",
+                  sum(lines) == sum(steps[d] for d in range(low, high)) and lines[1] == high - low, lines)
+        run = sorted(ends(line) for group in marks(root, "bold") for line in list(group)[1:2])
+        self.note(f"lattice of {name}: the bold run is one", all(a[1] == b[0] for a, b in zip(run, run[1:])), run[:3])
+        bold = {ends(list(group)[1])[0] for group in marks(root, "bold") if title(group).startswith("pulse")}
+        takes = {ends(list(group)[1])[0] for group in marks(root, "step") if title(group).startswith("take")}
+        self.note(f"lattice of {name}: the bold run takes before it pulses", bold and not bold & takes, bold & takes)
+        kinds = Counter(
+            words.split(":")[1].split()[0] if ":" in words else "pulse"
+            for words in titles(root, "step") + titles(root, "bold")
+        )
+        wanted = Counter()
+        for s in depth:
+            for (kind, v, port, _), _ in table.steps[s]:
+                if low <= depth[s] < high:
+                    w = None if port is None else sorted(network_of(network).neighbours[v])[port]
+                    wanted["pulse" if port is None else table.wires(s)[w, v][0].split()[0]] += 1
+        self.note(f"lattice of {name}: what its steps are", kinds == wanted, (kinds, wanted))
+        return root
+
+    def broken_rows(self, name, network, without):
+        """The picture up to the first events that go wrong: as many red marks, and a bold run that ends in one."""
+        space = Space(network_of(network), without)
+        root = parsed(drawn(self.painter, "schedules", network, "--without", ",".join(without)))
+        (s, e), said = next(iter(space.faults.items()))
+        last = space.depth[s] + (e is not None)
+        red = len(marks(root, "state wrong"))
+        self.refused = sum(e is not None and space.steps(s)[e][1] is None for s, e in space.faults)
+        wrong = {space.steps(s)[e][1] if e is not None else s for s, e in space.faults} - {None}
+        self.note(f"{name} without {without}: red marks", red == self.refused + len(wrong) and red > 0,
+                  (red, self.refused, len(wrong)))
+        self.note(
+            f"{name} without {without}: a shortest run is bold",
+            len(marks(root, "bold")) == last
+            and max(x for group in marks(root, "bold") for x, _ in ends(list(group)[1]))
+            == max(centre(list(group)[1])[0] for group in marks(root, "state wrong")),
+            len(marks(root, "bold")),
+        )
+        words = " ".join(texts(root))
+        good = f"{last} events are enough to go wrong" in words and plain(said) in plain(words)
+        self.note(f"{name} without {without}: its words", good, words[:400])
+
+    def beyond_rows(self, network, without, low, high):
+        """With --events, what comes behind the first event that goes wrong is there too: a node that has made a wrong
+        pulse is red."""
+        space = Space(network_of(network), without, beyond=True)
+        root = parsed(
+            drawn(self.painter, "schedules", network, "--without", ",".join(without), "--events", f"{low}..{high}")
+        )
+        wrong = sum(
+            low <= space.depth[s] <= high and any(node.wrong for node in space.nodes(s).values())
+            for s in range(space.count)
+        )
+        self.refused = sum(
+            e is not None and low <= space.depth[s] < high and space.steps(s)[e][1] is None for s, e in space.faults
+        )
+        red = len(marks(root, "state wrong"))
+        self.note(f"two without {without}, {low} to {high} events: red marks",
+                  red == wrong + self.refused and wrong + self.refused > 0, (red, wrong, self.refused))
+        right = sum(low <= space.depth[s] <= high for s in range(space.count)) - wrong
+        shown = len(marks(root, "state"))
+        self.note(f"two without {without}, {low} to {high} events: other marks", shown == right, (shown, right))
+
+    def given_run_rows(self, table):
+        """The run of a list of events, as the page writes it, is the bold one."""
+        source, net, state, s, lines, takes = random.Random(SEED), network_of(TWO), NetState(network_of(TWO)), 0, [], []
+        put_all(net, state, lines)
+        while table.steps[s]:
+            (kind, v, port, _), s = source.choice(table.steps[s])
+            state.step(kind.capitalize(), v, port)
+            takes.append(f"{kind} {v}" if port is None else f"{kind} {v} {port}")
+            lines.append(takes[-1])
+            put_all(net, state, lines)
+        path = os.path.join(self.folder, "run.events")
+        with open(path, "w", encoding="utf-8") as file:
+            file.write("\n".join(lines) + "\n")
+        root = parsed(drawn(self.painter, "schedules", TWO, "--events", "0..40", "--run", path))
+        bold = sorted((ends(list(group)[1])[0][0], title(group).split(":")[0]) for group in marks(root, "bold"))
+        self.note("the run that is given is bold", [words for _, words in bold] == takes[:40], bold[:5])
+        with open(path, "w", encoding="utf-8") as file:
+            file.write("c a run\nput 1 0\ntake 2 0\ntake 2 0\n")
+        self.refused("a run that is none", "schedules", TWO, "--run", path,
+                     words=b"line 4: `take 2 0` is not possible there")
+
+    def refused(self, name, kind, network, *options, words=b'', status=1):
+        done = self.painter([kind, "-", *options], network)
+        good = done[:2] == (status, b"") and words in done[2]
+        self.note(f"refused: {name}", good and (status == 2 or re.fullmatch(rb"picture: [^\n]+\n", done[2])), done)
+
+    def test_refused(self):
+        for kind in ("schedules", "adversary"):
+            self.refused(f"{kind} of five nodes", kind, FIVE, words=b"at most 4 nodes")
+            self.refused(f"{kind} without nonsense", kind, TWO, "--without", "safe", words=b"safes", status=2)
+        self.refused("schedules of all of four", "schedules", ALL_OF_FOUR, words=b"at most 200,000 states")
+        for window, words in (("0..105", b"0 to 104"), ("3..2", b"0 to 104"), ("0..9,", b"two numbers")):
+            self.refused(f"schedules of events {window}", "schedules", TWO, "--events", window, words=words,
+                         status=2 if "," in window else 1)
+        self.refused("schedules of 109 events", "schedules", STAR, "--events", "0..109", words=b"at most 108 events")
+        self.refused("schedules of too many steps", "schedules", STAR, "--events", "0..108", words=b"draw fewer events")

@@ -1,33 +1,22 @@
-#!/usr/bin/env python3
 """Black-box tests: runs the built program as a user would, and compares standard output, standard error and
-status byte by byte. The last line is 'N passed, M failed'.
-
-  black_box.py [--second BINARY] [PROGRAM]
-      PROGRAM   default: the script `forestplan` at the top, which builds the program first
-      BINARY    the program as the second compiler builds it; its rows are left out if it isn't named
+status byte by byte.
 
 Expected answers are worked by hand, or come from the plain definition in lab/definitions/colours.py; none is taken from
 the program.
 """
-import argparse
+import itertools
 import os
 import random
 import subprocess
-import sys
 import tempfile
 
 from lab.definitions.colours import forests_text, plan_text
 from tests import TOP
-from tests.faults.allocations import allocation_rows
-from tests.faults.refused_memory import refused_memory_rows
-from tests.faults.refused_threads import refused_thread_rows
-from tests.programs.plain_networks import plain_network_rows
-from tests.programs.plans import plan_rows
-from tests.programs.verdicts import verdict_rows
+from tests.cases import Case, run_program, text
+from tests.commands import PROGRAMS, commands_of
+from tests.settings import PLAN, SECOND_PLAN
 
-PROGRAM = os.path.join(TOP, "forestplan")
 LIMIT = 300
-TALLY = {"passed": 0, "failed": 0}
 
 TRIANGLE = "p edge 3 3|e 1 2|e 1 3|e 2 3|"
 TRIANGLE_FORESTS = "forests 3 2|0 1 2|0 2 3|1 1 3|"
@@ -35,110 +24,6 @@ STREAM_LINE = b"forestplan: stream\n"
 # Networks on which `plan` takes seconds: it is run of another star with as great a span, and of that with as great a
 # degree.
 LONG = ("the greatest star", "the greatest span")
-
-
-def text(lines):
-    """Bytes of a text in which '|' stands for a line feed."""
-    return lines.replace("|", "\n").encode("latin-1")
-
-
-def run(words, data=b"", **streams):
-    given = {"input": data} if "stdin" not in streams else {}
-    streams.setdefault("stdout", subprocess.PIPE)
-    streams.setdefault("stderr", subprocess.PIPE)
-    return subprocess.run([PROGRAM] + words, timeout=LIMIT, **given, **streams)
-
-
-def note(name, good, what=""):
-    TALLY["passed" if good else "failed"] += 1
-    if not good:
-        print(f"FAILED {name}: {what}")
-
-
-def expect(name, done, status, output, errors):
-    got = (done.returncode, done.stdout, done.stderr)
-    note(name, got == (status, output, errors), f"wanted {(status, output, errors)}, got {got}")
-
-
-def forests_rows():
-    rows = [
-        ("triangle", TRIANGLE, TRIANGLE_FORESTS),
-        ("two nodes alone", "p col 2 0|", "forests 2 0|"),
-        ("no node", "p edge 0 0|", "forests 0 0|"),
-        ("one edge", "p edge 2 1|e 1 2|", "forests 2 1|0 1 2|"),
-        ("an edge from above", "p edge 2 1|e 2 1|", "forests 2 1|0 1 2|"),
-        ("leading zeros", "p edge 2 1|e 01 0002|", "forests 2 1|0 1 2|"),
-        ("path in an odd layout", "c path\r|p edges 3 99 extra\r|\r|n 1 2\r|e 1 2 7\r|e 2 1\r|e 3 2\r|e 2 3\r|",
-         "forests 3 1|0 1 2|0 2 3|"),
-        ("four-cycle", "p edge 4 4|e 1 2|e 2 3|e 3 4|e 1 4|", "forests 4 2|0 1 2|0 2 3|0 3 4|1 1 4|"),
-        ("complete graph on four", "p edge 4 6|e 1 2|e 1 3|e 1 4|e 2 3|e 2 4|e 3 4|",
-         "forests 4 3|0 1 2|0 2 3|0 3 4|1 1 3|1 2 4|2 1 4|"),
-        ("the lower vertex with the higher identifier", "p edge 2 1|i 1 7|e 1 2|", "forests 2 1|0 2 1|"),
-        (
-            "identifiers changed about, behind the edges",
-            "p edge 3 2|e 1 2|e 2 3|i 3 0 x|i 1 2|i 2 1|",
-            "forests 3 1|0 2 1|0 3 2|",
-        ),
-        ("no line feed at the end", "p edge 2 1|e 1 2", "forests 2 1|0 1 2|"),
-        ("a triangle with a bar", TRIANGLE + "b 3 1|", TRIANGLE_FORESTS),
-        ("tabs and leading blanks", " \tp\tcol 2\t1|\t e 1  2|", "forests 2 1|0 1 2|"),
-        ("comment of bytes that are no text", "c\xff|p edge 1 0|", "forests 1 0|"),
-        (
-            "lines that say nothing, and the greatest vertex",
-            "cp x|d|v 1|x 1 2|p edge 20000 0|e 20000 1",
-            "forests 20000 1|0 1 20000|",
-        ),
-        ("edges in any order", "p edge 4 4|e 4 1|e 3 4|e 1 2|e 3 2|", "forests 4 2|0 1 2|0 2 3|0 3 4|1 1 4|"),
-        (
-            "the greatest identifier, and one with zeros before it",
-            f"p edge 3 2|e 1 2|e 1 3|i 3 {2**128 - 1} x\r|\ti 01  0007|",
-            "forests 3 1|0 1 3|0 2 1|",
-        ),
-        ("identifiers about 2^64", f"p edge 2 1|e 1 2|i 2 {2**64 - 1}|i 1 {'0' * 40}{2**64}", "forests 2 1|0 2 1|"),
-        ("the greatest star", "p edge 1024 1023|" + "".join(f"e {v} 1024|" for v in range(1, 1024)),
-         "forests 1024 1|" + "".join(f"0 {v} 1024|" for v in range(1, 1024))),
-    ]
-    for name, network, wanted in rows:
-        expect(name, run(["forests"], text(network)), 0, text(wanted), b"")
-
-
-def plain_rows():
-    rows = [
-        ("one edge", "p edge 2 1|e 1 2|", [1, 2]),
-        ("one edge and an identifier", "p edge 2 1|i 2 5|e 1 2|", [2, 1]),
-        ("one edge and the greatest identifier", f"p edge 2 1|i 2 {2**128 - 1}|e 1 2|", [2, 1]),
-        ("triangle", TRIANGLE, [2, 3, 1]),
-        (
-            "path in an odd layout",
-            "c path\r|p edges 3 99 extra\r|\r|n 1 2\r|e 1 2 7\r|e 2 1\r|e 3 2\r|e 2 3\r|",
-            [1, 2, 1],
-        ),
-        ("two nodes alone", "p col 2 0|", [1, 1]),
-        ("no node", "p edge 0 0|", []),
-        ("four-cycle", "p edge 4 4|e 1 2|e 2 3|e 3 4|e 1 4|", [1, 2, 1, 2]),
-        ("complete graph on four", "p edge 4 6|e 1 2|e 1 3|e 1 4|e 2 3|e 2 4|e 3 4|", [2, 3, 1, 4]),
-        ("the greatest star", "p edge 1024 1023|" + "".join(f"e {v} 1024|" for v in range(1, 1024)), [1] * 1023 + [2]),
-        (
-            "a path of seven, one node alone",
-            "p edge 8 6|e 1 2|e 2 4|e 4 5|e 5 6|e 6 7|e 7 8|",
-            [2, 1, 1, 2, 1, 2, 1, 2],
-        ),
-        ("a path of six, three nodes alone", "p edge 9 5|e 3 4|e 4 5|e 5 6|e 6 7|e 7 9|", [1, 1, 1, 3, 2, 1, 2, 1, 1]),
-        ("a path of seven, three nodes alone", "p edge 10 6|e 2 3|e 3 5|e 5 6|e 6 7|e 7 8|e 8 10|",
-         [1, 2, 1, 1, 2, 1, 2, 1, 1, 2]),
-    ] + barred_plans()
-    for name, network, channels in rows:
-        wanted = "plan|" + "".join(f"{v} {channel}|" for v, channel in enumerate(channels, 1))
-        for command in ("plain", "plan") if name not in LONG else ("plain",):
-            expect(f"{command} of {name}", run([command], text(network)), 0, text(wanted), b"")
-    faults = [
-        ("", "F1"), ("e 1 2|p edge 2 1|", "F3 line 1"), ("p edge 2 1|e 1 1|", "F6 line 2"),
-        ("p edge 1025 1024|" + "".join(f"e 1 {v}|" for v in range(2, 1026)), "N1 vertex 1"),
-    ]
-    for network, fault in faults:
-        for command in ("plain", "plan"):
-            done = run([command], text(network))
-            expect(f"{command} of {network[:30]!r}", done, 1, b"", f"forestplan: {fault}\n".encode())
 
 
 def bars_of(v, first, last):
@@ -162,16 +47,10 @@ def barred_plans():
         ("a bar of the greatest channel, before the edges", "p edge 2 1|\tb 02 02048 further|e 1 2|", [1, 2]),
         ("as many bars of a vertex as the limit", "p edge 1 0|" + bars_of(1, 1, 1024), [1025]),
         ("as many bars of a vertex as the limit, each twice", "p edge 1 0|" + 2 * bars_of(1, 1, 1024), [1025]),
-        (
-            "all channels barred, at one of two vertices each",
-            "p edge 2 0|" + bars_of(1, 1, 1024) + bars_of(2, 1025, 2048),
-            [1025, 1],
-        ),
-        (
-            "all channels barred, each at a vertex of its own",
-            "p edge 2048 0|" + "".join(f"b {v} {v}|" for v in range(1, 2049)),
-            [2] + [1] * 2047,
-        ),
+        ("all channels barred, at one of two vertices each",
+         "p edge 2 0|" + bars_of(1, 1, 1024) + bars_of(2, 1025, 2048), [1025, 1]),
+        ("all channels barred, each at a vertex of its own",
+         "p edge 2048 0|" + "".join(f"b {v} {v}|" for v in range(1, 2049)), [2] + [1] * 2047),
         ("the greatest span", star + bars_of(1024, 1, 1024), [1] * 1023 + [1025]),
         ("the greatest span, with 1 free", star + bars_of(1024, 2, 1025), [1] * 1023 + [1026]),
     ]
@@ -182,281 +61,6 @@ def example_texts():
     for name in sorted(name for name in os.listdir(folder) if name.endswith(".col")):
         with open(os.path.join(folder, name), "rb") as file:
             yield name, file.read()
-
-
-def example_rows():
-    answers = {
-        "triangle": TRIANGLE_FORESTS,
-        "path": "forests 3 1|0 1 2|0 2 3|",
-        "four_cycle": "forests 4 2|0 1 2|0 2 3|0 3 4|1 1 4|",
-        "star": "forests 9 1|" + "".join(f"0 {v} 9|" for v in range(1, 9)),
-    }
-    for name, network in example_texts():
-        stem = name.removesuffix(".col")
-        wanted = text(answers[stem]) if stem in answers else forests_text(network)
-        expect(f"example {name}", run(["forests"], network), 0, wanted, b"")
-        for command in ("plain", "plan"):
-            expect(f"{command} of example {name}", run([command], network), 0, plan_text(network), b"")
-        note(f"comment of {name}", network.startswith(b"c "), "an example begins with a comment line")
-
-
-def fault_rows():
-    edge = "p edge 2 1|"
-    rows = [
-        ("", "F1"), ("c x|", "F1"), ("e 1 2|p edge 2 1|", "F3 line 1"), ("p edge 2 1|p x|", "F2 line 2"),
-        ("p edge 3|", "F4 line 1"), ("p nothing 3 1|", "F4 line 1"), ("p edge 20001 0|", "F7 line 1"),
-        ("q 1|", "F8 line 1"), ("node 1|", "F8 line 1"), ("edge 1 2|", "F8 line 1"), ("x1|", "F8 line 1"),
-        ("id 1 5|", "F8 line 1"), ("bar 1 1|", "F8 line 1"), ("B 1 1|", "F8 line 1"), ("\xff|", "F8 line 1"),
-        ("p edge 99999999999999999999999999 x|", "F4 line 1"), ("p edge 99999999999999999999999999 1|", "F7 line 1"),
-        (edge + "e 1 1|", "F6 line 2"), (edge + "e 0 1|", "F5 line 2"), (edge + "e 1 3|", "F5 line 2"),
-        (edge + "e 5 5|", "F5 line 2"), (edge + "e 1|", "F4 line 2"), (edge + "e 1 x|", "F4 line 2"),
-        (edge + "e 0 x|", "F4 line 2"), (edge + "e 1 -2|", "F4 line 2"), (edge + "e 1 2\r\r|", "F4 line 2"),
-        (edge + "e 340282366920938463463374607431768211457 1|", "F5 line 2"),
-        (edge + "e 4294967297 4294967297|", "F5 line 2"),
-        (edge + "|c|e 1 1|e 0 0|", "F6 line 4"),
-        ("e x|p edge 2 1|", "F3 line 1"),
-        ("b1 2|", "F8 line 1"),
-        ("p edge 20001 x|", "F4 line 1"),
-        (edge + "e 1 1|q|", "F6 line 2"),
-        (edge + "id 1 5|", "F8 line 2"),
-        (edge + "I 1 5|", "F8 line 2"),
-        (edge + "\xff 1|", "F8 line 2"),
-        (edge + "bar 1 1|", "F8 line 2"),
-        (edge + "i|", "F4 line 2"),
-        (edge + "i x 1|", "F4 line 2"),
-        (edge + "i 1 +1|", "F4 line 2"),
-        (edge + "i 340282366920938463463374607431768211457 1|", "F5 line 2"),
-        (edge + "i 2 5|i 1 5|e 1 2|i 2 6|", "F12 line 5"),
-        (edge + "b 2 1|b 2 4294967297|", "F13 line 3"),
-        (edge + bars_of(1, 1, 1024) + "b 3 1|", "F5 line 1026"),
-        (edge + bars_of(2, 1025, 2048) + bars_of(1, 1, 1024) + bars_of(2, 2000, 2048) + "b 2 1024|", "F14 line 2099"),
-        ("i 1 5|p edge 2 1|", "F10 line 1"),
-        ("i x|p edge 2 1|", "F10 line 1"),
-        (edge + "i 1|", "F4 line 2"),
-        (edge + "i 3 x|", "F4 line 2"),
-        (edge + "i 3 5|", "F5 line 2"),
-        (edge + "i 0 340282366920938463463374607431768211456|", "F5 line 2"),
-        (edge + "i 1 340282366920938463463374607431768211456|", "F11 line 2"),
-        (edge + "i 1 5|i 1 5|", "F12 line 3"),
-        (edge + "i 1 5|i 1 340282366920938463463374607431768211456|", "F11 line 3"),
-        (edge + "i 1 2|e 1 2|", "N2 vertices 1 2"),
-        (edge + "i 2 1|", "N2 vertices 1 2"),
-        (edge + "i 1 9|i 2 009|", "N2 vertices 1 2"),
-        (edge + "i 2 9|i 1 9|", "N2 vertices 1 2"),
-        ("p edge 4 0|i 4 2|i 3 1|", "N2 vertices 1 3"),
-        ("p edge 4 0|i 3 1|i 4 2|", "N2 vertices 1 3"),
-        ("b 1 1|", "F10 line 1"),
-        ("b 1 1|p edge 2 1|", "F10 line 1"),
-        ("b x|p edge 2 1|", "F10 line 1"),
-        (edge + "b|", "F4 line 2"),
-        (edge + "b 1|", "F4 line 2"),
-        (edge + "b x 1|", "F4 line 2"),
-        (edge + "b 3 x|", "F4 line 2"),
-        (edge + "b 1 -1|", "F4 line 2"),
-        (edge + "b 3 1|", "F5 line 2"),
-        (edge + "b 3 0|", "F5 line 2"),
-        (edge + "b 0 2049|", "F5 line 2"),
-        (edge + "b 4294967297 1|", "F5 line 2"),
-        (edge + "b 1 0|", "F13 line 2"),
-        (edge + "b 1 2049|", "F13 line 2"),
-        (edge + "b 1 65537|", "F13 line 2"),
-        (edge + "b 1 4294967297|", "F13 line 2"),
-        (edge + "b 2 18446744073709551617|", "F13 line 2"),
-        (edge + "b 1 340282366920938463463374607431768211457|", "F13 line 2"),
-        (edge + "b 1 1|b 2 1|b 1 000|", "F13 line 4"),
-        (edge + bars_of(1, 1, 1025), "F14 line 1026"),
-        (edge + bars_of(2, 1024, 2048), "F14 line 1026"),
-        (
-            edge + bars_of(1, 1, 1024) + bars_of(2, 1, 1024) + bars_of(1, 1, 1024) + "e 1 2|b 2 2048|b 1 2048|",
-            "F14 line 3075",
-        ),
-        (edge + bars_of(1, 1, 1024) + "b 1 2049|", "F13 line 1026"),
-        (edge + bars_of(1, 1, 1024) + "b 1 1|q|", "F8 line 1027"),
-        (edge + "e 1 1|" + bars_of(1, 1, 1025), "F6 line 2"),
-        (edge + "b 1 2|i 1 2|", "N2 vertices 1 2"),
-        ("p edge 1025 1024|" + "".join(f"e 1 {v}|" for v in range(2, 1026)), "N1 vertex 1"),
-    ]
-    for network, fault in rows:
-        done = run(["forests"], text(network))
-        expect(f"fault {fault} of {network[:50]!r}", done, 1, b"", f"forestplan: {fault}\n".encode())
-
-
-def beginning_rows():
-    """Each beginning of the triangle's text."""
-    whole = text(TRIANGLE)
-    answers = {
-        0: "F1",
-        10: "forests 3 0|",
-        11: "forests 3 0|",
-        16: "forests 3 1|0 1 2|",
-        17: "forests 3 1|0 1 2|",
-        22: "forests 3 2|0 1 2|1 1 3|",
-        23: "forests 3 2|0 1 2|1 1 3|",
-        28: TRIANGLE_FORESTS,
-        29: TRIANGLE_FORESTS,
-    }
-    for line, (first, last) in enumerate([(1, 9), (12, 15), (18, 21), (24, 27)], 1):
-        answers.update({k: f"F4 line {line}" for k in range(first, last + 1)})
-    for k in range(len(whole) + 1):
-        done = run(["forests"], whole[:k])
-        if answers[k].startswith("F"):
-            expect(f"first {k} bytes", done, 1, b"", f"forestplan: {answers[k]}\n".encode())
-        else:
-            expect(f"first {k} bytes", done, 0, text(answers[k]), b"")
-
-
-def edge_limit_rows():
-    """400,000 different edges are read; the one after is told at its line, also behind repeats."""
-    pairs = [(v, v + d) for d in range(1, 21) for v in range(1, 20001 - d)][:400_001]
-    pairs += [(v, v + 21) for v in range(1, 400_002 - len(pairs))]
-    head = b"p edge 20000 400000\n"
-    body = b"".join(b"e %d %d\n" % pair for pair in pairs[:400_000])
-    over = b"e %d %d\n" % pairs[400_000]
-    done = run(["forests"], head + body)
-    note("400,000 edges", done.returncode == 0 and done.stdout == forests_text(head + body), done.stderr)
-    expect("400,001 edges", run(["forests"], head + body + over), 1, b"", b"forestplan: F7 line 400002\n")
-    again = b"".join(b"e %d %d\n" % (w, v) for v, w in pairs[:1000])
-    expect("400,001 edges behind repeats", run(["forests"], head + again + body + over + b"e 0 0\n"), 1, b"",
-           b"forestplan: F7 line 401002\n")
-
-
-def definition_rows():
-    """Small random networks against the plain definition."""
-    source = random.Random(2026)
-    wrong = 0
-    for _ in range(200):
-        n = source.randrange(1, 12)
-        edges = [(v, w) for v in range(1, n + 1) for w in range(1, n + 1) if v != w and source.random() < 0.3]
-        source.shuffle(edges)
-        network = f"p edge {n} {len(edges)}\n" + "".join(f"e {v} {w}\n" for v, w in edges)
-        done = run(["forests"], network.encode())
-        wrong += (done.returncode, done.stdout, done.stderr) != (0, forests_text(network.encode()), b"")
-    note("200 random networks against the definition", wrong == 0, f"{wrong} differ")
-
-
-def help_rows():
-    """Each help text whole, as build/help/ has it."""
-    for words, name in [(["--help"], "help"), (["-h"], "help_short"),
-                        (["forests", "--help"], "forests_help"), (["forests", "-h"], "forests_help_short"),
-                        (["plain", "--help"], "plain_help"), (["plain", "-h"], "plain_help_short"),
-                        (["plan", "--help"], "plan_help"), (["plan", "-h"], "plan_help_short"),
-                        (["transcript", "--help"], "transcript_help"), (["transcript", "-h"], "transcript_help_short"),
-                        (["check", "--help"], "check_help"), (["check", "-h"], "check_help_short")]:
-        with open(os.path.join(TOP, "build", "help", name + ".txt"), "rb") as file:
-            wanted = file.read()
-        expect(f"help by {words}", run(words, b"no network"), 0, wanted, b"")
-
-
-def refused_words_rows():
-    """Each text whole. The first line is the fault, then maybe a tip, the usage of what was named, and where help
-    is."""
-    program, forests, plain, plan = (
-        "forestplan <COMMAND>",
-        "forestplan forests",
-        "forestplan plain",
-        "forestplan plan [OPTIONS]",
-    )
-    none = "'forestplan' requires a subcommand but one was not provided|  [subcommands: forests, plain, plan, transcript, check]"
-    like_both = "||  tip: some similar subcommands exist: 'plain', 'plan'"
-    like_workers = "||  tip: a similar argument exists: '--workers'"
-    of_plan = "||  tip: 'plan --workers' exists"
-    rows = [
-        ([], none, program),
-        (["nothing"], "unrecognized subcommand 'nothing'", program),
-        (["help"], "unrecognized subcommand 'help'", program),
-        (["plann"], "unrecognized subcommand 'plann'" + like_both, program),
-        (["--workers", "1", "plan"], "unexpected argument '--workers' found" + of_plan, program),
-        (["--version"], "unexpected argument '--version' found", program),
-        (["forests", "extra"], "unexpected argument 'extra' found", forests),
-        (["forests", "plain"], "unexpected argument 'plain' found", forests),
-        (["forests", "--workers", "1"], "unexpected argument '--workers' found", forests),
-        (["plain", "extra"], "unexpected argument 'extra' found", plain),
-        (["plain", "--turns", "1", "2"], "unexpected argument '--turns' found", plain),
-        (["check", "extra"], "unexpected argument 'extra' found", "forestplan check"),
-        (["plan", "extra"], "unexpected argument 'extra' found", plan),
-        (["plan", "--workers", "1", "2"], "unexpected argument '2' found", plan),
-        (["plan", "--workers", "-1"], "unexpected argument '-1' found", plan),
-        (["plan", "-w", "1"], "unexpected argument '-w' found", plan),
-        (["plan", "--edition", "1"], "unexpected argument '--edition' found", plan),
-        (
-            ["plan", "--worker", "1"],
-            "unexpected argument '--worker' found" + like_workers,
-            "forestplan plan --workers <N>",
-        ),
-        (
-            ["plan", "--workers", "1", "--workers", "1"],
-            "the argument '--workers <N>' cannot be used multiple times",
-            plan,
-        ),
-        (["plan", "--turns=1", "--turns=2"], "the argument '--turns <N>' cannot be used multiple times", plan),
-        (["plain", b"\xff"], "unrecognized subcommand '\N{REPLACEMENT CHARACTER}'", program),
-        ([b"\xff"], "unrecognized subcommand '\N{REPLACEMENT CHARACTER}'", program),
-    ]
-    for words, fault, usage in rows:
-        expect_refused(words, f"{fault}||Usage: {usage}")
-
-
-def refused_value_rows():
-    """Values of options that are refused. Each text whole; it has no usage."""
-    no_digit, too_large = "invalid digit found in string", "number too large to fit in target type"
-    empty = "cannot parse integer from empty string"
-    rows = [
-        (option, value, f"{value} is not in 1..=64")
-        for option in ("workers", "capacity")
-        for value in ("0", "65", "4294967297", "18446744073709551615")
-    ]
-    rows += [
-        ("turns", value, f"{value} is not in 0..=1000000000000") for value in ("1000000000001", "18446744073709551615")
-    ]
-    rows += [
-        (option, value, why)
-        for option in ("workers", "capacity", "turns")
-        for value, why in [
-            ("18446744073709551616", too_large),
-            ("four", no_digit),
-            ("4.0", no_digit),
-            ("4 ", no_digit),
-            ("0x4", no_digit),
-            ("+", no_digit),
-            ("", empty),
-        ]
-    ]
-    for option, value, why in rows:
-        expect_refused(["plan", f"--{option}", value], f"invalid value '{value}' for '--{option} <N>': {why}")
-        expect_refused(["plan", f"--{option}={value}"], f"invalid value '{value}' for '--{option} <N>': {why}")
-    for option in ("workers", "capacity", "turns"):
-        expect_refused(["plan", f"--{option}=-1"], f"invalid value '-1' for '--{option} <N>': {no_digit}")
-        expect_refused(["plan", f"--{option}"], f"a value is required for '--{option} <N>' but none was supplied")
-    for value, why in [("0", "0 is not in 1..=2"), ("3", "3 is not in 1..=2"), ("two", no_digit), ("", empty)]:
-        expect_refused(["transcript", "--edition", value], f"invalid value '{value}' for '--edition <N>': {why}")
-    expect_refused(
-        ["plan", "--workers", "65", "--turns", "x"], "invalid value '65' for '--workers <N>': 65 is not in 1..=64"
-    )
-
-
-def expect_refused(words, fault):
-    wanted = f"error: {fault}||For more information, try '--help'.|".replace("|", "\n")
-    expect(f"refused words {words}", run(words, text(TRIANGLE)), 2, b"", wanted.encode())
-
-
-def example_stream_rows():
-    """Each example as input of each command, written to a full device and to a closed pipe."""
-    for name, network in example_texts():
-        for command in ("forests", "plain", "plan"):
-            with open("/dev/full", "wb") as full:
-                done = run([command], network, stdout=full)
-            note(f"{command} of {name} to a full device", (done.returncode, done.stderr) == (4, STREAM_LINE), done)
-            with closed_pipe() as pipe:
-                done = run([command], network, stdout=pipe)
-            note(f"{command} of {name} to a closed pipe", (done.returncode, done.stderr) == (4, STREAM_LINE), done)
-
-
-def second_compiler_rows(program):
-    """The program as Rattle's own compiler builds it, which the gate leaves beside the other."""
-    for name, network in [("queen5_5.col", queens()), ("a graph without edges", b"p edge 4 0\n")]:
-        for command in ("plain", "plan"):
-            done = subprocess.run([program, command], input=network, capture_output=True, timeout=LIMIT)
-            expect(f"{command} of {name}, built by the second compiler", done, 0, plan_text(network), b"")
 
 
 def queens():
@@ -471,62 +75,343 @@ def closed_pipe():
     return os.fdopen(writing, "wb")
 
 
-def stream_rows():
-    with open("/dev/full", "wb") as full:
-        done = run(["--help"], stdout=full)
-        note("help to a full device", (done.returncode, done.stderr) == (4, STREAM_LINE), done)
-    with open("/dev/full", "wb") as full:
-        done = run(["forests"], b"", stderr=full)
-        note("a full device for errors changes no status", (done.returncode, done.stdout) == (1, b""), done)
-    with tempfile.TemporaryDirectory() as folder:
-        handle = os.open(folder, os.O_RDONLY)
-        done = run(["forests"], stdin=handle)
-        os.close(handle)
-        expect("a folder as standard input", done, 4, b"", STREAM_LINE)
-    closed = subprocess.run(["bash", "-c", '"$0" forests <&-', PROGRAM], capture_output=True, timeout=LIMIT)
-    expect("a closed standard input", closed, 4, b"", STREAM_LINE)
+class BlackBox(Case):
+    def test_builds(self):
+        """The script builds the program, or finds it built."""
+        built = run_program(os.path.join(TOP, "forestplan"), ["forests"], text("p edge 0 0|"))
+        self.note("the program builds", (built.returncode, built.stdout) == (0, b"forests 0 0\n"), built)
 
+    def test_forests(self):
+        rows = [
+            ("triangle", TRIANGLE, TRIANGLE_FORESTS),
+            ("two nodes alone", "p col 2 0|", "forests 2 0|"),
+            ("no node", "p edge 0 0|", "forests 0 0|"),
+            ("one edge", "p edge 2 1|e 1 2|", "forests 2 1|0 1 2|"),
+            ("an edge from above", "p edge 2 1|e 2 1|", "forests 2 1|0 1 2|"),
+            ("leading zeros", "p edge 2 1|e 01 0002|", "forests 2 1|0 1 2|"),
+            ("path in an odd layout", "c path\r|p edges 3 99 extra\r|\r|n 1 2\r|e 1 2 7\r|e 2 1\r|e 3 2\r|e 2 3\r|",
+             "forests 3 1|0 1 2|0 2 3|"),
+            ("four-cycle", "p edge 4 4|e 1 2|e 2 3|e 3 4|e 1 4|", "forests 4 2|0 1 2|0 2 3|0 3 4|1 1 4|"),
+            ("complete graph on four", "p edge 4 6|e 1 2|e 1 3|e 1 4|e 2 3|e 2 4|e 3 4|",
+             "forests 4 3|0 1 2|0 2 3|0 3 4|1 1 3|1 2 4|2 1 4|"),
+            ("the lower vertex with the higher identifier", "p edge 2 1|i 1 7|e 1 2|", "forests 2 1|0 2 1|"),
+            ("identifiers changed about, behind the edges", "p edge 3 2|e 1 2|e 2 3|i 3 0 x|i 1 2|i 2 1|",
+             "forests 3 1|0 2 1|0 3 2|"),
+            ("no line feed at the end", "p edge 2 1|e 1 2", "forests 2 1|0 1 2|"),
+            ("a triangle with a bar", TRIANGLE + "b 3 1|", TRIANGLE_FORESTS),
+            ("tabs and leading blanks", " \tp\tcol 2\t1|\t e 1  2|", "forests 2 1|0 1 2|"),
+            ("comment of bytes that are no text", "c\xff|p edge 1 0|", "forests 1 0|"),
+            ("lines that say nothing, and the greatest vertex", "cp x|d|v 1|x 1 2|p edge 20000 0|e 20000 1",
+             "forests 20000 1|0 1 20000|"),
+            ("edges in any order", "p edge 4 4|e 4 1|e 3 4|e 1 2|e 3 2|", "forests 4 2|0 1 2|0 2 3|0 3 4|1 1 4|"),
+            ("the greatest identifier, and one with zeros before it",
+             f"p edge 3 2|e 1 2|e 1 3|i 3 {2**128 - 1} x\r|\ti 01  0007|", "forests 3 1|0 1 3|0 2 1|"),
+            ("identifiers about 2^64", f"p edge 2 1|e 1 2|i 2 {2**64 - 1}|i 1 {'0' * 40}{2**64}", "forests 2 1|0 2 1|"),
+            ("the greatest star", "p edge 1024 1023|" + "".join(f"e {v} 1024|" for v in range(1, 1024)),
+             "forests 1024 1|" + "".join(f"0 {v} 1024|" for v in range(1, 1024))),
+        ]
+        for name, network, wanted in rows:
+            self.expect(name, run_program(PLAN, ["forests"], text(network)), 0, text(wanted), b"")
 
-def main():
-    global PROGRAM
-    words = argparse.ArgumentParser()
-    words.add_argument("--second", metavar="BINARY")
-    words.add_argument("program", nargs="?", metavar="PROGRAM")
-    given = words.parse_args()
-    if given.program:
-        PROGRAM = os.path.abspath(given.program)
-    else:
-        built = subprocess.run([PROGRAM, "--help"], stdout=subprocess.DEVNULL)
-        note("the program builds", built.returncode == 0, built)
-        PROGRAM = os.path.join(TOP, "crates", "forestplan", "out", "forestplan")
-    if TALLY["failed"] == 0:
-        for rows in (
-            forests_rows,
-            plain_rows,
-            example_rows,
-            fault_rows,
-            beginning_rows,
-            edge_limit_rows,
-            definition_rows,
-            help_rows,
-            refused_words_rows,
-            refused_value_rows,
-            stream_rows,
-            example_stream_rows,
-        ):
-            rows()
-        if given.second:
-            note("the second compiler built the program", os.path.isfile(given.second), given.second)
-            if os.path.isfile(given.second):
-                second_compiler_rows(os.path.abspath(given.second))
-        more = plain_network_rows(PROGRAM) + plan_rows(PROGRAM) + refused_thread_rows(PROGRAM, queens())
-        more += refused_memory_rows(PROGRAM, text(TRIANGLE), text(TRIANGLE_FORESTS))
-        more += allocation_rows(PROGRAM) + verdict_rows(PROGRAM, os.path.join(TOP, "examples"))
-        for name, good, what in more:
-            note(name, good, what)
-    print(f"{TALLY['passed']} passed, {TALLY['failed']} failed")
-    return 1 if TALLY["failed"] else 0
+    def test_plans(self):
+        rows = [
+            ("one edge", "p edge 2 1|e 1 2|", [1, 2]),
+            ("one edge and an identifier", "p edge 2 1|i 2 5|e 1 2|", [2, 1]),
+            ("one edge and the greatest identifier", f"p edge 2 1|i 2 {2**128 - 1}|e 1 2|", [2, 1]),
+            ("triangle", TRIANGLE, [2, 3, 1]),
+            ("path in an odd layout", "c path\r|p edges 3 99 extra\r|\r|n 1 2\r|e 1 2 7\r|e 2 1\r|e 3 2\r|e 2 3\r|",
+             [1, 2, 1]),
+            ("two nodes alone", "p col 2 0|", [1, 1]),
+            ("no node", "p edge 0 0|", []),
+            ("four-cycle", "p edge 4 4|e 1 2|e 2 3|e 3 4|e 1 4|", [1, 2, 1, 2]),
+            ("complete graph on four", "p edge 4 6|e 1 2|e 1 3|e 1 4|e 2 3|e 2 4|e 3 4|", [2, 3, 1, 4]),
+            ("the greatest star", "p edge 1024 1023|" + "".join(f"e {v} 1024|" for v in range(1, 1024)),
+             [1] * 1023 + [2]),
+            ("a path of seven, one node alone", "p edge 8 6|e 1 2|e 2 4|e 4 5|e 5 6|e 6 7|e 7 8|",
+             [2, 1, 1, 2, 1, 2, 1, 2]),
+            ("a path of six, three nodes alone", "p edge 9 5|e 3 4|e 4 5|e 5 6|e 6 7|e 7 9|",
+             [1, 1, 1, 3, 2, 1, 2, 1, 1]),
+            ("a path of seven, three nodes alone", "p edge 10 6|e 2 3|e 3 5|e 5 6|e 6 7|e 7 8|e 8 10|",
+             [1, 2, 1, 1, 2, 1, 2, 1, 1, 2]),
+        ] + barred_plans()
+        for name, network, channels in rows:
+            wanted = "plan|" + "".join(f"{v} {channel}|" for v, channel in enumerate(channels, 1))
+            for command in ("plain", "plan") if name not in LONG else ("plain",):
+                self.expect(f"{command} of {name}", run_program(PLAN, [command], text(network)), 0, text(wanted), b"")
+        faults = [("", "F1"), ("e 1 2|p edge 2 1|", "F3 line 1"), ("p edge 2 1|e 1 1|", "F6 line 2"),
+                  ("p edge 1025 1024|" + "".join(f"e 1 {v}|" for v in range(2, 1026)), "N1 vertex 1")]
+        for network, fault in faults:
+            for command in ("plain", "plan"):
+                done = run_program(PLAN, [command], text(network))
+                self.expect(f"{command} of {network[:30]!r}", done, 1, b"", f"forestplan: {fault}\n".encode())
 
+    def test_examples(self):
+        answers = {"triangle": TRIANGLE_FORESTS, "path": "forests 3 1|0 1 2|0 2 3|",
+                   "four_cycle": "forests 4 2|0 1 2|0 2 3|0 3 4|1 1 4|",
+                   "star": "forests 9 1|" + "".join(f"0 {v} 9|" for v in range(1, 9))}
+        for name, network in example_texts():
+            stem = name.removesuffix(".col")
+            wanted = text(answers[stem]) if stem in answers else forests_text(network)
+            self.expect(f"example {name}", run_program(PLAN, ["forests"], network), 0, wanted, b"")
+            for command in ("plain", "plan"):
+                self.expect(f"{command} of example {name}", run_program(PLAN, [command], network), 0,
+                            plan_text(network), b"")
+            self.note(f"comment of {name}", network.startswith(b"c "), "an example begins with a comment line")
 
-if __name__ == "__main__":
-    sys.exit(main())
+    def test_faults(self):
+        edge = "p edge 2 1|"
+        rows = [
+            ("", "F1"),
+            ("c x|", "F1"),
+            ("e 1 2|p edge 2 1|", "F3 line 1"),
+            ("p edge 2 1|p x|", "F2 line 2"),
+            ("p edge 3|", "F4 line 1"),
+            ("p nothing 3 1|", "F4 line 1"),
+            ("p edge 20001 0|", "F7 line 1"),
+            ("q 1|", "F8 line 1"),
+            ("node 1|", "F8 line 1"),
+            ("edge 1 2|", "F8 line 1"),
+            ("x1|", "F8 line 1"),
+            ("id 1 5|", "F8 line 1"),
+            ("bar 1 1|", "F8 line 1"),
+            ("B 1 1|", "F8 line 1"),
+            ("\xff|", "F8 line 1"),
+            ("p edge 99999999999999999999999999 x|", "F4 line 1"),
+            ("p edge 99999999999999999999999999 1|", "F7 line 1"),
+            (edge + "e 1 1|", "F6 line 2"),
+            (edge + "e 0 1|", "F5 line 2"),
+            (edge + "e 1 3|", "F5 line 2"),
+            (edge + "e 5 5|", "F5 line 2"),
+            (edge + "e 1|", "F4 line 2"),
+            (edge + "e 1 x|", "F4 line 2"),
+            (edge + "e 0 x|", "F4 line 2"),
+            (edge + "e 1 -2|", "F4 line 2"),
+            (edge + "e 1 2\r\r|", "F4 line 2"),
+            (edge + "e 340282366920938463463374607431768211457 1|", "F5 line 2"),
+            (edge + "e 4294967297 4294967297|", "F5 line 2"),
+            (edge + "|c|e 1 1|e 0 0|", "F6 line 4"),
+            ("e x|p edge 2 1|", "F3 line 1"),
+            ("b1 2|", "F8 line 1"),
+            ("p edge 20001 x|", "F4 line 1"),
+            (edge + "e 1 1|q|", "F6 line 2"),
+            (edge + "id 1 5|", "F8 line 2"),
+            (edge + "I 1 5|", "F8 line 2"),
+            (edge + "\xff 1|", "F8 line 2"),
+            (edge + "bar 1 1|", "F8 line 2"),
+            (edge + "i|", "F4 line 2"),
+            (edge + "i x 1|", "F4 line 2"),
+            (edge + "i 1 +1|", "F4 line 2"),
+            (edge + "i 340282366920938463463374607431768211457 1|", "F5 line 2"),
+            (edge + "i 2 5|i 1 5|e 1 2|i 2 6|", "F12 line 5"),
+            (edge + "b 2 1|b 2 4294967297|", "F13 line 3"),
+            (edge + bars_of(1, 1, 1024) + "b 3 1|", "F5 line 1026"),
+            (edge + bars_of(2, 1025, 2048) + bars_of(1, 1, 1024) + bars_of(2, 2000, 2048) + "b 2 1024|",
+             "F14 line 2099"),
+            ("i 1 5|p edge 2 1|", "F10 line 1"),
+            ("i x|p edge 2 1|", "F10 line 1"),
+            (edge + "i 1|", "F4 line 2"),
+            (edge + "i 3 x|", "F4 line 2"),
+            (edge + "i 3 5|", "F5 line 2"),
+            (edge + "i 0 340282366920938463463374607431768211456|", "F5 line 2"),
+            (edge + "i 1 340282366920938463463374607431768211456|", "F11 line 2"),
+            (edge + "i 1 5|i 1 5|", "F12 line 3"),
+            (edge + "i 1 5|i 1 340282366920938463463374607431768211456|", "F11 line 3"),
+            (edge + "i 1 2|e 1 2|", "N2 vertices 1 2"),
+            (edge + "i 2 1|", "N2 vertices 1 2"),
+            (edge + "i 1 9|i 2 009|", "N2 vertices 1 2"),
+            (edge + "i 2 9|i 1 9|", "N2 vertices 1 2"),
+            ("p edge 4 0|i 4 2|i 3 1|", "N2 vertices 1 3"),
+            ("p edge 4 0|i 3 1|i 4 2|", "N2 vertices 1 3"),
+            ("b 1 1|", "F10 line 1"),
+            ("b 1 1|p edge 2 1|", "F10 line 1"),
+            ("b x|p edge 2 1|", "F10 line 1"),
+            (edge + "b|", "F4 line 2"),
+            (edge + "b 1|", "F4 line 2"),
+            (edge + "b x 1|", "F4 line 2"),
+            (edge + "b 3 x|", "F4 line 2"),
+            (edge + "b 1 -1|", "F4 line 2"),
+            (edge + "b 3 1|", "F5 line 2"),
+            (edge + "b 3 0|", "F5 line 2"),
+            (edge + "b 0 2049|", "F5 line 2"),
+            (edge + "b 4294967297 1|", "F5 line 2"),
+            (edge + "b 1 0|", "F13 line 2"),
+            (edge + "b 1 2049|", "F13 line 2"),
+            (edge + "b 1 65537|", "F13 line 2"),
+            (edge + "b 1 4294967297|", "F13 line 2"),
+            (edge + "b 2 18446744073709551617|", "F13 line 2"),
+            (edge + "b 1 340282366920938463463374607431768211457|", "F13 line 2"),
+            (edge + "b 1 1|b 2 1|b 1 000|", "F13 line 4"),
+            (edge + bars_of(1, 1, 1025), "F14 line 1026"),
+            (edge + bars_of(2, 1024, 2048), "F14 line 1026"),
+            (edge + bars_of(1, 1, 1024) + bars_of(2, 1, 1024) + bars_of(1, 1, 1024) + "e 1 2|b 2 2048|b 1 2048|",
+             "F14 line 3075"),
+            (edge + bars_of(1, 1, 1024) + "b 1 2049|", "F13 line 1026"),
+            (edge + bars_of(1, 1, 1024) + "b 1 1|q|", "F8 line 1027"),
+            (edge + "e 1 1|" + bars_of(1, 1, 1025), "F6 line 2"),
+            (edge + "b 1 2|i 1 2|", "N2 vertices 1 2"),
+            ("p edge 1025 1024|" + "".join(f"e 1 {v}|" for v in range(2, 1026)), "N1 vertex 1"),
+        ]
+        for network, fault in rows:
+            done = run_program(PLAN, ["forests"], text(network))
+            self.expect(f"fault {fault} of {network[:50]!r}", done, 1, b"", f"forestplan: {fault}\n".encode())
+
+    def test_beginnings(self):
+        """Each beginning of the triangle's text."""
+        whole = text(TRIANGLE)
+        answers = {0: "F1", 10: "forests 3 0|", 11: "forests 3 0|", 16: "forests 3 1|0 1 2|", 17: "forests 3 1|0 1 2|",
+                   22: "forests 3 2|0 1 2|1 1 3|", 23: "forests 3 2|0 1 2|1 1 3|", 28: TRIANGLE_FORESTS,
+                   29: TRIANGLE_FORESTS}
+        for line, (first, last) in enumerate([(1, 9), (12, 15), (18, 21), (24, 27)], 1):
+            answers.update({k: f"F4 line {line}" for k in range(first, last + 1)})
+        for k in range(len(whole) + 1):
+            done = run_program(PLAN, ["forests"], whole[:k])
+            if answers[k].startswith("F"):
+                self.expect(f"first {k} bytes", done, 1, b"", f"forestplan: {answers[k]}\n".encode())
+            else:
+                self.expect(f"first {k} bytes", done, 0, text(answers[k]), b"")
+
+    def test_edge_limit(self):
+        """400,000 different edges are read; the one after is told at its line, also behind repeats."""
+        pairs = [(v, v + d) for d in range(1, 21) for v in range(1, 20001 - d)][:400_001]
+        pairs += [(v, v + 21) for v in range(1, 400_002 - len(pairs))]
+        head = b"p edge 20000 400000\n"
+        body = b"".join(b"e %d %d\n" % pair for pair in pairs[:400_000])
+        over = b"e %d %d\n" % pairs[400_000]
+        done = run_program(PLAN, ["forests"], head + body)
+        self.note("400,000 edges", done.returncode == 0 and done.stdout == forests_text(head + body), done.stderr)
+        self.expect("400,001 edges", run_program(PLAN, ["forests"], head + body + over), 1, b"",
+                    b"forestplan: F7 line 400002\n")
+        again = b"".join(b"e %d %d\n" % (w, v) for v, w in pairs[:1000])
+        self.expect("400,001 edges behind repeats",
+                    run_program(PLAN, ["forests"], head + again + body + over + b"e 0 0\n"), 1, b"",
+                    b"forestplan: F7 line 401002\n")
+
+    def test_random_networks(self):
+        """Small random networks against the plain definition."""
+        source = random.Random(2026)
+        wrong = 0
+        for _ in range(200):
+            n = source.randrange(1, 12)
+            edges = [(v, w) for v in range(1, n + 1) for w in range(1, n + 1) if v != w and source.random() < 0.3]
+            source.shuffle(edges)
+            network = f"p edge {n} {len(edges)}\n" + "".join(f"e {v} {w}\n" for v, w in edges)
+            done = run_program(PLAN, ["forests"], network.encode())
+            wrong += (done.returncode, done.stdout, done.stderr) != (0, forests_text(network.encode()), b"")
+        self.note("200 random networks against the definition", wrong == 0, f"{wrong} differ")
+
+    def test_help(self):
+        """Each help text whole, as build/help/ has it."""
+        texts = [([], PROGRAMS["forestplan"])]
+        texts += [([command.name], f"{command.name}_help") for command in commands_of("forestplan")]
+        for (words, name), (option, end) in itertools.product(texts, [("--help", ""), ("-h", "_short")]):
+            words = [*words, option]
+            with open(os.path.join(TOP, "build", "help", f"{name}{end}.txt"), "rb") as file:
+                wanted = file.read()
+            self.expect(f"help by {words}", run_program(PLAN, words, b"no network"), 0, wanted, b"")
+
+    def test_refused_words(self):
+        """Each text whole. The first line is the fault, then maybe a tip, the usage of what was named, and where help
+        is."""
+        program, (forests, plain, plan, *_) = "forestplan <COMMAND>", [it.usage for it in commands_of("forestplan")]
+        names = ", ".join(command.name for command in commands_of("forestplan"))
+        none = f"'forestplan' requires a subcommand but one was not provided|  [subcommands: {names}]"
+        like_both = "||  tip: some similar subcommands exist: 'plain', 'plan'"
+        like_workers = "||  tip: a similar argument exists: '--workers'"
+        of_plan = "||  tip: 'plan --workers' exists"
+        rows = [
+            ([], none, program),
+            (["nothing"], "unrecognized subcommand 'nothing'", program),
+            (["help"], "unrecognized subcommand 'help'", program),
+            (["plann"], "unrecognized subcommand 'plann'" + like_both, program),
+            (["--workers", "1", "plan"], "unexpected argument '--workers' found" + of_plan, program),
+            (["--version"], "unexpected argument '--version' found", program),
+            *(([it.name, "extra"], "unexpected argument 'extra' found", it.usage) for it in commands_of("forestplan")),
+            (["forests", "plain"], "unexpected argument 'plain' found", forests),
+            (["forests", "--workers", "1"], "unexpected argument '--workers' found", forests),
+            (["plain", "--turns", "1", "2"], "unexpected argument '--turns' found", plain),
+            (["plan", "--workers", "1", "2"], "unexpected argument '2' found", plan),
+            (["plan", "--workers", "-1"], "unexpected argument '-1' found", plan),
+            (["plan", "-w", "1"], "unexpected argument '-w' found", plan),
+            (["plan", "--edition", "1"], "unexpected argument '--edition' found", plan),
+            (["plan", "--worker", "1"], "unexpected argument '--worker' found" + like_workers,
+             "forestplan plan --workers <N>"),
+            (["plan", "--workers", "1", "--workers", "1"], "the argument '--workers <N>' cannot be used multiple times",
+             plan),
+            (["plan", "--turns=1", "--turns=2"], "the argument '--turns <N>' cannot be used multiple times", plan),
+            (["plain", b"\xff"], "unrecognized subcommand '\N{REPLACEMENT CHARACTER}'", program),
+            ([b"\xff"], "unrecognized subcommand '\N{REPLACEMENT CHARACTER}'", program),
+        ]
+        for words, fault, usage in rows:
+            self.expect_refused(words, f"{fault}||Usage: {usage}")
+
+    def test_refused_values(self):
+        """Values of options that are refused. Each text whole; it has no usage."""
+        no_digit, too_large = "invalid digit found in string", "number too large to fit in target type"
+        empty = "cannot parse integer from empty string"
+        rows = [
+            (option, value, f"{value} is not in 1..=64")
+            for option in ("workers", "capacity")
+            for value in ("0", "65", "4294967297", "18446744073709551615")
+        ]
+        rows += [
+            ("turns", value, f"{value} is not in 0..=1000000000000")
+            for value in ("1000000000001", "18446744073709551615")
+        ]
+        rows += [
+            (option, value, why)
+            for option in ("workers", "capacity", "turns")
+            for value, why in [("18446744073709551616", too_large), ("four", no_digit), ("4.0", no_digit),
+                               ("4 ", no_digit), ("0x4", no_digit), ("+", no_digit), ("", empty)]
+        ]
+        for option, value, why in rows:
+            self.expect_refused(["plan", f"--{option}", value], f"invalid value '{value}' for '--{option} <N>': {why}")
+            self.expect_refused(["plan", f"--{option}={value}"], f"invalid value '{value}' for '--{option} <N>': {why}")
+        for option in ("workers", "capacity", "turns"):
+            self.expect_refused(["plan", f"--{option}=-1"], f"invalid value '-1' for '--{option} <N>': {no_digit}")
+            self.expect_refused(["plan", f"--{option}"],
+                                f"a value is required for '--{option} <N>' but none was supplied")
+        for value, why in [("0", "0 is not in 1..=2"), ("3", "3 is not in 1..=2"), ("two", no_digit), ("", empty)]:
+            self.expect_refused(["transcript", "--edition", value],
+                                f"invalid value '{value}' for '--edition <N>': {why}")
+        self.expect_refused(["plan", "--workers", "65", "--turns", "x"],
+                            "invalid value '65' for '--workers <N>': 65 is not in 1..=64")
+
+    def expect_refused(self, words, fault):
+        wanted = f"error: {fault}||For more information, try '--help'.|".replace("|", "\n")
+        self.expect(f"refused words {words}", run_program(PLAN, words, text(TRIANGLE)), 2, b"", wanted.encode())
+
+    def test_example_streams(self):
+        """Each example as input of each command, written to a full device and to a closed pipe."""
+        for name, network in example_texts():
+            for command in ("forests", "plain", "plan"):
+                with open("/dev/full", "wb") as full:
+                    done = run_program(PLAN, [command], network, stdout=full)
+                self.note(f"{command} of {name} to a full device", (done.returncode, done.stderr) == (4, STREAM_LINE),
+                          done)
+                with closed_pipe() as pipe:
+                    done = run_program(PLAN, [command], network, stdout=pipe)
+                self.note(f"{command} of {name} to a closed pipe", (done.returncode, done.stderr) == (4, STREAM_LINE),
+                          done)
+
+    def test_second_compiler(self):
+        """The program as Rattle's own compiler builds it, which the gate leaves beside the other."""
+        self.note("the second compiler built the program", os.path.isfile(SECOND_PLAN), SECOND_PLAN)
+        for name, network in [("queen5_5.col", queens()), ("a graph without edges", b"p edge 4 0\n")]:
+            for command in ("plain", "plan"):
+                done = run_program(SECOND_PLAN, [command], network)
+                self.expect(f"{command} of {name}, built by the second compiler", done, 0, plan_text(network), b"")
+
+    def test_streams(self):
+        with open("/dev/full", "wb") as full:
+            done = run_program(PLAN, ["--help"], stdout=full)
+            self.note("help to a full device", (done.returncode, done.stderr) == (4, STREAM_LINE), done)
+        with open("/dev/full", "wb") as full:
+            done = run_program(PLAN, ["forests"], b"", stderr=full)
+            self.note("a full device for errors changes no status", (done.returncode, done.stdout) == (1, b""), done)
+        with tempfile.TemporaryDirectory() as folder:
+            handle = os.open(folder, os.O_RDONLY)
+            done = run_program(PLAN, ["forests"], stdin=handle)
+            os.close(handle)
+            self.expect("a folder as standard input", done, 4, b"", STREAM_LINE)
+        closed = subprocess.run(["bash", "-c", '"$0" forests <&-', PLAN], capture_output=True, timeout=LIMIT)
+        self.expect("a closed standard input", closed, 4, b"", STREAM_LINE)

@@ -1,24 +1,21 @@
-#!/usr/bin/env python3
 """Black-box tests of `forestplay`: plays lists of events and transcripts by the built program, and compares standard
-output, standard error and status byte by byte. The last line is 'N passed, M failed'.
-
-  events.py [--second BINARY] [PROGRAM]
-      PROGRAM   default: the script `forestplay` at the top, which builds the program first
-      BINARY    the program as the second compiler builds it; its rows are left out if it isn't named
+output, standard error and status byte by byte.
 
 Expected answers are worked by hand (docs/learn/TUTORIAL.md has the run of the triangle), or come from the definitions
 in lab/definitions/nodes.py; none is taken from the program."""
-import argparse
+import itertools
 import os
 import random
 import subprocess
-import sys
 import tempfile
 
 from lab.definitions.colours import colours, network_of
 from lab.definitions.nodes import NetState, Refused, last_pulse, missing_words, ports_of, wire_words
 from tests import TOP
+from tests.cases import Case, run_program, text
+from tests.commands import PROGRAMS, commands_of
 from tests.faults.refused_memory import build_front, sweep
+from tests.settings import PLAY, SECOND_PLAY
 
 LIMIT = 60
 SEED = 2026
@@ -29,33 +26,9 @@ ALL_PUT = "put 1 0|put 1 1|put 2 0|put 2 1|put 3 0|put 3 1|"
 ALL_TAKE = ALL_PUT.replace("put", "take")
 # Events 31 to 47 of docs/learn/TUTORIAL.md.
 LATER = (
-    "take 1 0|take 1 1|pulse 1|put 1 1|take 3 0|take 3 0|put 1 0|take 2 0|take 2 0|put 2 0|take 1 0|put 3 0|take 1 1|put 1 1|"
-    "take 3 0|take 3 1|pulse 3|"
+    "take 1 0|take 1 1|pulse 1|put 1 1|take 3 0|take 3 0|put 1 0|take 2 0|take 2 0|put 2 0|take 1 0|put 3 0|take 1 1|"
+    "put 1 1|take 3 0|take 3 1|pulse 3|"
 )
-TALLY = {"passed": 0, "failed": 0}
-
-
-def text(lines):
-    """Bytes of a text in which '|' stands for a line feed."""
-    return lines.replace("|", "\n").encode("latin-1")
-
-
-def note(name, good, what=""):
-    TALLY["passed" if good else "failed"] += 1
-    if not good:
-        print(f"FAILED {name}: {what}")
-
-
-def run(program, data, words=("events",), **streams):
-    given = {"input": data} if "stdin" not in streams else {}
-    streams.setdefault("stdout", subprocess.PIPE)
-    streams.setdefault("stderr", subprocess.PIPE)
-    return subprocess.run([program, *words], timeout=LIMIT, **given, **streams)
-
-
-def expect(name, done, wanted):
-    got = (done.returncode, done.stdout, done.stderr)
-    note(name, got == wanted, f"wanted {wanted}, got {got}")
 
 
 def refusal(fault):
@@ -67,27 +40,15 @@ WORKED = [
     ("no node", "p edge 0 0|", ""),
     ("a node alone", "p edge 1 0|", "node 1 pulse 0|"),
     ("a node alone at its last pulse", "p edge 1 0|" + 12 * "pulse 1|", "node 1 pulse 12 channel 1|"),
-    (
-        "a node alone with a bar at its last pulse",
-        "p edge 1 0|b 1 1|b 1 3|" + 12 * "pulse 1|",
-        "node 1 pulse 12 channel 2|",
-    ),
+    ("a node alone with a bar at its last pulse", "p edge 1 0|b 1 1|b 1 3|" + 12 * "pulse 1|",
+     "node 1 pulse 12 channel 2|"),
     ("the start of an edge", EDGE, "node 1 pulse 0|link 1 2 taken 0|node 2 pulse 0|link 2 1 taken 0|"),
-    (
-        "no line feed at the end",
-        EDGE + "put 1 0",
-        "node 1 pulse 0|link 1 2 taken 0 payload 0 hello 1|node 2 pulse 0|link 2 1 taken 0|",
-    ),
-    (
-        "an odd layout",
-        "c x|" + EDGE + "n 1|\t put  01\t0 \r||c put 1 0|comment|take 2 000|put 2 0|put 2 0|",
-        "node 1 pulse 0|link 1 2 taken 1|node 2 pulse 0|link 2 1 taken 0 payload 0 hello 2 ack 0|",
-    ),
-    (
-        "a safe",
-        EDGE + "put 1 0|take 2 0|put 2 0|put 2 0|take 1 0|take 1 0|put 1 0|put 1 0|take 2 0|",
-        "node 1 pulse 0|link 1 2 taken 2 safe 0|node 2 pulse 0|link 2 1 taken 2|",
-    ),
+    ("no line feed at the end", EDGE + "put 1 0",
+     "node 1 pulse 0|link 1 2 taken 0 payload 0 hello 1|node 2 pulse 0|link 2 1 taken 0|"),
+    ("an odd layout", "c x|" + EDGE + "n 1|\t put  01\t0 \r||c put 1 0|comment|take 2 000|put 2 0|put 2 0|",
+     "node 1 pulse 0|link 1 2 taken 1|node 2 pulse 0|link 2 1 taken 0 payload 0 hello 2 ack 0|"),
+    ("a safe", EDGE + "put 1 0|take 2 0|put 2 0|put 2 0|take 1 0|take 1 0|put 1 0|put 1 0|take 2 0|",
+     "node 1 pulse 0|link 1 2 taken 2 safe 0|node 2 pulse 0|link 2 1 taken 2|"),
     (
         "the triangle after 6 events",
         TRIANGLE + ALL_PUT,
@@ -160,16 +121,11 @@ REFUSED = [
 # the same of `replay`: (name, what stands behind the edge's lines, output)
 REPLAYED = [
     ("no entry", "transcript 1 2|", "node 1 pulse 0|link 1 2 taken 0|node 2 pulse 0|link 2 1 taken 0|"),
-    (
-        "a greeting",
-        "transcript 1 2|1 put 2 payload 0 hello 1|2 take 1 payload 0 hello 1|2 put 1 payload 0 hello 2|2 put 1 ack 0|",
-        "node 1 pulse 0|link 1 2 taken 1|node 2 pulse 0|link 2 1 taken 0 payload 0 hello 2 ack 0|",
-    ),
-    (
-        "an odd layout, with another number of nodes",
-        "n 1|\t transcript 1  9 \r| \t||1 put 002 payload\t0 hello 01\r",
-        "node 1 pulse 0|link 1 2 taken 0 payload 0 hello 1|node 2 pulse 0|link 2 1 taken 0|",
-    ),
+    ("a greeting",
+     "transcript 1 2|1 put 2 payload 0 hello 1|2 take 1 payload 0 hello 1|2 put 1 payload 0 hello 2|2 put 1 ack 0|",
+     "node 1 pulse 0|link 1 2 taken 1|node 2 pulse 0|link 2 1 taken 0 payload 0 hello 2 ack 0|"),
+    ("an odd layout, with another number of nodes", "n 1|\t transcript 1  9 \r| \t||1 put 002 payload\t0 hello 01\r",
+     "node 1 pulse 0|link 1 2 taken 0 payload 0 hello 1|node 2 pulse 0|link 2 1 taken 0|"),
 ]
 
 # (input, fault) of `replay`: faults of the text, of the network, of the reading of the transcript, of an entry, in this
@@ -208,45 +164,20 @@ NOT_REPLAYED = [
     (EDGE + "transcript 1 2|1 put 1 close|", "NoSuch line 4"),
     (EDGE + "transcript 1 2|1 put 2 payload 0 hello 2|", "WrongWire line 4: expected payload 0 hello 1"),
     (EDGE + "transcript 1 2||" + GREETING + "|1 put 2 ack 0|", "NothingToPut line 7: list of 1 for 2"),
-    (
-        EDGE + "transcript 1 2|" + GREETING + "2 take 1 payload 0 hello 2|",
-        "WrongWire line 5: expected payload 0 hello 1",
-    ),
-    (
-        EDGE + "transcript 1 2|" + GREETING + "2 take 1 payload 0 hello 1|2 put 1 payload 0 hello 2|2 put 1 safe 0|",
-        "WrongWire line 7: expected ack 0",
-    ),
+    (EDGE + "transcript 1 2|" + GREETING + "2 take 1 payload 0 hello 2|",
+     "WrongWire line 5: expected payload 0 hello 1"),
+    (EDGE + "transcript 1 2|" + GREETING + "2 take 1 payload 0 hello 1|2 put 1 payload 0 hello 2|2 put 1 safe 0|",
+     "WrongWire line 7: expected ack 0"),
     # the greatest number of each kind of payload, which is read and isn't the wire that is due, and one more
     *(
-        (
-            EDGE + f"transcript 1 2|1 put 2 payload 0 {kind} {most + more}|",
-            "X1 line 4" if more else "WrongWire line 4: expected payload 0 hello 1",
-        )
-        for kind, most in [
-            ("hello", 2**128 - 1),
-            ("label", 2**16 - 1),
-            ("colour", 2**128 - 1),
-            ("chosen", 2**16 - 1),
-        ]
+        (EDGE + f"transcript 1 2|1 put 2 payload 0 {kind} {most + more}|",
+         "X1 line 4" if more else "WrongWire line 4: expected payload 0 hello 1")
+        for kind, most in [("hello", 2**128 - 1), ("label", 2**16 - 1), ("colour", 2**128 - 1), ("chosen", 2**16 - 1)]
         for more in (0, 1)
     ),
     ("p edge 1 0|transcript 1 1|1 pulse 2|", "WrongWire line 3: expected pulse 1"),
     ("p edge 1 0|transcript 1 1|1 pulse 1|1 pulse 1|", "WrongWire line 4: expected pulse 2"),
 ]
-
-
-def replay_rows(program):
-    for name, behind, output in REPLAYED:
-        expect(f"replay of {name}", run(program, text(EDGE + behind), ["replay"]), (0, text(output), b""))
-    for data, fault in NOT_REPLAYED:
-        expect(f"replay: {fault} of {data[-40:]!r}", run(program, text(data), ["replay"]), refusal(fault))
-
-
-def worked_rows(program):
-    for name, data, output in WORKED:
-        expect(name, run(program, text(data)), (0, text(output), b""))
-    for data, fault in REFUSED:
-        expect(f"{fault} of {data[-40:]!r}", run(program, text(data)), refusal(fault))
 
 
 def state_text(net, state, taken):
@@ -295,11 +226,8 @@ def random_events(source, net, count):
         possible = list(state.possible())
         if not possible or source.random() < 0.002:
             kind = source.choice(["Pulse", "Put", "Take"])
-            event = (
-                kind,
-                source.randrange(0, len(net.neighbours) + 2),
-                None if kind == "Pulse" else source.randrange(0, 4),
-            )
+            event = (kind, source.randrange(0, len(net.neighbours) + 2),
+                     None if kind == "Pulse" else source.randrange(0, 4))
         else:
             event = source.choice(possible)
         events.append(event)
@@ -321,40 +249,6 @@ def written(source, network, events):
     return "".join(line + "\n" for line in lines).encode(), numbered
 
 
-def random_rows(program):
-    """Random networks and events against the definitions."""
-    source, wrong, refused = random.Random(SEED), [], 0
-    for _ in range(300):
-        network = random_network(source, 7)
-        net = network_of(network.encode())
-        data, events = written(source, network, random_events(source, net, source.randrange(0, 400)))
-        done, wanted = run(program, data), answer_of(net, events)
-        refused += wanted[0]
-        if (done.returncode, done.stdout, done.stderr) != wanted:
-            wrong.append((data, wanted, done))
-    note("300 random lists of events against the definitions", not wrong, wrong[:1])
-    note("some of them are refused, and some are not", 30 < refused < 270, refused)
-
-
-def ending_rows(program):
-    """Events to the end: every node has halted, nothing waits, and the channels are the colours plus one."""
-    source = random.Random(SEED)
-    for network in [
-        TRIANGLE,
-        TRIANGLE + "b 3 1|",
-        "p edge 4 4|e 1 2|e 2 3|e 3 4|e 1 4|",
-        "p edge 5 5|e 1 2|e 1 3|e 1 4|e 1 5|e 2 3|",
-        "p edge 3 1|e 1 3|",
-    ]:
-        net = network_of(text(network))
-        events = random_events(random.Random(source.random()), net, 0) + whole_run(source, net)
-        data, numbered = written(source, text(network).decode(), events)
-        done = run(program, data)
-        expect(f"a whole run of {network}", done, answer_of(net, numbered))
-        channels = [line.split()[-1].decode() for line in done.stdout.splitlines() if line.startswith(b"node")]
-        note(f"channels of {network}", channels == [str(c + 1) for _, c in sorted(colours(net).items())], channels)
-
-
 def whole_run(source, net):
     state, events = NetState(net), []
     while possible := list(state.possible()):
@@ -363,97 +257,120 @@ def whole_run(source, net):
     return events
 
 
-def help_rows(program):
-    """Each help text whole, as build/help/ has it, and the refusals of words."""
-    for words, name in [(["--help"], "forestplay_help"), (["-h"], "forestplay_help_short"),
-                        (["events", "--help"], "events_help"), (["events", "-h"], "events_help_short"),
-                        (["replay", "--help"], "replay_help"), (["replay", "-h"], "replay_help_short"),
-                        (["rounds", "--help"], "rounds_help"), (["rounds", "-h"], "rounds_help_short")]:
-        with open(os.path.join(TOP, "build", "help", name + ".txt"), "rb") as file:
-            wanted = file.read()
-        expect(f"help by {words}", run(program, b"no network", words), (0, wanted, b""))
-    rows = [
-        (
-            [],
-            "'forestplay' requires a subcommand but one was not provided|  [subcommands: events, replay, rounds]",
-            "forestplay <COMMAND>",
-        ),
-        (["check"], "unrecognized subcommand 'check'", "forestplay <COMMAND>"),
-        (["help"], "unrecognized subcommand 'help'", "forestplay <COMMAND>"),
-        (["events", "extra"], "unexpected argument 'extra' found", "forestplay events"),
-        (["replay", "extra"], "unexpected argument 'extra' found", "forestplay replay"),
-        (["rounds", "extra"], "unexpected argument 'extra' found", "forestplay rounds"),
-        ([b"\xff"], "unrecognized subcommand '\N{REPLACEMENT CHARACTER}'", "forestplay <COMMAND>"),
-    ]
-    for words, fault, usage in rows:
-        wanted = f"error: {fault}||Usage: {usage}||For more information, try '--help'.|".replace("|", "\n")
-        expect(f"refused words {words}", run(program, text(EDGE), words), (2, b"", wanted.encode()))
+class Events(Case):
+    def test_builds(self):
+        """The script builds the program, or finds it built."""
+        built = run_program(os.path.join(TOP, "bin", "forestplay"), ["events"], text("p edge 0 0|"))
+        self.note("the program builds", (built.returncode, built.stdout) == (0, b""), built)
 
+    def test_replay(self):
+        for name, behind, output in REPLAYED:
+            self.expect(f"replay of {name}", run_program(PLAY, ["replay"], text(EDGE + behind)), 0, text(output), b"")
+        for data, fault in NOT_REPLAYED:
+            self.expect(f"replay: {fault} of {data[-40:]!r}", run_program(PLAY, ["replay"], text(data)),
+                        *refusal(fault))
 
-def stream_rows(program):
-    with open("/dev/full", "wb") as full:
-        done = run(program, text(EDGE), stdout=full)
-    note("a full device", (done.returncode, done.stderr) == (4, STREAM_LINE), done)
-    reading, writing = os.pipe()
-    os.close(reading)
-    with os.fdopen(writing, "wb") as pipe:
-        done = run(program, text(EDGE), stdout=pipe)
-    note("a closed pipe", (done.returncode, done.stderr) == (4, STREAM_LINE), done)
-    with tempfile.TemporaryDirectory() as folder:
-        handle = os.open(folder, os.O_RDONLY)
-        done = run(program, b"", stdin=handle)
-        os.close(handle)
-    expect("a folder as standard input", done, (4, b"", STREAM_LINE))
-    closed = subprocess.run(["bash", "-c", '"$0" events <&-', program], capture_output=True, timeout=LIMIT)
-    expect("a closed standard input", closed, (4, b"", STREAM_LINE))
+    def test_worked(self):
+        for name, data, output in WORKED:
+            self.expect(name, run_program(PLAY, ["events"], text(data)), 0, text(output), b"")
+        for data, fault in REFUSED:
+            self.expect(f"{fault} of {data[-40:]!r}", run_program(PLAY, ["events"], text(data)), *refusal(fault))
 
+    def test_random_lists(self):
+        """Random networks and events against the definitions."""
+        source, wrong, refused = random.Random(SEED), [], 0
+        for _ in range(300):
+            network = random_network(source, 7)
+            net = network_of(network.encode())
+            data, events = written(source, network, random_events(source, net, source.randrange(0, 400)))
+            done, wanted = run_program(PLAY, ["events"], data), answer_of(net, events)
+            refused += wanted[0]
+            if (done.returncode, done.stdout, done.stderr) != wanted:
+                wrong.append((data, wanted, done))
+        self.note("300 random lists of events against the definitions", not wrong, wrong[:1])
+        self.note("some of them are refused, and some are not", 30 < refused < 270, refused)
 
-def memory_rows(program):
-    """Each growth refused in turn: the right answer, or out of memory."""
-    with tempfile.TemporaryDirectory() as folder:
-        front, failure = build_front(folder)
-        note("the refusing allocator builds", failure is None, failure)
-        if failure is not None:
-            return
-        name, data, output = next(row for row in WORKED if row[0] == "the triangle after 47 events")
-        for data, wanted in [
-            (data, (0, text(output), b"")),
-            (EDGE + "put 1 0|put 1 0|", refusal("NothingToPut line 4: list of 1 for 2")),
-            (EDGE + "put 1|", refusal("NoEvent line 3")),
-            ("p edge 2 1|e 1 1|", refusal("F6 line 2")),
-        ]:
-            row = sweep(program, front, ["events"], text(data), wanted, "forestplay")
-            note(f"{row[0]} of {data[-30:]!r}", row[1], row[2])
-        name, behind, output = REPLAYED[1]
-        for data, wanted in [
-            (EDGE + behind, (0, text(output), b"")),
-            (EDGE + "transcript 1 2|1 put 2 safe 0|", refusal("WrongWire line 4: expected payload 0 hello 1")),
-        ]:
-            row = sweep(program, front, ["replay"], text(data), wanted, "forestplay")
-            note(f"replay: {row[0]} of {data[-30:]!r}", row[1], row[2])
+    def test_ends(self):
+        self.check_ends(PLAY)
 
+    def test_second_compiler(self):
+        """The program as Rattle's own compiler builds it, which the gate leaves beside the other."""
+        self.note("the second compiler built the program", os.path.isfile(SECOND_PLAY), SECOND_PLAY)
+        self.check_ends(SECOND_PLAY)
 
-def main():
-    words = argparse.ArgumentParser()
-    words.add_argument("--second", metavar="BINARY")
-    words.add_argument("program", nargs="?", metavar="PROGRAM")
-    given = words.parse_args()
-    if given.program:
-        program = os.path.abspath(given.program)
-    else:
-        built = subprocess.run([os.path.join(TOP, "bin", "forestplay"), "--help"], stdout=subprocess.DEVNULL)
-        note("the program builds", built.returncode == 0, built)
-        program = os.path.join(TOP, "crates", "forestplay", "out", "forestplay")
-    if TALLY["failed"] == 0:
-        for rows in (worked_rows, replay_rows, random_rows, ending_rows, help_rows, stream_rows, memory_rows):
-            rows(program)
-        if given.second:
-            note("the second compiler built the program", os.path.isfile(given.second), given.second)
-            if os.path.isfile(given.second):
-                ending_rows(os.path.abspath(given.second))
-    print(f"{TALLY['passed']} passed, {TALLY['failed']} failed")
-    return 1 if TALLY["failed"] else 0
+    def check_ends(self, program):
+        """Events to the end: every node has halted, nothing waits, and the channels are the colours plus one."""
+        source = random.Random(SEED)
+        for network in [TRIANGLE, TRIANGLE + "b 3 1|", "p edge 4 4|e 1 2|e 2 3|e 3 4|e 1 4|",
+                        "p edge 5 5|e 1 2|e 1 3|e 1 4|e 1 5|e 2 3|", "p edge 3 1|e 1 3|"]:
+            net = network_of(text(network))
+            events = random_events(random.Random(source.random()), net, 0) + whole_run(source, net)
+            data, numbered = written(source, text(network).decode(), events)
+            done = run_program(program, ["events"], data)
+            self.expect(f"a whole run of {network}", done, *answer_of(net, numbered))
+            channels = [line.split()[-1].decode() for line in done.stdout.splitlines() if line.startswith(b"node")]
+            self.note(f"channels of {network}", channels == [str(c + 1) for _, c in sorted(colours(net).items())],
+                      channels)
 
+    def test_help(self):
+        """Each help text whole, as build/help/ has it, and the refusals of words."""
+        texts = [([], PROGRAMS["forestplay"])]
+        texts += [([command.name], f"{command.name}_help") for command in commands_of("forestplay")]
+        for (words, name), (option, end) in itertools.product(texts, [("--help", ""), ("-h", "_short")]):
+            words = [*words, option]
+            with open(os.path.join(TOP, "build", "help", f"{name}{end}.txt"), "rb") as file:
+                wanted = file.read()
+            self.expect(f"help by {words}", run_program(PLAY, words, b"no network"), 0, wanted, b"")
+        names = ", ".join(command.name for command in commands_of("forestplay"))
+        none = f"'forestplay' requires a subcommand but one was not provided|  [subcommands: {names}]"
+        rows = [
+            ([], none, "forestplay <COMMAND>"),
+            (["check"], "unrecognized subcommand 'check'", "forestplay <COMMAND>"),
+            (["help"], "unrecognized subcommand 'help'", "forestplay <COMMAND>"),
+            *(([it.name, "extra"], "unexpected argument 'extra' found", it.usage) for it in commands_of("forestplay")),
+            ([b"\xff"], "unrecognized subcommand '\N{REPLACEMENT CHARACTER}'", "forestplay <COMMAND>"),
+        ]
+        for words, fault, usage in rows:
+            wanted = f"error: {fault}||Usage: {usage}||For more information, try '--help'.|".replace("|", "\n")
+            self.expect(f"refused words {words}", run_program(PLAY, words, text(EDGE)), 2, b"", wanted.encode())
 
-if __name__ == "__main__":
-    sys.exit(main())
+    def test_streams(self):
+        with open("/dev/full", "wb") as full:
+            done = run_program(PLAY, ["events"], text(EDGE), stdout=full)
+        self.note("a full device", (done.returncode, done.stderr) == (4, STREAM_LINE), done)
+        reading, writing = os.pipe()
+        os.close(reading)
+        with os.fdopen(writing, "wb") as pipe:
+            done = run_program(PLAY, ["events"], text(EDGE), stdout=pipe)
+        self.note("a closed pipe", (done.returncode, done.stderr) == (4, STREAM_LINE), done)
+        with tempfile.TemporaryDirectory() as folder:
+            handle = os.open(folder, os.O_RDONLY)
+            done = run_program(PLAY, ["events"], stdin=handle)
+            os.close(handle)
+        self.expect("a folder as standard input", done, 4, b"", STREAM_LINE)
+        closed = subprocess.run(["bash", "-c", '"$0" events <&-', PLAY], capture_output=True, timeout=LIMIT)
+        self.expect("a closed standard input", closed, 4, b"", STREAM_LINE)
+
+    def test_refused_memory(self):
+        """Each growth refused in turn: the right answer, or out of memory."""
+        with tempfile.TemporaryDirectory() as folder:
+            front, failure = build_front(folder)
+            self.note("the refusing allocator builds", failure is None, failure)
+            if failure is not None:
+                return
+            name, data, output = next(row for row in WORKED if row[0] == "the triangle after 47 events")
+            for data, wanted in [
+                (data, (0, text(output), b"")),
+                (EDGE + "put 1 0|put 1 0|", refusal("NothingToPut line 4: list of 1 for 2")),
+                (EDGE + "put 1|", refusal("NoEvent line 3")),
+                ("p edge 2 1|e 1 1|", refusal("F6 line 2")),
+            ]:
+                row = sweep(PLAY, front, ["events"], text(data), wanted, "forestplay")
+                self.note(f"{row[0]} of {data[-30:]!r}", row[1], row[2])
+            name, behind, output = REPLAYED[1]
+            for data, wanted in [
+                (EDGE + behind, (0, text(output), b"")),
+                (EDGE + "transcript 1 2|1 put 2 safe 0|", refusal("WrongWire line 4: expected payload 0 hello 1")),
+            ]:
+                row = sweep(PLAY, front, ["replay"], text(data), wanted, "forestplay")
+                self.note(f"replay: {row[0]} of {data[-30:]!r}", row[1], row[2])

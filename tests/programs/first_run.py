@@ -1,10 +1,10 @@
-#!/usr/bin/env python3
 """Tests of the first call of a program, which proves and builds it: of the scripts `forestplan` and build/prove.py.
 
 They run in a tree of three crates, over a command `rt` that proves nothing: it has what the scripts use of the
 toolchain's, and its program prints a line. And each script of tests/, lab/, build/ and bench/ has to say with --help
-what it does, where nothing is built and there is no toolchain. The last line is 'N passed, M failed'."""
-import argparse
+what it does, where nothing is built and there is no toolchain."""
+import ast
+import itertools
 import os
 import re
 import shutil
@@ -15,10 +15,11 @@ import tempfile
 import time
 
 from tests import TOP
+from tests.cases import Case
+from tests.commands import commands_of
 
 # Seconds; a busy machine is slow.
 LIMIT = 300
-TALLY = {"passed": 0, "failed": 0}
 
 # In place of the toolchain's command, and of its module. A crate whose source has the word `wrong` isn't proved, and
 # one with `slow` takes a minute.
@@ -79,12 +80,6 @@ if __name__ == "__main__":
 CRATES = "# below\nlower:\nmiddle: lower\n\n# not of the program\naside: lower\n\nforestplan: middle\n"
 
 
-def note(name, good, what=""):
-    TALLY["passed" if good else "failed"] += 1
-    if not good:
-        print(f"FAILED {name}: {str(what)[:2000]}")
-
-
 def write(path, text, mode=0o644):
     os.makedirs(os.path.dirname(path), exist_ok=True)
     with open(path, "w", encoding="utf-8") as file:
@@ -114,24 +109,17 @@ class Tree:
         write(os.path.join(kit, "rt"), RT, 0o755)
         write(os.path.join(kit, "rattle"), "")
         write(os.path.join(folder, "kits", "rattle", "KIT-ID"), "a kit\n")
-        self.environment = dict(
-            os.environ, PATH=f"{kit}:{os.environ['PATH']}", XDG_CACHE_HOME=os.path.join(folder, "cache")
-        )
+        self.environment = dict(os.environ, PATH=f"{kit}:{os.environ['PATH']}",
+                                XDG_CACHE_HOME=os.path.join(folder, "cache"))
         self.store = os.path.join(folder, "cache", "forestplan")
 
     def source(self, crate, text):
         write(os.path.join(self.top, "crates", crate, "src", "lib.rt"), f"//! {text}\n")
 
     def begun(self, *words):
-        return subprocess.Popen(
-            [os.path.join(self.top, "forestplan"), *words],
-            stdin=subprocess.PIPE,
-            stdout=subprocess.PIPE,
-            stderr=subprocess.PIPE,
-            text=True,
-            env=self.environment,
-            start_new_session=True,
-        )
+        return subprocess.Popen([os.path.join(self.top, "forestplan"), *words], stdin=subprocess.PIPE,
+                                stdout=subprocess.PIPE, stderr=subprocess.PIPE, text=True, env=self.environment,
+                                start_new_session=True)
 
     def call(self, *words, given=""):
         with self.begun(*words) as started:
@@ -169,183 +157,156 @@ def wait_until(what):
     return True
 
 
-def run_first(tree):
-    got = tree.call("--help")
-    note(
-        "the help of a program that isn't built",
-        got[0] == 0 and got[1].startswith("Plans channels") and not got[2],
-        got,
-    )
-    status, out, err = tree.call("plain", "x", given="input\n")
-    note("what the program prints", (status, out) == (0, "plain x\ninput\n"), (status, out))
-    lines = err.splitlines()
-    note("the first line of progress", "forestplan: 0 of 3 crates proved, 0 s: now lower" in lines, err)
-    note("the last line", re.fullmatch(r"forestplan: 3 crates proved and built in \d+ s", lines[-1]), err)
-    note("the log of a crate", "processor seconds: " in tree.log("middle"), tree.log("middle"))
-    note("what is left to the gate", "asks besides: .\n" in tree.log("middle"), tree.log("middle"))
-    got = tree.call("plan", given="again")
-    note("a second call builds nothing", got == (0, "plan\nagain", ""), got)
-    tree.source("some_checks", "tests")
-    got = tree.call("plan")
-    note("a crate of tests is no part of the program", got == (0, "plan\n", ""), got)
-    tree.source("aside", "changed")
-    got = tree.call("plan")
-    note(
-        "what the program isn't made from is not proved",
-        got[:2] == (0, "plan\n") and " 3 of 3 crates proved" in got[2],
-        got,
-    )
-    tree.source("middle", "changed")
-    status, out, err = tree.call("plan")
-    note(
-        "a changed source is proved",
-        (status, out) == (0, "plan\n") and " 1 of 3 crates proved, 0 s: now middle" in err,
-        err,
-    )
-    note("and what lies above it", " 2 of 3 crates proved" in err and " 3 of 3 crates proved" in err, err)
-    tree.source("middle", "fine")
-    got = tree.call("plan")
-    note(
-        "the state before is still known",
-        got[:2] == (0, "plan\n") and " 3 of 3 crates proved, 0 s: nothing to do" in got[2],
-        got,
-    )
-    note(
-        "no room is left",
-        sorted(os.listdir(tree.store)) == ["forestplan", "lock", "lower", "middle"],
-        os.listdir(tree.store),
-    )
+def is_called(path):
+    """Whether a file is a Python script that can be called. The doors of lab/ and build/ want a command."""
+    if not path.endswith(".py") or path.endswith(("lab/__main__.py", "build/__main__.py")):
+        return False
+    with open(path, encoding="utf-8") as file:
+        statements = ast.parse(file.read()).body
+    return any(isinstance(it, ast.If) and ast.unparse(it.test) == "__name__ == '__main__'" for it in statements)
 
 
-def run_elsewhere(tree, folder):
-    """Another checkout of the same user, with the same sources but for one crate."""
-    other = Tree(folder)
-    other.environment, other.store = tree.environment, tree.store
-    got = other.call("plan")
-    note(
-        "another checkout takes over what is proved",
-        got[:2] == (0, "plan\n") and " 3 of 3 crates proved, 0 s: nothing to do" in got[2],
-        got,
-    )
-    for at in range(5):
-        other.source("middle", f"state {at}")
-        note(f"state {at}", other.call("plan")[:2] == (0, "plan\n"))
-    note("old states are forgotten", len(os.listdir(os.path.join(tree.store, "middle"))) == 2, os.listdir(tree.store))
+class FirstRun(Case):
+    needs_programs = False
 
+    def setUp(self):
+        # A shell has what it runs in the background ignore SIGINT, and what is started from there would, too.
+        self.addCleanup(signal.signal, signal.SIGINT, signal.signal(signal.SIGINT, signal.default_int_handler))
+        self.folder = self.enterContext(tempfile.TemporaryDirectory(prefix="first-run-"))
 
-def run_failures(tree):
-    tree.source("middle", "wrong")
-    status, out, err = tree.call("plan")
-    note(
-        "a crate that isn't proved",
-        status == 70 and not out and "the crate middle isn't proved" in err,
-        (status, out, err),
-    )
-    note("the end of its log", "  fn middle::f: not proved\n" in err and "out/build/middle.log" in err, err)
-    tree.source("middle", "fine once more")
-    status, out, _ = tree.call("plan")
-    note("and mended", (status, out) == (0, "plan\n"), (status, out))
-    tree.source("forestplan", "wrong")
-    status, out, err = tree.call("plan")
-    note(
-        "a program that isn't proved",
-        status == 70 and not out and "the crate forestplan isn't proved" in err,
-        (status, out, err),
-    )
-    note("what is left to the gate of it", "asks besides: .\n" in tree.log("forestplan"), tree.log("forestplan"))
-    tree.source("forestplan", "fine")
-    status, out, _ = tree.call("plan")
-    note("and is mended", (status, out) == (0, "plan\n"), (status, out))
+    def test_calls(self):
+        tree = Tree(self.folder)
+        self.run_stored_helps(tree)
+        self.run_first(tree)
+        self.run_elsewhere(tree, os.path.join(self.folder, "other"))
+        self.run_failures(tree)
+        self.run_stopped(tree)
 
+    def run_stored_helps(self, tree):
+        """Help is asked for before anything is built: it is the stored text."""
+        texts = [((), "help"), *(((command.name,), f"{command.name}_help") for command in commands_of("forestplan"))]
+        for (words, name), (option, end) in itertools.product(texts, [("--help", ""), ("-h", "_short")]):
+            with open(os.path.join(TOP, "build", "help", f"{name}{end}.txt"), encoding="utf-8") as file:
+                wanted = file.read()
+            got = tree.call(*words, option)
+            self.note(f"{' '.join([*words, option])} of a program that isn't built", got == (0, wanted, ""), got)
 
-def run_stopped(tree):
-    tree.source("lower", "anew")
-    tree.source("middle", "slow")
-    for at, sent in enumerate((signal.SIGINT, signal.SIGTERM)):
-        with tree.begun("plan") as first:
-            try:
-                note(f"at work {at}", wait_until(tree.at_work))
-                if at == 0:
-                    with tree.begun("plan") as second:
-                        line = second.stderr.readline() + second.stderr.readline()
-                        note(
-                            "a second call waits",
-                            "forestplan: another call is proving already; waiting for its end" in line,
-                            line,
-                        )
-                        os.killpg(second.pid, signal.SIGINT)
-                        note("and is stopped", second.wait(LIMIT) == 130, second.returncode)
-                os.killpg(first.pid, sent)
-                _, err = first.communicate(timeout=LIMIT)
-            except BaseException:
-                os.killpg(first.pid, signal.SIGKILL)
-                raise
-        if sent == signal.SIGINT:
-            note("the status of a stopped call", first.returncode == 130, first.returncode)
-        note(f"what it says {at}", "what is proved is kept, so the next call goes on from here" in err, err)
-        note(f"how far it was {at}", f" {at} of 3 crates proved, 0 s: now {('lower', 'middle')[at]}" in err, err)
-        note(f"nothing goes on {at}", wait_until(lambda: not tree.at_work()), tree.at_work())
-    with tree.begun("plan") as killed:
-        note("at work once more", wait_until(tree.at_work))
-        os.killpg(killed.pid, signal.SIGKILL)
-        killed.wait(LIMIT)
-    note("nothing goes on after a call that was killed", wait_until(lambda: not tree.at_work()), tree.at_work())
-    tree.source("middle", "fast")
-    note("the next call", tree.call("plan")[:2] == (0, "plan\n"))
-    note(
-        "no room is left of those",
-        not [name for name in os.listdir(tree.store) if name.startswith("room-")],
-        os.listdir(tree.store),
-    )
+    def run_first(self, tree):
+        got = tree.call("--help")
+        self.note("the help of a program that isn't built",
+                  got[0] == 0 and got[1].startswith("Plans channels") and not got[2], got)
+        status, out, err = tree.call("plain", "x", given="input\n")
+        self.note("what the program prints", (status, out) == (0, "plain x\ninput\n"), (status, out))
+        lines = err.splitlines()
+        self.note("the first line of progress", "forestplan: 0 of 3 crates proved, 0 s: now lower" in lines, err)
+        self.note("the last line", re.fullmatch(r"forestplan: 3 crates proved and built in \d+ s", lines[-1]), err)
+        self.note("the log of a crate", "processor seconds: " in tree.log("middle"), tree.log("middle"))
+        self.note("what is left to the gate", "asks besides: .\n" in tree.log("middle"), tree.log("middle"))
+        got = tree.call("plan", given="again")
+        self.note("a second call builds nothing", got == (0, "plan\nagain", ""), got)
+        tree.source("some_checks", "tests")
+        got = tree.call("plan")
+        self.note("a crate of tests is no part of the program", got == (0, "plan\n", ""), got)
+        tree.source("aside", "changed")
+        got = tree.call("plan")
+        self.note("what the program isn't made from is not proved",
+                  got[:2] == (0, "plan\n") and " 3 of 3 crates proved" in got[2], got)
+        tree.source("middle", "changed")
+        status, out, err = tree.call("plan")
+        self.note("a changed source is proved",
+                  (status, out) == (0, "plan\n") and " 1 of 3 crates proved, 0 s: now middle" in err, err)
+        self.note("and what lies above it", " 2 of 3 crates proved" in err and " 3 of 3 crates proved" in err, err)
+        tree.source("middle", "fine")
+        got = tree.call("plan")
+        self.note("the state before is still known",
+                  got[:2] == (0, "plan\n") and " 3 of 3 crates proved, 0 s: nothing to do" in got[2], got)
+        self.note("no room is left", sorted(os.listdir(tree.store)) == ["forestplan", "lock", "lower", "middle"],
+                  os.listdir(tree.store))
 
+    def run_elsewhere(self, tree, folder):
+        """Another checkout of the same user, with the same sources but for one crate."""
+        other = Tree(folder)
+        other.environment, other.store = tree.environment, tree.store
+        got = other.call("plan")
+        self.note("another checkout takes over what is proved",
+                  got[:2] == (0, "plan\n") and " 3 of 3 crates proved, 0 s: nothing to do" in got[2], got)
+        for at in range(5):
+            other.source("middle", f"state {at}")
+            self.note(f"state {at}", other.call("plan")[:2] == (0, "plan\n"))
+        self.note("old states are forgotten", len(os.listdir(os.path.join(tree.store, "middle"))) == 2,
+                  os.listdir(tree.store))
 
-def run_helps(folder):
-    """Each script that can be called, in a tree without crates."""
-    top = os.path.join(folder, "scripts")
-    found = []
-    for name in ("docs", "tests", "lab", "build", "bench"):
-        shutil.copytree(os.path.join(TOP, name), os.path.join(top, name), ignore=shutil.ignore_patterns("__pycache__"))
-        for at, _, files in os.walk(os.path.join(top, name)):
-            found += [os.path.join(at, file) for file in files if file.endswith(".py") and file != "__main__.py"]
-    path = ":".join(part for part in os.environ["PATH"].split(":") if not os.path.exists(os.path.join(part, "rt")))
-    for script in sorted(found):
-        with open(script, encoding="utf-8") as text:
-            if "__main__" not in text.read():
-                continue
-        # Those of a package are called as its modules.
-        name = os.path.relpath(script, top).removesuffix(".py")
-        words = [script] if name.startswith("bench") else ["-m", name.replace("/", ".")]
-        done = subprocess.run(
-            [sys.executable, *words, "--help"],
-            stdin=subprocess.DEVNULL,
-            capture_output=True,
-            text=True,
-            timeout=LIMIT,
-            cwd=top,
-            env=dict(os.environ, PATH=path, COLUMNS="120"),
-        )
-        good = done.returncode == 0 and len(done.stdout) > 60 and not done.stderr
-        note(f"{name} --help", good, done)
-    note("no script has made anything", not os.path.exists(os.path.join(top, "crates")))
+    def run_failures(self, tree):
+        tree.source("middle", "wrong")
+        status, out, err = tree.call("plan")
+        self.note("a crate that isn't proved", status == 70 and not out and "the crate middle isn't proved" in err,
+                  (status, out, err))
+        self.note("the end of its log", "  fn middle::f: not proved\n" in err and "out/build/middle.log" in err, err)
+        tree.source("middle", "fine once more")
+        status, out, _ = tree.call("plan")
+        self.note("and mended", (status, out) == (0, "plan\n"), (status, out))
+        tree.source("forestplan", "wrong")
+        status, out, err = tree.call("plan")
+        self.note("a program that isn't proved",
+                  status == 70 and not out and "the crate forestplan isn't proved" in err, (status, out, err))
+        self.note("what is left to the gate of it", "asks besides: .\n" in tree.log("forestplan"),
+                  tree.log("forestplan"))
+        tree.source("forestplan", "fine")
+        status, out, _ = tree.call("plan")
+        self.note("and is mended", (status, out) == (0, "plan\n"), (status, out))
 
+    def run_stopped(self, tree):
+        tree.source("lower", "anew")
+        tree.source("middle", "slow")
+        for at, sent in enumerate((signal.SIGINT, signal.SIGTERM)):
+            with tree.begun("plan") as first:
+                try:
+                    self.note(f"at work {at}", wait_until(tree.at_work))
+                    if at == 0:
+                        with tree.begun("plan") as second:
+                            line = second.stderr.readline() + second.stderr.readline()
+                            self.note("a second call waits",
+                                      "forestplan: another call is proving already; waiting for its end" in line, line)
+                            os.killpg(second.pid, signal.SIGINT)
+                            self.note("and is stopped", second.wait(LIMIT) == 130, second.returncode)
+                    os.killpg(first.pid, sent)
+                    _, err = first.communicate(timeout=LIMIT)
+                except BaseException:
+                    os.killpg(first.pid, signal.SIGKILL)
+                    raise
+            if sent == signal.SIGINT:
+                self.note("the status of a stopped call", first.returncode == 130, first.returncode)
+            self.note(f"what it says {at}", "what is proved is kept, so the next call goes on from here" in err, err)
+            self.note(f"how far it was {at}", f" {at} of 3 crates proved, 0 s: now {('lower', 'middle')[at]}" in err,
+                      err)
+            self.note(f"nothing goes on {at}", wait_until(lambda: not tree.at_work()), tree.at_work())
+        with tree.begun("plan") as killed:
+            self.note("at work once more", wait_until(tree.at_work))
+            os.killpg(killed.pid, signal.SIGKILL)
+            killed.wait(LIMIT)
+        self.note("nothing goes on after a call that was killed", wait_until(lambda: not tree.at_work()),
+                  tree.at_work())
+        tree.source("middle", "fast")
+        self.note("the next call", tree.call("plan")[:2] == (0, "plan\n"))
+        self.note("no room is left of those", not [name for name in os.listdir(tree.store) if name.startswith("room-")],
+                  os.listdir(tree.store))
 
-def main():
-    summary, _, more = __doc__.partition("\n")
-    argparse.ArgumentParser(
-        description=summary, epilog=more, formatter_class=argparse.RawDescriptionHelpFormatter
-    ).parse_args()
-    # A shell has what it runs in the background ignore SIGINT, and what is started from there would, too.
-    signal.signal(signal.SIGINT, signal.default_int_handler)
-    with tempfile.TemporaryDirectory(prefix="first-run-") as folder:
-        tree = Tree(folder)
-        run_first(tree)
-        run_elsewhere(tree, os.path.join(folder, "other"))
-        run_failures(tree)
-        run_stopped(tree)
-        run_helps(folder)
-    print(f"{TALLY['passed']} passed, {TALLY['failed']} failed")
-    return 1 if TALLY["failed"] else 0
-
-
-if __name__ == "__main__":
-    sys.exit(main())
+    def test_helps(self):
+        """Each script that can be called, in a tree without crates."""
+        top = os.path.join(self.folder, "scripts")
+        found = []
+        for name in ("docs", "tests", "lab", "build", "bench"):
+            shutil.copytree(os.path.join(TOP, name), os.path.join(top, name),
+                            ignore=shutil.ignore_patterns("__pycache__"))
+            for at, _, files in os.walk(os.path.join(top, name)):
+                found += [os.path.join(at, file) for file in files if is_called(os.path.join(at, file))]
+        path = ":".join(part for part in os.environ["PATH"].split(":") if not os.path.exists(os.path.join(part, "rt")))
+        for script in sorted(found):
+            # Those of a package are called as its modules.
+            name = os.path.relpath(script, top).removesuffix(".py").removesuffix("/__main__")
+            words = [script] if name.startswith("bench") else ["-m", name.replace("/", ".")]
+            done = subprocess.run([sys.executable, *words, "--help"], stdin=subprocess.DEVNULL, capture_output=True,
+                                  text=True, timeout=LIMIT, cwd=top, env=dict(os.environ, PATH=path, COLUMNS="120"))
+            good = done.returncode == 0 and len(done.stdout) > 60 and not done.stderr
+            self.note(f"{name} --help", good, done)
+        self.note("no script has made anything", not os.path.exists(os.path.join(top, "crates")))

@@ -1,106 +1,56 @@
-#!/usr/bin/env python3
 """Feeds the built programs texts that nobody would write, and compares each answer with that of a slow reader written
-from docs/claim/FORMATS.md (slow_reader.py). The last line is 'N passed, M failed'.
-
-  hostile.py [--texts N] [--seed SEED] [--first K] [--only COMMAND ..] [--program PROGRAM] [--play PLAY]
-      N         how many random texts, over all commands; default 60000 SEED      of the random texts; default 2026 K
-      the first part of the random texts, which come in parts of 100,000, each from SEED and its number; default 1. From
-      2 on
-                there is nothing but random texts: so a long run goes on after an interruption
-      COMMAND   only the rows of these commands, with the same texts as beside the others; so a long run is split over
-      processes PROGRAM   default: the built forestplan PLAY      default: the built forestplay
+from docs/claim/FORMATS.md (slow_reader.py).
 
 Besides the random texts: each byte at each place of a small text, byte order marks and other bytes before each place,
-numbers around powers of two, lines of a megabyte, about as many bars of a vertex as the limit; and less and less
-address space. It needs a C compiler, `cc`."""
-import argparse
-import os
-import sys
+numbers around powers of two, lines of a megabyte, about as many bars of a vertex as the limit. It needs a C compiler,
+`cc`. The settings --texts, --seed, --first and --only of the runner are for long runs by hand."""
 import tempfile
 from itertools import chain, islice, product
 
-from tests import TOP
-from tests.faults.falling_limits import falling_limit_rows
+from tests.cases import Case, text
+from tests.commands import COMMANDS, PROGRAM_OF
 from tests.faults.refused_memory import build_front
 from tests.faults.run_each import Running
-from tests.programs.events import EDGE, TRIANGLE, text
+from tests.programs.events import EDGE, TRIANGLE
 from tests.programs.hostile_texts import NUMBERS, texts_of
-from tests.programs.slow_reader import PROGRAM_OF, answer_to
+from tests.programs.slow_reader import answer_to
+from tests.settings import PLAN, PLAY, setting
 
 PART, BATCH = 100_000, 5_000
-TALLY = {"passed": 0, "failed": 0}
 
-# Of each command a small good text.
-SMALL = {
-    "forests": "p edge 3 3|i 2 7|b 3 1|e 1 2|e 1 3|e 2 3|",
-    "plain": "c|p col 2 1|e 1 2|i 1 5|b 2 1|",
-    "plan": "p edge 2 1|b 1 2|e 2 1|b 2 1|",
-    "transcript": "p edges 2 1|e 1 2|",
-    "check": EDGE + "b 2 1|plan|2 2|1 1|",
-    "events": EDGE + "i 1 3|put 1 0|take 2 0|",
-    "replay": EDGE + "transcript 1 2|1 put 2 payload 0 hello 1|",
-    "rounds": "p edge 1 0|n 1|i 1 9|b 1 1|",
-}
 # Texts of which each beginning is a text besides.
 WHOLE = {
     "check": [TRIANGLE + "plan|1 2|2 3|3 1|"],
     "replay": [EDGE + "transcript 1 2|1 put 2 close|2 put 1 close|1 take 2 close|2 take 1 close|",
                EDGE + "transcript 2 2|1 1 put 2 close|2 2 take 1 close|3 2 put 1 close|4 1 take 2 close|"],
 }
-# Commands that read a text of their own; the others read a network as `forests` does.
-READERS = ("forests", "check", "events", "replay")
-# How many of 100 random texts are for a command.
-SHARES = {"forests": 28, "plain": 3, "plan": 3, "transcript": 3, "check": 20, "events": 20, "replay": 20, "rounds": 3}
 # One worker, since a thread takes longer to start than a text to be read; and no look for the transcript, which then is
 # known.
-WORDS = {"plan": ["plan", "--workers", "1"], "transcript": ["transcript", "--workers", "1", "--turns", "0"]}
+WORDS = {command.name: command.line_of_one for command in COMMANDS}
+WORDS["transcript"] += ["--turns", "0"]
 # Bytes that editors and other systems put into texts: byte order marks, line ends, spaces that are none.
-MARKS = [
-    b"\xef\xbb\xbf",
-    b"\xff\xfe",
-    b"\xfe\xff",
-    b"\r\n",
-    b"\r\r\n",
-    b"\n\r",
-    b"\r\r",
-    b"\0\0",
-    b"\n\0\n",
-    b"\xc2\xa0",
-    b"\xe2\x80\xa8",
-    b"\x1b[2J",
-]
-
-
-def note(name, good, what=""):
-    TALLY["passed" if good else "failed"] += 1
-    if not good:
-        print(f"FAILED {name}: {str(what)[:2000]}")
+MARKS = [b"\xef\xbb\xbf", b"\xff\xfe", b"\xfe\xff", b"\r\n", b"\r\r\n", b"\n\r", b"\r\r", b"\0\0", b"\n\0\n",
+         b"\xc2\xa0", b"\xe2\x80\xa8", b"\x1b[2J"]
 
 
 class Programs:
     """The built programs behind the library that runs them on many texts."""
 
     def __init__(self, paths, front):
-        self.paths, self.front, self.texts = paths, front, 0
+        self.paths, self.front = paths, front
 
     def differences(self, command, texts):
         """Of texts in batches: how many there were, how many had no fault, and the first that is answered otherwise.
         The slow reader reads a batch while the program does."""
         count, good, rest = 0, 0, iter(texts)
         while batch := list(islice(rest, BATCH)):
-            running = Running(self.front, [self.paths[PROGRAM_OF[command]]] + WORDS.get(command, [command]), batch)
+            running = Running(self.front, [self.paths[PROGRAM_OF[command]]] + WORDS[command], batch)
             answers = [answer_to(command, data) for data in batch]
             for data, wanted, got in zip(batch, answers, running.answers()):
                 if got != wanted:
                     return count, good, (data[:3000], len(data), wanted, got)
                 count, good = count + 1, good + (wanted[0] != 1)
         return count, good, None
-
-    def row(self, name, command, texts):
-        count, good, different = self.differences(command, texts)
-        note(f"{name}, {command}", different is None and count > 0, different)
-        self.texts += count
-        return count, good
 
 
 def each_byte(data):
@@ -177,67 +127,56 @@ def crowds_of_bars(data):
         yield data + lines
 
 
-def main():
-    words = argparse.ArgumentParser(description=__doc__, formatter_class=argparse.RawDescriptionHelpFormatter)
-    words.add_argument("--texts", type=int, default=60_000)
-    words.add_argument("--seed", default="2026")
-    words.add_argument("--first", type=int, default=1)
-    words.add_argument("--only", nargs="+", choices=list(SMALL), default=list(SMALL))
-    for name, program in (("--program", "forestplan"), ("--play", "forestplay")):
-        words.add_argument(name, default=os.path.join(TOP, "crates", program, "out", program))
-    given = words.parse_args()
-    with tempfile.TemporaryDirectory() as folder:
-        front, failure = build_front(folder, "run_each")
-        note("the library that runs a program on many texts builds", failure is None, failure)
-        programs = Programs(
-            {"forestplan": os.path.abspath(given.program), "forestplay": os.path.abspath(given.play)}, front
-        )
-        if failure is None and given.first == 1:
-            all_rows(programs, given.only)
-            for row in falling_limit_rows(programs.paths):
-                note(*row)
-        if failure is None:
-            random_rows(programs, given)
-    print(f"{TALLY['passed']} passed, {TALLY['failed']} failed")
-    return 1 if TALLY["failed"] else 0
+class Hostile(Case):
+    @classmethod
+    def setUpClass(cls):
+        folder = cls.enterClassContext(tempfile.TemporaryDirectory())
+        front, cls.failure = build_front(folder, "run_each")
+        cls.programs = Programs({"forestplan": PLAN, "forestplay": PLAY}, front)
+        cls.first, cls.texts, cls.seed = int(setting("first")), int(setting("texts")), setting("seed")
+        only = setting("only").split(",") if setting("only") else PROGRAM_OF
+        if not set(only) <= set(PROGRAM_OF):
+            raise AssertionError(f"--only has a word that is no command: {setting('only')}")
+        cls.commands = [command for command in COMMANDS if command.name in only]
 
+    def test_library(self):
+        self.note("the library that runs a program on many texts builds", self.failure is None, self.failure)
 
-def all_rows(programs, only):
-    """All but the random texts, of some commands."""
-    for command in only:
-        small = SMALL[command]
-        data = text(small)
-        programs.row(
-            "each beginning",
-            command,
-            chain.from_iterable(beginnings(text(whole)) for whole in WHOLE.get(command, [small])),
-        )
-        programs.row("each mark at each place", command, each_mark(data))
-        numbers = each_number(data)
-        programs.row("numbers around powers of two", command,
-                     numbers if command in ("forests", "check") else without_20_000_nodes(numbers))
-        if command in READERS:
-            programs.row("each byte at each place", command, each_byte(data))
-            programs.row("lines of a megabyte", command, long_lines(data))
-            programs.row("bars about the limit", command, crowds_of_bars(data))
-    print(f"{programs.texts} texts that aren't random")
+    def row(self, name, command, texts):
+        count, good, different = self.programs.differences(command, texts)
+        self.note(f"{name}, {command}", different is None and count > 0, different)
+        return count, good
 
+    def test_texts(self):
+        """All but the random texts, of some commands."""
+        if self.first > 1:
+            self.skipTest("a later part has random texts alone")
+        count = 0
+        for command, odd, is_reader in [(it.name, it.odd, it.is_reader) for it in self.commands]:
+            data = text(odd)
+            wholes = chain.from_iterable(beginnings(text(whole)) for whole in WHOLE.get(command, [odd]))
+            numbers = each_number(data)
+            kinds = {
+                "each beginning": wholes,
+                "each mark at each place": each_mark(data),
+                "numbers around powers of two":
+                    numbers if command in ("forests", "check") else without_20_000_nodes(numbers),
+            }
+            if is_reader:
+                kinds |= {"each byte at each place": each_byte(data), "lines of a megabyte": long_lines(data),
+                          "bars about the limit": crowds_of_bars(data)}
+            count += sum(self.row(kind, command, texts)[0] for kind, texts in kinds.items())
+        print(f"{count} texts that aren't random")
 
-def random_rows(programs, given):
-    """In parts, each of which is the same whatever the others are, and whatever commands are left out."""
-    before, seed, first = programs.texts, given.seed, given.first
-    for part in range(first, first + -(-given.texts // PART)):
-        size = min(PART, given.texts - PART * (part - first))
-        for command in given.only:
-            texts = islice(texts_of(command, f"{seed} {part}"), size * SHARES[command] // 100)
-            made, good = programs.row(f"random texts, seed {seed}, part {part}", command, texts)
-            note(
-                f"some of the texts are good, and most are not, {command}",
-                made < 100 or made // 10 < good < made // 2,
-                (made, good),
-            )
-        print(f"seed {seed}, parts {first} to {part}: {programs.texts - before} random texts", flush=True)
-
-
-if __name__ == "__main__":
-    sys.exit(main())
+    def test_random(self):
+        """In parts, each of which is the same whatever the others are, and whatever commands are left out."""
+        count = 0
+        for part in range(self.first, self.first + -(-self.texts // PART)):
+            size = min(PART, self.texts - PART * (part - self.first))
+            for command, share in [(it.name, it.share) for it in self.commands]:
+                texts = islice(texts_of(command, f"{self.seed} {part}"), size * share // 100)
+                made, good = self.row(f"random texts, seed {self.seed}, part {part}", command, texts)
+                self.note(f"some of the texts are good, and most are not, {command}",
+                          made < 100 or made // 10 < good < made // 2, (made, good))
+                count += made
+            print(f"seed {self.seed}, parts {self.first} to {part}: {count} random texts", flush=True)

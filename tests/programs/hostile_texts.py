@@ -11,62 +11,15 @@ POWERS = [2**16, 2**31, 2**32, 2**63, 2**64, 2**127, 2**128, 2**129, 10**60, 102
 NUMBERS = (
     [b"%d" % n for n in range(12)]
     + [b"%d" % (power + d) for power in POWERS for d in (-1, 0, 1)]
-    + [
-        b"0" * 40 + b"2",
-        b"9" * 400,
-        b"-1",
-        b"+1",
-        b"1.0",
-        b"0x1",
-        b"1e0",
-        b"1_0",
-        b"\xd9\xa1",
-        b"\xb2",
-        b"1\x00",
-        b"\x001",
-        b"",
-        b"nan",
-    ]
+    + [b"0" * 40 + b"2", b"9" * 400, b"-1", b"+1", b"1.0", b"0x1", b"1e0", b"1_0", b"\xd9\xa1", b"\xb2", b"1\x00",
+       b"\x001", b"", b"nan"]
 )
 # 20,000 vertices are slow for the definitions, where each has a node.
 SMALL_NUMBERS = [n for n in NUMBERS if not n.isdigit() or not 1000 < int(n[:60]) <= 20_000]
 BYTES = [bytes([b]) for b in b"\x00\t\n\x0b\x0c\r \x1a\x1b#%+-.01239bcdeinpvx\x7f\x80\xa0\xc2\xfe\xff"]
-WORDS = [
-    b"p",
-    b"e",
-    b"c",
-    b"i",
-    b"b",
-    b"n",
-    b"d",
-    b"v",
-    b"x",
-    b"cx",
-    b"edge",
-    b"edges",
-    b"col",
-    b"plan",
-    b"plans",
-    b"pulse",
-    b"put",
-    b"take",
-    b"Put",
-    b"transcript",
-    b"payload",
-    b"hello",
-    b"label",
-    b"colour",
-    b"chosen",
-    b"best",
-    b"ack",
-    b"safe",
-    b"close",
-    b"PLAN",
-    b"\xef\xbb\xbfp",
-    b"p\x00",
-    b"\xffe",
-    b"q",
-]
+WORDS = [b"p", b"e", b"c", b"i", b"b", b"n", b"d", b"v", b"x", b"cx", b"edge", b"edges", b"col", b"plan", b"plans",
+         b"pulse", b"put", b"take", b"Put", b"transcript", b"payload", b"hello", b"label", b"colour", b"chosen",
+         b"best", b"ack", b"safe", b"close", b"PLAN", b"\xef\xbb\xbfp", b"p\x00", b"\xffe", b"q"]
 LINES = [
     b"",
     b"\r",
@@ -223,20 +176,8 @@ def spoil_line(source, text, _):
 
 def spoil_spaces(source, text, _):
     old, new = source.choice(
-        (
-            (b" ", b"\t"),
-            (b" ", b"  \t"),
-            (b" ", b"\x0b"),
-            (b" ", b"\xc2\xa0"),
-            (b"\n", b"\r\n"),
-            (b"\n", b"\r"),
-            (b"\n", b"\r\r\n"),
-            (b"\n", b" \r\n"),
-            (b"\n", b"\n\n"),
-            (b"\n", b"\n\r"),
-            (b"\n", b"\0\n"),
-            (b"\n", b"\n \t"),
-        )
+        ((b" ", b"\t"), (b" ", b"  \t"), (b" ", b"\x0b"), (b" ", b"\xc2\xa0"), (b"\n", b"\r\n"), (b"\n", b"\r"),
+         (b"\n", b"\r\r\n"), (b"\n", b" \r\n"), (b"\n", b"\n\n"), (b"\n", b"\n\r"), (b"\n", b"\0\n"), (b"\n", b"\n \t"))
     )
     return text.replace(old, new, source.choice((1, 2, -1)))
 
@@ -250,15 +191,5 @@ def spoil_start(source, text, _):
     )
 
 
-SPOILERS = [
-    spoil_byte,
-    without_byte,
-    beginning,
-    spoil_field,
-    spoil_field,
-    spoil_field,
-    spoil_line,
-    spoil_line,
-    spoil_spaces,
-    spoil_start,
-]
+SPOILERS = [spoil_byte, without_byte, beginning, spoil_field, spoil_field, spoil_field, spoil_line, spoil_line,
+            spoil_spaces, spoil_start]

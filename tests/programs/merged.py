@@ -1,39 +1,24 @@
-#!/usr/bin/env python3
-"""Tests of transcripts of edition 2: all entries of a run in one order, with stamps. The last line is 'N passed, M
-failed'.
-
-  merged.py [--program PROGRAM] [--play PLAY] [--runs N]
-      PROGRAM   has the command `transcript`
-      PLAY      has the command `replay`; the rows of a program that isn't named are left out
-      N         how many whole runs of PROGRAM are checked, default 60; 1000 take some minutes
+"""Tests of transcripts of edition 2: all entries of a run in one order, with stamps.
 
 Expected verdicts are worked by hand, or come from the definitions in lab/definitions/nodes.py and stamps.py; none is
 taken from a program."""
-import argparse
-import os
 import random
 import re
 import subprocess
-import sys
 
 from lab.definitions.colours import network_of
 from lab.transcripts.check import run_read_with_care, whole_run
 from lab.transcripts.reading import Wrong
+from tests.cases import Case, text
 from tests.programs.made_transcripts import made_transcript, merged_text, odd, transcript_text
 from tests.programs.one_worker import Run
 from tests.programs.plain_networks import cycle, path, random_of, star, text_of, tree, two_sided
 from tests.programs.transcripts import (
-    CAPACITIES, EDGE, EDGE_LINES, EDGE_WHOLE, LIMIT, SEED, is_counted, networks, text, transcript_by,
+    CAPACITIES, EDGE, EDGE_LINES, EDGE_WHOLE, LIMIT, SEED, is_counted, networks, transcript_by,
 )
+from tests.settings import PLAN, PLAY, setting
 
-TALLY = {"passed": 0, "failed": 0}
 GREATEST = 2**64 - 1
-
-
-def note(name, good, what=""):
-    TALLY["passed" if good else "failed"] += 1
-    if not good:
-        print(f"FAILED {name}: {str(what)[:4000]}")
 
 
 HELLO_1, HELLO_2 = "payload 0 hello 1", "payload 0 hello 2"
@@ -47,22 +32,16 @@ WORKED = (
     [
         ("p edge 0 0|", "transcript 2 0|", "whole run of 0 nodes, 0 entries, 0 payloads, 0 wires"),
         ("p edge 2 0|", APART, "whole run of 2 nodes, 24 entries, 0 payloads, 0 wires"),
-        (
-            "p edge 2 0|",
-            "\r| transcript\t2  002\r|" + APART[15:-1],
-            "whole run of 2 nodes, 24 entries, 0 payloads, 0 wires",
-        ),
+        ("p edge 2 0|", "\r| transcript\t2  002\r|" + APART[15:-1],
+         "whole run of 2 nodes, 24 entries, 0 payloads, 0 wires"),
         ("p edge 2 0|", APART.replace("|7 1", "||007 01"), "whole run of 2 nodes, 24 entries, 0 payloads, 0 wires"),
         ("p edge 2 0|", APART[:-14], "line 24: NotWhole"),
         ("p edge 2 0|", "transcript 2 2|", "line 1: NotWhole"),
         ("p edge 2 0|", "transcript 2 3|" + APART[15:], "line 1: Nodes"),
         ("p edge 2 0|", APART + "13 1 put 2 close|", "line 26: NoSuch"),
         # an order by vertex, which comes too late at line 14; and one that isn't by vertex where stamps are equal
-        (
-            "p edge 2 0|",
-            "transcript 2 2|" + "".join(f"{p} {v} pulse {p}|" for v in (1, 2) for p in range(1, 13)),
-            "line 14: WrongStamp",
-        ),
+        ("p edge 2 0|", "transcript 2 2|" + "".join(f"{p} {v} pulse {p}|" for v in (1, 2) for p in range(1, 13)),
+         "line 14: WrongStamp"),
         ("p edge 2 0|", "transcript 2 2|1 2 pulse 1|1 1 pulse 1|", "line 3: WrongStamp"),
         # the reading
         (EDGE, "transcript 2|", "line 1: X1"),
@@ -75,22 +54,9 @@ WORKED = (
     ]
     + [
         (EDGE, f"transcript 2 2||{entry}|1 1 pulse 1|", "line 3: X1")
-        for entry in (
-            "1",
-            "1 1",
-            "1 1 pulse",
-            "1 1 pulse 1 1",
-            "-1 1 pulse 1",
-            "x 1 pulse 1",
-            "1 pulse 1",
-            "pulse 1",
-            "18446744073709551616 1 pulse 1",
-            "99999999999999999999 1 pulse 1",
-            "1 4294967296 pulse 1",
-            "1 1 put 2",
-            "1 1 put 2 close 0",
-            "+1 1 pulse 1",
-        )
+        for entry in ("1", "1 1", "1 1 pulse", "1 1 pulse 1 1", "-1 1 pulse 1", "x 1 pulse 1", "1 pulse 1", "pulse 1",
+                      "18446744073709551616 1 pulse 1", "99999999999999999999 1 pulse 1", "1 4294967296 pulse 1",
+                      "1 1 put 2", "1 1 put 2 close 0", "+1 1 pulse 1")
     ]
     + [
         # the stamps
@@ -118,20 +84,6 @@ def verdict_of(net, data):
         return f"line {wrong.args[0]}: {wrong.args[1]}"
 
 
-def worked_rows(play):
-    for network, transcript, said in WORKED:
-        got = verdict_of(network_of(text(network)), text(transcript))
-        note(f"{said} of {transcript[:60]!r}", got == said, got)
-        if play and not said.endswith("Nodes"):
-            got = said_by(play, text(network), text(transcript))
-            note(f"{said} by replay of {transcript[:60]!r}", got == (None if said.startswith("whole") else said), got)
-    whole, edge = merged_text(2, EDGE_LINES), network_of(text(EDGE))
-    note("a merged run of an edge worked by hand", verdict_of(edge, whole) == EDGE_WHOLE, verdict_of(edge, whole))
-    note("it begins as both greet", whole.startswith(text(GREETED)), whole[:200])
-    accepted = [end for end in range(0, len(whole) - 1, 11) if not verdict_of(edge, whole[:end]).startswith("line ")]
-    note("no beginning of that run is whole", not accepted, accepted)
-
-
 def said_by(play, network, data):
     """None if `PLAY replay` accepts it, else its fault in the form of the checker's, with lines from the transcript's
     first."""
@@ -144,20 +96,6 @@ def said_by(play, network, data):
     code, line = found.group(1).decode(), int(found.group(2))
     before = network.count(b"\n")
     return f"line {line - before if line > before else line}: {code}"
-
-
-def made_rows():
-    """Runs by the definitions, in the layout of the program and in an odd one: quickly, and with care."""
-    source, wrong = random.Random(SEED), []
-    for i, (data, net) in enumerate(networks()[::4]):
-        lines = made_transcript(source, net, CAPACITIES[i % 3])
-        merged = merged_text(len(lines), lines)
-        first, *rows = merged.decode().splitlines()
-        strange = "\n".join([first] + [odd(source, row) for row in rows]).encode()
-        said = verdict_of(net, transcript_text(len(lines), lines))
-        if [verdict_of(net, merged), verdict_of(net, strange), run_read_with_care(net, merged)[1]] != [said] * 3:
-            wrong.append((data, merged, verdict_of(net, merged)))
-    note(f"merged runs of {i + 1} networks by the definitions", not wrong, wrong[:1])
 
 
 # ---- spoiled texts
@@ -174,12 +112,8 @@ def of_another_node(source, rows, at):
     return [b"%s %s %s" % (stamp, source.choice(sorted(vertices - {vertex})), rest)]
 
 
-SPOILS = {
-    "a stamp changed": with_stamp,
-    "a line dropped": lambda source, rows, at: [],
-    "a line doubled": lambda source, rows, at: [rows[at]] * 2,
-    "a line of another node": of_another_node,
-}
+SPOILS = {"a stamp changed": with_stamp, "a line dropped": lambda source, rows, at: [],
+          "a line doubled": lambda source, rows, at: [rows[at]] * 2, "a line of another node": of_another_node}
 
 
 def spoiled(source, kind, data):
@@ -205,47 +139,6 @@ def spoiled(source, kind, data):
 KINDS = [*SPOILS, "two lines swapped", "cut", "cut at a line"]
 
 
-def spoiled_rows(play, count):
-    """Each is refused, and by the program at the same line with the same code."""
-    source, wrong, codes = random.Random(SEED), [], set()
-    small = [(data, net) for data, net in networks() if 0 < len(net.neighbours) < 5 and len(net.number) < 5]
-    for i in range(count):
-        kind = KINDS[i % len(KINDS)]
-        if kind == KINDS[0]:
-            network, net = source.choice(small)
-            lines = made_transcript(source, net, CAPACITIES[i % 3])
-            merged = merged_text(len(lines), lines)
-        data, least = spoiled(source, kind, merged)
-        said = verdict_of(net, data)
-        got = said_by(play, network, data) if play else said
-        is_refused = said.startswith("line ")
-        codes.add(said.rpartition(": ")[2])
-        if not is_refused or got != said or int(said[5:].partition(":")[0]) < least:
-            wrong.append((kind, network, data, said, got, least))
-    note(f"{count} spoiled merged texts are refused", not wrong, f"{len(wrong)}: {wrong[:1]}")
-    wanted = {"X1", "NoSuch", "NotReady", "NothingToPut", "LinkEmpty", "WrongWire", "WrongStamp", "NotWhole"}
-    note("refusals of each kind", wanted <= codes, codes)
-
-
-# ---- the program
-def one_worker_rows(program):
-    """With one worker the whole text is known, as in edition 1; edition 2 is what the program writes if it isn't
-    told."""
-    wrong, count = [], 0
-    for count, (network, net) in enumerate(networks(), 1):
-        capacity = CAPACITIES[count % 3]
-        words = ["--workers", "1", "--capacity", str(capacity)] + ["--edition", "2"] * (count % 2)
-        done = transcript_by(program, words, network)
-        if done != (0, Run(net, capacity).merged(), b""):
-            wrong.append((network, words, done))
-    note(
-        f"the transcripts of one worker of {count} networks, by the definition", not wrong, f"{len(wrong)}: {wrong[:1]}"
-    )
-    for workers in (1, 2, 4, 64):
-        done = transcript_by(program, ["--workers", str(workers)], b"p col 2 0\n")
-        note(f"two nodes apart, {workers} workers", done == (0, text(APART), b""), done)
-
-
 def networks_of_runs(source):
     """Networks of 2 to 40 nodes, those with many edges small, so that a run has at most some 100,000 entries."""
     while True:
@@ -258,44 +151,91 @@ def networks_of_runs(source):
                 yield nodes, pairs
 
 
-def run_rows(program, play, count):
-    """Whole runs of four and more workers: the checker accepts each, and so does `PLAY replay`, in the order of its
-    lines."""
-    source, wrong, entries, most = random.Random(SEED), [], 0, 0
-    for (nodes, pairs), at in zip(networks_of_runs(source), range(count)):
-        network = text_of(source, nodes, pairs)
-        net = network_of(network)
-        words = ["--workers", str(source.choice((4, 5, 8, 16, 64))), "--capacity", str(source.choice((1, 2, 4, 64)))]
-        status, data, fault = transcript_by(program, words, network)
-        good = (status, fault) == (0, b"") and is_counted(net, data, verdict_of(net, data))
-        got = said_by(play, network, data) if good and play else None
-        if not good or got:
-            wrong.append((network, words, status, fault, verdict_of(net, data), got))
-        entries, most = entries + data.count(b"\n") - 1, max(most, nodes)
-    note(
-        f"{count} whole runs on networks of up to {most} nodes, {entries} entries",
-        not wrong,
-        f"{len(wrong)}: {wrong[:1]}",
-    )
+class Merged(Case):
+    def test_worked(self):
+        for network, transcript, said in WORKED:
+            got = verdict_of(network_of(text(network)), text(transcript))
+            self.note(f"{said} of {transcript[:60]!r}", got == said, got)
+            if not said.endswith("Nodes"):
+                got = said_by(PLAY, text(network), text(transcript))
+                self.note(f"{said} by replay of {transcript[:60]!r}",
+                          got == (None if said.startswith("whole") else said), got)
+        whole, edge = merged_text(2, EDGE_LINES), network_of(text(EDGE))
+        self.note("a merged run of an edge worked by hand", verdict_of(edge, whole) == EDGE_WHOLE,
+                  verdict_of(edge, whole))
+        self.note("it begins as both greet", whole.startswith(text(GREETED)), whole[:200])
+        accepted = [
+            end for end in range(0, len(whole) - 1, 11) if not verdict_of(edge, whole[:end]).startswith("line ")
+        ]
+        self.note("no beginning of that run is whole", not accepted, accepted)
 
+    def test_made(self):
+        """Runs by the definitions, in the layout of the program and in an odd one: quickly, and with care."""
+        source, wrong = random.Random(SEED), []
+        for i, (data, net) in enumerate(networks()[::4]):
+            lines = made_transcript(source, net, CAPACITIES[i % 3])
+            merged = merged_text(len(lines), lines)
+            first, *rows = merged.decode().splitlines()
+            strange = "\n".join([first] + [odd(source, row) for row in rows]).encode()
+            said = verdict_of(net, transcript_text(len(lines), lines))
+            if [verdict_of(net, merged), verdict_of(net, strange), run_read_with_care(net, merged)[1]] != [said] * 3:
+                wrong.append((data, merged, verdict_of(net, merged)))
+        self.note(f"merged runs of {i + 1} networks by the definitions", not wrong, wrong[:1])
 
-def main():
-    words = argparse.ArgumentParser(description=__doc__, formatter_class=argparse.RawDescriptionHelpFormatter)
-    words.add_argument("--program", metavar="PROGRAM")
-    words.add_argument("--play", metavar="PLAY")
-    words.add_argument("--runs", metavar="N", type=int, default=60)
-    words.add_argument("--spoiled", metavar="N", type=int, default=2000, help="how many spoiled texts, default 2000")
-    given = words.parse_args()
-    program, play = (name and os.path.abspath(name) for name in (given.program, given.play))
-    worked_rows(play)
-    made_rows()
-    spoiled_rows(play, given.spoiled)
-    if program:
-        one_worker_rows(program)
-        run_rows(program, play, given.runs)
-    print(f"{TALLY['passed']} passed, {TALLY['failed']} failed")
-    return 1 if TALLY["failed"] else 0
+    def test_spoiled(self):
+        """Each is refused, and by the program at the same line with the same code."""
+        count = int(setting("spoiled"))
+        source, wrong, codes = random.Random(SEED), [], set()
+        small = [(data, net) for data, net in networks() if 0 < len(net.neighbours) < 5 and len(net.number) < 5]
+        for i in range(count):
+            kind = KINDS[i % len(KINDS)]
+            if kind == KINDS[0]:
+                network, net = source.choice(small)
+                lines = made_transcript(source, net, CAPACITIES[i % 3])
+                merged = merged_text(len(lines), lines)
+            data, least = spoiled(source, kind, merged)
+            said = verdict_of(net, data)
+            got = said_by(PLAY, network, data)
+            is_refused = said.startswith("line ")
+            codes.add(said.rpartition(": ")[2])
+            if not is_refused or got != said or int(said[5:].partition(":")[0]) < least:
+                wrong.append((kind, network, data, said, got, least))
+        self.note(f"{count} spoiled merged texts are refused", not wrong, f"{len(wrong)}: {wrong[:1]}")
+        wanted = {"X1", "NoSuch", "NotReady", "NothingToPut", "LinkEmpty", "WrongWire", "WrongStamp", "NotWhole"}
+        self.note("refusals of each kind", wanted <= codes, codes)
 
+    # ---- the program
+    def test_one_worker(self):
+        """With one worker the whole text is known, as in edition 1; edition 2 is what the program writes if it isn't
+        told."""
+        wrong, count = [], 0
+        for count, (network, net) in enumerate(networks(), 1):
+            capacity = CAPACITIES[count % 3]
+            words = ["--workers", "1", "--capacity", str(capacity)] + ["--edition", "2"] * (count % 2)
+            done = transcript_by(PLAN, words, network)
+            if done != (0, Run(net, capacity).merged(), b""):
+                wrong.append((network, words, done))
+        self.note(f"the transcripts of one worker of {count} networks, by the definition", not wrong,
+                  f"{len(wrong)}: {wrong[:1]}")
+        for workers in (1, 2, 4, 64):
+            done = transcript_by(PLAN, ["--workers", str(workers)], b"p col 2 0\n")
+            self.note(f"two nodes apart, {workers} workers", done == (0, text(APART), b""), done)
 
-if __name__ == "__main__":
-    sys.exit(main())
+    def test_runs(self):
+        """Whole runs of four and more workers: the checker accepts each, and so does `PLAY replay`, in the order of its
+        lines."""
+        count = int(setting("runs"))
+        source, wrong, entries, most = random.Random(SEED), [], 0, 0
+        for (nodes, pairs), at in zip(networks_of_runs(source), range(count)):
+            network = text_of(source, nodes, pairs)
+            net = network_of(network)
+            words = ["--workers", str(source.choice((4, 5, 8, 16, 64))), "--capacity",
+                     str(source.choice((1, 2, 4, 64)))]
+            status, data, fault = transcript_by(PLAN, words, network)
+            good = (status, fault) == (0, b"") and is_counted(net, data, verdict_of(net, data))
+            got = said_by(PLAY, network, data) if good else None
+            if not good or got:
+                wrong.append((network, words, status, fault, verdict_of(net, data), got))
+            entries, most = entries + data.count(b"\n") - 1, max(most, nodes)
+        self.note(f"{count} whole runs on networks of up to {most} nodes, {entries} entries", not wrong,
+                  f"{len(wrong)}: {wrong[:1]}")

@@ -1,13 +1,7 @@
-#!/usr/bin/env python3
-"""Tests of `bin/network`. The last line is 'N passed, M failed'.
-
-  own_networks.py [--program PROGRAM] [--play PLAY]
-      PROGRAM   has the command `forests`, which has to accept each network that is written PLAY      has the command
-      `rounds`, by which `tell` counts of large networks; the rows of a program that isn't named are left out
+"""Tests of `bin/network`. The program forestplan has to accept each network that is written.
 
 Expected counts are formulas, or come from the definitions in lab/definitions/colours.py, lab/definitions/nodes.py and
 lab/definitions/rounds.py."""
-import argparse
 import csv
 import io
 import os
@@ -21,23 +15,18 @@ from lab.definitions.colours import network_of
 from lab.definitions.nodes import last_pulse
 from lab.definitions.rounds import rounds_text
 from lab.networks import network
+from lab.networks.network_text import read_network
 from lab.networks.reading import read
+from lab.networks.telling import Run, most_payloads
 from lab.networks.texts import text_of
 from tests import TOP
+from tests.cases import Case, run_program
 from tests.programs.made_transcripts import made_transcript, transcript_text
+from tests.settings import PLAN, PLAY
 
 DOOR = os.path.join(TOP, "bin", "network")
 LIMIT = 60
 SEED = 2026
-TALLY = {"passed": 0, "failed": 0}
-# Every network that was written, for the rows that need a program.
-WRITTEN = []
-
-
-def note(name, good, what=""):
-    TALLY["passed" if good else "failed"] += 1
-    if not good:
-        print(f"FAILED {name}: {str(what)[:2000]}")
 
 
 def call(*words, data=b""):
@@ -60,15 +49,6 @@ def by_script(*words, data=b"", **more):
     """The same by the script at the top, in a process of its own."""
     done = subprocess.run([DOOR, *map(str, words)], input=data, capture_output=True, timeout=LIMIT, **more)
     return done.returncode, done.stdout, done.stderr
-
-
-def written(*words, data=b""):
-    """The network's text that a call writes."""
-    status, text, fault = call(*words, data=data)
-    note(f"network {' '.join(map(str, words))}", status == 0, fault)
-    if status == 0:
-        WRITTEN.append(text)
-    return text
 
 
 def edges_of(text):
@@ -114,125 +94,16 @@ KINDS = [
 ]
 
 
-def kind_rows():
-    for words, nodes, edges, least, most in KINDS:
-        text = written(*words.split())
-        net, pairs = network_of(text), edges_of(text)
-        degrees = [len(ws) for ws in net.neighbours.values()]
-        head = f"p edge {nodes} {edges}\n".encode()
-        note(
-            f"{words} has its nodes and edges",
-            (len(degrees), len(pairs), head in text) == (nodes, edges, True),
-            (len(degrees), len(pairs)),
-        )
-        note(
-            f"{words} has its numbers of neighbours",
-            least in (None, min(degrees)) and most in (None, max(degrees)),
-            (min(degrees), max(degrees)),
-        )
-        note(f"{words} says how it was made", text.startswith(f"c Made by bin/network {words}".encode()), text[:80])
-        if words.split()[0] not in ("tree", "random"):
-            note(f"{words} has a place for each node", sorted(comments(text, "at")) == list(range(1, nodes + 1)))
-    note("the 5 by 5 queens are the example's", edges_of(written("queen", 5, 5)) == edges_of(example("queen5_5.col")))
-    note("a star is the example's", edges_of(written("star", 9)) == edges_of(example("star.col")))
-    for text in (written("tree", 200, "--seed", 3), written("tree", 200)):
-        note(
-            "in a tree each node but the first has one before it",
-            sorted(w for _, w in edges_of(text)) == list(range(2, 201)),
-        )
-    for reach in (0.05, 0.26, 1.5):
-        disk_row(reach)
-
-
 def example(name):
     with open(os.path.join(TOP, "examples", name), "rb") as file:
         return file.read()
 
 
-def disk_row(reach):
-    """The places are what the seed's numbers say, and two are joined just if they are less than the reach apart."""
-    text = written("disk", 60, "--reach", reach, "--seed", 5)
-    source, wanted = random.Random(5), []
-    while len(wanted) < 60:
-        place = int(source.random() * 1001), int(source.random() * 1001)
-        wanted += [] if place in wanted else [place]
-    places = {v: tuple(map(int, rest.split())) for v, rest in comments(text, "at").items()}
-    joined = {(v, w) for v in places for w in places
-              if v < w and sum((a - b) ** 2 for a, b in zip(places[v], places[w])) < (1000 * reach) ** 2}
-    note(f"a disk of reach {reach}", list(places.values()) == wanted and edges_of(text) == joined, text[:200])
-
-
-def seed_rows():
-    for words in ("tree 50", "disk 50", "random 50 100"):
-        texts = [
-            by_script(*words.split(), "--seed", seed, env=dict(os.environ, PYTHONHASHSEED=str(hashing)))[1]
-            for hashing, seed in ((1, 4), (2, 4), (1, 5))
-        ]
-        note(
-            f"{words}: a seed is the same again, and another is another",
-            texts[0] == texts[1] and edges_of(texts[0]) != edges_of(texts[2]) and b"--seed 4\n" in texts[0],
-            texts[0][:80],
-        )
-
-
-REFUSED = [
-    "path 0",
-    "path -1",
-    "path x",
-    "path 20001",
-    "ring 2",
-    "star 1025",
-    "star 0",
-    "complete 1025",
-    "complete 2000",
-    "grid 0 3",
-    "grid 200 101",
-    "queen 141 141",
-    "queen 0 1",
-    "tree 0",
-    "tree 20001",
-    "disk 30 --reach 0",
-    "disk 30 --reach 3",
-    "disk 0",
-    "disk 2000 --reach 2",
-    "random 10 46",
-    "random 2000 400001",
-    "random 5 -1",
-    "random 5",
-    "path 3 4",
-    "path 3 --seed 1",
-    "square 4",
-    "",
-    "read",
-    "number x",
-    "number x --by size",
-    "tell",
-    "tell x y",
-    "read x --as graph",
-]
-
-
-def word_rows():
-    for words in REFUSED:
-        status, text, fault = call(*words.split())
-        note(
-            f"refused words: {words}",
-            (status, text) == (2, b"") and re.search(rb"^network[^\n]*: error: ", fault, re.M),
-            fault,
-        )
-    status, told, fault = by_script("--help")
-    commands = re.findall(r"^  ([a-z]+) [A-Z]+", told.decode().split("positional")[0], re.M)
-    note("help", (status, fault, len(commands)) == (0, b"", 13), commands)
-    for command in commands:
-        status, told, fault = call(command, "--help")
-        note(f"help of {command}", (status, fault) == (0, b"") and f"bin/network {command} ".encode() in told, told)
-    for command in (["read"], ["tell"], ["number", "--by", "degree"], ["names"]):
-        status, text, fault = call(*command, "/nowhere.col")
-        note(
-            f"{command[0]} of no file",
-            (status, text, fault) == (1, b"", b"network: /nowhere.col: No such file or directory\n"),
-            fault,
-        )
+REFUSED = ["path 0", "path -1", "path x", "path 20001", "ring 2", "star 1025", "star 0", "complete 1025",
+           "complete 2000", "grid 0 3", "grid 200 101", "queen 141 141", "queen 0 1", "tree 0", "tree 20001",
+           "disk 30 --reach 0", "disk 30 --reach 3", "disk 0", "disk 2000 --reach 2", "random 10 46",
+           "random 2000 400001", "random 5 -1", "random 5", "path 3 4", "path 3 --seed 1", "square 4", "", "read",
+           "number x", "number x --by size", "tell", "tell x y", "read x --as graph"]
 
 
 # (what it is, the text, the edges by names, nodes without one, a part of what is said). The first eight were written by
@@ -240,87 +111,33 @@ def word_rows():
 # adjacency lists.
 GRAPH, ALONE = "03 04 34 41 12", "5"
 FORMS = [
-    (
-        "an edge list",
-        "0 3 {}\n0 4 {}\n3 4 {}\n4 1 {}\n1 2 {}\n",
-        GRAPH,
-        "",
-        "pairs; 5 nodes, 5 edges, at most 3 neighbours; it counts from 0",
-    ),
+    ("an edge list", "0 3 {}\n0 4 {}\n3 4 {}\n4 1 {}\n1 2 {}\n", GRAPH, "",
+     "pairs; 5 nodes, 5 edges, at most 3 neighbours; it counts from 0"),
     ("an edge list without data", "0 3\n0 4\n3 4\n4 1\n1 2\n", GRAPH, "", "pairs; "),
-    (
-        "an edge list with data",
-        "0 3 {'weight': 3.5}\n0 4 {'weight': 4.5}\n3 4 {'weight': 6.0}\n4 1 {'weight': 3.5}\n1 2 {'weight': 3.0}\n",
-        GRAPH,
-        "",
-        "pairs; ",
-    ),
-    (
-        "a weighted edge list",
-        "0 3 3.5\n0 4 4.5\n3 4 6.0\n4 1 3.5\n1 2 3.0\n",
-        GRAPH,
-        "",
-        "further columns, as weights are, aren't read",
-    ),
+    ("an edge list with data",
+     "0 3 {'weight': 3.5}\n0 4 {'weight': 4.5}\n3 4 {'weight': 6.0}\n4 1 {'weight': 3.5}\n1 2 {'weight': 3.0}\n", GRAPH,
+     "", "pairs; "),
+    ("a weighted edge list", "0 3 3.5\n0 4 4.5\n3 4 6.0\n4 1 3.5\n1 2 3.0\n", GRAPH, "",
+     "further columns, as weights are, aren't read"),
     ("an edge list with commas", "0,3,3.5\n0,4,4.5\n3,4,6.0\n4,1,3.5\n1,2,3.0\n", GRAPH, "", "further columns"),
-    (
-        "an adjacency list",
-        "#nx.py\n# GMT Mon Nov 23 22:04:36 2026\n# \n0 3 4\n3 4\n4 1\n1 2\n2\n5\n",
-        GRAPH,
-        ALONE,
-        "adjacency; 6 nodes, 1 of them without",
-    ),
-    (
-        "a multiline adjacency list",
-        "#nx.py\n# GMT\n# \n0 2\n3 {}\n4 {}\n3 1\n4 {}\n4 1\n1 {}\n1 1\n2 {}\n2 0\n5 0\n",
-        GRAPH,
-        ALONE,
-        "in several lines; 6 nodes",
-    ),
-    (
-        "an adjacency list of names",
-        "# \nUlm Jena Kiel\nJena Kiel\nKiel Aue\nAue Bonn\nBonn\nTrier\n",
-        "Ulm-Jena Ulm-Kiel Jena-Kiel Kiel-Aue Aue-Bonn",
-        "Trier",
-        "numbers by first appearance",
-    ),
-    (
-        "CSV with a heading",
-        "source,target\nA,B\nB,C\nA,C\n",
-        "AB BC AC",
-        "",
-        "pairs with a heading; 3 nodes, 3 edges, at most 2 neighbours; numbers by",
-    ),
-    (
-        "CSV of Gephi",
-        "Id,Source,Target,Type,Weight\n0,a,b,Undirected,1\n1,b,c,Undirected,2\n",
-        "ab bc",
-        "",
-        "pairs with a heading",
-    ),
-    (
-        "CSV without a heading",
-        '"Upper Hill","Mill, old"\n"Mill, old",Dam\n',
-        "Upper Hill-Mill, old Mill, old-Dam",
-        "",
-        "pairs; 3 nodes",
-    ),
+    ("an adjacency list", "#nx.py\n# GMT Mon Nov 23 22:04:36 2026\n# \n0 3 4\n3 4\n4 1\n1 2\n2\n5\n", GRAPH, ALONE,
+     "adjacency; 6 nodes, 1 of them without"),
+    ("a multiline adjacency list", "#nx.py\n# GMT\n# \n0 2\n3 {}\n4 {}\n3 1\n4 {}\n4 1\n1 {}\n1 1\n2 {}\n2 0\n5 0\n",
+     GRAPH, ALONE, "in several lines; 6 nodes"),
+    ("an adjacency list of names", "# \nUlm Jena Kiel\nJena Kiel\nKiel Aue\nAue Bonn\nBonn\nTrier\n",
+     "Ulm-Jena Ulm-Kiel Jena-Kiel Kiel-Aue Aue-Bonn", "Trier", "numbers by first appearance"),
+    ("CSV with a heading", "source,target\nA,B\nB,C\nA,C\n", "AB BC AC", "",
+     "pairs with a heading; 3 nodes, 3 edges, at most 2 neighbours; numbers by"),
+    ("CSV of Gephi", "Id,Source,Target,Type,Weight\n0,a,b,Undirected,1\n1,b,c,Undirected,2\n", "ab bc", "",
+     "pairs with a heading"),
+    ("CSV without a heading", '"Upper Hill","Mill, old"\n"Mill, old",Dam\n', "Upper Hill-Mill, old Mill, old-Dam", "",
+     "pairs; 3 nodes"),
     ("CSV with an unknown heading", "Mast,Next\n1,2\n2,3\n", "12 23", "", "pairs with a heading; 3 nodes, 2 edges"),
     ("CSV with semicolons and CR LF", "from;to\r\n1;2\r\n2;3\r\n3;\r\n", "12 23", "", "pairs with a heading"),
-    (
-        "pairs with tabs, in both directions",
-        "1\t2\n2\t1\n2\t3\n3\t2\n",
-        "12 23",
-        "",
-        "2 edges there in both directions, counted once",
-    ),
-    (
-        "pairs with a loop and an edge again",
-        "1 2\n2 2\n1 2\n2 3\n",
-        "12 23",
-        "",
-        "1 edge from a node to itself left out, first at line 2: 2",
-    ),
+    ("pairs with tabs, in both directions", "1\t2\n2\t1\n2\t3\n3\t2\n", "12 23", "",
+     "2 edges there in both directions, counted once"),
+    ("pairs with a loop and an edge again", "1 2\n2 2\n1 2\n2 3\n", "12 23", "",
+     "1 edge from a node to itself left out, first at line 2: 2"),
     ("pairs with lines that end with CR", "1 2\r2 3\r", "12 23", "", "lines end with a carriage return alone"),
     ("pairs behind a byte order mark", "\ufeff1 2\n2 3\n", "12 23", "", "a byte order mark is left out"),
     ("pairs with a gap in the numbers", "10 20\n20 40\n", "10-20 20-40", "", "numbered anew, in their order"),
@@ -329,19 +146,15 @@ FORMS = [
     ("adjacency with colons", "a: b c\nb: a\nc: a\n", "ab ac", "", "adjacency; 3 nodes, 2 edges"),
     (
         "DOT",
-        'graph "my net" {\n  // masts\n  node [shape=circle, label="a -- b"];\n  rankdir = LR;\n  A -- B -- C [len=2];\n  "D e" -- A:n /* x */\n  F\n}\n',
+        'graph "my net" {\n  // masts\n  node [shape=circle, label="a -- b"];\n  rankdir = LR;\n'
+        '  A -- B -- C [len=2];\n  "D e" -- A:n /* x */\n  F\n}\n',
         "A-B B-C D e-A",
         "F",
         "DOT; 5 nodes, 1 of them without a neighbour, 3 edges",
     ),
     ("directed DOT", "strict digraph{a->b;b->a;b->c}", "ab bc", "", "directions aren't read"),
-    (
-        "DOT with subgraphs",
-        "graph {\n a -- { b c }\n subgraph cluster_x { d -- e }\n}\n",
-        "ab ac de",
-        "",
-        "DOT; 5 nodes",
-    ),
+    ("DOT with subgraphs", "graph {\n a -- { b c }\n subgraph cluster_x { d -- e }\n}\n", "ab ac de", "",
+     "DOT; 5 nodes"),
     ("DIMACS from 0", "p edge 3 2\ne 0 1\ne 1 2\n", "01 12", "", "it counts from 0"),
     ("DIMACS of shortest paths", "p sp 3 2\na 1 2 7\na 2 3 9\n", "12 23", "", "`p sp` is read like `p edge`"),
     ("a graph of tree width", "c x\np tw 4 2\n1 2\n2 3\n", "12 23", "4", "`p tw` is read like `p edge`"),
@@ -354,10 +167,8 @@ def named_pairs(edges):
     """Pairs of names of a row of FORMS, unordered."""
     if "-" not in edges:
         return {frozenset(pair) for pair in edges.split()}
-    parts, pairs = (
-        edges.replace("Upper Hill", "Upper_Hill").replace("Mill, old", "Mill,_old").replace("D e", "D_e"),
-        set(),
-    )
+    parts, pairs = (edges.replace("Upper Hill", "Upper_Hill").replace("Mill, old", "Mill,_old").replace("D e", "D_e"),
+                    set())
     for pair in parts.split():
         pairs.add(frozenset(name.replace("_", " ") for name in pair.split("-")))
     return pairs
@@ -372,93 +183,6 @@ def pairs_in(text):
     }
 
 
-def form_rows(folder):
-    for name, text, edges, alone, said in FORMS:
-        path = os.path.join(folder, "net.txt")
-        with open(path, "wb") as file:
-            file.write(text.encode())
-        status, wrote, told = call("read", path)
-        note(
-            f"read: {name}",
-            status == 0 and pairs_in(wrote) == (named_pairs(edges), set(alone.split())),
-            (status, wrote, told),
-        )
-        note(f"read: {name}: what is said", f"network: {path}: ".encode() in told and said.encode() in told, told)
-        note(f"read: {name}: read again it is the same", call("read", "-", data=wrote)[1] == wrote, wrote)
-        WRITTEN.append(wrote)
-    data = "1 2\n2 3\n".encode("utf-16")
-    note("read: UTF-16", edges_of(written("read", "-", data=data)) == {(1, 2), (2, 3)})
-    note(
-        "read: Latin-1",
-        comments(written("read", "-", data="Köln Aue\n".encode("latin-1")), "name") == {1: "Köln", 2: "Aue"},
-    )
-    for data, form, edges in (
-        (b"1 2 5\n2 3 9\n", "adjacency", 4),
-        (b"1 2\n2\n3\n3 0\n", "multiline", 2),
-        (b"a,b\n", "pairs", 1),
-    ):
-        text = written("read", "-", "--as", form, data=data)
-        note(f"read as {form}", len(edges_of(text)) == edges, text)
-    asked = call("read", "-", data=b"site,other\nA,B\nB,C\nC,D\n")
-    note(
-        "a heading that isn't known is asked for",
-        asked[0] == 0 and b"is line 1 (`site,other`) a heading? then --heading yes" in asked[2],
-        asked,
-    )
-    places = call("read", "-", data=b"name,x,y\nUlm,1,2.5\nAue,3,4\nHof,5,6\n")
-    note("a list of places is refused", places[:2] == (1, b"") and b"look like places" in places[2], places)
-    heading = b"north,south\na,b\n"
-    for choice, edges in (("yes", 1), ("no", 2)):
-        note(
-            f"read with a heading: {choice}",
-            len(edges_of(written("read", "-", "--heading", choice, data=heading))) == edges,
-        )
-
-
-def faulty_rows():
-    """What can't be read is refused in one line, with the number of the line."""
-    for data, said in [
-        (b"", b"no line with a node"),
-        (b"# x\n", b"no line with a node"),
-        (b"1 2\n\0\n", b"no text"),
-        (b"source,target\nA,B\n,C\n", b"line 3: no pair"),
-        (b"graph { a -- b", b"is the text cut"),
-        (b"graph {\n a -- }\n", b"line 2: DOT isn't read on from `}`"),
-        (b"graph { a ! b }", b"`!`"),
-        (b"p edge 2 1\ne 1 x\n", b"line 2: no edge"),
-        (b"p edge 2 1\ne 1 7\n", b"line 2: vertex 7, and the `p` line has 2"),
-        (b"p edge 2 1\np edge 2 1\n", b"line 2: a second `p` line"),
-        (b"p edge x\ne 1 2\n", b"line 1: no number of nodes"),
-        (b"p edge 20001 0\n", b"at most 20000"),
-        (b"".join(b"1 %d\n" % v for v in range(2, 1026)), b"node 1 has 1024 neighbours, and may have 1023"),
-        (b"".join(b"%d %d\n" % (v, v + 1) for v in range(1, 20001)), b"20001 nodes, and a network has at most 20000"),
-    ]:
-        status, text, told = call("read", "-", data=data)
-        note(
-            f"not read: {data[:30]!r}",
-            (status, text) == (1, b"") and re.fullmatch(rb"network: -[^\n]*\n", told) and said in told,
-            told,
-        )
-
-
-def random_form_rows():
-    """Two hundred networks, fifty in each of four forms, through the modules that the script runs."""
-    source, wrong = random.Random(SEED), []
-    for i in range(200):
-        names = source.sample(["n%d" % k for k in range(1, 60)] + ["north hill", "süd", "a-b"], source.randint(2, 12))
-        edges = {frozenset(source.sample(names, 2)) for _ in range(source.randint(1, 20))}
-        form = ("csv", "dot", "adjacency", "pairs")[i % 4]
-        if form in ("adjacency", "pairs"):
-            names = [name.replace(" ", "_") for name in names]
-            edges = {frozenset(name.replace(" ", "_") for name in edge) for edge in edges}
-        text = in_form(source, form, names, edges)
-        made, _ = read(text.encode(), "net", None, True if form == "csv" else False if form == "pairs" else None)
-        lone = set(names) - set().union(*edges)
-        if pairs_in(text_of(made).encode()) != (edges, lone if form != "csv" else set()):
-            wrong.append((text, text_of(made)))
-    note("200 random networks in four forms", not wrong, f"{len(wrong)}: {wrong[:1]}")
-
-
 def in_form(source, form, names, edges):
     pairs = [tuple(source.sample(sorted(edge), 2)) for edge in sorted(edges, key=sorted)]
     lone = sorted(set(names) - set().union(*edges))
@@ -471,76 +195,6 @@ def in_form(source, form, names, edges):
     if form == "pairs":
         return "".join(f"{a} {b}\n" for a, b in pairs) + "".join(f"{a}\n" for a in lone)
     return "".join(" ".join([a] + [b for c, b in pairs if c == a]) + "\n" for a in names) + "# end\n"
-
-
-def number_rows():
-    """The same network by names, and the numbers in the order that was asked for."""
-    for name in ("petersen", "disk100", "star"):
-        before = example(f"{name}.col")
-        wanted = {frozenset(map(str, edge)) for edge in edges_of(before)}
-        places = comments(before, "at")
-        for words in ("--by random", "--by random --seed 9", "--by degree", "--by degree --reverse", "--by place"):
-            text = written("number", "-", *words.split(), data=before)
-            names = comments(text, "name")
-            note(f"{name} numbered {words} is the same network", pairs_in(text)[0] == wanted, text[:200])
-            note(
-                f"{name} numbered {words} keeps its places",
-                {names[v]: place for v, place in comments(text, "at").items()}
-                == {str(v): place for v, place in places.items()},
-            )
-            net = network_of(text)
-            degrees = [len(net.neighbours[v]) for v in sorted(net.neighbours)]
-            across = [float(comments(text, "at")[v].split()[0]) for v in sorted(net.neighbours)]
-            if "degree" in words:
-                note(
-                    f"{name} numbered {words}: the order",
-                    degrees == sorted(degrees, reverse="reverse" in words),
-                    degrees,
-                )
-            if "place" in words:
-                note(f"{name} numbered {words}: the order", across == sorted(across), across)
-        again = [call("number", "-", "--by", "random", "--seed", seed, data=before)[1] for seed in (1, 1, 2)]
-        note(f"{name} numbered by chance: by its seed", again[0] == again[1] != again[2])
-    status, text, told = call("number", "-", "--by", "place", data=b"p edge 2 1\ne 1 2\nc at 1 0 0\n")
-    note("numbered by places that aren't there", (status, text) == (1, b"") and b"have no place" in told, told)
-
-
-def name_rows(folder):
-    path = os.path.join(folder, "sites.col")
-    with open(path, "wb") as file:
-        file.write(written("read", "-", data=b'source,target\nUlm,"Aue, west"\n"Aue, west",Jena\n'))
-    status, text, told = call("names", path, data=b"plan\n1 1\n2 2\n3 1\n")
-    note("names on a plan", (status, text, told) == (0, b"Ulm 1\nAue, west 2\nJena 1\n", b""), (text, told))
-    status, text, told = call("names", path, "--csv", data=b"plan\n1 1\n2 2\n3 1\n")
-    note("names as CSV", (status, text) == (0, b'name,channel\nUlm,1\n"Aue, west",2\nJena,1\n'), (text, told))
-    for plan, code in ((b"", b"C6"), (b"plan\n1 1\n", b"C1"), (b"plan\n1 9\n", b"C5")):
-        status, text, told = call("names", path, data=plan)
-        note(f"names on the plan {plan}", (status, text) == (1, b"") and b"(%s)" % code in told, told)
-
-
-def script_rows(folder):
-    """The script from another folder, through a symbolic link, with a file whose name has a blank, and into a closed
-    pipe."""
-    os.symlink(DOOR, os.path.join(folder, "linked"))
-    with open(os.path.join(folder, "my sites.csv"), "wb") as file:
-        file.write(b"a,b\n")
-    done = subprocess.run(["./linked", "read", "my sites.csv"], capture_output=True, timeout=LIMIT, cwd=folder)
-    note(
-        "through a link, from another folder",
-        (done.returncode, done.stdout) == (0, b"c name 1 a\nc name 2 b\np edge 2 1\ne 1 2\n"),
-        done,
-    )
-    done = subprocess.run(
-        ["bash", "-c", 'set -o pipefail; "$0" random 2000 100000 | head -1', DOOR], capture_output=True, timeout=LIMIT
-    )
-    note("into a pipe that is closed", (done.returncode, done.stdout.count(b"\n"), done.stderr) == (0, 1, b""), done)
-
-
-def told_of(data):
-    """{name: what} of the lines of `tell`."""
-    status, text, told = call("tell", "-", data=data)
-    note("tell", status == 0, told)
-    return dict(re.findall(r"^(.*?): (.*)$", text.decode(), re.M)), told
 
 
 def numbers(text):
@@ -559,127 +213,7 @@ def steps_in_order(net):
 LONG_NAMES = b"p edge 4 4\ni 2 %d\ni 4 0\ne 1 2\ne 2 3\ne 1 4\ne 1 3\n" % (2**128 - 1)
 
 
-def identifier_rows():
-    """A line `i V NUMBER` goes with its vertex; two of one number are refused."""
-    for words in (["read", "-"], ["number", "-", "--by", "degree"], ["number", "-", "--by", "random", "--seed", 3]):
-        data = LONG_NAMES if words[0] == "read" else LONG_NAMES + b"i 1 1\ni 3 3\n"
-        net, made = network_of(LONG_NAMES), network_of(written(*words, data=data))
-        edges = [{frozenset(found.identifiers[v] for v in pair) for pair in found.number} for found in (net, made)]
-        note(f"{words}: who has which neighbours, by identifiers", edges[0] == edges[1] and len(edges[0]) == 4, edges)
-    for words, data in (
-        (["read", "-"], b"p tw 2 1\n1 2\ni 1 2\n"),
-        (["number", "-", "--by", "degree"], b"p edge 2 0\ni 2 9\ni 1 9\n"),
-    ):
-        status, text, said = call(*words, data=data)
-        note(
-            f"{words}: two of one identifier",
-            (status, text) == (1, b"") and b"1 and 2 have one identifier" in said,
-            said,
-        )
-
-
 BARRED = b"c name 4 Last\np edge 4 4\ne 1 2\ne 2 3\nb 4 2\ne 1 4\nb 4 2048\ne 1 3\nb 1 2\nb 4 2 again\n"
-
-
-def bar_rows():
-    """A line `b V CHANNEL` goes with its vertex, which is known by its neighbours here."""
-    for words in (["read", "-"], ["number", "-", "--by", "degree"], ["number", "-", "--by", "random", "--seed", 3]):
-        net, made = network_of(BARRED), network_of(written(*words, data=BARRED))
-        found = [sorted((len(net.neighbours[v]), sorted(net.barred[v])) for v in net.neighbours) for net in (net, made)]
-        wanted = [(1, [1, 2047]), (2, []), (2, []), (3, [1])]
-        note(f"{words}: whose channels are barred", found == [wanted, wanted], found)
-    text = written("read", "-", data=b"p edge 3 1\ne 0 1\nb 0 7\n")
-    note("a bar in a text that counts from 0", b"\nb 1 7\n" in text, text)
-    for data, said in (
-        (b"p edge 2 1\nb 1 0\n", b"no vertex with a channel of 1 to 2048: `b 1 0`"),
-        (b"p edge 2 1\nb 1\n", b"`b 1`"),
-        (b"p edge 2 1\nb 1 2049\n", b"`b 1 2049`"),
-        (b"p edge 2 1\nb 3 1\n", b"a barred channel of 3, which is no vertex"),
-        (
-            b"p edge 2 1\n" + b"".join(b"b 2 %d\n" % channel for channel in range(1, 1026)),
-            b"line 1026: more than 1024 channels",
-        ),
-    ):
-        status, text, why = call("read", "-", data=data)
-        note(f"read of {data[:30]}", (status, text) == (1, b"") and said in why, why)
-    told, _ = told_of(BARRED)
-    note("tell of bars", told["barred"] == "3 channels at 2 nodes, at most 2 at one, so at most 6 channels", told)
-    note("tell of a network without bars", "barred" not in told_of(LONG_NAMES)[0])
-    with tempfile.TemporaryDirectory() as folder:
-        path = os.path.join(folder, "net.col")
-        with open(path, "wb") as file:
-            file.write(BARRED)
-        for plan, wanted in (
-            (b"plan\n1 1\n2 3\n3 2\n4 3\n", (0, b"1 1\n2 3\n3 2\nLast 3\n")),
-            (b"plan\n1 1\n2 3\n3 2\n4 2\n", (1, b"")),
-        ):
-            status, text, why = call("names", path, data=plan)
-            note(
-                f"names on {plan}",
-                (status, text) == wanted and (b"channel 2 is barred at vertex 4 (C8)" in why) == (status == 1),
-                why,
-            )
-
-
-def tell_rows():
-    """Beside the definitions: the rounds' payloads, and the lines and bytes of a run's transcript."""
-    networks = {name: example(f"{name}.col") for name in ("triangle", "petersen", "star", "four_cycle", "chain6")}
-    networks |= {"a ring of 12": written("ring", 12), "a grid": written("grid", 3, 4), "one": written("path", 1)}
-    networks["long names"] = LONG_NAMES
-    networks["bars"] = BARRED
-    for name, data in networks.items():
-        net = network_of(data)
-        told, warned = told_of(data)
-        last, edges = last_pulse(net), len(net.number)
-        payloads = len(re.findall(rb"^\d+ put ", rounds_text(net), re.M))
-        wires = 2 * payloads + 2 * edges * (last + 1)
-        run = transcript_text(len(net.neighbours), made_transcript(random.Random(SEED), net, 4))
-        degrees = [len(ws) for ws in net.neighbours.values()]
-        got = {key: numbers(what) for key, what in told.items()}
-        bars = [len(barred) for barred in net.barred.values() if barred]
-        enough = max(degrees) + max(bars, default=0) + 1
-        wanted = {
-            "edges": [edges, edges],
-            "neighbours": [min(degrees), max(degrees)] + ([] if bars else [enough]),
-            "forests": [net.forest_count, 12, 3, net.forest_count, enough, last],
-            "in turn": [steps_in_order(net)],
-            "payloads": [payloads],
-            "wires": [2, payloads, 2, edges, last + 1, wires],
-        }
-        note(f"tell of {name}", {key: got.get(key) for key in wanted} == wanted, (told, wanted))
-        note(f"tell of {name}: the transcript's lines", got["transcript"][0] == run.count(b"\n"), told)
-        note(
-            f"tell of {name}: the transcript's bytes",
-            told["transcript"].endswith(f", {rounded(len(run))} without stamps"),
-            (told, len(run)),
-        )
-        note(f"tell of {name}: no warning", warned == b"", warned)
-        note(f"tell of {name}: the time", told["time"] == "less than a second", told)
-    for data, said in ((b"p edge 3 99\ne 1 2\n", b"the `p` line says 99 edges, and the text has 1: is it cut?"),
-                       (b"p edge 2 1\ne 1 2\nc at 3 0 0\n", b"a place is given for vertex 3"),
-                       (b"p edge 2 1\ne 1 2\nc name 9 X\n", b"a name is given for vertex 9")):
-        note(f"warned of {data}", said in told_of(data)[1])
-    for data in (
-        b"p edge 2 1\ne 1 2\n",
-        b"p edge 2 2\ne 1 2\ne 2 1\n",
-        b"p edge 3 2\ne 1 2\ne 2 1\ne 2 3\ne 3 2\n",
-        b"p edge 0 0\n",
-    ):
-        note(f"not warned of {data}", told_of(data)[1] == b"")
-
-
-def bound_rows():
-    """What `tell` says without the program of a network that is too large to be worked out: bounds of what it says of a
-    smaller one are above the counts."""
-    from networks import read_network
-    from telling import Run, most_payloads
-    for words in ("complete 8", "random 30 80", "grid 5 5", "star 7", "tree 12", "disk 20 --seed 3"):
-        run = Run(read_network(call(*words.split())[1].decode(), "net"))
-        note(
-            f"the most payloads of {words}",
-            run.payloads <= most_payloads(run) <= 2 * run.payloads,
-            (run.payloads, most_payloads(run)),
-        )
 
 
 def rounded(count):
@@ -721,12 +255,8 @@ FAULTS = [
     ("graph { a -- b }\n", "F8 line 1", "`graph`", True),
     ("1 2\n2 3\n", "F8 line 1", "`1` begins no line", True),
     ("\ufeffp edge 2 1\ne 1 2\n", "F8 line 1", "byte order mark", True),
-    (
-        "p edge 1025 1024\n" + "".join(f"e 1 {v}\n" for v in range(2, 1026)),
-        "N1 vertex 1",
-        "vertex 1 has 1024 neighbours",
-        False,
-    ),
+    ("p edge 1025 1024\n" + "".join(f"e 1 {v}\n" for v in range(2, 1026)), "N1 vertex 1",
+     "vertex 1 has 1024 neighbours", False),
     ("node 1\n", "F8 line 1", "`node`", True),
     ("p edge 2 1\n\x0b\n", "F8 line 2", "`\\x0b`", False),
     ("p\x0bedge 2 1\n", "F8 line 1", "`p\\x0bedge`", False),
@@ -744,108 +274,371 @@ FAULTS = [
     ("p edge 2 1\nb 0 1\n", "F5 line 2", "count from 1", False),
     ("p edge 2 1\nb 1 0\n", "F13 line 2", "channel 0 is none", False),
     ("p edge 2 1\nb 1 2049\n", "F13 line 2", "channel 2049 is none that can be barred, which are 1 to 2048", False),
-    (
-        "p edge 2 1\n" + "".join(f"b 2 {channel}\n" for channel in range(1, 1026)),
-        "F14 line 1026",
-        "more than 1024 channels are barred at vertex 2",
-        False,
-    ),
+    ("p edge 2 1\n" + "".join(f"b 2 {channel}\n" for channel in range(1, 1026)), "F14 line 1026",
+     "more than 1024 channels are barred at vertex 2", False),
     ("p edge 2 1\ni 1 2\n", "N2 vertices 1 2", "vertices 1 and 2 have one identifier", False),
     ("p edge 99999999999999999999999999 x\n", "F4 line 1", "no number", False),
     ("p edge 2 1\ne 1 2 \t\r\ne 1 -2\n", "F4 line 3", "`-2`", False),
 ]
 
 
-def fault_rows(program):
-    """The fault that the program reports, in words; and whether there is another way in."""
-    for text, fault, said, is_read in FAULTS:
-        status, wrote, told = call("tell", "-", data=text.encode())
-        code, _, place = fault.partition(" ")
-        lines = told.decode().split("\n")
-        good = (
-            (status, wrote) == (1, b"")
-            and lines[0].startswith("network: -")
-            and lines[0].endswith(f"({code})")
-            and said in lines[0]
-        )
-        good = good and (f" {place}: " in lines[0] if place.startswith("line") else True)
-        note(f"the fault {fault} of {text[:40]!r}", good, told)
-        note(
-            f"another way in for {text[:40]!r}",
-            (len(lines) == 3 and "`bin/network read -` can read it" in lines[1]) == is_read,
-            told,
-        )
-        if program:
-            done = subprocess.run([program, "forests"], input=text.encode(), capture_output=True, timeout=LIMIT)
-            note(f"the program's fault of {text[:40]!r}", done.stderr == f"forestplan: {fault}\n".encode(), done)
-    pairs = [(v, v + d) for d in range(1, 22) for v in range(1, 20001 - d)][:400_001]
-    text = "p edge 20000 1\n" + "".join("e %d %d\n" % pair for pair in pairs)
-    status, _, told = call("tell", "-", data=text.encode())
-    note("an edge too many", status == 1 and b"line 400002: more than 400000 different edges (F7)" in told, told)
+class OwnNetworks(Case):
+    def setUp(self):
+        self.folder = self.enterContext(tempfile.TemporaryDirectory())
+        # Every network that the test has written.
+        self.wrote = []
 
+    def tearDown(self):
+        """The program reads each network that was written, with as many nodes, and edges as triples."""
+        wrong = []
+        for text in self.wrote:
+            done = run_program(PLAN, ["forests"], text)
+            nodes = re.search(rb"^p edge (\d+)", text, re.M).group(1)
+            if (
+                done.returncode != 0
+                or not done.stdout.startswith(b"forests " + nodes)
+                or done.stdout.count(b"\n") != 1 + len(edges_of(text))
+            ):
+                wrong.append((text[:200], done.stderr))
+        if self.wrote:
+            self.note(f"the program reads {len(self.wrote)} networks that were written", not wrong, wrong[:1])
 
-def program_rows(program):
-    """The program reads each network that was written, with as many nodes, and edges as triples."""
-    wrong = []
-    for text in WRITTEN:
-        done = subprocess.run([program, "forests"], input=text, capture_output=True, timeout=LIMIT)
-        nodes = re.search(rb"^p edge (\d+)", text, re.M).group(1)
-        if (
-            done.returncode != 0
-            or not done.stdout.startswith(b"forests " + nodes)
-            or done.stdout.count(b"\n") != 1 + len(edges_of(text))
+    def written(self, *words, data=b""):
+        """The network's text that a call writes."""
+        status, text, fault = call(*words, data=data)
+        self.note(f"network {' '.join(map(str, words))}", status == 0, fault)
+        if status == 0:
+            self.wrote.append(text)
+        return text
+
+    def test_kinds(self):
+        for words, nodes, edges, least, most in KINDS:
+            text = self.written(*words.split())
+            net, pairs = network_of(text), edges_of(text)
+            degrees = [len(ws) for ws in net.neighbours.values()]
+            head = f"p edge {nodes} {edges}\n".encode()
+            self.note(f"{words} has its nodes and edges",
+                      (len(degrees), len(pairs), head in text) == (nodes, edges, True), (len(degrees), len(pairs)))
+            self.note(f"{words} has its numbers of neighbours",
+                      least in (None, min(degrees)) and most in (None, max(degrees)), (min(degrees), max(degrees)))
+            self.note(f"{words} says how it was made", text.startswith(f"c Made by bin/network {words}".encode()),
+                      text[:80])
+            if words.split()[0] not in ("tree", "random"):
+                self.note(f"{words} has a place for each node",
+                          sorted(comments(text, "at")) == list(range(1, nodes + 1)))
+        self.note("the 5 by 5 queens are the example's",
+                  edges_of(self.written("queen", 5, 5)) == edges_of(example("queen5_5.col")))
+        self.note("a star is the example's", edges_of(self.written("star", 9)) == edges_of(example("star.col")))
+        for text in (self.written("tree", 200, "--seed", 3), self.written("tree", 200)):
+            self.note("in a tree each node but the first has one before it",
+                      sorted(w for _, w in edges_of(text)) == list(range(2, 201)))
+        for reach in (0.05, 0.26, 1.5):
+            self.disk_row(reach)
+
+    def disk_row(self, reach):
+        """The places are what the seed's numbers say, and two are joined just if they are less than the reach apart."""
+        text = self.written("disk", 60, "--reach", reach, "--seed", 5)
+        source, wanted = random.Random(5), []
+        while len(wanted) < 60:
+            place = int(source.random() * 1001), int(source.random() * 1001)
+            wanted += [] if place in wanted else [place]
+        places = {v: tuple(map(int, rest.split())) for v, rest in comments(text, "at").items()}
+        joined = {(v, w) for v in places for w in places
+                  if v < w and sum((a - b) ** 2 for a, b in zip(places[v], places[w])) < (1000 * reach) ** 2}
+        self.note(f"a disk of reach {reach}", list(places.values()) == wanted and edges_of(text) == joined, text[:200])
+
+    def test_seeds(self):
+        for words in ("tree 50", "disk 50", "random 50 100"):
+            texts = [
+                by_script(*words.split(), "--seed", seed, env=dict(os.environ, PYTHONHASHSEED=str(hashing)))[1]
+                for hashing, seed in ((1, 4), (2, 4), (1, 5))
+            ]
+            self.note(f"{words}: a seed is the same again, and another is another",
+                      texts[0] == texts[1] and edges_of(texts[0]) != edges_of(texts[2]) and b"--seed 4\n" in texts[0],
+                      texts[0][:80])
+
+    def test_words(self):
+        for words in REFUSED:
+            status, text, fault = call(*words.split())
+            self.note(f"refused words: {words}",
+                      (status, text) == (2, b"") and re.search(rb"^network[^\n]*: error: ", fault, re.M), fault)
+        status, told, fault = by_script("--help")
+        commands = re.findall(r"^  ([a-z]+) [A-Z]+", told.decode().split("positional")[0], re.M)
+        self.note("help", (status, fault, len(commands)) == (0, b"", 13), commands)
+        for command in commands:
+            status, told, fault = call(command, "--help")
+            self.note(f"help of {command}", (status, fault) == (0, b"") and f"bin/network {command} ".encode() in told,
+                      told)
+        for command in (["read"], ["tell"], ["number", "--by", "degree"], ["names"]):
+            status, text, fault = call(*command, "/nowhere.col")
+            self.note(f"{command[0]} of no file",
+                      (status, text, fault) == (1, b"", b"network: /nowhere.col: No such file or directory\n"), fault)
+
+    def test_forms(self):
+        for name, text, edges, alone, said in FORMS:
+            path = os.path.join(self.folder, "net.txt")
+            with open(path, "wb") as file:
+                file.write(text.encode())
+            status, wrote, told = call("read", path)
+            self.note(f"read: {name}", status == 0 and pairs_in(wrote) == (named_pairs(edges), set(alone.split())),
+                      (status, wrote, told))
+            self.note(f"read: {name}: what is said", f"network: {path}: ".encode() in told and said.encode() in told,
+                      told)
+            self.note(f"read: {name}: read again it is the same", call("read", "-", data=wrote)[1] == wrote, wrote)
+            self.wrote.append(wrote)
+        data = "1 2\n2 3\n".encode("utf-16")
+        self.note("read: UTF-16", edges_of(self.written("read", "-", data=data)) == {(1, 2), (2, 3)})
+        self.note(
+            "read: Latin-1",
+            comments(self.written("read", "-", data="Köln Aue\n".encode("latin-1")), "name") == {1: "Köln", 2: "Aue"},
+        )
+        for data, form, edges in ((b"1 2 5\n2 3 9\n", "adjacency", 4), (b"1 2\n2\n3\n3 0\n", "multiline", 2),
+                                  (b"a,b\n", "pairs", 1)):
+            text = self.written("read", "-", "--as", form, data=data)
+            self.note(f"read as {form}", len(edges_of(text)) == edges, text)
+        asked = call("read", "-", data=b"site,other\nA,B\nB,C\nC,D\n")
+        self.note("a heading that isn't known is asked for",
+                  asked[0] == 0 and b"is line 1 (`site,other`) a heading? then --heading yes" in asked[2], asked)
+        places = call("read", "-", data=b"name,x,y\nUlm,1,2.5\nAue,3,4\nHof,5,6\n")
+        self.note("a list of places is refused", places[:2] == (1, b"") and b"look like places" in places[2], places)
+        heading = b"north,south\na,b\n"
+        for choice, edges in (("yes", 1), ("no", 2)):
+            self.note(f"read with a heading: {choice}",
+                      len(edges_of(self.written("read", "-", "--heading", choice, data=heading))) == edges)
+
+    def test_unreadable(self):
+        """What can't be read is refused in one line, with the number of the line."""
+        for data, said in [
+            (b"", b"no line with a node"),
+            (b"# x\n", b"no line with a node"),
+            (b"1 2\n\0\n", b"no text"),
+            (b"source,target\nA,B\n,C\n", b"line 3: no pair"),
+            (b"graph { a -- b", b"is the text cut"),
+            (b"graph {\n a -- }\n", b"line 2: DOT isn't read on from `}`"),
+            (b"graph { a ! b }", b"`!`"),
+            (b"p edge 2 1\ne 1 x\n", b"line 2: no edge"),
+            (b"p edge 2 1\ne 1 7\n", b"line 2: vertex 7, and the `p` line has 2"),
+            (b"p edge 2 1\np edge 2 1\n", b"line 2: a second `p` line"),
+            (b"p edge x\ne 1 2\n", b"line 1: no number of nodes"),
+            (b"p edge 20001 0\n", b"at most 20000"),
+            (b"".join(b"1 %d\n" % v for v in range(2, 1026)), b"node 1 has 1024 neighbours, and may have 1023"),
+            (b"".join(b"%d %d\n" % (v, v + 1) for v in range(1, 20001)),
+             b"20001 nodes, and a network has at most 20000"),
+        ]:
+            status, text, told = call("read", "-", data=data)
+            self.note(f"not read: {data[:30]!r}",
+                      (status, text) == (1, b"") and re.fullmatch(rb"network: -[^\n]*\n", told) and said in told, told)
+
+    def test_random_forms(self):
+        """Two hundred networks, fifty in each of four forms, through the modules that the script runs."""
+        source, wrong = random.Random(SEED), []
+        for i in range(200):
+            names = source.sample(["n%d" % k for k in range(1, 60)] + ["north hill", "süd", "a-b"],
+                                  source.randint(2, 12))
+            edges = {frozenset(source.sample(names, 2)) for _ in range(source.randint(1, 20))}
+            form = ("csv", "dot", "adjacency", "pairs")[i % 4]
+            if form in ("adjacency", "pairs"):
+                names = [name.replace(" ", "_") for name in names]
+                edges = {frozenset(name.replace(" ", "_") for name in edge) for edge in edges}
+            text = in_form(source, form, names, edges)
+            made, _ = read(text.encode(), "net", None, True if form == "csv" else False if form == "pairs" else None)
+            lone = set(names) - set().union(*edges)
+            if pairs_in(text_of(made).encode()) != (edges, lone if form != "csv" else set()):
+                wrong.append((text, text_of(made)))
+        self.note("200 random networks in four forms", not wrong, f"{len(wrong)}: {wrong[:1]}")
+
+    def test_numbers(self):
+        """The same network by names, and the numbers in the order that was asked for."""
+        for name in ("petersen", "disk100", "star"):
+            before = example(f"{name}.col")
+            wanted = {frozenset(map(str, edge)) for edge in edges_of(before)}
+            places = comments(before, "at")
+            for words in ("--by random", "--by random --seed 9", "--by degree", "--by degree --reverse", "--by place"):
+                text = self.written("number", "-", *words.split(), data=before)
+                names = comments(text, "name")
+                self.note(f"{name} numbered {words} is the same network", pairs_in(text)[0] == wanted, text[:200])
+                self.note(
+                    f"{name} numbered {words} keeps its places",
+                    {names[v]: place for v, place in comments(text, "at").items()}
+                    == {str(v): place for v, place in places.items()},
+                )
+                net = network_of(text)
+                degrees = [len(net.neighbours[v]) for v in sorted(net.neighbours)]
+                across = [float(comments(text, "at")[v].split()[0]) for v in sorted(net.neighbours)]
+                if "degree" in words:
+                    self.note(f"{name} numbered {words}: the order",
+                              degrees == sorted(degrees, reverse="reverse" in words), degrees)
+                if "place" in words:
+                    self.note(f"{name} numbered {words}: the order", across == sorted(across), across)
+            again = [call("number", "-", "--by", "random", "--seed", seed, data=before)[1] for seed in (1, 1, 2)]
+            self.note(f"{name} numbered by chance: by its seed", again[0] == again[1] != again[2])
+        status, text, told = call("number", "-", "--by", "place", data=b"p edge 2 1\ne 1 2\nc at 1 0 0\n")
+        self.note("numbered by places that aren't there", (status, text) == (1, b"") and b"have no place" in told, told)
+
+    def test_names(self):
+        path = os.path.join(self.folder, "sites.col")
+        with open(path, "wb") as file:
+            file.write(self.written("read", "-", data=b'source,target\nUlm,"Aue, west"\n"Aue, west",Jena\n'))
+        status, text, told = call("names", path, data=b"plan\n1 1\n2 2\n3 1\n")
+        self.note("names on a plan", (status, text, told) == (0, b"Ulm 1\nAue, west 2\nJena 1\n", b""), (text, told))
+        status, text, told = call("names", path, "--csv", data=b"plan\n1 1\n2 2\n3 1\n")
+        self.note("names as CSV", (status, text) == (0, b'name,channel\nUlm,1\n"Aue, west",2\nJena,1\n'), (text, told))
+        for plan, code in ((b"", b"C6"), (b"plan\n1 1\n", b"C1"), (b"plan\n1 9\n", b"C5")):
+            status, text, told = call("names", path, data=plan)
+            self.note(f"names on the plan {plan}", (status, text) == (1, b"") and b"(%s)" % code in told, told)
+
+    def test_scripts(self):
+        """The script from another folder, through a symbolic link, with a file whose name has a blank, and into a
+        closed pipe."""
+        os.symlink(DOOR, os.path.join(self.folder, "linked"))
+        with open(os.path.join(self.folder, "my sites.csv"), "wb") as file:
+            file.write(b"a,b\n")
+        done = subprocess.run(["./linked", "read", "my sites.csv"], capture_output=True, timeout=LIMIT, cwd=self.folder)
+        self.note("through a link, from another folder",
+                  (done.returncode, done.stdout) == (0, b"c name 1 a\nc name 2 b\np edge 2 1\ne 1 2\n"), done)
+        done = subprocess.run(["bash", "-c", 'set -o pipefail; "$0" random 2000 100000 | head -1', DOOR],
+                              capture_output=True, timeout=LIMIT)
+        self.note("into a pipe that is closed", (done.returncode, done.stdout.count(b"\n"), done.stderr) == (0, 1, b""),
+                  done)
+
+    def told_of(self, data):
+        """{name: what} of the lines of `tell`."""
+        status, text, told = call("tell", "-", data=data)
+        self.note("tell", status == 0, told)
+        return dict(re.findall(r"^(.*?): (.*)$", text.decode(), re.M)), told
+
+    def test_identifiers(self):
+        """A line `i V NUMBER` goes with its vertex; two of one number are refused."""
+        for words in (["read", "-"], ["number", "-", "--by", "degree"], ["number", "-", "--by", "random", "--seed", 3]):
+            data = LONG_NAMES if words[0] == "read" else LONG_NAMES + b"i 1 1\ni 3 3\n"
+            net, made = network_of(LONG_NAMES), network_of(self.written(*words, data=data))
+            edges = [{frozenset(found.identifiers[v] for v in pair) for pair in found.number} for found in (net, made)]
+            self.note(f"{words}: who has which neighbours, by identifiers", edges[0] == edges[1] and len(edges[0]) == 4,
+                      edges)
+        for words, data in ((["read", "-"], b"p tw 2 1\n1 2\ni 1 2\n"),
+                            (["number", "-", "--by", "degree"], b"p edge 2 0\ni 2 9\ni 1 9\n")):
+            status, text, said = call(*words, data=data)
+            self.note(f"{words}: two of one identifier",
+                      (status, text) == (1, b"") and b"1 and 2 have one identifier" in said, said)
+
+    def test_bars(self):
+        """A line `b V CHANNEL` goes with its vertex, which is known by its neighbours here."""
+        for words in (["read", "-"], ["number", "-", "--by", "degree"], ["number", "-", "--by", "random", "--seed", 3]):
+            net, made = network_of(BARRED), network_of(self.written(*words, data=BARRED))
+            found = [
+                sorted((len(net.neighbours[v]), sorted(net.barred[v])) for v in net.neighbours) for net in (net, made)
+            ]
+            wanted = [(1, [1, 2047]), (2, []), (2, []), (3, [1])]
+            self.note(f"{words}: whose channels are barred", found == [wanted, wanted], found)
+        text = self.written("read", "-", data=b"p edge 3 1\ne 0 1\nb 0 7\n")
+        self.note("a bar in a text that counts from 0", b"\nb 1 7\n" in text, text)
+        for data, said in (
+            (b"p edge 2 1\nb 1 0\n", b"no vertex with a channel of 1 to 2048: `b 1 0`"),
+            (b"p edge 2 1\nb 1\n", b"`b 1`"),
+            (b"p edge 2 1\nb 1 2049\n", b"`b 1 2049`"),
+            (b"p edge 2 1\nb 3 1\n", b"a barred channel of 3, which is no vertex"),
+            (b"p edge 2 1\n" + b"".join(b"b 2 %d\n" % channel for channel in range(1, 1026)),
+             b"line 1026: more than 1024 channels"),
         ):
-            wrong.append((text[:200], done.stderr))
-    note(f"the program reads {len(WRITTEN)} networks that were written", len(WRITTEN) > 60 and not wrong, wrong[:1])
+            status, text, why = call("read", "-", data=data)
+            self.note(f"read of {data[:30]}", (status, text) == (1, b"") and said in why, why)
+        told, _ = self.told_of(BARRED)
+        self.note("tell of bars", told["barred"] == "3 channels at 2 nodes, at most 2 at one, so at most 6 channels",
+                  told)
+        self.note("tell of a network without bars", "barred" not in self.told_of(LONG_NAMES)[0])
+        with tempfile.TemporaryDirectory() as folder:
+            path = os.path.join(folder, "net.col")
+            with open(path, "wb") as file:
+                file.write(BARRED)
+            for plan, wanted in ((b"plan\n1 1\n2 3\n3 2\n4 3\n", (0, b"1 1\n2 3\n3 2\nLast 3\n")),
+                                 (b"plan\n1 1\n2 3\n3 2\n4 2\n", (1, b""))):
+                status, text, why = call("names", path, data=plan)
+                self.note(
+                    f"names on {plan}",
+                    (status, text) == wanted and (b"channel 2 is barred at vertex 4 (C8)" in why) == (status == 1),
+                    why,
+                )
 
+    def test_tell(self):
+        """Beside the definitions: the rounds' payloads, and the lines and bytes of a run's transcript."""
+        networks = {name: example(f"{name}.col") for name in ("triangle", "petersen", "star", "four_cycle", "chain6")}
+        networks |= {"a ring of 12": self.written("ring", 12), "a grid": self.written("grid", 3, 4),
+                     "one": self.written("path", 1)}
+        networks["long names"] = LONG_NAMES
+        networks["bars"] = BARRED
+        for name, data in networks.items():
+            net = network_of(data)
+            told, warned = self.told_of(data)
+            last, edges = last_pulse(net), len(net.number)
+            payloads = len(re.findall(rb"^\d+ put ", rounds_text(net), re.M))
+            wires = 2 * payloads + 2 * edges * (last + 1)
+            run = transcript_text(len(net.neighbours), made_transcript(random.Random(SEED), net, 4))
+            degrees = [len(ws) for ws in net.neighbours.values()]
+            got = {key: numbers(what) for key, what in told.items()}
+            bars = [len(barred) for barred in net.barred.values() if barred]
+            enough = max(degrees) + max(bars, default=0) + 1
+            wanted = {
+                "edges": [edges, edges],
+                "neighbours": [min(degrees), max(degrees)] + ([] if bars else [enough]),
+                "forests": [net.forest_count, 12, 3, net.forest_count, enough, last],
+                "in turn": [steps_in_order(net)],
+                "payloads": [payloads],
+                "wires": [2, payloads, 2, edges, last + 1, wires],
+            }
+            self.note(f"tell of {name}", {key: got.get(key) for key in wanted} == wanted, (told, wanted))
+            self.note(f"tell of {name}: the transcript's lines", got["transcript"][0] == run.count(b"\n"), told)
+            self.note(f"tell of {name}: the transcript's bytes",
+                      told["transcript"].endswith(f", {rounded(len(run))} without stamps"), (told, len(run)))
+            self.note(f"tell of {name}: no warning", warned == b"", warned)
+            self.note(f"tell of {name}: the time", told["time"] == "less than a second", told)
+        for data, said in ((b"p edge 3 99\ne 1 2\n", b"the `p` line says 99 edges, and the text has 1: is it cut?"),
+                           (b"p edge 2 1\ne 1 2\nc at 3 0 0\n", b"a place is given for vertex 3"),
+                           (b"p edge 2 1\ne 1 2\nc name 9 X\n", b"a name is given for vertex 9")):
+            self.note(f"warned of {data}", said in self.told_of(data)[1])
+        for data in (b"p edge 2 1\ne 1 2\n", b"p edge 2 2\ne 1 2\ne 2 1\n", b"p edge 3 2\ne 1 2\ne 2 1\ne 2 3\ne 3 2\n",
+                     b"p edge 0 0\n"):
+            self.note(f"not warned of {data}", self.told_of(data)[1] == b"")
 
-def large_rows(play):
-    """Of a large network `tell` has the rounds counted by the program."""
-    data = written("random", 3000, 9000)
-    told, _ = told_of(data)
-    done = subprocess.run([play, "rounds"], input=data, capture_output=True, timeout=LIMIT)
-    payloads = len(re.findall(rb"^\d+ put ", done.stdout, re.M))
-    long = r"(plan|transcript) (less than a second|about \d+ (second|minute|hour)s?)"
-    note(
-        "the time of a large network",
-        re.fullmatch(rf"{long}, {long}; by a run of [\d,]+ wires, made just now", told["time"]),
-        told,
-    )
-    note(
-        "payloads of a large network",
-        told["payloads"] == f"{payloads:,}; counted by `forestplay rounds`",
-        (told, payloads),
-    )
+    def test_bounds(self):
+        """What `tell` says without the program of a network that is too large to be worked out: bounds of what it says
+        of a smaller one are above the counts."""
+        for words in ("complete 8", "random 30 80", "grid 5 5", "star 7", "tree 12", "disk 20 --seed 3"):
+            run = Run(read_network(call(*words.split())[1].decode(), "net"))
+            self.note(f"the most payloads of {words}", run.payloads <= most_payloads(run) <= 2 * run.payloads,
+                      (run.payloads, most_payloads(run)))
 
+    def test_faults(self):
+        """The fault that the program reports, in words; and whether there is another way in."""
+        for text, fault, said, is_read in FAULTS:
+            status, wrote, told = call("tell", "-", data=text.encode())
+            code, _, place = fault.partition(" ")
+            lines = told.decode().split("\n")
+            good = (
+                (status, wrote) == (1, b"")
+                and lines[0].startswith("network: -")
+                and lines[0].endswith(f"({code})")
+                and said in lines[0]
+            )
+            good = good and (f" {place}: " in lines[0] if place.startswith("line") else True)
+            self.note(f"the fault {fault} of {text[:40]!r}", good, told)
+            self.note(f"another way in for {text[:40]!r}",
+                      (len(lines) == 3 and "`bin/network read -` can read it" in lines[1]) == is_read, told)
+            done = run_program(PLAN, ["forests"], text.encode())
+            self.note(f"the program's fault of {text[:40]!r}", done.stderr == f"forestplan: {fault}\n".encode(), done)
+        pairs = [(v, v + d) for d in range(1, 22) for v in range(1, 20001 - d)][:400_001]
+        text = "p edge 20000 1\n" + "".join("e %d %d\n" % pair for pair in pairs)
+        status, _, told = call("tell", "-", data=text.encode())
+        self.note("an edge too many", status == 1 and b"line 400002: more than 400000 different edges (F7)" in told,
+                  told)
 
-def main():
-    words = argparse.ArgumentParser()
-    words.add_argument("--program", metavar="PROGRAM")
-    words.add_argument("--play", metavar="PLAY")
-    given = words.parse_args()
-    program, play = (path and os.path.abspath(path) for path in (given.program, given.play))
-    with tempfile.TemporaryDirectory() as folder:
-        kind_rows()
-        seed_rows()
-        word_rows()
-        form_rows(folder)
-        faulty_rows()
-        random_form_rows()
-        number_rows()
-        name_rows(folder)
-        script_rows(folder)
-        identifier_rows()
-        bar_rows()
-        tell_rows()
-        bound_rows()
-        fault_rows(program)
-        if play:
-            large_rows(play)
-        if program:
-            program_rows(program)
-    print(f"{TALLY['passed']} passed, {TALLY['failed']} failed")
-    return 1 if TALLY["failed"] else 0
-
-
-if __name__ == "__main__":
-    sys.exit(main())
+    def test_large(self):
+        """Of a large network `tell` has the rounds counted by the program."""
+        data = self.written("random", 3000, 9000)
+        told, _ = self.told_of(data)
+        done = run_program(PLAY, ["rounds"], data)
+        payloads = len(re.findall(rb"^\d+ put ", done.stdout, re.M))
+        long = r"(plan|transcript) (less than a second|about \d+ (second|minute|hour)s?)"
+        self.note("the time of a large network",
+                  re.fullmatch(rf"{long}, {long}; by a run of [\d,]+ wires, made just now", told["time"]), told)
+        self.note("payloads of a large network", told["payloads"] == f"{payloads:,}; counted by `forestplay rounds`",
+                  (told, payloads))

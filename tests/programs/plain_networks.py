@@ -10,6 +10,8 @@ import subprocess
 from collections import Counter
 
 from lab.definitions.colours import Network, bit, colours, first_colours, merge, plan_text, three
+from tests.cases import Case
+from tests.settings import PLAN
 
 SEED = 2026
 LIMIT = 60
@@ -35,14 +37,6 @@ WORKED_PLANS = [
 ]
 
 
-def plain_network_rows(program):
-    """Rows (name, good, what) of the definition, and of the program beside it."""
-    return (worked_rows() + [row for family in FAMILIES for row in family_rows(program, family)]
-            + [row for family in NAMED for row in family_rows(program, family, long_names)]
-            + [row for family in BARRED for row in family_rows(program, family, bars_of=some_bars)]
-            + [row for family in NAMED_AND_BARRED for row in family_rows(program, family, long_names, some_bars)])
-
-
 def worked_rows():
     rows = []
     for text, channels in WORKED_PLANS:
@@ -54,11 +48,8 @@ def worked_rows():
     after = {1: 0, 2: 2, 3: 1}
     highest_digit = Network({1: 2**127 - 1, 2: 2**128 - 1}, {(1, 2)})
     for name, got, wanted in [
-        (
-            "three colours of the triangle",
-            [three(triangle, f) for f in (0, 1)],
-            [{1: 0, 2: 1, 3: 0}, {1: 1, 2: 1, 3: 0}],
-        ),
+        ("three colours of the triangle", [three(triangle, f) for f in (0, 1)],
+         [{1: 0, 2: 1, 3: 0}, {1: 1, 2: 1, 3: 0}]),
         ("the triangle after one forest", merge(triangle, 0, {1: 0, 2: 0, 3: 0}), {1: 0, 2: 1, 3: 0}),
         ("a bar: the first colours", first_colours(barred), {1: 0, 2: 0, 3: 1}),
         ("a bar: after one forest", merge(barred, 0, {1: 0, 2: 0, 3: 1}), after),
@@ -222,16 +213,29 @@ FAMILIES = [
     ("climbing on 20,000 nodes", climbing(3, 20_000)),
 ]
 # With identifiers of their own.
-NAMED = [
-    ("names on up to 12 nodes", random_of(150, 0, 12)),
-    ("names on 20 to 40 nodes", random_of(50, 20, 40)),
-]
+NAMED = [("names on up to 12 nodes", random_of(150, 0, 12)), ("names on 20 to 40 nodes", random_of(50, 20, 40))]
 # With barred channels.
-BARRED = [
-    ("bars on up to 12 nodes", random_of(80, 1, 12)),
-    ("bars on 20 to 40 nodes", random_of(20, 20, 40)),
-]
-NAMED_AND_BARRED = [
-    ("names and bars on up to 12 nodes", random_of(80, 1, 12)),
-    ("names and bars on 20 to 40 nodes", random_of(20, 20, 40)),
-]
+BARRED = [("bars on up to 12 nodes", random_of(80, 1, 12)), ("bars on 20 to 40 nodes", random_of(20, 20, 40))]
+NAMED_AND_BARRED = [("names and bars on up to 12 nodes", random_of(80, 1, 12)),
+                    ("names and bars on 20 to 40 nodes", random_of(20, 20, 40))]
+
+
+class PlainNetworks(Case):
+    def test_definition(self):
+        self.note_all(worked_rows())
+
+    def test_families(self):
+        for family in FAMILIES:
+            self.note_all(family_rows(PLAN, family))
+
+    def test_names(self):
+        for family in NAMED:
+            self.note_all(family_rows(PLAN, family, long_names))
+
+    def test_bars(self):
+        for family in BARRED:
+            self.note_all(family_rows(PLAN, family, bars_of=some_bars))
+
+    def test_names_and_bars(self):
+        for family in NAMED_AND_BARRED:
+            self.note_all(family_rows(PLAN, family, long_names, some_bars))

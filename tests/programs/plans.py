@@ -8,8 +8,10 @@ import subprocess
 
 from lab.definitions.colours import network_of, plan_text
 from lab.definitions.nodes import wire_words
+from tests.cases import Case
 from tests.programs.one_worker import Run
 from tests.programs.plain_networks import BARRED, FAMILIES, SEED, some_bars, text_of
+from tests.settings import PLAN
 
 LIMIT = 60
 MOST_TOLD = 2000
@@ -57,13 +59,6 @@ WORKED_RUNS = [
     (["--turns", "0"], b"p edge 2 1\ne 1 1\n", 1, b"", b"forestplan: F6 line 2\n"),
 ] + [([f"--workers={workers}", "--capacity", str(capacity)], TRIANGLE, 0, TRIANGLE_PLAN, b"")
      for workers in (1, 2, 8, 64) for capacity in (1, 4)]
-
-
-def plan_rows(program):
-    """Rows (name, good, what)."""
-    rows = [one_row(program, *row) for row in WORKED_RUNS]
-    rows += [family_row(program, index) for index in range(len(FAMILIES + BARRED))]
-    return rows + [small_row(program)] + list(first_rows(program)) + list(turn_rows(program))
 
 
 def answer_of(program, words, data, environment=None):
@@ -155,10 +150,8 @@ def turn_rows(program):
     needed = Run(network_of(TRIANGLE), 2).looks
     words = ["plan", "--capacity=0002", "--workers=+1"]
     got = [answer_of(program, [*words, f"--turns=+0{turns}"], TRIANGLE) for turns in (needed - 1, needed)]
-    yield "numbers of options with a sign or zeros before them", got == [
-        (3, b"", STOPPED),
-        (0, TRIANGLE_PLAN, b""),
-    ], got
+    yield "numbers of options with a sign or zeros before them", got == [(3, b"", STOPPED),
+                                                                         (0, TRIANGLE_PLAN, b"")], got
     for capacity in (1, 4):
         whole = Run(network_of(TRIANGLE), capacity)
         for command, answer in (("plan", TRIANGLE_PLAN), ("transcript", whole.text())):
@@ -167,9 +160,8 @@ def turn_rows(program):
                 got = answer_with(program, TRIANGLE, capacity, turns, command)
                 if got != ((3, b"", STOPPED) if turns < whole.looks else (0, answer, b"")):
                     wrong.append((turns, got))
-            yield f"{command} by 0 to 200 turns of one worker with capacity {capacity}: stopped, or the answer", not wrong, wrong[
-                :3
-            ]
+            name = f"{command} by 0 to 200 turns of one worker with capacity {capacity}: stopped, or the answer"
+            yield name, not wrong, wrong[:3]
 
 
 def answer_with(program, data, capacity, turns, command="plan"):
@@ -177,3 +169,20 @@ def answer_with(program, data, capacity, turns, command="plan"):
         command == "transcript"
     )
     return answer_of(program, words, data)
+
+
+class Plans(Case):
+    def test_worked(self):
+        self.note_all(one_row(PLAN, *row) for row in WORKED_RUNS)
+
+    def test_families(self):
+        self.note_all(family_row(PLAN, index) for index in range(len(FAMILIES + BARRED)))
+
+    def test_small(self):
+        self.note(*small_row(PLAN))
+
+    def test_first_looks(self):
+        self.note_all(first_rows(PLAN))
+
+    def test_turns(self):
+        self.note_all(turn_rows(PLAN))

@@ -1,28 +1,22 @@
-#!/usr/bin/env python3
 """Black-box tests of `forestplay rounds`: compares whole texts with the definitions, and the payloads of the rounds
-with those of transcripts. The last line is 'N passed, M failed'.
-
-  rounds.py [--program PROGRAM] [--plan PLAN]
-      PROGRAM   has the command `rounds`; default: the built forestplay
-      PLAN      has the command `transcript`; default: the built forestplan
+with those of transcripts.
 
 Expected texts are worked by hand, or come from the definitions in lab/definitions/rounds.py; none is taken from a
 program."""
-import argparse
 import glob
 import os
 import random
-import subprocess
-import sys
 import tempfile
 
 from lab.definitions.colours import network_of
 from lab.definitions.rounds import made_text, rounds_text
 from tests import TOP
+from tests.cases import Case, run_program, text
 from tests.faults.refused_memory import build_front, sweep
 from tests.programs.plain_networks import (
     climbing, complete, cycle, path, random_of, some_bars, star, text_of, tree, two_sided,
 )
+from tests.settings import PLAN, PLAY
 from tests.shell import run_line
 
 LIMIT = 60
@@ -30,7 +24,6 @@ SEED = 2026
 WORKERS = (1, 2, 4)
 # The bytes of a network text up to which transcripts are made of it: most of the networks are shorter.
 MOST = 400
-TALLY = {"passed": 0, "failed": 0}
 EDGE = "p edge 2 1|e 1 2|"
 TRIANGLE = "p edge 3 3|e 1 2|e 1 3|e 2 3|"
 # A network text for each kind of fault, and what is said of it.
@@ -51,22 +44,8 @@ FAULTS = [
 ]
 # The headline as one line of shell, as README has it: the payloads of the rounds and of a run of threads are the same
 # lines.
-HEADLINE = """cmp <("$0" rounds < "$2" | grep put | sort) <("$1" transcript --edition 1 --workers "$3" < "$2" | grep 'put .* payload' | sort)"""
-
-
-def note(name, good, what=""):
-    TALLY["passed" if good else "failed"] += 1
-    if not good:
-        print(f"FAILED {name}: {str(what)[:4000]}")
-
-
-def text(lines):
-    """Bytes of a text in which '|' stands for a line feed."""
-    return lines.replace("|", "\n").encode()
-
-
-def run(words, data=b"", **given):
-    return subprocess.run(words, input=data, capture_output=True, timeout=LIMIT, **given)
+HEADLINE = """cmp <("$0" rounds < "$2" | grep put | sort) \\
+<("$1" transcript --edition 1 --workers "$3" < "$2" | grep 'put .* payload' | sort)"""
 
 
 # Node 2 is the root of the edge's forest: from 2 it steps to 0 and stays there, shifts to 1, then to 0, then to 1, and
@@ -86,7 +65,8 @@ EDGE_TEXT = (
     "rounds 1 2 1 1 18|"
     + EDGE_BEGINNING
     + "pulse 13 merge 0 0 0|1 chose 0|1 put 2 payload 13 chosen 0|pulse 14 merge 0 0 1|"
-    "pulse 15 merge 0 1 0|2 chose 1|2 put 1 payload 15 chosen 1|pulse 16 merge 0 1 1|pulse 17 merge 0 2 0|pulse 18 merge 0 2 1|"
+    "pulse 15 merge 0 1 0|2 chose 1|2 put 1 payload 15 chosen 1|pulse 16 merge 0 1 1|"
+    "pulse 17 merge 0 2 0|pulse 18 merge 0 2 1|"
 )
 # With channel 1 barred at node 1 the merge has nine pulses. Node 1 begins with colour 1, so it chooses at step 1, and
 # again 1; node 2 begins with 0, so it chooses at step 3, and 0 is neither barred nor taken. With one bar at each end
@@ -97,7 +77,8 @@ BARRED_EDGES = [
         "rounds 2 2 1 1 1 21|"
         + EDGE_BEGINNING
         + "pulse 13 merge 0 0 0|pulse 14 merge 0 0 1|1 chose 1|1 put 2 payload 14 chosen 1|"
-        "pulse 15 merge 0 0 2|pulse 16 merge 0 1 0|2 chose 0|2 put 1 payload 16 chosen 0|pulse 17 merge 0 1 1|pulse 18 merge 0 1 2|"
+        "pulse 15 merge 0 0 2|pulse 16 merge 0 1 0|2 chose 0|2 put 1 payload 16 chosen 0|pulse 17 merge 0 1 1|"
+        "pulse 18 merge 0 1 2|"
         "pulse 19 merge 0 2 0|pulse 20 merge 0 2 1|pulse 21 merge 0 2 2|",
     ),
     (
@@ -105,7 +86,8 @@ BARRED_EDGES = [
         "rounds 2 2 1 1 1 21|"
         + EDGE_BEGINNING
         + "pulse 13 merge 0 0 0|pulse 14 merge 0 0 1|1 chose 1|1 put 2 payload 14 chosen 1|"
-        "pulse 15 merge 0 0 2|pulse 16 merge 0 1 0|pulse 17 merge 0 1 1|2 chose 2|2 put 1 payload 17 chosen 2|pulse 18 merge 0 1 2|"
+        "pulse 15 merge 0 0 2|pulse 16 merge 0 1 0|pulse 17 merge 0 1 1|2 chose 2|2 put 1 payload 17 chosen 2|"
+        "pulse 18 merge 0 1 2|"
         "pulse 19 merge 0 2 0|pulse 20 merge 0 2 1|pulse 21 merge 0 2 2|",
     ),
 ]
@@ -133,86 +115,56 @@ def networks():
     return all_of
 
 
-def text_rows(program, all_of):
-    for name, data, wanted in [
-        ("an edge", EDGE, EDGE_TEXT),
-        ("no node", "p edge 0 0|", EMPTY_TEXT),
-        ("a node alone", "p edge 1 0|", EMPTY_TEXT.replace("1 0 0", "1 1 0")),
-        ("a node alone with two bars", "p edge 1 0|b 1 9|b 1 1|", EMPTY_TEXT.replace("1 0 0 0", "2 1 0 2 0")),
-        *((f"an edge with {bars}", EDGE + bars, wanted) for bars, wanted in BARRED_EDGES),
-    ]:
-        got = rounds_text(network_of(text(data)))
-        note(f"the definition of {name}", got == text(wanted), got)
-        done = run([program, "rounds"], text(data))
-        note(f"the rounds of {name}", (done.returncode, done.stdout, done.stderr) == (0, text(wanted), b""), done)
-    done = run([program, "rounds"], text(TRIANGLE + "b 3 1|"))
-    note("the last pulse of a triangle with a bar", done.stdout.startswith(b"rounds 2 3 2 1 2 36\n"), done)
-    for name, data in all_of.items():
-        net = network_of(data)
-        wanted = rounds_text(net)
-        note(f"both definitions on {name}", wanted == made_text(net), data)
-        done = run([program, "rounds"], data)
-        note(f"the rounds of {name}", (done.returncode, done.stdout, done.stderr) == (0, wanted, b""), (data, done))
-
-
-def headline_rows(program, plan, all_of):
-    """On each network, with each number of workers."""
-    with tempfile.TemporaryDirectory() as folder:
-        for i, (name, data) in enumerate(all_of.items()):
-            file_name = os.path.join(folder, f"{i}.col")
-            with open(file_name, "wb") as file:
-                file.write(data)
-            for workers in WORKERS:
-                done = run_line(HEADLINE, program, plan, file_name, str(workers), limit=LIMIT)
-                note(
-                    f"the payloads of {name} with {workers} workers",
-                    (done.returncode, done.stdout, done.stderr) == (0, b"", b""),
-                    done,
-                )
-
-
-def fault_rows(program):
-    """The faults of a network text, each of its kind."""
-    crowd = "p edge 1025 1024|" + "".join(f"e 1 {v}|" for v in range(2, 1026))
-    for data, fault in FAULTS + [(crowd, "N1 vertex 1"), (crowd + "e 1 1|", "F6 line 1026")]:
-        done = run([program, "rounds"], text(data))
-        wanted = (1, b"", f"forestplay: {fault}\n".encode())
-        note(f"the fault of {data[-40:]!r}", (done.returncode, done.stdout, done.stderr) == wanted, done)
-
-
-def memory_rows(program):
-    """Each growth refused in turn: the right answer, or out of memory."""
-    with tempfile.TemporaryDirectory() as folder:
-        front, failure = build_front(folder)
-        note("the refusing allocator builds", failure is None, failure)
-        if failure is not None:
-            return
-        for data, wanted in [
-            (EDGE, (0, text(EDGE_TEXT), b"")),
-            ("p edge 2 1|e 1 1|", (1, b"", b"forestplay: F6 line 2\n")),
+class Rounds(Case):
+    def test_texts(self):
+        for name, data, wanted in [
+            ("an edge", EDGE, EDGE_TEXT),
+            ("no node", "p edge 0 0|", EMPTY_TEXT),
+            ("a node alone", "p edge 1 0|", EMPTY_TEXT.replace("1 0 0", "1 1 0")),
+            ("a node alone with two bars", "p edge 1 0|b 1 9|b 1 1|", EMPTY_TEXT.replace("1 0 0 0", "2 1 0 2 0")),
+            *((f"an edge with {bars}", EDGE + bars, wanted) for bars, wanted in BARRED_EDGES),
         ]:
-            row = sweep(program, front, ["rounds"], text(data), wanted, "forestplay")
-            note(f"{row[0]} of {data!r}", row[1], row[2])
+            got = rounds_text(network_of(text(data)))
+            self.note(f"the definition of {name}", got == text(wanted), got)
+            done = run_program(PLAY, ["rounds"], text(data))
+            self.expect(f"the rounds of {name}", done, 0, text(wanted), b"")
+        done = run_program(PLAY, ["rounds"], text(TRIANGLE + "b 3 1|"))
+        self.note("the last pulse of a triangle with a bar", done.stdout.startswith(b"rounds 2 3 2 1 2 36\n"), done)
+        for name, data in networks().items():
+            net = network_of(data)
+            wanted = rounds_text(net)
+            self.note(f"both definitions on {name}", wanted == made_text(net), data)
+            done = run_program(PLAY, ["rounds"], data)
+            self.expect(f"the rounds of {name}", done, 0, wanted, b"")
 
+    def test_headline(self):
+        """On each network, with each number of workers."""
+        with tempfile.TemporaryDirectory() as folder:
+            short = {name: data for name, data in networks().items() if len(data) < MOST}
+            for i, (name, data) in enumerate(short.items()):
+                file_name = os.path.join(folder, f"{i}.col")
+                with open(file_name, "wb") as file:
+                    file.write(data)
+                for workers in WORKERS:
+                    done = run_line(HEADLINE, PLAY, PLAN, file_name, str(workers), limit=LIMIT)
+                    self.note(f"the payloads of {name} with {workers} workers",
+                              (done.returncode, done.stdout, done.stderr) == (0, b"", b""), done)
 
-def built(name):
-    return os.path.join(TOP, "crates", name, "out", name)
+    def test_faults(self):
+        """The faults of a network text, each of its kind."""
+        crowd = "p edge 1025 1024|" + "".join(f"e 1 {v}|" for v in range(2, 1026))
+        for data, fault in FAULTS + [(crowd, "N1 vertex 1"), (crowd + "e 1 1|", "F6 line 1026")]:
+            done = run_program(PLAY, ["rounds"], text(data))
+            self.expect(f"the fault of {data[-40:]!r}", done, 1, b"", f"forestplay: {fault}\n".encode())
 
-
-def main():
-    words = argparse.ArgumentParser(description=__doc__, formatter_class=argparse.RawDescriptionHelpFormatter)
-    words.add_argument("--program", default=built("forestplay"))
-    words.add_argument("--plan", default=built("forestplan"))
-    given = words.parse_args()
-    program, plan = os.path.abspath(given.program), os.path.abspath(given.plan)
-    all_of = networks()
-    text_rows(program, all_of)
-    headline_rows(program, plan, {name: data for name, data in all_of.items() if len(data) < MOST})
-    fault_rows(program)
-    memory_rows(program)
-    print(f"{TALLY['passed']} passed, {TALLY['failed']} failed")
-    return 1 if TALLY["failed"] else 0
-
-
-if __name__ == "__main__":
-    sys.exit(main())
+    def test_refused_memory(self):
+        """Each growth refused in turn: the right answer, or out of memory."""
+        with tempfile.TemporaryDirectory() as folder:
+            front, failure = build_front(folder)
+            self.note("the refusing allocator builds", failure is None, failure)
+            if failure is not None:
+                return
+            for data, wanted in [(EDGE, (0, text(EDGE_TEXT), b"")),
+                                 ("p edge 2 1|e 1 1|", (1, b"", b"forestplay: F6 line 2\n"))]:
+                row = sweep(PLAY, front, ["rounds"], text(data), wanted, "forestplay")
+                self.note(f"{row[0]} of {data!r}", row[1], row[2])

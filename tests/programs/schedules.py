@@ -1,13 +1,10 @@
-#!/usr/bin/env python3
-"""Tests of `explore`, which plays every schedule of a tiny network. The last line is 'N passed, M failed'.
+"""Tests of `explore`, which plays every schedule of a tiny network.
 
-  schedules.py [--program FORESTPLAN] [--play FORESTPLAY] [--first]
-  schedules.py --plant          plants mistakes in copies of the explorer, and prints each that these tests let through
-
-The programs are by default those that the gate built. The table of states and steps is compared with a second search,
-which walks over the network of lab/definitions/nodes.py, puts apart; its numbers with those of a trial written before
-it; its lists of events with what `forestplay events` makes of them; and the rounds without a rule with nodes that hear
-and send. `--plant` takes some minutes, and isn't part of the gate. The rest takes about half a minute."""
+The table of states and steps is compared with a second search, which walks over the network of
+lab/definitions/nodes.py, puts apart; its numbers with those of a trial written before it; its lists of events with what
+`forestplay events` makes of them; and the rounds without a rule with nodes that hear and send. `python3 -m
+tests.programs.schedules` plants mistakes in copies of the explorer, and prints each that these tests let through: it
+takes some minutes, and isn't part of the gate."""
 import argparse
 import gc
 import itertools
@@ -25,12 +22,13 @@ from lab.definitions.nodes import Colouring, NetState, bit_step, last_pulse, por
 from lab.schedules import ruled_rounds, rules
 from lab.schedules.space import Space, TooMany
 from tests import TOP
+from tests.cases import Case
 from tests.programs.events import answer_of
+from tests.settings import PLAN, PLAY
 
 LIMIT = 120
 MOST = 200_000  # states; more show that a search goes on and on
 SEED = 2026
-TALLY = {"passed": 0, "failed": 0}
 
 NETWORKS = {
     "two": "p edge 2 1|e 1 2|",
@@ -47,12 +45,6 @@ NETWORKS = {
 # (network, puts apart, states, steps), as a trial found them that searched copies of whole states.
 TRIAL = [("two", False, 281, 430), ("path", False, 3551, 8843), ("triangle", False, 16473, 50723),
          ("row of four", False, 41421, 141961), ("ring of four", False, 171815, 688891), ("two", True, 641, None)]
-
-
-def note(name, good, what=""):
-    TALLY["passed" if good else "failed"] += 1
-    if not good:
-        print(f"FAILED {name}: {str(what)[:2000]}")
 
 
 def text_of(name):
@@ -158,59 +150,6 @@ def shown(state, v):
     return p, "ready" if node.can_pulse() else "safe", [(f"safe {p}", w) for w, port in ports if not port.safe]
 
 
-def table_rows(name, puts):
-    """The table beside the second search, state by state and step by step."""
-    net = net_of(name)
-    space, found = Space(net, puts=puts, limit=MOST), second_search(net, puts)
-    keys = [key_in_table(space, s) for s in range(space.count)]
-    what = f"{name}{', puts apart' if puts else ''}"
-    note(f"states of {what}", len(set(keys)) == space.count and set(keys) == set(found), (space.count, len(found)))
-    steps = [s for s, key in enumerate(keys)
-             if {str(event): keys[t] for event, t in space.steps(s)} != found.get(key, (None, {}))[1]]
-    note(f"steps of {what}", not steps, steps[:3])
-    other = [
-        s
-        for s, key in enumerate(keys)
-        if key in found
-        and not puts
-        and {v: node[:3] for v, node in space.nodes(s).items()} != {v: shown(found[key][0], v) for v in space.vertices}
-    ]
-    note(f"what is shown of the states of {what}", not other, other[:3])
-    ends = [s for s, key in enumerate(keys) if not found.get(key, (None, {}))[1]]
-    note(f"ends of {what}", space.ends == ends and len(ends) == 1, (space.ends, ends))
-    apart = max((abs(state.nodes[v].pulse_number - state.nodes[w].pulse_number) for state, _ in found.values()
-                 for v, w in space.links), default=0)
-    most = max((len(wires) for state, _ in found.values() for wires in state.link.values()), default=0)
-    note(f"pulses apart and wires of {what}", (space.farthest, space.most_wires) == (apart, most), (apart, most))
-    note(f"no fault of {what}", not space.faults, space.faults)
-    return space, found
-
-
-def puts_rows(name):
-    """With puts apart; and these states, with the puts made that they still lack, are those of the search without."""
-    _, apart = table_rows(name, True)
-    _, eager = table_rows(name, False)
-    made = {net_key(put_all(copied(state))) for state, _ in apart.values()}
-    note(f"puts as soon as they can be made, of {name}", made == set(eager), (len(made), len(eager)))
-
-
-def small_rows():
-    for name in ("alone", "apart", "barred", "two", "path"):
-        puts_rows(name)
-
-
-def trial_rows():
-    for name, puts, states, steps in TRIAL:
-        space = Space(net_of(name), puts=puts, limit=MOST)
-        note(
-            f"numbers of {name}",
-            (space.count, steps and len(space.target)) == (states, steps),
-            (space.count, len(space.target)),
-        )
-        if not puts:
-            end_rows(name, space)
-
-
 # The number of events, and the ends.
 
 def payloads_of(net):
@@ -228,35 +167,6 @@ def count_of_events(net):
     """n·R + 2·wires, wires being 2·payloads + 2·edges·(R + 1)."""
     wires = 2 * payloads_of(net) + 2 * len(net.number) * (last_pulse(net) + 1)
     return len(net.neighbours) * last_pulse(net) + 2 * wires, wires
-
-
-def end_rows(name, space):
-    """Every schedule has the number of events that the formula says, less the puts if these aren't counted."""
-    events, wires = count_of_events(space.net)
-    wanted = events - (0 if space.puts else wires)
-    levels = all(space.depth[t] == space.depth[s] + 1 for s in range(space.count) for _, t in space.steps(s))
-    note(f"events of each schedule of {name}, {wanted}", levels and [space.depth[s] for s in space.ends] == [wanted],
-         [space.depth[s] for s in space.ends])
-    ends = [{v: node.colour for v, node in space.nodes(s).items()} for s in space.ends]
-    note(f"end of {name}", ends == [colours(space.net)], ends)
-
-
-def formula_rows():
-    for name in ("alone", "apart", "barred", "two", "path", "star"):
-        end_rows(f"{name}, puts apart", Space(net_of(name), puts=True, limit=MOST))
-
-
-def schedules_rows():
-    """The number of schedules of two, by recursion over the second search."""
-    found, ways = second_search(net_of("two"), False), {}
-
-    def count(key):
-        if key not in ways:
-            ways[key] = sum(map(count, found[key][1].values())) if found[key][1] else 1
-        return ways[key]
-
-    start = net_key(put_all(NetState(net_of("two"))))
-    note("schedules of two", Space(net_of("two"), limit=MOST).schedules == count(start), count(start))
 
 
 # Lists of events, and walks.
@@ -289,34 +199,6 @@ def state_text(space, s, taken):
     return "".join(line + "\n" for line in lines).encode()
 
 
-def walk_rows(play):
-    """A hundred random walks: each state beside the definitions, and some of them, and the last, beside the program."""
-    source, wrong, differ, needless = random.Random(SEED), [], [], []
-    spaces = {name: Space(net_of(name), limit=MOST) for name in ("two", "path", "triangle")}
-    for name in ["two"] * 30 + ["path"] * 30 + ["triangle"] * 40:
-        space = spaces[name]
-        state, s, events, taken = put_all(NetState(space.net)), 0, [], dict.fromkeys(space.links, 0)
-        length = source.randrange(0, 400)
-        while space.steps(s) and len(events) < length:
-            event, s = source.choice(space.steps(s))
-            state = copied(state, event.v)
-            state.step(event.kind.title(), event.v, event.port)
-            put_all(state)
-            events.append(event)
-            if event.kind == "take":
-                taken[event.w, event.v] += 1
-            if net_key(state) != key_in_table(space, s):
-                wrong.append((name, [str(event) for event in events]))
-        kinds = Counter(line.split()[0] for line in space.lines(events))
-        if kinds["put"] != kinds["take"]:
-            needless.append((name, space.lines(events)))
-        if played(play, text_of(name), space.lines(events, eager=True)) != (0, state_text(space, s, taken), b""):
-            differ.append((name, space.lines(events, eager=True)))
-    note("a hundred random walks, state by state", not wrong, wrong[:1])
-    note("a hundred random walks by forestplay events", not differ, differ[:1])
-    note("a put only as a take needs it", not needless, needless[:1])
-
-
 def explored(*words):
     done = subprocess.run([os.path.join(TOP, "bin", "explore"), *words], cwd=TOP, capture_output=True, timeout=LIMIT)
     return done.returncode, done.stdout.decode(), done.stderr.decode()
@@ -336,86 +218,7 @@ BROKEN = [
 ]
 
 
-def broken_rows(play):
-    for name, without, what, count, fault in BROKEN:
-        with tempfile.NamedTemporaryFile("w", suffix=".col") as file:
-            file.write(text_of(name))
-            file.flush()
-            status, said, _ = explored(file.name, "--limit", str(MOST), "--without", without)
-            _, listed, _ = explored(file.name, "--limit", str(MOST), "--without", without, "--events")
-            _, apart, _ = explored(file.name, "--limit", str(MOST), "--without", without, "--puts")
-        lines = listed.splitlines()
-        first = said.split("\n")[0]
-        note(
-            f"{name} without {without}",
-            status == 0 and (what is None or first == f"broken after {count} events: {what}"),
-            said,
-        )
-        note(
-            f"the list of {name} without {without}",
-            [line.split(":")[0] for line in said.splitlines()[1 : 1 + len(lines)]] == lines,
-            (said, lines),
-        )
-        note(
-            f"{name} without {without}, puts apart: as many events", apart.split(": ")[0] == first.split(": ")[0], apart
-        )
-        got = played(play, text_of(name), lines)
-        wanted = answer_of(net_of(name), numbered(text_of(name), lines))
-        note(f"forestplay on the list of {name} without {without}", got == wanted, (got, wanted))
-        wanted = f"forestplay: {fault} line ".encode() if fault else b""
-        note(f"forestplay refuses it as it should, {name} without {without}",
-             got[2].startswith(wanted) and got[0] == (1 if fault else 0), got)
-
-
-def whole_list_rows(play, program):
-    """One whole list of each network, by the program; and its end beside `plain`."""
-    for name in ("alone", "apart", "two", "path", "triangle"):
-        with tempfile.NamedTemporaryFile("w", suffix=".col") as file:
-            file.write(text_of(name))
-            file.flush()
-            _, listed, _ = explored(file.name, "--limit", str(MOST), "--events")
-            _, said, _ = explored(file.name, "--limit", str(MOST))
-            _, apart, _ = explored(file.name, "--limit", str(MOST), "--puts") if name == "two" else (0, "", "")
-        events, wires = count_of_events(net_of(name))
-        wanted = f"\neach has {events} events: {wires} puts, {wires} takes and {events - 2 * wires} pulses\n"
-        note(f"what explore says of {name}, puts apart", name != "two" or wanted in apart, apart)
-        status, out, _ = played(play, text_of(name), listed.splitlines())
-        channels = [line.split()[-1] for line in out.decode().splitlines() if "channel" in line]
-        plan = subprocess.run(
-            [program, "plain"], input=text_of(name).encode(), capture_output=True, timeout=LIMIT
-        ).stdout
-        note(f"a whole list of {name}", status == 0 and len(channels) == len(net_of(name).neighbours), out)
-        note(
-            f"the end of {name} is the plan",
-            [line.split()[1] for line in plan.decode().splitlines()[1:]] == channels,
-            plan,
-        )
-        note(
-            f"what explore says of the end of {name}",
-            said.endswith(f"\none end: channels {' '.join(channels)}\n"),
-            said,
-        )
-
-
-def not_broken_rows():
-    """On links that keep the order, acknowledgements aren't needed; and nothing is broken if no rule is left out."""
-    space = Space(net_of("two"), without=("acks",), limit=MOST)
-    note("two without acks", not space.faults and len(space.ends) == 1, space.faults)
-    beyond = Space(net_of("two"), without=("safes",), beyond=True, limit=MOST)
-    plans = [{v: node.colour for v, node in beyond.nodes(s).items()} for s in beyond.ends]
-    wrong = [plan for s, plan in zip(beyond.ends, plans) if plan != colours(beyond.net)]
-    note("beyond the first fault, two without safes: neighbours far apart", beyond.farthest > 1, beyond.farthest)
-    note(
-        "only a wrong pulse leads to another plan",
-        all(
-            any(node.wrong for node in beyond.nodes(s).values()) for s, plan in zip(beyond.ends, plans) if plan in wrong
-        ),
-        wrong,
-    )
-
-
 # The rounds without a rule, by nodes that hear and send.
-
 class NodeWithout(Colouring):
     """A node of the colouring without a rule. It notes that it has heard its own colour from a parent."""
 
@@ -487,59 +290,10 @@ SMALLEST = {"digit": (2, [(1, 2)]), "shift": (5, [(1, 3), (3, 5)]), "root": (2, 
             "pair": (3, [(1, 2), (1, 3), (2, 3)]), "earlier": (3, [(1, 2), (1, 3), (2, 3)])}
 
 
-def rounds_rows():
-    source = random.Random(SEED)
-    tried = [net for nodes in range(1, 5) for net in all_networks(nodes)] + source.sample(list(all_networks(5)), 100)
-    for rule in [*rules.OF_ROUNDS, "none"]:
-        without = () if rule == "none" else (rule,)
-        differ = [
-            net.neighbours
-            for net in tried
-            if goes_wrong(net, rule) != bool(ruled_rounds.RuledRounds(net, without).clash)
-        ]
-        note(f"small networks without {rule}", not differ, differ[:1])
-    for rule in rules.OF_ROUNDS:
-        rounds, count = ruled_rounds.smallest([rule], 9)
-        edges = sorted(tuple(sorted(pair)) for pair in rounds.net.number)
-        nodes = len(rounds.net.neighbours)
-        if rule in SMALLEST:
-            note(f"the smallest network without {rule}", (nodes, edges) == SMALLEST[rule], (nodes, edges))
-        if rule == "root":
-            # By hand: after four bit steps 1 has colour 1 and its root 2 has colour 0; then 1 takes 0.
-            note("the first clash without root", rounds.clash == (7, 0, 1, 2, 0), rounds.clash)
-        note(f"it goes wrong without {rule}", goes_wrong(rounds.net, rule), edges)
-        smaller = [net for net in tried if len(net.neighbours) < nodes]
-        smaller += [network_at_random(source, source.randrange(2, nodes)) for _ in range(60 if nodes > 2 else 0)]
-        note(f"smaller networks go right without {rule}", not any(goes_wrong(net, rule) for net in smaller), count)
-    # Neighbours in the forest that was just merged never have one colour, whichever rules of the merging are left out:
-    # two are given one.
-    rounds = ruled_rounds.RuledRounds(net_of("two"), ())
-    rounds.merged.append({1: 0, 2: 0})
-    clashes = [tuple(clash) for clash in rounds.merge_clashes(0)]
-    note("neighbours in the forest just merged with one colour", clashes == [(None, 0, 1, 2, 0)], clashes)
-    nets = [network_at_random(source, 9) for _ in range(40)]
-    whole = [ruled_rounds.RuledRounds(net, ()) for net in nets]
-    note("with all rules the plan is the plan", all(rounds.clash is None and rounds.plan == colours(net)
-                                                     for net, rounds in zip(nets, whole)))
-
-
 def network_at_random(source, nodes):
     edges = {pair for pair in itertools.combinations(range(1, nodes + 1), 2) if source.random() < 0.4}
     return Network({v: v for v in range(1, nodes + 1)}, edges)
 
-
-# The words of the command.
-
-def rule_rows():
-    """Each rule has its part of docs/learn/GALLERY.md, and names a wrong body that is there, in one of the two
-    folders."""
-    with open(os.path.join(TOP, "docs", "learn", "GALLERY.md"), encoding="utf-8") as file:
-        gallery = file.read()
-    for word, rule in rules.ALL.items():
-        note(f"{word} in the gallery", f"\n### `{word}`: " in gallery and f"--without {word}\n" in gallery)
-        paths = [os.path.join(TOP, "crates", rule.crate, folder) for folder in ("must-fail", "wrong-bodies")]
-        found = [path for path in paths if os.path.exists(os.path.join(path, rule.edit + ".edit"))]
-        note(f"the wrong body of {word}", len(found) == 1, rule)
 
 
 # (words, status, standard error)
@@ -561,72 +315,24 @@ REFUSED = [
 ]
 
 
-def word_rows():
-    for words, status, fault in FAULTS:
-        note(f"explore {' '.join(words)}", explored(*words) == (status, "", fault), explored(*words))
-    for words, fault in REFUSED:
-        got = explored(*words)
-        note(f"explore {' '.join(words)}", got[:2] == (2, "") and fault in got[2], got)
-    note("explore at the limit", explored("examples/triangle.col", "--limit", "16473")[0] == 0)
-    status, said, fault = explored("--help")
-    note("explore --help", (status, fault) == (0, "") and all(f"  {word} " in said for word in rules.ALL), said)
-    with open("/dev/full", "wb") as full:
-        done = subprocess.run(
-            [os.path.join(TOP, "bin", "explore"), "examples/two.col"],
-            cwd=TOP,
-            stdout=full,
-            stderr=subprocess.PIPE,
-            timeout=LIMIT,
-        )
-    note(
-        "a full device",
-        (done.returncode, done.stderr) == (1, b"explore: the output can't be written: No space left on device\n"),
-        done,
-    )
-    with tempfile.TemporaryDirectory() as folder:
-        link = os.path.join(folder, "explore")
-        os.symlink(os.path.join(TOP, "bin", "explore"), link)
-        done = subprocess.run(
-            [link, os.path.join(TOP, "examples/two.col")], cwd=folder, capture_output=True, timeout=LIMIT
-        )
-        note(
-            "explore by a link",
-            done.returncode == 0 and done.stdout.startswith(b"every schedule of two: 281 states"),
-            done,
-        )
-    try:
-        note("more states than the limit", Space(net_of("two"), limit=280) is None)
-    except TooMany:
-        note("more states than the limit", True)
-
-
 # (file of lab/schedules/, text in it, the mistake that is planted in its place)
 MISTAKES = [
-    (
-        "space.py",
-        "return self.content(wires[:place] + wires[place + 1:])",
-        "return self.content(wires[:place + 1] + wires[place + 2:])",
-    ),
+    ("space.py", "return self.content(wires[:place] + wires[place + 1:])",
+     "return self.content(wires[:place + 1] + wires[place + 2:])"),
     ("space.py", "self.content(self.contents[c] + more)", "self.content(more + self.contents[c])"),
     ("space.py", "self.content(self.contents[c] + more)", "self.content(self.contents[c] + more[:1])"),
-    (
-        "space.py",
-        "if node.can_pulse():\n            j, gone",
-        "if node.can_pulse() and node.pulse_number != 7:\n            j, gone",
-    ),
+    ("space.py", "if node.can_pulse():\n            j, gone",
+     "if node.can_pulse() and node.pulse_number != 7:\n            j, gone"),
     ("space.py", "len(wires) if \"fifo\" in self.without else min(1, len(wires))", "len(wires)"),
     ("space.py", "len(wires) if \"fifo\" in self.without else min(1, len(wires))", "min(1, len(wires))"),
     ("space.py", "self.depth.append(self.depth[s] + 1)", "self.depth.append(self.depth[s])"),
     ("space.py", "self.from_event.append(e)", "self.from_event.append(0)"),
-    (
-        "space.py",
-        "        if not some:\n",
-        "        if not some and self.is_whole(state):\n            s = 0\n        if not some:\n",
-    ),
+    ("space.py", "        if not some:\n",
+     "        if not some and self.is_whole(state):\n            s = 0\n        if not some:\n"),
     ("space.py", "ways[t] += ways[s]", "ways[t] += 1"),
     ("space.py", "put_until(link, number + 1)", "put_until(link, len(sent[link]))"),
     ("space.py", "\"safe\" if waits else \"ready\"", "\"ready\" if waits else \"safe\""),
-    ("space.py", "max((abs(pulses", "min((abs(pulses"),
+    ("space.py", "return max(\n            (abs(pulses", "return min(\n            (abs(pulses"),
     ("space.py", "key = (a, i, p, wires[place])", "key = (a, i, wires[place])"),
     ("space.py", "node.wrong = node.wrong or fault is not None", "node.wrong = False"),
     ("space.py", "if t >= self.limit:", "if t > self.limit:"),
@@ -635,11 +341,8 @@ MISTAKES = [
     ("ruled_node.py", "(port.waits, port.safe, port.early_safe,", "(port.waits, port.early_safe,"),
     ("ruled_node.py", "if got is None and due is not None:", "if got is None:"),
     ("ruled_node.py", "if ahead == 0 or ahead == 1 and \"early\" in self.without:", "if ahead == 0:"),
-    (
-        "ruled_node.py",
-        "return self.pulse_number != self.last and self.said and self.can_take()",
-        "return self.pulse_number != self.last",
-    ),
+    ("ruled_node.py", "return self.pulse_number != self.last and self.said and self.can_take()",
+     "return self.pulse_number != self.last"),
     ("ruled_node.py", "if \"acks\" in self.without:\n", "if \"acks\" in self.without and not self.pulse_number:\n"),
     ("ruled_rounds.py", "colour - colour % 2 if", "colour // 2 if"),
     ("ruled_rounds.py", "and net.parent(f, v) is None else", "and net.parent(f, v) else"),
@@ -654,17 +357,282 @@ MISTAKES = [
 ]
 
 
-def plant(program, play):
+class Schedules(Case):
+    @classmethod
+    def setUpClass(cls):
+        # Hundreds of thousands of states are held, none of which is in a circle: the collector would take a third of
+        # the time.
+        gc.disable()
+
+    def test_tables(self):
+        self.table_rows("star", False)
+        self.table_rows("triangle", False)
+
+    def table_rows(self, name, puts):
+        """The table beside the second search, state by state and step by step."""
+        net = net_of(name)
+        space, found = Space(net, puts=puts, limit=MOST), second_search(net, puts)
+        keys = [key_in_table(space, s) for s in range(space.count)]
+        what = f"{name}{', puts apart' if puts else ''}"
+        self.note(f"states of {what}", len(set(keys)) == space.count and set(keys) == set(found),
+                  (space.count, len(found)))
+        steps = [
+            s
+            for s, key in enumerate(keys)
+            if {str(event): keys[t] for event, t in space.steps(s)} != found.get(key, (None, {}))[1]
+        ]
+        self.note(f"steps of {what}", not steps, steps[:3])
+        other = [
+            s
+            for s, key in enumerate(keys)
+            if key in found
+            and not puts
+            and {v: node[:3] for v, node in space.nodes(s).items()}
+            != {v: shown(found[key][0], v) for v in space.vertices}
+        ]
+        self.note(f"what is shown of the states of {what}", not other, other[:3])
+        ends = [s for s, key in enumerate(keys) if not found.get(key, (None, {}))[1]]
+        self.note(f"ends of {what}", space.ends == ends and len(ends) == 1, (space.ends, ends))
+        apart = max((abs(state.nodes[v].pulse_number - state.nodes[w].pulse_number) for state, _ in found.values()
+                     for v, w in space.links), default=0)
+        most = max((len(wires) for state, _ in found.values() for wires in state.link.values()), default=0)
+        self.note(f"pulses apart and wires of {what}", (space.farthest, space.most_wires) == (apart, most),
+                  (apart, most))
+        self.note(f"no fault of {what}", not space.faults, space.faults)
+        return space, found
+
+    def puts_rows(self, name):
+        """With puts apart; and these states, with the puts made that they still lack, are those of the search
+        without."""
+        _, apart = self.table_rows(name, True)
+        _, eager = self.table_rows(name, False)
+        made = {net_key(put_all(copied(state))) for state, _ in apart.values()}
+        self.note(f"puts as soon as they can be made, of {name}", made == set(eager), (len(made), len(eager)))
+
+    def test_small(self):
+        for name in ("alone", "apart", "barred", "two", "path"):
+            self.puts_rows(name)
+
+    def test_trials(self):
+        for name, puts, states, steps in TRIAL:
+            space = Space(net_of(name), puts=puts, limit=MOST)
+            self.note(f"numbers of {name}", (space.count, steps and len(space.target)) == (states, steps),
+                      (space.count, len(space.target)))
+            if not puts:
+                self.end_rows(name, space)
+
+    def end_rows(self, name, space):
+        """Every schedule has the number of events that the formula says, less the puts if these aren't counted."""
+        events, wires = count_of_events(space.net)
+        wanted = events - (0 if space.puts else wires)
+        levels = all(space.depth[t] == space.depth[s] + 1 for s in range(space.count) for _, t in space.steps(s))
+        self.note(f"events of each schedule of {name}, {wanted}",
+                  levels and [space.depth[s] for s in space.ends] == [wanted], [space.depth[s] for s in space.ends])
+        ends = [{v: node.colour for v, node in space.nodes(s).items()} for s in space.ends]
+        self.note(f"end of {name}", ends == [colours(space.net)], ends)
+
+    def test_formulas(self):
+        for name in ("alone", "apart", "barred", "two", "path", "star"):
+            self.end_rows(f"{name}, puts apart", Space(net_of(name), puts=True, limit=MOST))
+
+    def test_schedules(self):
+        """The number of schedules of two, by recursion over the second search."""
+        found, ways = second_search(net_of("two"), False), {}
+
+        def count(key):
+            if key not in ways:
+                ways[key] = sum(map(count, found[key][1].values())) if found[key][1] else 1
+            return ways[key]
+
+        start = net_key(put_all(NetState(net_of("two"))))
+        self.note("schedules of two", Space(net_of("two"), limit=MOST).schedules == count(start), count(start))
+
+    def test_walks(self):
+        """A hundred random walks: each state beside the definitions, and some of them, and the last, beside the
+        program."""
+        source, wrong, differ, needless = random.Random(SEED), [], [], []
+        spaces = {name: Space(net_of(name), limit=MOST) for name in ("two", "path", "triangle")}
+        for name in ["two"] * 30 + ["path"] * 30 + ["triangle"] * 40:
+            space = spaces[name]
+            state, s, events, taken = put_all(NetState(space.net)), 0, [], dict.fromkeys(space.links, 0)
+            length = source.randrange(0, 400)
+            while space.steps(s) and len(events) < length:
+                event, s = source.choice(space.steps(s))
+                state = copied(state, event.v)
+                state.step(event.kind.title(), event.v, event.port)
+                put_all(state)
+                events.append(event)
+                if event.kind == "take":
+                    taken[event.w, event.v] += 1
+                if net_key(state) != key_in_table(space, s):
+                    wrong.append((name, [str(event) for event in events]))
+            kinds = Counter(line.split()[0] for line in space.lines(events))
+            if kinds["put"] != kinds["take"]:
+                needless.append((name, space.lines(events)))
+            if played(PLAY, text_of(name), space.lines(events, eager=True)) != (0, state_text(space, s, taken), b""):
+                differ.append((name, space.lines(events, eager=True)))
+        self.note("a hundred random walks, state by state", not wrong, wrong[:1])
+        self.note("a hundred random walks by forestplay events", not differ, differ[:1])
+        self.note("a put only as a take needs it", not needless, needless[:1])
+
+    def test_broken(self):
+        for name, without, what, count, fault in BROKEN:
+            with tempfile.NamedTemporaryFile("w", suffix=".col") as file:
+                file.write(text_of(name))
+                file.flush()
+                status, said, _ = explored(file.name, "--limit", str(MOST), "--without", without)
+                _, listed, _ = explored(file.name, "--limit", str(MOST), "--without", without, "--events")
+                _, apart, _ = explored(file.name, "--limit", str(MOST), "--without", without, "--puts")
+            lines = listed.splitlines()
+            first = said.split("\n")[0]
+            self.note(f"{name} without {without}",
+                      status == 0 and (what is None or first == f"broken after {count} events: {what}"), said)
+            self.note(f"the list of {name} without {without}",
+                      [line.split(":")[0] for line in said.splitlines()[1 : 1 + len(lines)]] == lines, (said, lines))
+            self.note(f"{name} without {without}, puts apart: as many events",
+                      apart.split(": ")[0] == first.split(": ")[0], apart)
+            got = played(PLAY, text_of(name), lines)
+            wanted = answer_of(net_of(name), numbered(text_of(name), lines))
+            self.note(f"forestplay on the list of {name} without {without}", got == wanted, (got, wanted))
+            wanted = f"forestplay: {fault} line ".encode() if fault else b""
+            self.note(f"forestplay refuses it as it should, {name} without {without}",
+                      got[2].startswith(wanted) and got[0] == (1 if fault else 0), got)
+
+    def test_whole_lists(self):
+        """One whole list of each network, by the program; and its end beside `plain`."""
+        for name in ("alone", "apart", "two", "path", "triangle"):
+            with tempfile.NamedTemporaryFile("w", suffix=".col") as file:
+                file.write(text_of(name))
+                file.flush()
+                _, listed, _ = explored(file.name, "--limit", str(MOST), "--events")
+                _, said, _ = explored(file.name, "--limit", str(MOST))
+                _, apart, _ = explored(file.name, "--limit", str(MOST), "--puts") if name == "two" else (0, "", "")
+            events, wires = count_of_events(net_of(name))
+            wanted = f"\neach has {events} events: {wires} puts, {wires} takes and {events - 2 * wires} pulses\n"
+            self.note(f"what explore says of {name}, puts apart", name != "two" or wanted in apart, apart)
+            status, out, _ = played(PLAY, text_of(name), listed.splitlines())
+            channels = [line.split()[-1] for line in out.decode().splitlines() if "channel" in line]
+            plan = subprocess.run([PLAN, "plain"], input=text_of(name).encode(), capture_output=True,
+                                  timeout=LIMIT).stdout
+            self.note(f"a whole list of {name}", status == 0 and len(channels) == len(net_of(name).neighbours), out)
+            self.note(f"the end of {name} is the plan",
+                      [line.split()[1] for line in plan.decode().splitlines()[1:]] == channels, plan)
+            self.note(f"what explore says of the end of {name}",
+                      said.endswith(f"\none end: channels {' '.join(channels)}\n"), said)
+
+    def test_not_broken(self):
+        """On links that keep the order, acknowledgements aren't needed; and nothing is broken if no rule is left
+        out."""
+        space = Space(net_of("two"), without=("acks",), limit=MOST)
+        self.note("two without acks", not space.faults and len(space.ends) == 1, space.faults)
+        beyond = Space(net_of("two"), without=("safes",), beyond=True, limit=MOST)
+        plans = [{v: node.colour for v, node in beyond.nodes(s).items()} for s in beyond.ends]
+        wrong = [plan for s, plan in zip(beyond.ends, plans) if plan != colours(beyond.net)]
+        self.note("beyond the first fault, two without safes: neighbours far apart", beyond.farthest > 1,
+                  beyond.farthest)
+        self.note(
+            "only a wrong pulse leads to another plan",
+            all(
+                any(node.wrong for node in beyond.nodes(s).values())
+                for s, plan in zip(beyond.ends, plans)
+                if plan in wrong
+            ),
+            wrong,
+        )
+
+    def test_rounds(self):
+        source = random.Random(SEED)
+        tried = [net for nodes in range(1, 5) for net in all_networks(nodes)] + source.sample(list(all_networks(5)),
+                                                                                              100)
+        for rule in [*rules.OF_ROUNDS, "none"]:
+            without = () if rule == "none" else (rule,)
+            differ = [
+                net.neighbours
+                for net in tried
+                if goes_wrong(net, rule) != bool(ruled_rounds.RuledRounds(net, without).clash)
+            ]
+            self.note(f"small networks without {rule}", not differ, differ[:1])
+        for rule in rules.OF_ROUNDS:
+            rounds, count = ruled_rounds.smallest([rule], 9)
+            edges = sorted(tuple(sorted(pair)) for pair in rounds.net.number)
+            nodes = len(rounds.net.neighbours)
+            if rule in SMALLEST:
+                self.note(f"the smallest network without {rule}", (nodes, edges) == SMALLEST[rule], (nodes, edges))
+            if rule == "root":
+                # By hand: after four bit steps 1 has colour 1 and its root 2 has colour 0; then 1 takes 0.
+                self.note("the first clash without root", rounds.clash == (7, 0, 1, 2, 0), rounds.clash)
+            self.note(f"it goes wrong without {rule}", goes_wrong(rounds.net, rule), edges)
+            smaller = [net for net in tried if len(net.neighbours) < nodes]
+            smaller += [network_at_random(source, source.randrange(2, nodes)) for _ in range(60 if nodes > 2 else 0)]
+            self.note(f"smaller networks go right without {rule}", not any(goes_wrong(net, rule) for net in smaller),
+                      count)
+        # Neighbours in the forest that was just merged never have one colour, whichever rules of the merging are left
+        # out: two are given one.
+        rounds = ruled_rounds.RuledRounds(net_of("two"), ())
+        rounds.merged.append({1: 0, 2: 0})
+        clashes = [tuple(clash) for clash in rounds.merge_clashes(0)]
+        self.note("neighbours in the forest just merged with one colour", clashes == [(None, 0, 1, 2, 0)], clashes)
+        nets = [network_at_random(source, 9) for _ in range(40)]
+        whole = [ruled_rounds.RuledRounds(net, ()) for net in nets]
+        self.note("with all rules the plan is the plan", all(rounds.clash is None and rounds.plan == colours(net)
+                                                         for net, rounds in zip(nets, whole)))
+
+    def test_rules(self):
+        """Each rule has its part of docs/learn/GALLERY.md, and names a wrong body that is there, in one of the two
+        folders."""
+        with open(os.path.join(TOP, "docs", "learn", "GALLERY.md"), encoding="utf-8") as file:
+            gallery = file.read()
+        for word, rule in rules.ALL.items():
+            self.note(f"{word} in the gallery", f"\n### `{word}`: " in gallery and f"--without {word}\n" in gallery)
+            paths = [os.path.join(TOP, "crates", rule.crate, folder) for folder in ("must-fail", "wrong-bodies")]
+            found = [path for path in paths if os.path.exists(os.path.join(path, rule.edit + ".edit"))]
+            self.note(f"the wrong body of {word}", len(found) == 1, rule)
+
+    def test_words(self):
+        for words, status, fault in FAULTS:
+            self.note(f"explore {' '.join(words)}", explored(*words) == (status, "", fault), explored(*words))
+        for words, fault in REFUSED:
+            got = explored(*words)
+            self.note(f"explore {' '.join(words)}", got[:2] == (2, "") and fault in got[2], got)
+        self.note("explore at the limit", explored("examples/triangle.col", "--limit", "16473")[0] == 0)
+        status, said, fault = explored("--help")
+        self.note("explore --help", (status, fault) == (0, "") and all(f"  {word} " in said for word in rules.ALL),
+                  said)
+        with open("/dev/full", "wb") as full:
+            done = subprocess.run([os.path.join(TOP, "bin", "explore"), "examples/two.col"], cwd=TOP, stdout=full,
+                                  stderr=subprocess.PIPE, timeout=LIMIT)
+        self.note(
+            "a full device",
+            (done.returncode, done.stderr) == (1, b"explore: the output can't be written: No space left on device\n"),
+            done,
+        )
+        with tempfile.TemporaryDirectory() as folder:
+            link = os.path.join(folder, "explore")
+            os.symlink(os.path.join(TOP, "bin", "explore"), link)
+            done = subprocess.run([link, os.path.join(TOP, "examples/two.col")], cwd=folder, capture_output=True,
+                                  timeout=LIMIT)
+            self.note("explore by a link",
+                      done.returncode == 0 and done.stdout.startswith(b"every schedule of two: 281 states"), done)
+        try:
+            self.note("more states than the limit", Space(net_of("two"), limit=280) is None)
+        except TooMany:
+            self.note("more states than the limit", True)
+
+
+def plant():
     """Each mistake in a copy of its own, which these tests have to refuse, as they pass the copy without one."""
     jobs = [(0, None, None, None), *((number, *mistake) for number, mistake in enumerate(MISTAKES, 1))]
     with ThreadPoolExecutor(2) as pool:
-        verdicts = list(pool.map(lambda job: planted(*job, program, play), jobs))
-    for number, passed in enumerate(verdicts):
-        note(f"mistake {number} is caught" if number else "a copy without a mistake", passed == (number == 0))
+        verdicts = list(pool.map(lambda job: planted(*job), jobs))
+    wrong = [number for number, passed in enumerate(verdicts) if passed != (number == 0)]
+    for number in wrong:
+        print(f"FAILED {f'mistake {number} is caught' if number else 'a copy without a mistake'}")
     print(f"{verdicts[1:].count(False)} of {len(MISTAKES)} mistakes caught")
+    print(f"{len(verdicts) - len(wrong)} passed, {len(wrong)} failed")
+    return 1 if wrong else 0
 
 
-def planted(number, name, there, instead, program, play):
+def planted(number, name, there, instead):
     """Whether a copy with this mistake passes."""
     with tempfile.TemporaryDirectory(prefix="planted-") as folder:
         for part in ("lab", "build", "tests", "docs", "examples", "bin", "forestplan", "README.md"):
@@ -683,51 +651,15 @@ def planted(number, name, there, instead, program, play):
                 return True
             with open(path, "w", encoding="utf-8") as file:
                 file.write(source.replace(there, instead))
-        done = subprocess.run(
-            [sys.executable, "-m", "tests.programs.schedules", "--first", "--program", program, "--play", play],
-            cwd=folder,
-            capture_output=True,
-            timeout=1200,
-        )
+        done = subprocess.run([sys.executable, "-m", "tests.running", "--first", "programs.schedules"], cwd=folder,
+                              env=dict(os.environ, TESTS_PLAN=PLAN, TESTS_PLAY=PLAY), capture_output=True, timeout=1200)
     first = (done.stdout + done.stderr).decode().strip().split("\n")
     why = first[-1] if done.stderr else first[0]
     print(f"{number}: {'caught' if done.returncode else 'passed'} ({why[:100]}): {instead}", flush=True)
     return done.returncode == 0
 
 
-def main():
-    words = argparse.ArgumentParser(description=__doc__, formatter_class=argparse.RawDescriptionHelpFormatter)
-    words.add_argument("--program", default=os.path.join(TOP, "crates/forestplan/out/forestplan"))
-    words.add_argument("--play", default=os.path.join(TOP, "crates/forestplay/out/forestplay"))
-    words.add_argument("--first", action="store_true", help="stop behind the first part in which something failed")
-    words.add_argument("--plant", action="store_true", help="plant mistakes in the explorer")
-    given = words.parse_args()
-    program, play = os.path.abspath(given.program), os.path.abspath(given.play)
-    gc.disable()  # Hundreds of thousands of states are held, none of which is in a circle: the collector would take a third of the time.
-    if given.plant:
-        plant(program, play)
-    else:
-        for rows in (
-            rule_rows,
-            rounds_rows,
-            not_broken_rows,
-            lambda: broken_rows(play),
-            lambda: whole_list_rows(play, program),
-            small_rows,
-            formula_rows,
-            schedules_rows,
-            word_rows,
-            lambda: walk_rows(play),
-            trial_rows,
-            lambda: table_rows("star", False),
-            lambda: table_rows("triangle", False),
-        ):
-            rows()
-            if given.first and TALLY["failed"]:
-                break
-    print(f"{TALLY['passed']} passed, {TALLY['failed']} failed")
-    return 1 if TALLY["failed"] else 0
-
-
 if __name__ == "__main__":
-    sys.exit(main())
+    words = argparse.ArgumentParser(description=__doc__, formatter_class=argparse.RawDescriptionHelpFormatter)
+    words.parse_args()
+    sys.exit(plant())

@@ -8,8 +8,9 @@ import functools
 from lab.definitions.colours import Network, forests_text, network_of, plan_text
 from lab.definitions.nodes import NetState, Refused, entry_words, make
 from lab.definitions.rounds import rounds_text
-from lab.transcripts.check import Wrong, read
+from lab.transcripts.reading import Wrong, read
 from lab.transcripts.stamps import Clock, unfinished
+from tests.commands import PROGRAM_OF
 from tests.programs.events import answer_of, state_text
 from tests.programs.verdicts import wrong_plan
 
@@ -18,8 +19,6 @@ MOST_VERTEX = 2**32 - 1
 IDENTIFIERS = 2**128
 MOST_CHANNEL, MOST_BARS = 2048, 1024
 FORMATS, EVENTS = (b"edge", b"edges", b"col"), (b"pulse", b"put", b"take")
-PROGRAM_OF = (dict.fromkeys(("forests", "plain", "plan", "transcript", "check"), "forestplan")
-              | dict.fromkeys(("events", "replay", "rounds"), "forestplay"))
 
 
 class Fault(Exception):
@@ -88,12 +87,8 @@ def network_in(rows):
     if nodes is None:
         raise Fault("F1")
     uncrowded(edges)
-    return (
-        nodes,
-        distinct(nodes, given),
-        frozenset(edges),
-        tuple((v, tuple(sorted(channels))) for v, channels in sorted(bars.items())),
-    )
+    return (nodes, distinct(nodes, given), frozenset(edges),
+            tuple((v, tuple(sorted(channels))) for v, channels in sorted(bars.items())))
 
 
 def nodes_in(line, fields, nodes):
@@ -171,11 +166,8 @@ def distinct(nodes, given):
 
 def definition_of(nodes, given, edges, bars):
     named = dict(given)
-    return Network(
-        {v: named.get(v, v) for v in range(1, nodes + 1)},
-        edges,
-        {v: [channel - 1 for channel in of_v] for v, of_v in bars},
-    )
+    return Network({v: named.get(v, v) for v in range(1, nodes + 1)}, edges,
+                   {v: [channel - 1 for channel in of_v] for v, of_v in bars})
 
 
 def split(rows, is_first):
@@ -288,13 +280,5 @@ def transcript(rows):
     return b"transcript 2 0\n"
 
 
-ANSWERS = {
-    "forests": forests,
-    "plain": plain,
-    "plan": plain,
-    "transcript": transcript,
-    "check": check,
-    "events": events,
-    "replay": replay,
-    "rounds": rounds,
-}
+ANSWERS = {"forests": forests, "plain": plain, "plan": plain, "transcript": transcript, "check": check,
+           "events": events, "replay": replay, "rounds": rounds}

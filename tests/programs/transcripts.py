@@ -1,46 +1,30 @@
-#!/usr/bin/env python3
 """Tests of `bin/check-transcript` and `bin/replay` with transcripts of edition 1; and by the first, of those of the
-built program. Those of edition 2 are in merged.py. The last line is 'N passed, M failed'.
-
-  transcripts.py [--program PROGRAM] [--play PLAY]
-      PROGRAM   has the command `transcript`
-      PLAY      has the command `replay`; the rows of a program that isn't named are left out
+built program. Those of edition 2 are in merged.py.
 
 Expected verdicts are worked by hand, or come from the definitions in lab/definitions/nodes.py; none is taken from a
 program."""
-import argparse
 import os
 import pickle
 import random
 import re
 import subprocess
-import sys
 import tempfile
 
 from lab.definitions.colours import network_of
 from lab.definitions.nodes import NetState, Refused, last_pulse, make, wire_words
-from lab.transcripts.check import Wrong, find_order, first_refused, in_order, read, unfinished, whole_run
+from lab.transcripts.check import Wrong, find_order, first_refused, in_order, unfinished, whole_run
+from lab.transcripts.reading import read
 from tests import TOP
+from tests.cases import Case, text
 from tests.programs.made_transcripts import MISTAKES, made_transcript, mixed_text, transcript_text, with_mistake
 from tests.programs.one_worker import Run
 from tests.programs.plain_networks import all_small, cycle, path, random_of, some_bars, star, text_of, tree, two_sided
+from tests.settings import PLAN, PLAY
 
 CHECKER = os.path.join(TOP, "bin", "check-transcript")
 LIMIT = 60
 SEED = 2026
 WORKERS, CAPACITIES = (1, 2, 4, 64), (1, 2, 4)
-TALLY = {"passed": 0, "failed": 0}
-
-
-def note(name, good, what=""):
-    TALLY["passed" if good else "failed"] += 1
-    if not good:
-        print(f"FAILED {name}: {str(what)[:4000]}")
-
-
-def text(lines):
-    """Bytes of a text in which '|' stands for a line feed."""
-    return lines.replace("|", "\n").encode("latin-1")
 
 
 EDGE = "p edge 2 1|e 1 2|"
@@ -49,31 +33,16 @@ EDGE = "p edge 2 1|e 1 2|"
 # 0, 0, 1, 1, 0, 0. So node 1 chooses at pulse 13 and node 2 at pulse 15, of the pulses 13 to 18.
 EDGE_SENT = {
     1: {0: "hello 1", 1: "label 0", 13: "chosen 0"},
-    2: {
-        0: "hello 2",
-        2: "colour 2",
-        3: "colour 0",
-        4: "colour 0",
-        5: "colour 0",
-        6: "colour 0",
-        7: "colour 1",
-        8: "colour 1",
-        9: "colour 0",
-        10: "colour 0",
-        11: "colour 1",
-        15: "chosen 1",
-    },
+    2: {0: "hello 2", 2: "colour 2", 3: "colour 0", 4: "colour 0", 5: "colour 0", 6: "colour 0", 7: "colour 1",
+        8: "colour 1", 9: "colour 0", 10: "colour 0", 11: "colour 1", 15: "chosen 1"},
 }
 EDGE_LAST = 18
 # What a node does in a pulse, by whether it sends a payload, and whether one comes: the other's wires come in the order
 # in which that one puts them, and the node's safe goes out at once if it sends no payload, and otherwise behind the
 # acknowledgement.
-EDGE_PULSE = {
-    (True, True): "put payload|take payload|put ack|take ack|put safe|take safe",
-    (True, False): "put payload|take safe|take ack|put safe",
-    (False, True): "put safe|take payload|put ack|take safe",
-    (False, False): "put safe|take safe",
-}
+EDGE_PULSE = {(True, True): "put payload|take payload|put ack|take ack|put safe|take safe",
+              (True, False): "put payload|take safe|take ack|put safe",
+              (False, True): "put safe|take payload|put ack|take safe", (False, False): "put safe|take safe"}
 
 
 def edge_lines(v, w):
@@ -101,11 +70,8 @@ WORKED = (
         ("p edge 0 0|", "transcript 1 0|", "whole run of 0 nodes, 0 entries, 0 payloads, 0 wires"),
         ("p edge 2 0|", APART, "whole run of 2 nodes, 24 entries, 0 payloads, 0 wires"),
         ("p edge 2 0|", "| \t\r|\ttranscript 01 2|", "line 3: X1"),
-        (
-            "p edge 2 0|",
-            "\r| transcript\t1  002\r|" + APART[15:-1],
-            "whole run of 2 nodes, 24 entries, 0 payloads, 0 wires",
-        ),
+        ("p edge 2 0|", "\r| transcript\t1  002\r|" + APART[15:-1],
+         "whole run of 2 nodes, 24 entries, 0 payloads, 0 wires"),
         ("p edge 2 0|", APART + "2 pulse 13|", "line 26: NotReady"),
         ("p edge 2 0|", APART[:-11], "line 24: NotWhole"),
         ("p edge 2 0|", APART.replace("2 pulse 3|", ""), "line 16: WrongWire"),
@@ -127,38 +93,15 @@ WORKED = (
     ]
     + [
         (EDGE, f"transcript 1 2||{entry}|1 pulse 1|", "line 3: X1")
-        for entry in (
-            "1",
-            "1 pulse",
-            "1 pulse 1 1",
-            "1 pulse x",
-            "1 pulse -1",
-            "1 pulse 4294967296",
-            "4294967296 pulse 1",
-            "pulse 1",
-            "c",
-            "transcript 1 2",
-            "1 put 2",
-            "1 put close",
-            "1 put 2 close 0",
-            "1 Put 2 close",
-            "1 put 2 ack",
-            "1 put 2 ack 0 0",
-            "1 take 2 safe 4294967296",
-            "1 take x close",
-            "1 take 2 payload 0 hello",
-            "1 take 2 payload 0 hello 340282366920938463463374607431768211456",
-            "1 take 2 payload 0 best 1",
-            "1 take 2 payload 0 Hello 1",
-            "1 put 2 payload 1 label 65536",
-            "1 put 2 payload 13 chosen 65536",
-            "1 put 2 payload 2 colour 340282366920938463463374607431768211456",
-            "1 put 2 payload 4294967296 hello 1",
-            "1 put 2 payload 0 hello 1 1",
-            "1 put 2 payload 0 hello \xb2",
-            "1\x0bpulse 1",
-            "1 pulse 1\r\r",
-        )
+        for entry in ("1", "1 pulse", "1 pulse 1 1", "1 pulse x", "1 pulse -1", "1 pulse 4294967296",
+                      "4294967296 pulse 1", "pulse 1", "c", "transcript 1 2", "1 put 2", "1 put close",
+                      "1 put 2 close 0", "1 Put 2 close", "1 put 2 ack", "1 put 2 ack 0 0", "1 take 2 safe 4294967296",
+                      "1 take x close", "1 take 2 payload 0 hello",
+                      "1 take 2 payload 0 hello 340282366920938463463374607431768211456", "1 take 2 payload 0 best 1",
+                      "1 take 2 payload 0 Hello 1", "1 put 2 payload 1 label 65536", "1 put 2 payload 13 chosen 65536",
+                      "1 put 2 payload 2 colour 340282366920938463463374607431768211456",
+                      "1 put 2 payload 4294967296 hello 1", "1 put 2 payload 0 hello 1 1",
+                      "1 put 2 payload 0 hello \xb2", "1\x0bpulse 1", "1 pulse 1\r\r")
     ]
     + [
         # the search
@@ -174,19 +117,13 @@ WORKED = (
         (EDGE, f"transcript 1 2|1 put 2 {HELLO_1}|2 put 1 {HELLO_2}|1 take 2 {HELLO_1}|", "line 4: WrongWire"),
         (EDGE, f"transcript 1 2|1 take 2 {HELLO_2}|1 put 2 {HELLO_1}|2 put 1 {HELLO_2}|", "line 3: NotWhole"),
         # each takes before it puts: the first of two that wait for each other
-        (
-            EDGE,
-            f"transcript 1 2|2 take 1 {HELLO_1}|1 take 2 {HELLO_2}|1 put 2 {HELLO_1}|2 put 1 {HELLO_2}|",
-            "line 2: LinkEmpty",
-        ),
+        (EDGE, f"transcript 1 2|2 take 1 {HELLO_1}|1 take 2 {HELLO_2}|1 put 2 {HELLO_1}|2 put 1 {HELLO_2}|",
+         "line 2: LinkEmpty"),
         # one that never can comes before one that waits, and one that waits for a node which is through before the
         # others
         (EDGE, f"transcript 1 2|2 take 1 {HELLO_1}|1 pulse 1|1 put 2 {HELLO_1}|", "line 3: NotReady"),
-        (
-            "p edge 3 2|e 1 2|e 2 3|",
-            f"transcript 1 3|1 take 2 {HELLO_2}|2 take 3 payload 0 hello 3|",
-            "line 3: LinkEmpty",
-        ),
+        ("p edge 3 2|e 1 2|e 2 3|", f"transcript 1 3|1 take 2 {HELLO_2}|2 take 3 payload 0 hello 3|",
+         "line 3: LinkEmpty"),
     ]
 )
 
@@ -197,19 +134,6 @@ def said_of(net, data):
         return whole_run(net, data)[1], ""
     except Wrong as wrong:
         return str(wrong).rsplit(": ", 1)
-
-
-def worked_rows():
-    for network, transcript, said in WORKED:
-        got = said_of(network_of(text(network)), text(transcript))
-        note(f"{said} of {transcript[:60]!r}", got[0] == said, got)
-    edge = network_of(text(EDGE))
-    whole = transcript_text(2, EDGE_LINES)
-    note("a run of an edge worked by hand", said_of(edge, whole)[0] == EDGE_WHOLE, said_of(edge, whole))
-    lines = whole.split(b"\n")
-    for at in range(len(lines) - 1):
-        got = said_of(edge, b"\n".join(lines[:at] + lines[at + 1 :]))
-        note(f"a run of an edge without line {at + 1}", not got[0].startswith("whole"), got)
 
 
 def networks():
@@ -241,19 +165,6 @@ def is_counted(net, data, said):
 
 def payload_puts(data):
     return sorted(line for line in data.split(b"\n") if b" put " in line and b" payload " in line)
-
-
-def made_rows():
-    """Two runs of each network by the definitions, one in each layout; and the payloads of both are the same."""
-    source, wrong, different = random.Random(SEED), [], []
-    for i, (data, net) in enumerate(networks()):
-        runs = [made_transcript(source, net, CAPACITIES[(i + k) % 3]) for k in range(2)]
-        texts = [transcript_text(len(runs[0]), runs[0]), mixed_text(source, len(runs[1]), runs[1])]
-        wrong += [(data, said_of(net, made)) for made in texts if not is_counted(net, made, said_of(net, made)[0])]
-        if payload_puts(texts[0]) != payload_puts(transcript_text(len(runs[1]), runs[1])):
-            different.append(data)
-    note(f"two runs of each of {i + 1} networks by the definitions", not wrong, wrong[:1])
-    note("two runs of a network put the same payloads", not different, different[:1])
 
 
 def mistaken(count):
@@ -318,29 +229,6 @@ def replayed_by(play, network, net, data):
     return None if [len(ends), len(links), len(closed)] == [len(net.neighbours), degrees, degrees] else "NotWhole"
 
 
-def mistake_rows(play):
-    """Each refused transcript is refused at the entry that the search names, each accepted one is a run in the order
-    found."""
-    wrong, accepted, codes = [], dict.fromkeys(MISTAKES, 0), set()
-    for mistake, network, net, data in mistaken(100):
-        code, ordered = found_in(net, data)
-        said, words = said_of(net, data)
-        accepted[mistake] += code is None
-        codes.add(code)
-        verdicts = [said.rpartition(": ")[2] if words else None, replayed(net, ordered)]
-        verdicts += [replayed_by(play, network, net, ordered)] if play else []
-        if verdicts != [code] * len(verdicts):
-            wrong.append((mistake, network, data, code, verdicts))
-    note("400 transcripts with a mistake, beside a replay", not wrong, f"{len(wrong)}: {wrong[:1]}")
-    note("all but swapped entries are refused", [accepted[mistake] for mistake in MISTAKES[:3]] == [0, 0, 0], accepted)
-    note("swapped entries are refused or not", 0 < accepted["swapped"] < 100, accepted)
-    note(
-        "refusals of each kind",
-        codes == {None, "X1", "NotReady", "NothingToPut", "LinkEmpty", "WrongWire", "NotWhole"},
-        codes,
-    )
-
-
 def every_order(net, entries):
     """How many of each node's entries were made after any order whatever: all that can be reached, one event at a
     time."""
@@ -363,142 +251,10 @@ def every_order(net, entries):
     return reached
 
 
-def order_rows():
-    """On an edge, of runs and of transcripts with a mistake: no order of the entries gets further than the search
-    does."""
-    source, wrong, net = random.Random(SEED), [], network_of(text(EDGE))
-    for i in range(24):
-        lines = EDGE_LINES if i == 0 else made_transcript(source, net, CAPACITIES[i % 3])
-        if i > 1:
-            lines = with_mistake(source, MISTAKES[i % 4], lines)
-        try:
-            _, entries = read(transcript_text(2, lines))
-        except Wrong:
-            continue
-        reached, made = every_order(net, entries), find_order(net, entries).made
-        furthest = tuple(sum(entry.vertex == v for entry in made) for v in (1, 2))
-        if furthest not in reached or any(a > b for counts in reached for a, b in zip(counts, furthest)):
-            wrong.append((lines, furthest))
-    note("the search gets as far as any order of 24 transcripts", not wrong, wrong[:1])
-
-
-def command_rows():
-    """The checker as a command: from a file, from standard input, in the order found, and refused."""
-    whole = transcript_text(2, EDGE_LINES)
-    with tempfile.TemporaryDirectory() as folder:
-        network, transcript = os.path.join(folder, "edge.col"), os.path.join(folder, "edge.transcript")
-        for name, data in ((network, text(EDGE)), (transcript, whole)):
-            with open(name, "wb") as file:
-                file.write(data)
-        said = (0, EDGE_WHOLE.encode() + b"\n", b"")
-        note(
-            "a transcript in a file", command([network, transcript], b"x") == said, command([network, transcript], b"x")
-        )
-        note("a transcript as standard input", command([network], whole) == said, command([network], whole))
-        status, ordered, fault = command(["--order", network], whole)
-        note(
-            "an order that is a run",
-            (status, fault, replayed(network_of(text(EDGE)), ordered)) == (0, b"", None),
-            (status, fault),
-        )
-        note("its lines are the transcript's", sorted(ordered.split(b"\n")) == sorted(whole.split(b"\n")), ordered)
-        line = b"line 2: LinkEmpty: node 1 takes close from 2, which never puts it; node 2 has no entry (is the text cut?)\n"
-        done = command(["--order", network], b"transcript 1 2\n1 take 2 close\n")
-        note("a refusal", done == (1, b"", line), done)
-        status, told, fault = command(["--help"], b"")
-        note("help", (status, fault) == (0, b"") and b"forestplan transcript" in told, (status, told, fault))
-        for data in (
-            b"",
-            whole,
-            b"p edge\n",
-            b"p edge 2 1\ne 1 1\n",
-            b"p edge 2 1\ne 1 3\n",
-            b"p edge 2 1\ne 1 x\n",
-            b"p a 1 0\np a 1 0\n",
-        ):
-            with open(network + "x", "wb") as file:
-                file.write(data)
-            status, told, fault = command([network + "x", transcript], b"")
-            line = rb"check-transcript: [^\n]*edge\.colx[^\n]* \(F\d\)\n"
-            note(
-                f"the network {data[:30]}",
-                (status, told) == (2, b"") and re.fullmatch(line, fault),
-                (status, told, fault),
-            )
-        for words in ([transcript + "x"], [network, transcript + "x"]):
-            line = f"check-transcript: {transcript}x: No such file or directory\n".encode()
-            note(
-                f"a file that isn't there, {len(words)} words",
-                command(words, b"") == (2, b"", line),
-                command(words, b""),
-            )
-        for words in (
-            [],
-            [folder],
-            [network, folder],
-            [network, transcript, "x"],
-            ["--orders", network],
-            [transcript + "x"],
-        ):
-            status, told, _ = command(words, whole)
-            note(f"the words {words}", (status, told) == (2, b""), (status, told))
-
-
 ROW = "p edge 4 3|e 1 2|e 2 3|e 3 4|"
 # (the nodes of a row of four whose entries are left, which ones have none)
-LEFT = [
-    ((1, 2, 3), "node 4 has no entry"),
-    ((1, 2), "nodes 3 and 4 have no entry"),
-    ((1,), "nodes 2 to 4 have no entry"),
-]
-
-
-def cut_rows():
-    """Texts that end too early are refused, and the reader is asked whether the text is cut."""
-    edge, whole = network_of(text(EDGE)), transcript_text(2, EDGE_LINES)
-    said = [said_of(edge, whole[:end])[0] for end in range(len(whole) - 1)]
-    note("no beginning of a run of an edge is whole", not any(code.startswith("whole") for code in said))
-    lines = whole.split(b"\n")[:-1]
-    pulse = lines.index(b"2 pulse %d" % EDGE_LAST)
-    said = [said_of(edge, b"\n".join(lines[:count]) + b"\n") for count in range(1, pulse + 1)]
-    unasked = [words for _, words in said if not words.endswith("(is the text cut?)")]
-    note("each beginning without the last pulse may be cut", len(said) == pulse and not unasked, unasked[:1])
-    net = network_of(text(ROW))
-    made = made_transcript(random.Random(SEED), net, 4)
-    for left, wanted in LEFT:
-        got = said_of(net, transcript_text(4, {v: made[v] for v in left}))
-        note(f"of a run of four the entries of {left}", got[1].endswith(f"; {wanted} (is the text cut?)"), got)
-    got = said_of(edge, b"transcript 1 2\n1 put 2 payl")
-    note("a text that ends inside a line", got[0] == "line 2: X1" and "cut" in got[1], got)
-
-
-def script_rows(play):
-    """The scripts at the top: through a symbolic link, from another folder."""
-    whole = transcript_text(2, EDGE_LINES)
-    with tempfile.TemporaryDirectory() as folder:
-        network = os.path.join(folder, "edge.col")
-        with open(network, "wb") as file:
-            file.write(text(EDGE[:-1]))
-        for name in ("check-transcript", "replay"):
-            os.symlink(os.path.join(TOP, "bin", name), os.path.join(folder, name))
-        done = script(folder, ["bin/check-transcript", "edge.col"], whole)
-        note("bin/check-transcript through a link", done == (0, EDGE_WHOLE.encode() + b"\n", b""), done)
-        for words in ([], ["edge.col", "x", "y"], ["--order", "edge.col"], ["edge.col", "nowhere"]):
-            done = script(folder, ["bin/replay", *words], whole)
-            note(
-                f"bin/replay {words}", done[:2] == (2, b"") and re.match(b"replay: |check-transcript: ", done[2]), done
-            )
-        done = script(folder, ["bin/replay", "--help"], b"")
-        note("bin/replay --help", done[0] == 0 and done[2] == b"" and b"  ./forestplan transcript" in done[1], done)
-        done = script(folder, ["bin/replay", "edge.col"], whole[:100])
-        note("bin/replay of a cut text", done[:2] == (1, b"") and b"cut" in done[2], done)
-        if play:
-            taken = {v: sum(f" take {v} " in line for line in EDGE_LINES[3 - v]) for v in (1, 2)}
-            wanted = "".join(
-                f"node {v} pulse {EDGE_LAST} channel {v}\nlink {v} {3 - v} taken {taken[v]}\n" for v in (1, 2)
-            ).encode()
-            done = script(folder, ["bin/replay", "edge.col"], whole)
-            note("bin/replay of a run", done == (0, wanted, b""), done)
+LEFT = [((1, 2, 3), "node 4 has no entry"), ((1, 2), "nodes 3 and 4 have no entry"),
+        ((1,), "nodes 2 to 4 have no entry")]
 
 
 def script(folder, words, data):
@@ -509,50 +265,6 @@ def script(folder, words, data):
 def command(words, data):
     done = subprocess.run([CHECKER, *words], input=data, capture_output=True, timeout=LIMIT)
     return done.returncode, done.stdout, done.stderr
-
-
-def large_rows():
-    """Long transcripts, each read and searched in one go: 60,000 entries of few nodes, or of nodes with many
-    neighbours."""
-    source = random.Random(SEED)
-    for name, nodes, edges in [
-        ("a star", 41, {(v, 41) for v in range(1, 41)}),
-        ("all joined", 8, {(v, w) for w in range(1, 9) for v in range(1, w)}),
-        ("a long path", 300, {(v, v + 1) for v in range(1, 300)}),
-    ]:
-        net = network_of(text_of(source, nodes, edges))
-        data = transcript_text(nodes, made_transcript(source, net, 4))
-        note(f"the transcript of {name}", is_counted(net, data, said_of(net, data)[0]), said_of(net, data))
-
-
-def program_rows(program):
-    """The program's transcripts with each number of workers and each capacity by turns."""
-    wrong, other_bytes, count = [], [], 0
-    for count, (network, net) in enumerate(networks(), 1):
-        words = ["--edition", "1", "--workers", str(WORKERS[count % 4]), "--capacity", str(CAPACITIES[count % 3])]
-        status, data, fault = transcript_by(program, words, network)
-        if (status, fault) != (0, b"") or not is_counted(net, data, said_of(net, data)[0]):
-            wrong.append((network, words, status, fault, said_of(net, data)))
-        elif data != written_anew(data):
-            other_bytes.append((network, words, data[:2000]))
-    note(f"the program's transcripts of {count} networks", not wrong, f"{len(wrong)}: {wrong[:1]}")
-    note("the program's transcripts byte for byte", not other_bytes, other_bytes[:1])
-    for workers in WORKERS:
-        done = transcript_by(program, ["--edition", "1", "--workers", str(workers)], b"p col 2 0\n")
-        note(f"two nodes apart, {workers} workers", done == (0, text(APART), b""), done)
-
-
-def one_worker_rows(program):
-    """With one worker the whole text is known: what it does in a look is defined, and nobody else does anything."""
-    wrong, count = [], 0
-    for count, (network, net) in enumerate(networks(), 1):
-        capacity = CAPACITIES[count % 3]
-        done = transcript_by(program, ["--edition", "1", "--workers", "1", "--capacity", str(capacity)], network)
-        if done != (0, Run(net, capacity).text(), b""):
-            wrong.append((network, capacity, done))
-    note(
-        f"the transcripts of one worker of {count} networks, by the definition", not wrong, f"{len(wrong)}: {wrong[:1]}"
-    )
 
 
 def transcript_by(program, words, network):
@@ -574,21 +286,189 @@ def written_anew(data):
     return transcript_text(head.nodes, lines)
 
 
-def main():
-    words = argparse.ArgumentParser(description=__doc__, formatter_class=argparse.RawDescriptionHelpFormatter)
-    words.add_argument("--program", metavar="PROGRAM")
-    words.add_argument("--play", metavar="PLAY")
-    given = words.parse_args()
-    for rows in (worked_rows, made_rows, order_rows, command_rows, cut_rows, large_rows):
-        rows()
-    mistake_rows(given.play and os.path.abspath(given.play))
-    script_rows(given.play)
-    if given.program:
-        program_rows(os.path.abspath(given.program))
-        one_worker_rows(os.path.abspath(given.program))
-    print(f"{TALLY['passed']} passed, {TALLY['failed']} failed")
-    return 1 if TALLY["failed"] else 0
+class Transcripts(Case):
+    def test_worked(self):
+        for network, transcript, said in WORKED:
+            got = said_of(network_of(text(network)), text(transcript))
+            self.note(f"{said} of {transcript[:60]!r}", got[0] == said, got)
+        edge = network_of(text(EDGE))
+        whole = transcript_text(2, EDGE_LINES)
+        self.note("a run of an edge worked by hand", said_of(edge, whole)[0] == EDGE_WHOLE, said_of(edge, whole))
+        lines = whole.split(b"\n")
+        for at in range(len(lines) - 1):
+            got = said_of(edge, b"\n".join(lines[:at] + lines[at + 1 :]))
+            self.note(f"a run of an edge without line {at + 1}", not got[0].startswith("whole"), got)
 
+    def test_made(self):
+        """Two runs of each network by the definitions, one in each layout; and the payloads of both are the same."""
+        source, wrong, different = random.Random(SEED), [], []
+        for i, (data, net) in enumerate(networks()):
+            runs = [made_transcript(source, net, CAPACITIES[(i + k) % 3]) for k in range(2)]
+            texts = [transcript_text(len(runs[0]), runs[0]), mixed_text(source, len(runs[1]), runs[1])]
+            wrong += [(data, said_of(net, made)) for made in texts if not is_counted(net, made, said_of(net, made)[0])]
+            if payload_puts(texts[0]) != payload_puts(transcript_text(len(runs[1]), runs[1])):
+                different.append(data)
+        self.note(f"two runs of each of {i + 1} networks by the definitions", not wrong, wrong[:1])
+        self.note("two runs of a network put the same payloads", not different, different[:1])
 
-if __name__ == "__main__":
-    sys.exit(main())
+    def test_mistakes(self):
+        """Each refused transcript is refused at the entry that the search names, each accepted one is a run in the
+        order found."""
+        wrong, accepted, codes = [], dict.fromkeys(MISTAKES, 0), set()
+        for mistake, network, net, data in mistaken(100):
+            code, ordered = found_in(net, data)
+            said, words = said_of(net, data)
+            accepted[mistake] += code is None
+            codes.add(code)
+            verdicts = [said.rpartition(": ")[2] if words else None, replayed(net, ordered)]
+            verdicts.append(replayed_by(PLAY, network, net, ordered))
+            if verdicts != [code] * len(verdicts):
+                wrong.append((mistake, network, data, code, verdicts))
+        self.note("400 transcripts with a mistake, beside a replay", not wrong, f"{len(wrong)}: {wrong[:1]}")
+        self.note("all but swapped entries are refused", [accepted[mistake] for mistake in MISTAKES[:3]] == [0, 0, 0],
+                  accepted)
+        self.note("swapped entries are refused or not", 0 < accepted["swapped"] < 100, accepted)
+        self.note("refusals of each kind",
+                  codes == {None, "X1", "NotReady", "NothingToPut", "LinkEmpty", "WrongWire", "NotWhole"}, codes)
+
+    def test_orders(self):
+        """On an edge, of runs and of transcripts with a mistake: no order of the entries gets further than the search
+        does."""
+        source, wrong, net = random.Random(SEED), [], network_of(text(EDGE))
+        for i in range(24):
+            lines = EDGE_LINES if i == 0 else made_transcript(source, net, CAPACITIES[i % 3])
+            if i > 1:
+                lines = with_mistake(source, MISTAKES[i % 4], lines)
+            try:
+                _, entries = read(transcript_text(2, lines))
+            except Wrong:
+                continue
+            reached, made = every_order(net, entries), find_order(net, entries).made
+            furthest = tuple(sum(entry.vertex == v for entry in made) for v in (1, 2))
+            if furthest not in reached or any(a > b for counts in reached for a, b in zip(counts, furthest)):
+                wrong.append((lines, furthest))
+        self.note("the search gets as far as any order of 24 transcripts", not wrong, wrong[:1])
+
+    def test_checker(self):
+        """The checker as a command: from a file, from standard input, in the order found, and refused."""
+        whole = transcript_text(2, EDGE_LINES)
+        with tempfile.TemporaryDirectory() as folder:
+            network, transcript = os.path.join(folder, "edge.col"), os.path.join(folder, "edge.transcript")
+            for name, data in ((network, text(EDGE)), (transcript, whole)):
+                with open(name, "wb") as file:
+                    file.write(data)
+            said = (0, EDGE_WHOLE.encode() + b"\n", b"")
+            self.note("a transcript in a file", command([network, transcript], b"x") == said,
+                      command([network, transcript], b"x"))
+            self.note("a transcript as standard input", command([network], whole) == said, command([network], whole))
+            status, ordered, fault = command(["--order", network], whole)
+            self.note("an order that is a run",
+                      (status, fault, replayed(network_of(text(EDGE)), ordered)) == (0, b"", None), (status, fault))
+            self.note("its lines are the transcript's", sorted(ordered.split(b"\n")) == sorted(whole.split(b"\n")),
+                      ordered)
+            line = (b"line 2: LinkEmpty: node 1 takes close from 2, which never puts it; "
+                    b"node 2 has no entry (is the text cut?)\n")
+            done = command(["--order", network], b"transcript 1 2\n1 take 2 close\n")
+            self.note("a refusal", done == (1, b"", line), done)
+            status, told, fault = command(["--help"], b"")
+            self.note("help", (status, fault) == (0, b"") and b"forestplan transcript" in told, (status, told, fault))
+            for data in (b"", whole, b"p edge\n", b"p edge 2 1\ne 1 1\n", b"p edge 2 1\ne 1 3\n",
+                         b"p edge 2 1\ne 1 x\n", b"p a 1 0\np a 1 0\n"):
+                with open(network + "x", "wb") as file:
+                    file.write(data)
+                status, told, fault = command([network + "x", transcript], b"")
+                line = rb"check-transcript: [^\n]*edge\.colx[^\n]* \(F\d\)\n"
+                self.note(f"the network {data[:30]}", (status, told) == (2, b"") and re.fullmatch(line, fault),
+                          (status, told, fault))
+            for words in ([transcript + "x"], [network, transcript + "x"]):
+                line = f"check-transcript: {transcript}x: No such file or directory\n".encode()
+                self.note(f"a file that isn't there, {len(words)} words", command(words, b"") == (2, b"", line),
+                          command(words, b""))
+            for words in ([], [folder], [network, folder], [network, transcript, "x"], ["--orders", network],
+                          [transcript + "x"]):
+                status, told, _ = command(words, whole)
+                self.note(f"the words {words}", (status, told) == (2, b""), (status, told))
+
+    def test_cut(self):
+        """Texts that end too early are refused, and the reader is asked whether the text is cut."""
+        edge, whole = network_of(text(EDGE)), transcript_text(2, EDGE_LINES)
+        said = [said_of(edge, whole[:end])[0] for end in range(len(whole) - 1)]
+        self.note("no beginning of a run of an edge is whole", not any(code.startswith("whole") for code in said))
+        lines = whole.split(b"\n")[:-1]
+        pulse = lines.index(b"2 pulse %d" % EDGE_LAST)
+        said = [said_of(edge, b"\n".join(lines[:count]) + b"\n") for count in range(1, pulse + 1)]
+        unasked = [words for _, words in said if not words.endswith("(is the text cut?)")]
+        self.note("each beginning without the last pulse may be cut", len(said) == pulse and not unasked, unasked[:1])
+        net = network_of(text(ROW))
+        made = made_transcript(random.Random(SEED), net, 4)
+        for left, wanted in LEFT:
+            got = said_of(net, transcript_text(4, {v: made[v] for v in left}))
+            self.note(f"of a run of four the entries of {left}", got[1].endswith(f"; {wanted} (is the text cut?)"), got)
+        got = said_of(edge, b"transcript 1 2\n1 put 2 payl")
+        self.note("a text that ends inside a line", got[0] == "line 2: X1" and "cut" in got[1], got)
+
+    def test_scripts(self):
+        """The scripts at the top: through a symbolic link, from another folder."""
+        whole = transcript_text(2, EDGE_LINES)
+        with tempfile.TemporaryDirectory() as folder:
+            network = os.path.join(folder, "edge.col")
+            with open(network, "wb") as file:
+                file.write(text(EDGE[:-1]))
+            for name in ("check-transcript", "replay"):
+                os.symlink(os.path.join(TOP, "bin", name), os.path.join(folder, name))
+            done = script(folder, ["./check-transcript", "edge.col"], whole)
+            self.note("bin/check-transcript through a link", done == (0, EDGE_WHOLE.encode() + b"\n", b""), done)
+            for words in ([], ["edge.col", "x", "y"], ["--order", "edge.col"], ["edge.col", "nowhere"]):
+                done = script(folder, ["./replay", *words], whole)
+                self.note(f"bin/replay {words}",
+                          done[:2] == (2, b"") and re.match(b"replay: |check-transcript: ", done[2]), done)
+            done = script(folder, ["./replay", "--help"], b"")
+            self.note("bin/replay --help",
+                      done[0] == 0 and done[2] == b"" and b"  bin/forestplan transcript" in done[1], done)
+            done = script(folder, ["./replay", "edge.col"], whole[:100])
+            self.note("bin/replay of a cut text", done[:2] == (1, b"") and b"cut" in done[2], done)
+            if PLAY:
+                taken = {v: sum(f" take {v} " in line for line in EDGE_LINES[3 - v]) for v in (1, 2)}
+                wanted = "".join(
+                    f"node {v} pulse {EDGE_LAST} channel {v}\nlink {v} {3 - v} taken {taken[v]}\n" for v in (1, 2)
+                ).encode()
+                done = script(folder, ["./replay", "edge.col"], whole)
+                self.note("bin/replay of a run", done == (0, wanted, b""), done)
+
+    def test_large(self):
+        """Long transcripts, each read and searched in one go: 60,000 entries of few nodes, or of nodes with many
+        neighbours."""
+        source = random.Random(SEED)
+        for name, nodes, edges in [("a star", 41, {(v, 41) for v in range(1, 41)}),
+                                   ("all joined", 8, {(v, w) for w in range(1, 9) for v in range(1, w)}),
+                                   ("a long path", 300, {(v, v + 1) for v in range(1, 300)})]:
+            net = network_of(text_of(source, nodes, edges))
+            data = transcript_text(nodes, made_transcript(source, net, 4))
+            self.note(f"the transcript of {name}", is_counted(net, data, said_of(net, data)[0]), said_of(net, data))
+
+    def test_programs(self):
+        """The program's transcripts with each number of workers and each capacity by turns."""
+        wrong, other_bytes, count = [], [], 0
+        for count, (network, net) in enumerate(networks(), 1):
+            words = ["--edition", "1", "--workers", str(WORKERS[count % 4]), "--capacity", str(CAPACITIES[count % 3])]
+            status, data, fault = transcript_by(PLAN, words, network)
+            if (status, fault) != (0, b"") or not is_counted(net, data, said_of(net, data)[0]):
+                wrong.append((network, words, status, fault, said_of(net, data)))
+            elif data != written_anew(data):
+                other_bytes.append((network, words, data[:2000]))
+        self.note(f"the program's transcripts of {count} networks", not wrong, f"{len(wrong)}: {wrong[:1]}")
+        self.note("the program's transcripts byte for byte", not other_bytes, other_bytes[:1])
+        for workers in WORKERS:
+            done = transcript_by(PLAN, ["--edition", "1", "--workers", str(workers)], b"p col 2 0\n")
+            self.note(f"two nodes apart, {workers} workers", done == (0, text(APART), b""), done)
+
+    def test_one_worker(self):
+        """With one worker the whole text is known: what it does in a look is defined, and nobody else does anything."""
+        wrong, count = [], 0
+        for count, (network, net) in enumerate(networks(), 1):
+            capacity = CAPACITIES[count % 3]
+            done = transcript_by(PLAN, ["--edition", "1", "--workers", "1", "--capacity", str(capacity)], network)
+            if done != (0, Run(net, capacity).text(), b""):
+                wrong.append((network, capacity, done))
+        self.note(f"the transcripts of one worker of {count} networks, by the definition", not wrong,
+                  f"{len(wrong)}: {wrong[:1]}")

@@ -5,7 +5,10 @@ import random
 import re
 import subprocess
 
-from lab.definitions.colours import fields_of
+from lab.definitions.colours import fields_of, network_of
+from tests import TOP
+from tests.cases import Case
+from tests.settings import PLAN
 
 LIMIT = 60
 SEED = 2026
@@ -76,16 +79,6 @@ WORKED_VERDICTS = [
 ]
 
 
-def verdict_rows(program, examples):
-    """Rows (name, good, what)."""
-    rows = [one_row(program, f"verdict {said} of {text[-40:]!r}", text.replace("|", "\n").encode(), said)
-            for text, said in WORKED_VERDICTS]
-    whole = GOOD.replace("|", "\n").encode()
-    rows += [one_row(program, f"check of the first {k} bytes", whole[:k], said) for k, said in beginnings(whole)]
-    rows += [random_plans(program), shuffled(program), largest(program)]
-    return rows + piped_rows(program, examples) + stream_rows(program, whole)
-
-
 def run(program, data, **streams):
     return subprocess.run([program, "check"], input=data, capture_output=True, timeout=LIMIT, **streams)
 
@@ -101,18 +94,15 @@ def one_row(program, name, data, said):
 
 
 def verdict_of(data):
-    """The verdict on a plan behind a network without a fault, by the definition."""
-    lines = [fields_of(line) for line in data.split(b"\n")]
-    start = next((i for i, line in enumerate(lines) if line[:1] == [b"plan"]), len(lines))
-    nodes = next(int(line[2]) for line in lines[:start] if line[:1] == [b"p"])
-    edges = {frozenset(map(int, line[1:3])) for line in lines[:start] if line[:1] == [b"e"]}
-    bars = {}
-    for line in lines[:start]:
-        if line[:1] == [b"b"]:
-            bars.setdefault(int(line[1]), set()).add(int(line[2]))
-    return wrong_line(lines[start:]) or wrong_plan(
-        nodes, edges, [tuple(map(int, line)) for line in lines[start + 1 :] if line], bars
-    )
+    """The verdict on a plan after a network without a fault, by the definition."""
+    lines = data.split(b"\n")
+    rows = [fields_of(line) for line in lines]
+    start = next((i for i, row in enumerate(rows) if row[:1] == [b"plan"]), len(rows))
+    net = network_of(b"\n".join(lines[:start]))
+    bars = {v: {channel + 1 for channel in barred} for v, barred in net.barred.items()}
+    plan = [row for row in rows[start + 1 :] if row]
+    return wrong_line(rows[start:]) or wrong_plan(len(net.neighbours), set(net.number),
+                                                  [tuple(map(int, row)) for row in plan], bars)
 
 
 def wrong_line(lines):
@@ -231,9 +221,30 @@ def stream_rows(program, data):
     closed = subprocess.run(["bash", "-c", '"$0" check <&-', program], capture_output=True, timeout=LIMIT)
     return [
         ("check to a full device", (done.returncode, done.stderr) == (4, line), done),
-        (
-            "check of a closed standard input",
-            (closed.returncode, closed.stdout, closed.stderr) == (4, b"", line),
-            closed,
-        ),
+        ("check of a closed standard input", (closed.returncode, closed.stdout, closed.stderr) == (4, b"", line),
+         closed),
     ]
+
+
+class Verdicts(Case):
+    def test_worked(self):
+        for text, said in WORKED_VERDICTS:
+            self.note(*one_row(PLAN, f"verdict {said} of {text[-40:]!r}", text.replace("|", "\n").encode(), said))
+
+    def test_beginnings(self):
+        whole = GOOD.replace("|", "\n").encode()
+        for k, said in beginnings(whole):
+            self.note(*one_row(PLAN, f"check of the first {k} bytes", whole[:k], said))
+
+    def test_random(self):
+        self.note(*random_plans(PLAN))
+
+    def test_large(self):
+        self.note(*shuffled(PLAN))
+        self.note(*largest(PLAN))
+
+    def test_examples(self):
+        self.note_all(piped_rows(PLAN, os.path.join(TOP, "examples")))
+
+    def test_streams(self):
+        self.note_all(stream_rows(PLAN, GOOD.replace("|", "\n").encode()))

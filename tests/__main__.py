@@ -1,0 +1,169 @@
+"""Runs the tests of the built programs, of the Python package and of the pages.
+
+Each module of tests/ is a process of its own, and they run side by side. What failed
+is printed module by module, and last 'N passed, M failed' over all of them, in rows:
+a test has one or many.
+
+NAME is a module, a class or a test as --list prints them, a folder of tests/, or a
+word of a test's name. Without NAME all tests run.
+
+The programs are those that `rt ci`, or ./forestplan and bin/forestplay, have built. It
+needs a C compiler, `cc`. What is in tests/by_hand/ has to be called by hand."""
+import argparse
+import contextlib
+import os
+import re
+import shutil
+import signal
+import subprocess
+import sys
+import tempfile
+
+from tests import TOP
+
+# The modules that take longest, which begin first.
+LONGEST = ("programs.hostile", "programs.transcripts", "programs.merged", "programs.schedules", "programs.plans",
+           "programs.plain_networks")
+
+
+def options(settings):
+    words = argparse.ArgumentParser(prog="tests", usage="python3 -m tests [NAME ..] [options]", description=__doc__,
+                                    epilog="Status: 0 all passed, 1 a row failed, 2 the command line is refused.",
+                                    formatter_class=argparse.RawDescriptionHelpFormatter)
+    words.add_argument("names", metavar="NAME", nargs="*")
+    words.add_argument("--list", action="store_true", help="print the names of the tests, and run none")
+    words.add_argument("-j", "--jobs", metavar="N", type=int, default=len(os.sched_getaffinity(0)),
+                       help="how many modules run at a time; as many as there are processors by default")
+    more = words.add_argument_group("settings, each also by an environment variable, as TESTS_PLAN")
+    for name, (default, what) in settings.items():
+        shown = os.path.relpath(default, TOP) if default.startswith(TOP) else default
+        more.add_argument(f"--{name}", metavar="X", help=what + (f" (default: {shown})" if shown else ""))
+    return words
+
+
+def is_named(name, test):
+    """Whether a name of the command line means a test, which is named MODULE.CLASS.test_x."""
+    name = name.removeprefix("tests/").removeprefix("tests.").removesuffix(".py").rstrip("/").replace("/", ".")
+    return test.startswith(name + ".") or test == name or name in test.split(".") or name in test.split(".")[-1]
+
+
+def chosen_tests(names, words):
+    """The tests to run by their names, and these by module. A module that can't be read, or that has no test, is one of
+    them: its process says so."""
+    from tests.running import is_helper, modules, tests_of
+    found = {}
+    for module in modules():
+        try:
+            tests = tests_of(module)
+        except Exception:
+            tests = {module: None}
+        if not tests and not is_helper(module):
+            tests = {module: None}
+        chosen = {test: tests[test] for test in tests if not names or any(is_named(name, test) for name in names)}
+        if chosen:
+            found[module] = chosen
+    for name in names:
+        if not any(is_named(name, test) for tests in found.values() for test in tests):
+            words.error(f"no test has the name {name}; --list prints the names")
+    return found
+
+
+def what_is_missing(chosen, programs):
+    """What the chosen tests need and isn't there, in words."""
+    tests = [test for tests in chosen.values() for test in tests.values() if test is not None]
+    if not any(getattr(test, "needs_programs", True) for test in tests):
+        return ""
+    for path in programs:
+        if not os.access(path, os.X_OK):
+            return f"{os.path.relpath(path)} isn't built: ./test builds it, and so do ./forestplan and bin/forestplay"
+    return "" if shutil.which("cc") else "there is no C compiler cc"
+
+
+class Run:
+    """A module's process, which writes what it says to a file."""
+
+    def __init__(self, module, tests, folder):
+        self.module, self.path = module, os.path.join(folder, module)
+        with open(self.path, "wb") as file:
+            self.process = subprocess.Popen([sys.executable, "-m", "tests.running", module, *tests],
+                                            stdin=subprocess.DEVNULL, stdout=file, stderr=subprocess.STDOUT, cwd=TOP,
+                                            start_new_session=True)
+
+    def report(self):
+        """Prints what it said, and returns how many rows passed and failed: a process that ends otherwise than with
+        its count has failed once."""
+        with open(self.path, encoding="utf-8", errors="replace") as file:
+            said = file.read()
+        print(f"{self.module}:\n{said}", end="" if said.endswith("\n") or not said else "\n")
+        last = re.search(r"^(\d+) passed, (\d+) failed\n\Z", said, re.M)
+        passed, failed = map(int, last.groups()) if last else (0, 0)
+        status = self.process.returncode
+        if (status != 0) != (failed > 0) or not last:
+            print(f"FAILED {self.module}: it ended with status {status}{'' if last else ' and without its count'}")
+            failed += 1
+        sys.stdout.flush()
+        return passed, failed
+
+    def stop(self):
+        """Ends it with all that it started."""
+        with contextlib.suppress(ProcessLookupError):
+            os.killpg(self.process.pid, signal.SIGKILL)
+        self.process.wait()
+
+
+def run_all(chosen, jobs, folder):
+    """The sums over all modules, which are reported in their order."""
+    waiting = sorted(chosen, key=lambda module: LONGEST.index(module) if module in LONGEST else len(LONGEST))
+    left, running, done, sums = list(chosen), {}, {}, [0, 0]
+    try:
+        while left:
+            while waiting and len(running) < jobs:
+                run = Run(waiting[0], chosen[waiting.pop(0)], folder)
+                running[run.process.pid] = run
+            pid, status = os.waitpid(-1, 0)
+            run = running.pop(pid)
+            run.process.returncode = os.waitstatus_to_exitcode(status)
+            run.stop()
+            done[run.module] = run
+            while left and left[0] in done:
+                sums = [a + b for a, b in zip(sums, done[left.pop(0)].report())]
+    except BaseException:
+        for run in running.values():
+            run.stop()
+        raise
+    return sums
+
+
+def main():
+    signal.signal(signal.SIGTERM, lambda *_: sys.exit(143))
+    # Python keeps what it compiles apart from the tree, and for all processes, since each of them reads the same.
+    with tempfile.TemporaryDirectory(prefix="tests-") as folder:
+        os.environ.pop("PYTHONDONTWRITEBYTECODE", None)
+        sys.dont_write_bytecode = False
+        sys.pycache_prefix = os.environ.setdefault("PYTHONPYCACHEPREFIX", os.path.join(folder, "compiled"))
+        from tests.settings import SETTINGS, setting, variable
+        words = options(SETTINGS)
+        given = words.parse_args()
+        for name in SETTINGS:
+            value = getattr(given, name.replace("-", "_"))
+            if value is not None:
+                os.environ[variable(name)] = value
+        chosen = chosen_tests(given.names, words)
+        if given.list:
+            print("\n".join(test for tests in chosen.values() for test in tests))
+            return 0
+        missing = what_is_missing(chosen, [setting("plan"), setting("play")])
+        if missing:
+            print(f"tests: {missing}", file=sys.stderr)
+            return 2
+        passed, failed = run_all(chosen, max(1, given.jobs), folder)
+    print(f"{passed} passed, {failed} failed")
+    return 1 if failed else 0
+
+
+if __name__ == "__main__":
+    try:
+        sys.exit(main())
+    except KeyboardInterrupt:
+        print("tests: interrupted", file=sys.stderr)
+        sys.exit(130)

@@ -1,0 +1,112 @@
+"""The one table of all commands: those of the programs, and the scripts of bin/ with theirs.
+
+Each has a small input and the answer to it, worked by hand. What tests every command reads it from here, and
+tests/programs/commands.py fails if a command is missing. In the texts '|' is a line feed."""
+from dataclasses import dataclass
+
+EDGE, TRIANGLE, APART, ALONE = "p edge 2 1|e 1 2|", "p edge 3 3|e 1 2|e 1 3|e 2 3|", "p edge 2 0|", "p edge 1 0|"
+PULSES = range(1, 13)
+STEPS = ["greet", "orient", "seed", "step", "step", "step", "step", "shift", "drop", "shift", "drop", "shift", "drop"]
+
+
+@dataclass(frozen=True)
+class Command:
+    """A command of a program. Its help texts are build/help/NAME_help.txt and NAME_help_short.txt."""
+
+    program: str
+    name: str
+    # A small input, and the answer to it.
+    data: str
+    answer: str
+    # A small input with an odd layout, of which programs.hostile makes texts that nobody would write; and how many of
+    # 100 random texts are for this command.
+    odd: str
+    share: int
+    # The options that it has, each with a number.
+    options: tuple[str, ...] = ()
+    # Further words: with them it has threads, and the answer is the same each time.
+    words: tuple[str, ...] = ()
+    # Whether it reads a text of its own; else it reads a network as `forests` does.
+    is_reader: bool = False
+
+    @property
+    def line(self):
+        """The words of a call."""
+        return [self.name, *self.words]
+
+    @property
+    def line_of_one(self):
+        """The words of a call with one worker."""
+        return [self.name, *(("--workers", "1") if "workers" in self.options else ())]
+
+    @property
+    def usage(self):
+        """Its usage as a refusal has it."""
+        return f"{self.program} {self.name}{' [OPTIONS]' if self.options else ''}"
+
+
+COMMANDS = (
+    Command("forestplan", "forests", TRIANGLE, "forests 3 2|0 1 2|0 2 3|1 1 3|",
+            odd="p edge 3 3|i 2 7|b 3 1|e 1 2|e 1 3|e 2 3|", share=28, is_reader=True),
+    Command("forestplan", "plain", TRIANGLE, "plan|1 2|2 3|3 1|", odd="c|p col 2 1|e 1 2|i 1 5|b 2 1|", share=3),
+    Command("forestplan", "plan", TRIANGLE, "plan|1 2|2 3|3 1|", odd="p edge 2 1|b 1 2|e 2 1|b 2 1|", share=3,
+            options=("workers", "capacity", "turns"), words=("--workers", "2")),
+    Command(
+        "forestplan", "transcript", APART,
+        "transcript 2 2|" + "".join(f"{p} {v} pulse {p}|" for p in PULSES for v in (1, 2)),
+        odd="p edges 2 1|e 1 2|", share=3,
+        options=("workers", "capacity", "turns", "edition"), words=("--workers", "2"),
+    ),
+    Command("forestplan", "check", EDGE + "plan|1 2|2 1|", "proper 2|", odd=EDGE + "b 2 1|plan|2 2|1 1|", share=20,
+            is_reader=True),
+    Command("forestplay", "events", EDGE + "put 1 0|",
+            "node 1 pulse 0|link 1 2 taken 0 payload 0 hello 1|node 2 pulse 0|link 2 1 taken 0|",
+            odd=EDGE + "i 1 3|put 1 0|take 2 0|", share=20, is_reader=True),
+    Command("forestplay", "replay", ALONE + "transcript 1 1|1 pulse 1|1 pulse 2|", "node 1 pulse 2|",
+            odd=EDGE + "transcript 1 2|1 put 2 payload 0 hello 1|", share=20, is_reader=True),
+    Command("forestplay", "rounds", ALONE,
+            "rounds 1 1 0 0 12|" + "".join(f"pulse {p} {step}|" for p, step in enumerate(STEPS)),
+            odd="p edge 1 0|n 1|i 1 9|b 1 1|", share=3),
+)
+PROGRAM_OF = {command.name: command.program for command in COMMANDS}
+# The programs, each with the name of its help text.
+PROGRAMS = {"forestplan": "help", "forestplay": "forestplay_help"}
+
+
+def commands_of(program):
+    return [command for command in COMMANDS if command.program == program]
+
+
+@dataclass(frozen=True)
+class Script:
+    """A script of bin/, with the commands that its help lists. `bin/install` copies it, or it needs this tree."""
+
+    name: str
+    # The words of a call, its standard input, and a pattern of all that it prints. FILE is a network of two nodes that
+    # don't interfere.
+    words: tuple[str, ...]
+    data: str
+    answer: str
+    commands: tuple[str, ...] = ()
+    is_installed: bool = True
+
+
+ENDED = "transcript 1 2|" + "".join(f"{v} pulse {p}|" for v in (1, 2) for p in PULSES)
+SCRIPTS = (
+    Script(
+        "picture", ("plan", "FILE", "--plan", "-"), "plan|1 1|2 1|", r"<svg [^\0]*</svg>\n",
+        commands=("plan", "matrix", "forests", "rounds", "bits", "run", "overview", "node", "tally", "player",
+                  "schedules", "adversary", "broken"),
+    ),
+    Script(
+        "network", ("path", "3"), "", r"(c [^\n]*\n)*p edge 3 2\n(c [^\n]*\n)*e 1 2\ne 2 3\n(c [^\n]*\n)*",
+        commands=("path", "ring", "star", "complete", "grid", "queen", "tree", "disk", "random", "read", "number",
+                  "tell", "names"),
+    ),
+    # Each of two nodes that are apart makes its 12 pulses by itself: 13 times 13 states.
+    Script("explore", ("FILE",), "", r"every schedule of net: 169 states, [^\0]*\none end: channels 1 1\n"),
+    Script("check-transcript", ("FILE",), ENDED, r"whole run of 2 nodes, 24 entries, 0 payloads, 0 wires\n"),
+    Script("replay", ("FILE",), ENDED, r"node 1 pulse 12 channel 1\nnode 2 pulse 12 channel 1\n"),
+    Script("install", ("--help",), "", r"usage: install [^\0]*", is_installed=False),
+    Script("wrong-bodies", ("--help",), "", r"usage: wrong-bodies [^\0]*", is_installed=False),
+)

@@ -1,0 +1,123 @@
+"""Finds the tests, and runs those of one module in this process; tests/__main__.py calls it for each module.
+
+  python3 -m tests.running [--first] MODULE [TEST ..]
+
+A test is a method of a `unittest.TestCase`. A module without one fails, unless it is a helper that another one imports.
+It prints each row that failed, and last 'N passed, M failed'. With --first it stops after the first test in which a row
+fails."""
+import importlib
+import inspect
+import os
+import re
+import sys
+import unittest
+
+from tests import TOP
+from tests.cases import Wrong
+
+# The folders of tests/ that come first in the report; others come after them, and those of by_hand/ are no part of it.
+FOLDERS = ("programs", "faults", "pictures", "pages")
+
+
+def modules():
+    """The names of all modules of tests/, without the package's."""
+    top = os.path.join(TOP, "tests")
+    others = sorted(name for name in os.listdir(top) if os.path.isfile(os.path.join(top, name, "__init__.py")))
+    found = []
+    for folder in [*FOLDERS, *(name for name in others if name not in (*FOLDERS, "by_hand")), ""]:
+        names = sorted(os.listdir(os.path.join(top, folder)))
+        stems = [name.removesuffix(".py") for name in names if name.endswith(".py") and not name.startswith("__")]
+        found += [f"{folder}.{stem}" if folder else stem for stem in stems]
+    return found
+
+
+def is_helper(module):
+    """Whether another file of tests/ or bench/ names a module: then it need not have a test."""
+    own = os.path.join(TOP, "tests", *module.split(".")) + ".py"
+    folder, _, stem = f"tests.{module}".rpartition(".")
+    named = re.compile(rf"\b{re.escape(folder)}(\.| import .*\b){stem}\b")
+    for part in ("tests", "bench"):
+        for at, _, names in os.walk(os.path.join(TOP, part)):
+            for path in (os.path.join(at, name) for name in names if name.endswith(".py")):
+                with open(path, encoding="utf-8") as file:
+                    if path != own and named.search(file.read()):
+                        return True
+    return False
+
+
+def tests_of(module):
+    """The tests of a module by their names, `MODULE.CLASS.test_x`; those of a class that it imports aren't its own."""
+    there = importlib.import_module(f"tests.{module}")
+    found = {}
+    for _, case in inspect.getmembers(there, inspect.isclass):
+        if issubclass(case, unittest.TestCase) and case.__module__ == there.__name__:
+            tests = unittest.defaultTestLoader.loadTestsFromTestCase(case)
+            found |= {test.id().removeprefix("tests."): test for test in tests}
+    return found
+
+
+class Counting(unittest.TestResult):
+    """Counts rows: those of a test, or the test itself if it has none."""
+
+    def __init__(self):
+        super().__init__()
+        self.passed, self.failed, self.rows = 0, 0, 0
+
+    def startTest(self, test):
+        super().startTest(test)
+        self.rows = 0
+
+    def addSubTest(self, test, subtest, err):
+        self.rows += 1
+        if err is None:
+            self.passed += 1
+        else:
+            row = subtest._message if isinstance(subtest._message, str) else subtest._subDescription()
+            self.note_failure(test, f"{row}: ", err)
+
+    def addSuccess(self, test):
+        if self.rows == 0:
+            self.passed += 1
+
+    def addError(self, test, err):
+        self.note_failure(test, "", err)
+
+    addFailure = addError
+
+    def addUnexpectedSuccess(self, test):
+        self.failed += 1
+        print(f"FAILED {name_of(test)}: it passes, and was expected to fail")
+
+    def note_failure(self, test, row, err):
+        kind, what, _ = err
+        said = str(what) if kind is Wrong else self._exc_info_to_string(err, test).rstrip()
+        self.failed += 1
+        print(f"FAILED {name_of(test)}: {row}{said}", flush=True)
+        if self.failfast:
+            self.stop()
+
+
+def name_of(test):
+    """CLASS.test_x; what fails before a class's tests has a name of its own, `setUpClass (..)`."""
+    return test.id() if "(" in test.id() else ".".join(test.id().split(".")[-2:])
+
+
+def main():
+    words = sys.argv[1:]
+    counted = Counting()
+    counted.failfast = words[0] == "--first"
+    module, *chosen = words[counted.failfast:]
+    tests = tests_of(module)
+    unittest.TestSuite(tests[name] for name in chosen or tests if name in tests).run(counted)
+    if counted.passed + counted.failed == 0:
+        counted.failed = 1
+        print(f"FAILED {module}: nothing was run")
+    print(f"{counted.passed} passed, {counted.failed} failed")
+    return 1 if counted.failed else 0
+
+
+if __name__ == "__main__":
+    if len(sys.argv) < 2 or sys.argv[1] in ("-h", "--help"):
+        print(__doc__)
+        sys.exit(0 if len(sys.argv) > 1 else 2)
+    sys.exit(main())

@@ -1,0 +1,40 @@
+"""What the tests run with. Each setting has a name and a default; an environment variable `TESTS_NAME` or an option
+`--name` of the runner changes it."""
+import os
+
+from tests import TOP
+
+
+def built(name):
+    return os.path.join(TOP, "crates", name, "out", name)
+
+
+# The default, and what it is.
+SETTINGS = {
+    "plan": (built("forestplan"), "the program forestplan"),
+    "play": (built("forestplay"), "the program forestplay"),
+    "second-plan": (built("forestplan") + ".by-rattle", "forestplan as the second compiler builds it"),
+    "second-play": (built("forestplay") + ".by-rattle", "forestplay as the second compiler builds it"),
+    "crate-tests": (os.path.join(TOP, "crates", "checks", "out", "checks_tests"), "the tests of crates/checks"),
+    "texts": ("60000", "how many random texts programs.hostile makes, over all commands"),
+    "seed": ("2026", "the seed of these random texts"),
+    "first": ("1", "the first part of these random texts, which come in parts of 100,000, each from the seed and its "
+              "number; from 2 on programs.hostile has nothing but random texts, so that a long run goes on after an "
+              "interruption"),
+    "only": ("", "the commands, with commas between them, whose texts programs.hostile makes; all of them by default"),
+    "runs": ("60", "how many whole runs of threads programs.merged checks; 1000 take some minutes"),
+    "spoiled": ("2000", "how many spoiled transcripts programs.merged makes"),
+}
+
+
+def variable(name):
+    return "TESTS_" + name.upper().replace("-", "_")
+
+
+def setting(name):
+    return os.environ.get(variable(name), SETTINGS[name][0])
+
+
+PLAN, PLAY, SECOND_PLAN, SECOND_PLAY, CRATE_TESTS = (
+    os.path.abspath(setting(name)) for name in ("plan", "play", "second-plan", "second-play", "crate-tests")
+)
