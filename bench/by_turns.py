@@ -1,6 +1,7 @@
-"""Runs forestplan and the Rust program of baseline/ by turns on the same networks, and measures time and peak memory.
+"""Runs forestplan and another program by turns on the same networks, and measures time and peak memory.
 
-plan/run.py and transcript/run.py print what it finds."""
+plan/run.py and transcript/run.py print what it finds. The other program of plan/run.py is that of baseline/, with array
+queues as links and a deque of nodes for each worker, which is what forestplan has."""
 import argparse
 import os
 import statistics
@@ -103,14 +104,13 @@ def words_of_command(names, workers):
     words.add_argument("--workers", type=numbers, default=workers)
     words.add_argument("--limit", type=float, default=120.0)
     words.add_argument("program", nargs="?", default=PROGRAM)
-    words.add_argument("baseline", nargs="?", default=BASELINE)
     return words
 
 
-def programs_of(given):
-    """Both programs with their environments, the baseline's with array queues; ends if one isn't there."""
-    for path in (given.program, given.baseline):
+def programs_of(program, other):
+    """Both programs with their environments, the baseline's with its links and its pool; ends if one isn't there."""
+    for path in (program, other):
         if not os.path.exists(path):
             sys.exit(f"{path} isn't there: build it first")
-    arrays = {"BASE_LINK": "array", "BASE_POOL": "array"}
-    return [(given.program, dict(os.environ)), (given.baseline, {**os.environ, **arrays})]
+    deques = {"BASE_LINK": "array", "BASE_POOL": "deque"}
+    return [(program, dict(os.environ)), (other, {**os.environ, **deques})]

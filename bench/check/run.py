@@ -1,13 +1,13 @@
 #!/usr/bin/env python3
-"""Times `check` of 20,000 rows and 400,000 edges beside `forests` on the same network, and both beside the Rust program
-of baseline/, by turns.
+"""Times `check` of 20,000 rows and 400,000 edges beside `forests` on the same network, by turns with another build.
 
-  run.py [--turns N] [PROGRAM [BASELINE]]
+  run.py [--turns N] [PROGRAM [OTHER]]
 
-Default: 15 turns, PROGRAM as `./forestplan` builds it, BASELINE as baseline/build.sh builds it. The network is 20,000
-vertices in a circle, each joined to the next 20; its plan has 21 channels, with the rows as they come and shuffled.
-Prints the least and the median milliseconds, and their ratios. Times are of the whole process. Ends with status 1 where
-the programs didn't write the same bytes, or one failed.
+Default: 15 turns, PROGRAM as `./forestplan` builds it, and OTHER the same: then the ratio says how much two runs of one
+program differ. The program of baseline/ has no `check`. The network is 20,000 vertices in a circle, each joined to the
+next 20; its plan has 21 channels, with the rows as they come and shuffled. Prints the least and the median
+milliseconds, and their ratios. Times are of the whole process. Ends with status 1 where the programs didn't write the
+same bytes, or one failed.
 """
 import os
 import random
@@ -23,7 +23,6 @@ sys.path.insert(0, BENCH)
 from compare import once
 
 PROGRAM = os.path.join(TOP, "crates", "forestplan", "out", "forestplan")
-BASELINE = os.path.join(BENCH, "baseline", "target", "release", "forestbase")
 TURNS, LIMIT, NODES, REACH = 15, 60.0, 20_000, 20
 
 
@@ -62,14 +61,15 @@ def main(words):
     turns = TURNS
     if words[:1] == ["--turns"]:
         turns, words = int(words[1]), words[2:]
-    program, baseline = words + [PROGRAM, BASELINE][len(words):]
-    programs = {"ours": program, "base": baseline}
-    for path in (program, baseline):
+    program = words[0] if words else PROGRAM
+    other = words[1] if len(words) > 1 else program
+    programs = {"ours": program, "other": other}
+    for path in (program, other):
         if not os.path.exists(path):
             sys.exit(f"{path} isn't there: build it first")
     different, forests = 0, None
     print(
-        f"{'command':17s} {'least ms':>9s} {'median':>7s} {'baseline':>9s} {'median':>7s} {'ratio':>6s} {'median':>7s} "
+        f"{'command':17s} {'least ms':>9s} {'median':>7s} {'other':>9s} {'median':>7s} {'ratio':>6s} {'median':>7s} "
         f"{'of forests':>11s}  same bytes"
     )
     with tempfile.TemporaryDirectory() as folder:

@@ -1,11 +1,15 @@
 #!/usr/bin/env python3
-"""Times `plan` on networks of every kind beside the Rust program of baseline/ with its array queues as links, by turns.
+"""Times `plan` on networks of every kind beside the Rust program of baseline/, by turns.
 
   run.py [--turns N] [--networks NAME,..] [--workers N,..] [--capacities N,..] [--limit SECONDS] [PROGRAM [BASELINE]]
 
 Default: 5 turns, every network with each number of workers and each capacity that CASES has for it, 120 seconds a run,
 PROGRAM as `./forestplan` builds it, BASELINE as baseline/build.sh builds it. For a look:
 `run.py --turns 2 --networks queen8_8,complete32 --workers 1,4 --capacities 4`.
+
+The baseline has array queues as links, and a deque of nodes for each worker with stealing (BASE_POOL=deque): the same
+links and the same pool as PROGRAM. With one array queue of nodes (BASE_POOL=array) it is slower with two or four
+workers, and the ratios would be too low.
 
 Writes each network from its definition in graphs.py to a folder of its own, which is removed. Prints for each the least
 and the median milliseconds of both programs and the ratios PROGRAM/BASELINE of these; the growth, which is each
@@ -21,7 +25,8 @@ import tempfile
 sys.path.insert(0, os.path.dirname(os.path.dirname(os.path.abspath(__file__))))
 
 import graphs
-from by_turns import agree, build_peak, mark, networks, numbers, programs_of, run_once, timed, times, words_of_command
+from by_turns import BASELINE, agree, build_peak, mark, networks, numbers, programs_of, run_once, timed, times
+from by_turns import words_of_command
 
 FEW = [(workers, 4) for workers in (1, 2, 4, 8)]
 MANY = [(workers, capacity) for capacity in (4, 2, 1) for workers in (1, 2, 4, 8, 64)]
@@ -52,10 +57,12 @@ def pair_timed(peak, programs, path, pair, given):
 def main():
     words = words_of_command(CASES, {1, 2, 4, 8, 64})
     words.add_argument("--capacities", type=numbers, default={1, 2, 4})
+    words.add_argument("baseline", nargs="?", default=BASELINE)
     given = words.parse_args()
-    programs = programs_of(given)
+    programs = programs_of(given.program, given.baseline)
     print(
-        f"{'':18s} {'program ms':>19s} {'baseline ms':>19s} {'ratio':>13s} {'growth with workers':>20s} {'peak MiB':>22s}"
+        f"{'':18s} {'program ms':>19s} {'baseline ms':>19s} {'ratio':>13s} {'growth with workers':>20s}"
+        f" {'peak MiB':>22s}"
     )
     print(
         f"{'network':10s} wor cap "

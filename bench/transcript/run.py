@@ -1,14 +1,15 @@
 #!/usr/bin/env python3
-"""Times `transcript` on the networks of plan/ beside the Rust program of baseline/ with array queues, by turns.
+"""Times `transcript` on the networks of plan/ beside another build of the program, by turns.
 
-  run.py [--turns N] [--networks NAME,..] [--workers N,..] [--limit SECONDS] [PROGRAM [BASELINE]]
+  run.py [--turns N] [--networks NAME,..] [--workers N,..] [--limit SECONDS] [PROGRAM [OTHER]]
 
 Default: 5 turns, every network with 1 and 4 workers and capacity 4, 120 seconds a run, PROGRAM as `./forestplan` builds
-it, BASELINE as baseline/build.sh builds it. For a look: `run.py --turns 1 --networks myciel5,queen8_8`.
+it, and OTHER the same: then the ratio says how much two runs of one program differ. The program of baseline/ has no
+`transcript`. For a look: `run.py --turns 1 --networks myciel5,queen8_8`.
 
 Writes each network from its definition in graphs.py to a folder of its own, which is removed, and lets both programs
 write to a file there. Prints for each the number of entries; the least and the median milliseconds of both programs and
-the ratios PROGRAM/BASELINE of these; the greatest peak memory in MiB with its ratio; and for both programs the bytes of
+the ratios PROGRAM/OTHER of these; the greatest peak memory in MiB with its ratio; and for both programs the bytes of
 memory that an entry takes: by how much that peak is above the peak of `plan` on the same network, divided by the number
 of entries.
 
@@ -88,14 +89,16 @@ class Case:
 
 
 def main():
-    given = words_of_command(networks(), {1, 4}).parse_args()
-    programs = programs_of(given)
-    print(f"{'':23s} {'program ms':>19s} {'baseline ms':>19s} {'ratio':>13s} {'peak MiB':>22s} {'bytes an entry':>13s}")
+    words = words_of_command(networks(), {1, 4})
+    words.add_argument("other", nargs="?")
+    given = words.parse_args()
+    programs = programs_of(given.program, given.other or given.program)
+    print(f"{'':23s} {'program ms':>19s} {'other ms':>19s} {'ratio':>13s} {'peak MiB':>22s} {'bytes an entry':>13s}")
     print(
         f"{'network':10s} wor {'entries':>8s} "
         + 2 * f"{'least':>9s} {'median':>9s} "
         + f"{'least':>6s} {'median':>6s} "
-        + f"{'prog':>7s} {'base':>7s} {'ratio':>6s} {'prog':>6s} {'base':>6s}  same payloads  checked"
+        + f"{'prog':>7s} {'other':>7s} {'ratio':>6s} {'prog':>6s} {'other':>6s}  same payloads  checked"
     )
     good = []
     with tempfile.TemporaryDirectory() as folder:
