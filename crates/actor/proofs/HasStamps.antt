@@ -1,5 +1,5 @@
 -- What one call on an end, or on the node alone, leaves of the stamps of a node with its ends.
-use Rattle.std.proofs.Common.{◌≡◌, ℕ, zero, suc, ◌+◌, ◌<◌, ◌≤◌, ◌==◌, true, false, if◌then◌else◌, List, [], ◌∷◌, ◌++◌, length, map, set, get_or, refl, sym, ap}
+use Rattle.std.proofs.Common.{◌≡◌, ℕ, zero, suc, ◌+◌, ◌^◌, ◌<◌, ◌≤◌, ◌==◌, true, false, if◌then◌else◌, List, [], ◌∷◌, ◌++◌, length, map, set, get_or, refl, sym, ap}
 use Rattle.std.proofs.Common.{ap₂, ◌∙◌, subst, arith, ⊎_elim, Some, None, Ok, Err}
 use Rattle.std.specs.Prelude.{All, Bool, Option, Result, IsTrue, MatchResult, max}
 use Rattle.std.proofs.lemmas.Bool.{cases_Bool, cases_eq, eqb-true}
@@ -211,14 +211,19 @@ module _ {S M E X Y : Type 0} (program : Program S M E) (net : Net) (put : X →
         (λ yes kept. (keeps net ok v vertex).pulses p counter (by_port (map put xs)) (by_port (map taken ys)) st kept)
         (λ j. let le = h.below j in omega (arith, le)))
 
--- the wire that was taken last, and was set aside, came with the stamp for which it was
+-- the last stamp of a list that got one wire more is that of the wire
+pub last_at : {Y M : Type 0} (taken : Y → List (Stamped M)) (ys : List Y) (i : ℕ) (x y : Y) (w : Stamped M) → i < length ys → x ≡ get_or ys i x
+    → taken y ≡ taken x ++ (w ∷ []) → last_stamp (by_port (map taken (set ys i y)) i) ≡ w.stamp
+last_at taken ys i x y w within is more = ap (λ l. last_stamp l) (one_more_stamped taken ys i x y w within is more).here ∙ last_more 0 (by_port (map taken ys) i) w
+
+-- the wire that was taken last, and was set aside, came with the stamp for which it was, which the counter couldn't pass
 pub full_aside : {Y M : Type 0} (taken : Y → List (Stamped M)) (ys : List Y) (i : ℕ) (x y : Y) (w : Stamped M) (aside : Aside M) → i < length ys
-    → x ≡ get_or ys i x → taken y ≡ taken x ++ (w ∷ []) → aside.port ≡ i → ((s : ℕ) → aside.why ≡ StampFull s → w.stamp ≡ s)
-    → (a : Aside M) → Some aside ≡ Some a → IsFullAside (by_port (map taken (set ys i y))) a
-full_aside taken ys i x y w aside within is more port why a given =
-    subst (λ b. IsFullAside (by_port (map taken (set ys i y))) b) (some_same given)
-    (λ s e. ap (λ k. last_stamp (by_port (map taken (set ys i y)) k)) port
-    ∙ ap (λ l. last_stamp l) (one_more_stamped taken ys i x y w within is more).here ∙ last_more 0 (by_port (map taken ys) i) w ∙ why s e)
+    → x ≡ get_or ys i x → taken y ≡ taken x ++ (w ∷ []) → aside.port ≡ i → (counter : ℕ)
+    → ((s : ℕ) → aside.why ≡ StampFull s → (w.stamp ≡ s) × (2 ^ 64 ≤ max counter s + 1))
+    → (a : Aside M) → Some aside ≡ Some a → IsFullAside counter (by_port (map taken (set ys i y))) a
+full_aside taken ys i x y w aside within is more port counter why a given =
+    subst (λ b. IsFullAside counter (by_port (map taken (set ys i y))) b) (some_same given)
+    (λ s e. (ap (λ k. last_stamp (by_port (map taken (set ys i y)) k)) port ∙ last_at taken ys i x y w within is more ∙ (why s e).0, (why s e).1))
   where
     some_same : {A : Type 0} {x y : A} → Some x ≡ Some y → x ≡ y
     some_same e = cc

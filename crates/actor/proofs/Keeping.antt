@@ -1,5 +1,5 @@
 -- What a node with its ends keeps, event by event: each exit of a part of a turn is one of these.
-use Rattle.std.proofs.Common.{◌≡◌, ℕ, ◌+◌, ◌<◌, [], ◌∷◌, ◌++◌, List, Some, None, Ok, Err, length, set, get_or, map, if◌then◌else◌, refl, sym, ap, ◌∙◌, subst, slice_get}
+use Rattle.std.proofs.Common.{◌≡◌, ℕ, ◌+◌, ◌^◌, ◌<◌, ◌≤◌, [], ◌∷◌, ◌++◌, List, Some, None, Ok, Err, length, set, get_or, map, if◌then◌else◌, refl, sym, ap, ◌∙◌, subst, slice_get}
 use Rattle.std.proofs.lemmas.List.{map-append}
 use Rattle.std.specs.Prelude.{Bool, Option, IsTrue, max}
 use Rattle.alpha_laws.specs.interference.Net.{degree_of, neighbour_of, back_port_of}
@@ -7,7 +7,7 @@ use Rattle.alpha_laws.specs.node_api.Program.{Program, last_pulse_on}
 use Rattle.alpha_laws.specs.node_api.Laws.{IsProgram}
 use Rattle.alpha_laws.specs.alpha_core.Alpha.{pulse, put_done, reaction}
 use Rattle.alpha_laws.specs.alpha_core.AlphaRefused.{AlphaRefused}
-use Rattle.alpha_laws.specs.alpha_core.StampedWires.{stamped, wires_of}
+use Rattle.alpha_laws.specs.alpha_core.StampedWires.{last_stamp, stamped, wires_of}
 use Rattle.alpha_laws.specs.alpha_core.View.{Node, can_pulse, port_at}
 use Rattle.alpha_laws.specs.alpha_core.Wire.{Wire}
 use Rattle.link_queue.specs.Ends.{put_list, put_stamped, take_name, taken_list, taken_stamped}
@@ -27,7 +27,7 @@ use Rattle.actor.specs.declared.aside.WhyAside.TheVariants.{Refused, StampFull}
 use Rattle.actor.specs.declared.wired.WiredPut.{WiredPut}
 use Rattle.actor.specs.declared.wired.WiredTake.{WiredTake}
 use Rattle.actor.specs.declared.wiring.Wiring as wiring
-use Rattle.actor.proofs.HasStamps.{full_aside, has_aside, has_pulsed, has_put, has_taken}
+use Rattle.actor.proofs.HasStamps.{full_aside, last_at, has_aside, has_pulsed, has_put, has_taken}
 use Rattle.actor.proofs.Kept.{legal_of_name}
 use Rattle.actor.proofs.Lists.{as_long, at_place, below_as_many, below_same, same_all}
 use Rattle.actor.proofs.Queued.{parts_of}
@@ -160,7 +160,7 @@ module _ {J S M E : Type 0} {j : wiring.Ghosts J} {program : Program S M E} {v d
 
   -- a wire came, and was set aside: the node refused it, or its stamp would be too great
   kept-aside : {new : Node S M} {last' : ℕ} {i : ℕ} {x y : WiredTake J M j} {s : ℕ} {w : Wire M} (a : Aside M) → a.port ≡ i
-      → ((k : ℕ) → a.why ≡ StampFull k → s ≡ k)
+      → ((k : ℕ) → a.why ≡ StampFull k → (s ≡ k) × (2 ^ 64 ≤ max counter k + 1))
       → ((b : Aside M) → Some a ≡ Some b → IsAside (last_pulse_on program j.net) new.view (map (λ e. taken_list e.end) (set takes i y)) b)
       → aside ≡ None → i < degree → Came takes i x y s w → new ≡ node → last' ≡ last
       → IsKept program v degree t (Some a) last' new puts (set takes i y) es st counter
@@ -181,7 +181,7 @@ module _ {J S M E : Type 0} {j : wiring.Ghosts J} {program : Program S M E} {v d
             c.is (wires_came c) same_node old.writes;
         stamps = has_aside program j.net (λ e. put_stamped e.end) (λ e. taken_stamped e.end) v t old.network old.is_vertex node counter puts takes aside i x y
             (stamped s w) es st count_takes lt going c.is c.more old.writes old.stamps;
-        full = full_aside (λ e. taken_stamped e.end) takes i x y (stamped s w) a (takes_within i port) c.is c.more at full;
+        full = full_aside (λ e. taken_stamped e.end) takes i x y (stamped s w) a (takes_within i port) c.is c.more at counter full;
       }
 
   pub kept-refused : {new : Node S M} {last' : ℕ} {i : ℕ} {x y : WiredTake J M j} {s : ℕ} {w : Wire M} {e : AlphaRefused} → aside ≡ None → i < degree
@@ -193,13 +193,23 @@ module _ {J S M E : Type 0} {j : wiring.Ghosts J} {program : Program S M E} {v d
       (refused_is program j.net (λ e. taken_list e.end) node new takes i x y w a e last old.last_is refl refl (takes_within i port) c.is (wires_came c) same_node
       refused) going port c same_node same
 
-  pub kept-full : {i : ℕ} {x y : WiredTake J M j} {s : ℕ} {w : Wire M} → aside ≡ None → i < degree → Came takes i x y s w
+  pub kept-full : {i : ℕ} {x y : WiredTake J M j} {s : ℕ} {w : Wire M} → aside ≡ None → i < degree → Came takes i x y s w → 2 ^ 64 ≤ max counter s + 1
       → IsKept program v degree t (Some record { port = i; wire = w; why = StampFull s }) last node puts (set takes i y) es st counter
-  kept-full {i} {x} {y} {s} {w} going port c =
+  kept-full {i} {x} {y} {s} {w} going port c past =
       let a : Aside M = record { port = i; wire = w; why = StampFull s } in
-      kept-aside a refl (λ k is. full_stamp s k is)
+      kept-aside a refl (λ k is. (full_stamp s k is, subst (λ n. 2 ^ 64 ≤ max counter n + 1) (full_stamp s k is) past))
       (aside_is program j.net (λ e. taken_list e.end) node node takes i x y w a refl refl (takes_within i port) c.is (wires_came c) refl
       (λ why. absurd (full_not_refused s why))) going port c refl refl
+
+  -- the stamp of the wire that came, or was put
+  pub last_came : {i : ℕ} {x y : WiredTake J M j} {s : ℕ} {w : Wire M} → i < degree → Came takes i x y s w
+      → last_stamp (by_port (map (λ e. taken_stamped e.end) (set takes i y)) i) ≡ s
+  last_came {i} {x} {y} {s} {w} port c = last_at (λ e. taken_stamped e.end) takes i x y (stamped s w) (takes_within i port) c.is c.more
+
+  pub last_went : {i : ℕ} {x y : WiredPut J M j} {s : ℕ} {w : Wire M} → i < degree → Went puts i x y s w
+      → last_stamp (by_port (map (λ e. put_stamped e.end) (set puts i y)) i) ≡ s
+  last_went {i} {x} {y} {s} {w} port c =
+      last_at (λ e. put_stamped e.end) puts i x y (stamped s w) (below_as_many i (length puts) (degree_of j.net v) count_puts (port_below i port)) c.is c.more
 
   -- nothing was put by port i
   pub kept-none-put : {i : ℕ} {x y : WiredPut J M j} → aside ≡ None → NoneWent puts i x y

@@ -15,20 +15,23 @@ use Rattle.actor.proofs.Refusals.{full-isnt_memory, memory-isnt_full}
 
 module _ {J P T : Type 0} {j : wiring.Ghosts J} {p : program.Ghosts P T} {t : text.Ghosts T} {q : equality.Ghosts T} where
   -- it did something
-  pub stepped-did : {old new : Node J P T j p t q} → new.vertex ≡ old.vertex → new.degree ≡ old.degree → Stepped old new (Ok true)
-  stepped-did vertex degree = record {
+  pub stepped-did : {old new : Node J P T j p t q} → new.vertex ≡ old.vertex → new.degree ≡ old.degree → new.refusal ≡ old.refusal → Stepped old new (Ok true)
+  stepped-did vertex degree refusal = record {
     vertex = vertex;
     degree = degree;
+    refusal = refusal;
     unmoved = λ did. absurd (true≢false did);
     refused = tt;
     full = tt;
   }
 
   -- it did nothing
-  pub stepped-not : {old new : Node J P T j p t q} → new.vertex ≡ old.vertex → new.degree ≡ old.degree → IsUnmoved old new → Stepped old new (Ok false)
-  stepped-not vertex degree unmoved = record {
+  pub stepped-not : {old new : Node J P T j p t q} → new.vertex ≡ old.vertex → new.degree ≡ old.degree → new.refusal ≡ old.refusal → IsUnmoved old new
+      → Stepped old new (Ok false)
+  stepped-not vertex degree refusal unmoved = record {
     vertex = vertex;
     degree = degree;
+    refusal = refusal;
     unmoved = λ did. unmoved;
     refused = tt;
     full = tt;
@@ -36,11 +39,12 @@ module _ {J P T : Type 0} {j : wiring.Ghosts J} {p : program.Ghosts P T} {t : te
 
   -- memory was refused
   pub stepped-memory : {old new : Node J P T j p t q} {r : Result Bool TurnRefused} → IsErrAnd r (λ error. error ≡ Memory) → new.vertex ≡ old.vertex
-      → new.degree ≡ old.degree → IsTrue j.transcript → Stepped old new r
-  stepped-memory {r = Ok did} is vertex degree transcript = absurd is
-  stepped-memory {r = Err error} is vertex degree transcript = record {
+      → new.degree ≡ old.degree → new.refusal ≡ old.refusal → IsTrue j.transcript → Stepped old new r
+  stepped-memory {r = Ok did} is vertex degree refusal transcript = absurd is
+  stepped-memory {r = Err error} is vertex degree refusal transcript = record {
     vertex = vertex;
     degree = degree;
+    refusal = refusal;
     unmoved = tt;
     refused = λ memory. transcript;
     full = λ full. absurd (memory-isnt_full (sym is ∙ full));
@@ -48,11 +52,12 @@ module _ {J P T : Type 0} {j : wiring.Ghosts J} {p : program.Ghosts P T} {t : te
 
   -- a stamp would be too great
   pub stepped-full : {old new : Node J P T j p t q} {r : Result Bool TurnRefused} → IsErrAnd r (λ error. error ≡ StampFull) → new.vertex ≡ old.vertex
-      → new.degree ≡ old.degree → 2 ^ 64 ≤ max new.counter (aside_stamp new.aside) + 1 → Stepped old new r
-  stepped-full {r = Ok did} is vertex degree le = absurd is
-  stepped-full {r = Err error} is vertex degree le = record {
+      → new.degree ≡ old.degree → new.refusal ≡ old.refusal → 2 ^ 64 ≤ max new.counter (aside_stamp new.aside) + 1 → Stepped old new r
+  stepped-full {r = Ok did} is vertex degree refusal le = absurd is
+  stepped-full {r = Err error} is vertex degree refusal le = record {
     vertex = vertex;
     degree = degree;
+    refusal = refusal;
     unmoved = tt;
     refused = λ memory. absurd (full-isnt_memory (sym is ∙ memory));
     full = λ full. le;

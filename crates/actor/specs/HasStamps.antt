@@ -1,5 +1,5 @@
 -- What a node with its ends keeps of its stamps.
-use Rattle.std.specs.Prelude.{◌≡◌, ℕ, ◌≤◌, Bool, IsTrue, List, Option, Some, None}
+use Rattle.std.specs.Prelude.{◌≡◌, ℕ, ◌≤◌, ◌+◌, ◌^◌, max, Bool, IsTrue, List, Option, Some, None}
 use Rattle.alpha_laws.specs.interference.Net.{Net}
 use Rattle.alpha_laws.specs.alpha_core.Stamped.{Stamped}
 use Rattle.alpha_laws.specs.alpha_core.StampedWires.{last_stamp}
@@ -30,6 +30,7 @@ aside_stamp None = 0
 aside_stamp (Some aside) = stamp_of_why aside.why
 
 -- A wire that was set aside since its take would have too great a stamp, the last that came by its port, came with that
--- stamp. The lists are those that the ends took, by port.
-abbrev pub IsFullAside : {M : Type 0} → (ℕ → List (Stamped M)) → Aside M → Type 0
-IsFullAside takens aside = (stamp : ℕ) → aside.why ≡ StampFull stamp → last_stamp (takens aside.port) ≡ stamp
+-- stamp, and the stamp of its take would be 2^64 at least. The lists are those that the ends took, by port.
+abbrev pub IsFullAside : {M : Type 0} → ℕ → (ℕ → List (Stamped M)) → Aside M → Type 0
+IsFullAside counter takens aside = (stamp : ℕ) → aside.why ≡ StampFull stamp
+    → (last_stamp (takens aside.port) ≡ stamp) × (2 ^ 64 ≤ max counter stamp + 1)

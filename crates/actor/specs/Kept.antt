@@ -39,5 +39,5 @@ module _ {J S M E : Type 0} {j : wiring.Ghosts J} where
     -- With a transcript, its entries have the stamps that the counter gives them.
     pub stamps : HasStamps j.net vertex transcript counter (by_port (map (λ e. put_stamped e.end) puts))
         (by_port (map (λ e. taken_stamped e.end) takes)) entries stamped
-    -- A wire that it set aside for its stamp came with that stamp.
-    pub full : (a : Aside M) → aside ≡ Some a → IsFullAside (by_port (map (λ e. taken_stamped e.end) takes)) a
+    -- A wire that it set aside for its stamp came with that stamp, and the counter couldn't go past it.
+    pub full : (a : Aside M) → aside ≡ Some a → IsFullAside counter (by_port (map (λ e. taken_stamped e.end) takes)) a

@@ -2,6 +2,7 @@ pub mod Written
 pub mod HasStamps
 pub mod Blocked
 pub mod Stepped
+pub mod Counted
 pub mod Kept
 pub mod Props
 pub mod Node

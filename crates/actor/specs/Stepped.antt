@@ -1,14 +1,20 @@
--- A node before and after a part of a turn, which may have ended early.
-use Rattle.std.specs.Prelude.{◌≡◌, ◌≤◌, ◌+◌, ◌^◌, max, Bool, Result, IfErr, IfOk, IsTrue, false}
+-- A node before and after a part of a turn, and before and after a turn. Both may have ended early.
+use Rattle.std.specs.Prelude.{◌≡◌, ◌≤◌, ◌+◌, ◌^◌, max, Bool, Option, Result, Ok, Err, Some, None, IfErr, IfOk, IsTrue, false}
 use Rattle.std.specs.declared.cmp.PartialEq as equality
 use Rattle.alpha_laws.specs.declared.NodeProgram as program
 use Rattle.alpha_laws.specs.declared.PayloadText as text
+use Rattle.alpha_laws.specs.alpha_core.View.{can_pulse}
 use Rattle.actor.specs.Blocked.{IsUnmoved}
 use Rattle.actor.specs.HasStamps.{aside_stamp}
 use Rattle.actor.specs.declared.wiring.Wiring as wiring
 use Rattle.actor.specs.declared.node.Node.{Node}
 use Rattle.actor.specs.declared.refused.TurnRefused.{TurnRefused}
 use Rattle.actor.specs.declared.refused.TurnRefused.TheVariants as turn
+
+-- the refusal that a node remembers after a turn: its own, if it ended early
+abbrev pub remembered : Option TurnRefused → Result Bool TurnRefused → Option TurnRefused
+remembered old (Ok did) = old
+remembered old (Err error) = Some error
 
 module _ {J P T : Type 0} {j : wiring.Ghosts J} {p : program.Ghosts P T} {t : text.Ghosts T}
     {q : equality.Ghosts T} where
@@ -17,7 +23,20 @@ module _ {J P T : Type 0} {j : wiring.Ghosts J} {p : program.Ghosts P T} {t : te
   pub record Stepped (old new : Node J P T j p t q) (result : Result Bool TurnRefused) : Type 0 where
     pub vertex : new.vertex ≡ old.vertex
     pub degree : new.degree ≡ old.degree
+    pub refusal : new.refusal ≡ old.refusal
     pub unmoved : IfOk result (λ did. did ≡ false → IsUnmoved old new)
+    pub refused : IfErr result (λ error. error ≡ turn.Memory → IsTrue j.transcript)
+    pub full : IfErr result
+        (λ error. error ≡ turn.StampFull → 2 ^ 64 ≤ max new.counter (aside_stamp new.aside) + 1)
+
+  -- The three parts of a turn, one after the other. If they did nothing and set no wire aside, the node is as it was and
+  -- can't make its next pulse.
+  pub record Turned (old new : Node J P T j p t q) (result : Result Bool TurnRefused) : Type 0 where
+    pub vertex : new.vertex ≡ old.vertex
+    pub refusal : new.refusal ≡ old.refusal
+    pub unmoved : IfOk result (λ did. did ≡ false → new.aside ≡ old.aside → IsUnmoved old new)
+    pub blocked : IfOk result
+        (λ did. did ≡ false → new.aside ≡ None → can_pulse new.alpha.last new.alpha.node.view ≡ false)
     pub refused : IfErr result (λ error. error ≡ turn.Memory → IsTrue j.transcript)
     pub full : IfErr result
         (λ error. error ≡ turn.StampFull → 2 ^ 64 ≤ max new.counter (aside_stamp new.aside) + 1)

@@ -1,6 +1,6 @@
 //! A node with its ends.
 
-ghost use Rattle.std.specs.Prelude.{◌≡◌, ◌<◌, [], All, IfOk, map};
+ghost use Rattle.std.specs.Prelude.{◌≡◌, ◌<◌, [], All, IfOk, None, map};
 ghost use Rattle.std.proofs.Props.{props};
 ghost use Rattle.alpha_laws.specs.interference.Net.{IsVertex};
 ghost use Rattle.alpha_laws.specs.alpha_core.Program.{start_node};
@@ -10,6 +10,7 @@ ghost use Rattle.actor.specs.Node.{links_in, links_out};
 ghost use Rattle.actor.specs.Props.{Follows-prop, HasStamps-prop, Leads-prop};
 
 use crate::aside::Aside;
+use crate::refused::TurnRefused;
 use crate::wired::{WiredPut, WiredTake};
 use crate::wiring::Wiring;
 use alpha_laws::{AlphaNode, Memory, Network, NodeProgram};
@@ -23,13 +24,16 @@ pub struct Node<J: Wiring, P: NodeProgram> {
     pub degree: u32,
     /// Whether it writes down what it does.
     pub transcript: bool,
-    pub aside: Option<Aside<P::Payload>>,
-    pub alpha: AlphaNode<P>,
-    pub puts: Vec<WiredPut<J, P::Payload>>,
-    pub takes: Vec<WiredTake<J, P::Payload>>,
-    pub entries: Entries<P::Payload>,
+    /// Why a turn of it ended early, if one did: the last of those.
+    pub refusal: Option<TurnRefused>,
     /// From which its events and the wires that it puts have their stamps.
     pub counter: Counter,
+    pub puts: Vec<WiredPut<J, P::Payload>>,
+    pub takes: Vec<WiredTake<J, P::Payload>>,
+    pub alpha: AlphaNode<P>,
+    // A turn reads these two seldom, so they come after what it reads at each wire.
+    pub aside: Option<Aside<P::Payload>>,
+    pub entries: Entries<P::Payload>,
     /// It keeps its links, and writes down what it does, if the run's nodes do.
     pub ghost kept: { IsKept P.program vertex degree transcript aside alpha.last alpha.node puts.items takes.items
         entries.items entries.stamped counter } by { Prim.hlevel (props, Follows-prop, Leads-prop, HasStamps-prop) },
@@ -59,6 +63,7 @@ impl<J: Wiring, P: NodeProgram> Node<J, P> {
         requires nothing_taken { All (λ e. taken_list e.end ≡ []) takes.items }
         ensures vertex { IfOk result (λ node. node.vertex ≡ vertex) }
         ensures first { IfOk result (λ node. node.alpha.node ≡ start_node P.program net.now vertex) }
+        ensures refusal { IfOk result (λ node. node.refusal ≡ None) }
     {
         net.is_network();
         let alpha = AlphaNode::start(alloc, net, vertex)?;
@@ -66,12 +71,13 @@ impl<J: Wiring, P: NodeProgram> Node<J, P> {
             vertex,
             degree: net.degree(vertex),
             transcript,
-            aside: None,
-            alpha,
+            refusal: None,
+            counter: Counter::new(),
             puts,
             takes,
+            alpha,
+            aside: None,
             entries: Entries::new(alloc),
-            counter: Counter::new(),
         })
     }
 }

@@ -1,11 +1,12 @@
 //! What a node does in a turn.
 
-ghost use Rattle.std.specs.Prelude.{◌≡◌, ◌<◌, ◌≤◌, ◌+◌, ◌^◌, max, IfErr, IfOk, IsSome, IsTrue, None, false};
+ghost use Rattle.std.specs.Prelude.{◌≡◌, ◌<◌, ◌≤◌, ◌+◌, ◌^◌, max, IfErr, IfOk, IsSome, IsTrue, None, false, true};
 ghost use Rattle.alpha_laws.specs.alpha_core.View.{can_pulse, can_take};
 ghost use Rattle.link_queue.specs.Queued.{stamped_of};
 ghost use Rattle.actor.specs.Blocked.{IsUnmoved};
+ghost use Rattle.actor.specs.Counted.{CountsPut, CountsTake};
 ghost use Rattle.actor.specs.HasStamps.{aside_stamp};
-ghost use Rattle.actor.specs.Stepped.{Stepped};
+ghost use Rattle.actor.specs.Stepped.{Stepped, Turned, remembered};
 ghost use Rattle.actor.specs.declared.refused.TurnRefused.TheVariants as turn;
 
 use crate::aside::{Aside, WhyAside};
@@ -50,6 +51,7 @@ impl<J: Wiring, P: NodeProgram> Node<J, P> {
         requires going { self.old.aside ≡ None }
         requires room { IsTrue (can_take self.old.alpha.node.view) }
         ensures stepped { Stepped self.old self.new result }
+        ensures counted { IfOk result (λ did. did ≡ true → CountsTake port self.old self.new) }
     {
         keep_room(self.transcript, &mut self.entries)?;
         let end = &mut self.takes[port as usize];
@@ -121,6 +123,7 @@ impl<J: Wiring, P: NodeProgram> Node<J, P> {
     fn pulse(&mut self) -> Result<bool, TurnRefused>
         requires going { self.old.aside ≡ None }
         ensures stepped { Stepped self.old self.new result }
+        ensures counted { IfOk result (λ did. did ≡ true → self.new.counter ≡ self.old.counter + 1) }
         ensures blocked { IfOk result
             (λ did. did ≡ false → can_pulse self.new.alpha.last self.new.alpha.node.view ≡ false) }
         ensures going { self.new.aside ≡ None }
@@ -156,6 +159,7 @@ impl<J: Wiring, P: NodeProgram> Node<J, P> {
         requires port { port < self.old.degree }
         requires going { self.old.aside ≡ None }
         ensures stepped { Stepped self.old self.new result }
+        ensures counted { IfOk result (λ did. did ≡ true → CountsPut port self.old self.new) }
         ensures going { self.new.aside ≡ None }
     {
         let Some(wire) = self.alpha.front(port) else {
@@ -213,29 +217,15 @@ impl<J: Wiring, P: NodeProgram> Node<J, P> {
         Ok(put)
     }
 
-    /// One turn: takes by each port, then one pulse if the node can make it, then puts by each port. Returns whether
-    /// the node did anything, but false if it set a wire aside.
-    ///
-    /// # Errors
-    ///
-    /// `Memory` if memory for an entry is refused; the node is as after its last event. `StampFull` if a stamp would
-    /// pass 18446744073709551615; the node is as after its last event, but a wire whose take would have that stamp is
-    /// set aside.
-    pub fn turn<R: Wait, G: Gate>(
+    // The parts of a turn, one after the other. Returns whether the node did anything, but false if it set a wire aside.
+    fn parts<R: Wait, G: Gate>(
         &mut self,
         rt: &R,
         links: &Links<J, P>,
         gate: &G,
         worker: u32,
     ) -> Result<bool, TurnRefused>
-        ensures vertex { self.new.vertex ≡ self.old.vertex }
-        ensures unmoved { IfOk result
-            (λ did. did ≡ false → self.new.aside ≡ self.old.aside → IsUnmoved self.old self.new) }
-        ensures blocked { IfOk result (λ did. did ≡ false → self.new.aside ≡ None
-            → can_pulse self.new.alpha.last self.new.alpha.node.view ≡ false) }
-        ensures refused { IfErr result (λ error. error ≡ turn.Memory → IsTrue J.transcript) }
-        ensures full { IfErr result (λ error. error ≡ turn.StampFull
-            → 2 ^ 64 ≤ max self.new.counter (aside_stamp self.new.aside) + 1) }
+        ensures turned { Turned self.old self.new result }
     {
         let took = self.take_all(rt, links)?;
         gate.middle(rt, worker, self.vertex);
@@ -245,5 +235,39 @@ impl<J: Wiring, P: NodeProgram> Node<J, P> {
         let pulsed = self.pulse()?;
         let put = self.put_all(rt, links)?;
         Ok(took || pulsed || put)
+    }
+
+    /// One turn: takes by each port, then one pulse if the node can make it, then puts by each port. Returns whether
+    /// the node did anything, but false if it set a wire aside.
+    ///
+    /// # Errors
+    ///
+    /// `Memory` if memory for an entry is refused; the node is as after its last event. `StampFull` if a stamp would
+    /// pass 18446744073709551615; the node is as after its last event, but a wire whose take would have that stamp is
+    /// set aside. The node remembers the refusal (`refusal`).
+    pub fn turn<R: Wait, G: Gate>(
+        &mut self,
+        rt: &R,
+        links: &Links<J, P>,
+        gate: &G,
+        worker: u32,
+    ) -> Result<bool, TurnRefused>
+        ensures vertex { self.new.vertex ≡ self.old.vertex }
+        ensures refusal { self.new.refusal ≡ remembered self.old.refusal result }
+        ensures unmoved { IfOk result
+            (λ did. did ≡ false → self.new.aside ≡ self.old.aside → IsUnmoved self.old self.new) }
+        ensures blocked { IfOk result (λ did. did ≡ false → self.new.aside ≡ None
+            → can_pulse self.new.alpha.last self.new.alpha.node.view ≡ false) }
+        ensures refused { IfErr result (λ error. error ≡ turn.Memory → IsTrue J.transcript) }
+        ensures full { IfErr result (λ error. error ≡ turn.StampFull
+            → 2 ^ 64 ≤ max self.new.counter (aside_stamp self.new.aside) + 1) }
+    {
+        match self.parts(rt, links, gate, worker) {
+            Ok(did) => Ok(did),
+            Err(refused) => {
+                self.refusal = Some(refused);
+                Err(refused)
+            }
+        }
     }
 }

@@ -121,6 +121,7 @@ pub fn apart<J: Wiring, P: NodeProgram>(
             puts,
             takes,
             aside: _,
+            refusal: _,
             transcript: _,
             entries,
             counter: _,

@@ -1,68 +1,89 @@
 -- The plan: a part of the turn that ended early says why, and the turn ends so too.
-use Rattle.std.proofs.Common.{subst, sym, true≢false, ◌∙◌}
+use Rattle.std.proofs.Common.{ap, subst, sym, true≢false, ◌∙◌}
 use Rattle.std.specs.Prelude.{IsSome}
 use Rattle.std.proofs.lemmas.Result.{IfOk-from_err}
+use Rattle.alpha_laws.specs.alpha_core.View.{can_pulse}
 use Rattle.actor.specs.declared.refused.TurnRefused.TheVariants.{Memory, StampFull}
 use Rattle.actor.proofs.Refusals.{same_refusal}
 use Rattle.actor.proofs.Unmoved.{still_unmoved}
-use Rattle.actor.proofs.node.Node.turn.Goals as goal
+use Rattle.actor.proofs.node.Node.parts.Goals as goal
 
-pub returns-in_err-took-clause-unmoved : goal.returns-in_err-took-clause-unmoved
-returns-in_err-took-clause-unmoved g c = IfOk-from_err c.from_residual.result _ c.from_residual.ensures.0
+pub returns-in_err-took : goal.returns-in_err-took
+returns-in_err-took g c =
+    let took = c.in_err-took.ensures.stepped in
+    record {
+      turned = record {
+        vertex = took.vertex;
+        refusal = took.refusal;
+        unmoved = IfOk-from_err c.from_residual.result _ c.from_residual.ensures.0;
+        blocked = IfOk-from_err c.from_residual.result _ c.from_residual.ensures.0;
+        refused = same_refusal _ c.from_residual.result _ Memory c.from_residual.ensures.1 took.refused;
+        full = same_refusal _ c.from_residual.result _ StampFull c.from_residual.ensures.1 took.full;
+      };
+    }
 
-pub returns-in_err-took-clause-blocked : goal.returns-in_err-took-clause-blocked
-returns-in_err-took-clause-blocked g c = IfOk-from_err c.from_residual.result _ c.from_residual.ensures.0
+pub returns-in_err-pulsed : goal.returns-in_err-pulsed
+returns-in_err-pulsed g c =
+    let took = c.in_ok-took.ensures.stepped in
+    let pulsed = c.in_err-pulsed.ensures.stepped in
+    record {
+      turned = record {
+        vertex = pulsed.vertex ∙ took.vertex;
+        refusal = pulsed.refusal ∙ took.refusal;
+        unmoved = IfOk-from_err c.from_residual-in_err-pulsed.result _ c.from_residual-in_err-pulsed.ensures.0;
+        blocked = IfOk-from_err c.from_residual-in_err-pulsed.result _ c.from_residual-in_err-pulsed.ensures.0;
+        refused = same_refusal _ c.from_residual-in_err-pulsed.result _ Memory c.from_residual-in_err-pulsed.ensures.1 pulsed.refused;
+        full = same_refusal _ c.from_residual-in_err-pulsed.result _ StampFull c.from_residual-in_err-pulsed.ensures.1 pulsed.full;
+      };
+    }
 
-pub returns-in_err-took-clause-refused : goal.returns-in_err-took-clause-refused
-returns-in_err-took-clause-refused g c =
-    same_refusal _ c.from_residual.result _ Memory c.from_residual.ensures.1 c.in_err-took.ensures.stepped.refused
-
-pub returns-in_err-took-clause-full : goal.returns-in_err-took-clause-full
-returns-in_err-took-clause-full g c =
-    same_refusal _ c.from_residual.result _ StampFull c.from_residual.ensures.1 c.in_err-took.ensures.stepped.full
-
-pub returns-in_err-pulsed-clause-unmoved : goal.returns-in_err-pulsed-clause-unmoved
-returns-in_err-pulsed-clause-unmoved g c = IfOk-from_err c.from_residual-in_err-pulsed.result _ c.from_residual-in_err-pulsed.ensures.0
-
-pub returns-in_err-pulsed-clause-blocked : goal.returns-in_err-pulsed-clause-blocked
-returns-in_err-pulsed-clause-blocked g c = IfOk-from_err c.from_residual-in_err-pulsed.result _ c.from_residual-in_err-pulsed.ensures.0
-
-pub returns-in_err-pulsed-clause-refused : goal.returns-in_err-pulsed-clause-refused
-returns-in_err-pulsed-clause-refused g c =
-    same_refusal _ c.from_residual-in_err-pulsed.result _ Memory c.from_residual-in_err-pulsed.ensures.1 c.in_err-pulsed.ensures.stepped.refused
-
-pub returns-in_err-pulsed-clause-full : goal.returns-in_err-pulsed-clause-full
-returns-in_err-pulsed-clause-full g c =
-    same_refusal _ c.from_residual-in_err-pulsed.result _ StampFull c.from_residual-in_err-pulsed.ensures.1 c.in_err-pulsed.ensures.stepped.full
-
-pub returns-in_err-put-clause-unmoved : goal.returns-in_err-put-clause-unmoved
-returns-in_err-put-clause-unmoved g c = IfOk-from_err c.from_residual-in_err-put.result _ c.from_residual-in_err-put.ensures.0
-
-pub returns-in_err-put-clause-blocked : goal.returns-in_err-put-clause-blocked
-returns-in_err-put-clause-blocked g c = IfOk-from_err c.from_residual-in_err-put.result _ c.from_residual-in_err-put.ensures.0
-
-pub returns-in_err-put-clause-refused : goal.returns-in_err-put-clause-refused
-returns-in_err-put-clause-refused g c =
-    same_refusal _ c.from_residual-in_err-put.result _ Memory c.from_residual-in_err-put.ensures.1 c.in_err-put.ensures.stepped.refused
-
-pub returns-in_err-put-clause-full : goal.returns-in_err-put-clause-full
-returns-in_err-put-clause-full g c =
-    same_refusal _ c.from_residual-in_err-put.result _ StampFull c.from_residual-in_err-put.ensures.1 c.in_err-put.ensures.stepped.full
+pub returns-in_err-put : goal.returns-in_err-put
+returns-in_err-put g c =
+    let took = c.in_ok-took.ensures.stepped in
+    let pulsed = c.in_ok-pulsed.ensures.stepped in
+    let put = c.in_err-put.ensures.stepped in
+    record {
+      turned = record {
+        vertex = put.vertex ∙ pulsed.vertex ∙ took.vertex;
+        refusal = put.refusal ∙ pulsed.refusal ∙ took.refusal;
+        unmoved = IfOk-from_err c.from_residual-in_err-put.result _ c.from_residual-in_err-put.ensures.0;
+        blocked = IfOk-from_err c.from_residual-in_err-put.result _ c.from_residual-in_err-put.ensures.0;
+        refused = same_refusal _ c.from_residual-in_err-put.result _ Memory c.from_residual-in_err-put.ensures.1 put.refused;
+        full = same_refusal _ c.from_residual-in_err-put.result _ StampFull c.from_residual-in_err-put.ensures.1 put.full;
+      };
+    }
 
 -- a node that has set a wire aside: the takes did so, or did nothing
-pub returns-then-is_some-clause-unmoved : goal.returns-then-is_some-clause-unmoved
-returns-then-is_some-clause-unmoved g c did same =
-    let some = subst (λ o. IsSome o) same (sym c.is_some.ensures ∙ c.if-is_some.true) in
-    c.in_ok-took.ensures.stepped.unmoved (c.in_ok-took.ensures.stopped some)
+pub returns-then-is_some : goal.returns-then-is_some
+returns-then-is_some g c =
+    let took = c.in_ok-took.ensures in
+    let some = sym c.is_some.ensures ∙ c.if-is_some.true in
+    record {
+      turned = record {
+        vertex = took.stepped.vertex;
+        refusal = took.stepped.refusal;
+        unmoved = λ did same. took.stepped.unmoved (took.stopped (subst (λ o. IsSome o) same some));
+        blocked = λ did none. absurd (true≢false (sym (subst (λ o. IsSome o) none some)));
+        refused = tt;
+        full = tt;
+      };
+    }
 
-pub returns-then-is_some-clause-blocked : goal.returns-then-is_some-clause-blocked
-returns-then-is_some-clause-blocked g c did none =
-    absurd (true≢false (sym (subst (λ o. IsSome o) none (sym c.is_some.ensures ∙ c.if-is_some.true))))
-
--- no part of the turn did anything
-pub returns-else-pulsed-clause-unmoved : goal.returns-else-pulsed-clause-unmoved
-returns-else-pulsed-clause-unmoved g c did same =
+-- if no part of the turn did anything, the node is as it was
+pub returns-else-pulsed : goal.returns-else-pulsed
+returns-else-pulsed g c =
+    let took = c.in_ok-took.ensures.stepped in
+    let pulsed = c.in_ok-pulsed.ensures.stepped in
+    let put = c.in_ok-put.ensures.stepped in
     let none = c.if-pulsed.false in
-    let pulsed = still_unmoved c.args.self.now c.take_all.new.self c.pulse.new.self (c.in_ok-took.ensures.stepped.unmoved none.0)
-    (c.in_ok-pulsed.ensures.stepped.unmoved none.1) in
-    still_unmoved c.args.self.now c.pulse.new.self c.put_all.new.self pulsed (c.in_ok-put.ensures.stepped.unmoved did)
+    record {
+      turned = record {
+        vertex = put.vertex ∙ pulsed.vertex ∙ took.vertex;
+        refusal = put.refusal ∙ pulsed.refusal ∙ took.refusal;
+        unmoved = λ did same. still_unmoved c.args.self.now c.pulse.new.self c.put_all.new.self
+            (still_unmoved c.args.self.now c.take_all.new.self c.pulse.new.self (took.unmoved none.0) (pulsed.unmoved none.1)) (put.unmoved did);
+        blocked = λ did going. ap (λ a. can_pulse a.last a.node.view) (put.unmoved did).alpha ∙ c.in_ok-pulsed.ensures.blocked none.1;
+        refused = tt;
+        full = tt;
+      };
+    }

@@ -38,7 +38,8 @@ pub returns-in_err-stamp : goal.returns-in_err-stamp
 returns-in_err-stamp g c =
     let old = c.args.self.now in
     record {
-      stepped = stepped-full c.from_residual.ensures.1 refl refl (past_greater (2 ^ 64) old.counter (aside_stamp old.aside) c.in_err-stamp.ensures.full);
+      stepped = stepped-full c.from_residual.ensures.1 refl refl refl (past_greater (2 ^ 64) old.counter (aside_stamp old.aside) c.in_err-stamp.ensures.full);
+      counted = IfOk-from_err c.from_residual.result _ c.from_residual.ensures.0;
       blocked = IfOk-from_err c.from_residual.result _ c.from_residual.ensures.0;
       going = c.requires.going;
     }
@@ -46,17 +47,24 @@ returns-in_err-stamp g c =
 -- memory was refused
 pub returns-in_err-keep_room : goal.returns-in_err-keep_room
 returns-in_err-keep_room g c = record {
-  stepped = stepped-memory c.from_residual-in_err-keep_room.ensures.1 refl refl (subst IsTrue c.args.self.now.kept.recorded c.in_err-keep_room.ensures.refused);
+  stepped = stepped-memory c.from_residual-in_err-keep_room.ensures.1 refl refl refl (subst IsTrue c.args.self.now.kept.recorded c.in_err-keep_room.ensures.refused);
+  counted = IfOk-from_err c.from_residual-in_err-keep_room.result _ c.from_residual-in_err-keep_room.ensures.0;
   blocked = IfOk-from_err c.from_residual-in_err-keep_room.result _ c.from_residual-in_err-keep_room.ensures.0;
   going = c.requires.going;
 }
 
 pub returns-then-not-can_pulse : goal.returns-then-not-can_pulse
 returns-then-not-can_pulse g c = record {
-  stepped = stepped-not refl refl record { alpha = refl; aside = refl; puts = refl; takes = refl; entries = refl; counter = refl };
+  stepped = stepped-not refl refl refl record { alpha = refl; aside = refl; puts = refl; takes = refl; entries = refl; counter = refl };
+  counted = λ did. absurd (true≢false (sym did));
   blocked = λ did. sym c.can_pulse.ensures.can ∙ c.if-not-can_pulse.true;
   going = c.requires.going;
 }
 
 pub returns : goal.returns
-returns g c = record { stepped = stepped-did refl refl; blocked = λ did. absurd (true≢false did); going = c.requires.going }
+returns g c = record {
+  stepped = stepped-did refl refl refl;
+  counted = λ did. c.advance.ensures.value ∙ c.in_ok-stamp.ensures.stamp;
+  blocked = λ did. absurd (true≢false did);
+  going = c.requires.going;
+}

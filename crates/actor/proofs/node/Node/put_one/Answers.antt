@@ -1,9 +1,10 @@
 -- The plan: each exit is an event of the node, and what it keeps after it is a lemma of `Keeping`.
-use Rattle.std.proofs.Common.{[], ◌∷◌, ◌++◌, ◌<◌, ◌^◌, length, refl, sym, ap, ◌∙◌, subst, arith}
+use Rattle.std.proofs.Common.{[], ◌∷◌, ◌++◌, ◌<◌, ◌^◌, length, refl, sym, ap, ◌∙◌, subst, arith, true≢false}
 use Rattle.std.specs.Prelude.{IsTrue}
+use Rattle.std.proofs.lemmas.Result.{IfOk-from_err}
 use Rattle.alpha_laws.specs.alpha_core.StampedWires.{last_stamp, wires_of}
 use Rattle.link_queue.specs.Ends.{put_list, put_stamped}
-use Rattle.actor.proofs.Keeping.{count_puts, count_takes, kept-none-put, kept-put, kept-room, port_below}
+use Rattle.actor.proofs.Keeping.{count_puts, count_takes, kept-none-put, kept-put, kept-room, last_went, port_below}
 use Rattle.actor.proofs.Lists.{same_all, get_map, at_place, below_as_many}
 use Rattle.actor.proofs.Kept.{may_put, legal_by_name}
 use Rattle.alpha_laws.specs.interference.Net.{degree_of, neighbour_of}
@@ -91,7 +92,8 @@ write-requires g c = record { room = c.in_ok-keep_room.ensures.room }
 
 pub returns-in_default : goal.returns-in_default
 returns-in_default g c = record {
-  stepped = stepped-not refl refl record { alpha = refl; aside = refl; puts = refl; takes = refl; entries = refl; counter = refl };
+  stepped = stepped-not refl refl refl record { alpha = refl; aside = refl; puts = refl; takes = refl; entries = refl; counter = refl };
+  counted = λ did. absurd (true≢false (sym did));
   going = c.requires.going;
 }
 
@@ -100,21 +102,23 @@ pub returns-in_err-stamp : goal.returns-in_err-stamp
 returns-in_err-stamp g c =
     let old = c.args.self.now in
     record {
-      stepped = stepped-full c.from_residual.ensures.1 refl refl (past_greater (2 ^ 64) old.counter (aside_stamp old.aside) c.in_err-stamp.ensures.full);
+      stepped = stepped-full c.from_residual.ensures.1 refl refl refl (past_greater (2 ^ 64) old.counter (aside_stamp old.aside) c.in_err-stamp.ensures.full);
+      counted = IfOk-from_err c.from_residual.result _ c.from_residual.ensures.0;
       going = c.requires.going;
     }
 
 -- memory was refused
 pub returns-in_err-keep_room : goal.returns-in_err-keep_room
 returns-in_err-keep_room g c = record {
-  stepped = stepped-memory c.from_residual-in_err-keep_room.ensures.1 refl refl (subst IsTrue c.args.self.now.kept.recorded c.in_err-keep_room.ensures.refused);
+  stepped = stepped-memory c.from_residual-in_err-keep_room.ensures.1 refl refl refl (subst IsTrue c.args.self.now.kept.recorded c.in_err-keep_room.ensures.refused);
+  counted = IfOk-from_err c.from_residual-in_err-keep_room.result _ c.from_residual-in_err-keep_room.ensures.0;
   going = c.requires.going;
 }
 
 -- the link was full
 pub returns-in-Err : goal.returns-in-Err
 returns-in-Err g c = record {
-  stepped = stepped-not refl refl record {
+  stepped = stepped-not refl refl refl record {
     alpha = refl;
     aside = refl;
     puts = same_all (λ e. put_list e.end) _ _ _ _ c.index_mut.ensures.value (ap (λ l. wires_of l) c.in-Err.ensures.unchanged);
@@ -122,9 +126,20 @@ returns-in-Err g c = record {
     entries = c.keep_room.ensures.same;
     counter = refl;
   };
+  counted = λ did. absurd (true≢false (sym did));
   going = c.requires.going;
 }
 
 -- a wire was put
 pub returns-in-Ok : goal.returns-in-Ok
-returns-in-Ok g c = record { stepped = stepped-did refl refl; going = c.requires.going }
+returns-in-Ok g c =
+    let old = c.args.self.now in
+    record {
+      stepped = stepped-did refl refl refl;
+      counted = λ did. record {
+        one_more = c.advance.ensures.value ∙ c.in_ok-stamp.ensures.stamp;
+        stamp = last_went old.kept c.requires.port record { is = c.index_mut.ensures.value; place = c.in-Ok.ensures.place; more = c.in-Ok.ensures.stamped }
+            ∙ sym c.advance.ensures.value;
+      };
+      going = c.requires.going;
+    }

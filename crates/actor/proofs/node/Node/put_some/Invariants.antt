@@ -7,5 +7,6 @@ invariant-loop g l = record {
   vertex : l.self.vertex ≡ l.fn.self.vertex;
   going : l.self.aside ≡ None;
   degree : l.self.degree ≡ l.fn.self.degree;
+  refusal : l.self.refusal ≡ l.fn.self.refusal;
   unmoved : l.put ≡ false → IsUnmoved l.fn.self l.self;
 }

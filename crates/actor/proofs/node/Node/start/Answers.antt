@@ -38,14 +38,14 @@ invariant_of-result g c =
             taken) same (subst (λ n. NodeKept program c.args.net.now c.args.vertex n sent
             taken) (sym c.in_ok-alpha.ensures.node) kept);
         set_aside = λ a none. absurd cc;
-        writes = subst (λ net. IsTranscript program net c.args.vertex c.args.transcript c.in_ok-alpha.alpha.node sent taken c.new.result.items) same
-            (subst (λ n. IsTranscript program c.args.net.now c.args.vertex c.args.transcript n sent taken c.new.result.items) (sym c.in_ok-alpha.ensures.node)
-            (starts_transcript program c.args.net.now c.args.vertex c.args.transcript sent taken c.new.result.items
+        writes = subst (λ net. IsTranscript program net c.args.vertex c.args.transcript c.in_ok-alpha.alpha.node sent taken c.new-2.result.items) same
+            (subst (λ n. IsTranscript program c.args.net.now c.args.vertex c.args.transcript n sent taken c.new-2.result.items) (sym c.in_ok-alpha.ensures.node)
+            (starts_transcript program c.args.net.now c.args.vertex c.args.transcript sent taken c.new-2.result.items
             (none_at (λ e. put_list e.end) c.args.puts.items c.requires.nothing_put)
-            (none_at (λ e. taken_list e.end) c.args.takes.items c.requires.nothing_taken) c.new.ensures.items));
-        stamps = has_at_start g.J.Wiring.net c.args.vertex c.args.transcript c.new-2.result (by_port (map (λ e. put_stamped e.end) c.args.puts.items))
-            (by_port (map (λ e. taken_stamped e.end) c.args.takes.items)) c.new.result.items c.new.result.stamped c.new-2.ensures.zero
-            (none_stamped_at (λ e. put_stamped e.end) c.args.puts.items c.requires.nothing_put) c.new.ensures.items c.new.ensures.stamped;
+            (none_at (λ e. taken_list e.end) c.args.takes.items c.requires.nothing_taken) c.new-2.ensures.items));
+        stamps = has_at_start g.J.Wiring.net c.args.vertex c.args.transcript c.new.result (by_port (map (λ e. put_stamped e.end) c.args.puts.items))
+            (by_port (map (λ e. taken_stamped e.end) c.args.takes.items)) c.new-2.result.items c.new-2.result.stamped c.new.ensures.zero
+            (none_stamped_at (λ e. put_stamped e.end) c.args.puts.items c.requires.nothing_put) c.new-2.ensures.items c.new-2.ensures.stamped;
         full = λ a none. absurd cc;
       };
     }

@@ -1,9 +1,10 @@
 -- The plan: each exit is an event of the node, and what it keeps after it is a lemma of `Keeping`.
-use Rattle.std.proofs.Common.{length, refl, ap, ◌∙◌, sym, subst, arith}
-use Rattle.std.specs.Prelude.{IsTrue}
+use Rattle.std.proofs.Common.{◌+◌, length, refl, ap, ◌∙◌, sym, subst, arith, true≢false}
+use Rattle.std.specs.Prelude.{IsTrue, max}
+use Rattle.std.proofs.lemmas.Result.{IfOk-from_err}
 use Rattle.alpha_laws.specs.alpha_core.StampedWires.{wires_of}
 use Rattle.link_queue.specs.Ends.{taken_list}
-use Rattle.actor.proofs.Keeping.{came, count_takes, kept-full, kept-none-came, kept-refused, kept-room, kept-took}
+use Rattle.actor.proofs.Keeping.{came, count_takes, kept-full, kept-none-came, kept-refused, kept-room, kept-took, last_came}
 use Rattle.actor.proofs.Lists.{below_as_many, same_all}
 use Rattle.actor.proofs.Refusals.{past_above}
 use Rattle.actor.proofs.Stepping.{stepped-did, stepped-full, stepped-memory, stepped-not}
@@ -42,7 +43,8 @@ pub invariant_of-self-in_default : goal.invariant_of-self-in_default
 invariant_of-self-in_default g c = record {
   kept = kept-full (kept-room c.args.self.now.kept c.keep_room.ensures.same c.keep_room.ensures.stamped) c.requires.going c.requires.port
       (came c.in-Some.item c.index_mut-end.ensures.value c.in-Some.ensures.place c.in-Some.ensures.stamped
-      c.stamp-stamp.ensures c.wire_of-wire.ensures.wire);
+      c.stamp-stamp.ensures c.wire_of-wire.ensures.wire)
+      c.in_default.ensures.full;
 }
 
 pub invariant_of-self : goal.invariant_of-self
@@ -65,7 +67,7 @@ write-requires g c = record { room = c.in_ok-keep_room.ensures.room }
 -- the link was empty
 pub returns-in-None : goal.returns-in-None
 returns-in-None g c = record {
-  stepped = stepped-not refl refl record {
+  stepped = stepped-not refl refl refl record {
     alpha = refl;
     aside = refl;
     puts = refl;
@@ -73,21 +75,34 @@ returns-in-None g c = record {
     entries = c.keep_room.ensures.same;
     counter = refl;
   };
+  counted = λ did. absurd (true≢false (sym did));
 }
 
 -- memory was refused
 pub returns-in_err-keep_room : goal.returns-in_err-keep_room
 returns-in_err-keep_room g c = record {
-  stepped = stepped-memory c.from_residual.ensures.1 refl refl (subst IsTrue c.args.self.now.kept.recorded c.in_err-keep_room.ensures.refused);
+  stepped = stepped-memory c.from_residual.ensures.1 refl refl refl (subst IsTrue c.args.self.now.kept.recorded c.in_err-keep_room.ensures.refused);
+  counted = IfOk-from_err c.from_residual.result _ c.from_residual.ensures.0;
 }
 
 -- the stamp would be too great
 pub returns-in_default : goal.returns-in_default
-returns-in_default g c = record { stepped = stepped-full refl refl refl c.in_default.ensures.full }
+returns-in_default g c = record { stepped = stepped-full refl refl refl refl c.in_default.ensures.full; counted = tt }
 
 -- a wire was taken
 pub returns-in-Ok-on_wire : goal.returns-in-Ok-on_wire
-returns-in-Ok-on_wire g c = record { stepped = stepped-did refl refl }
+returns-in-Ok-on_wire g c =
+    let old = c.args.self.now in
+    let last = last_came old.kept c.requires.port (came c.in-Some.item c.index_mut-end.ensures.value c.in-Some.ensures.place c.in-Some.ensures.stamped
+    c.stamp-stamp.ensures c.wire_of-wire.ensures.wire) in
+    record {
+      stepped = stepped-did refl refl refl;
+      counted = λ did. record {
+        past = λ going. c.advance.ensures.value ∙ c.in-Ok.ensures.stamp ∙ ap (λ s. max old.counter s + 1) (sym last);
+        stays = λ aside. absurd (aside c.requires.going);
+      };
+    }
 
+-- a wire was set aside
 pub returns-in-Err : goal.returns-in-Err
-returns-in-Err g c = record { stepped = stepped-did refl refl }
+returns-in-Err g c = record { stepped = stepped-did refl refl refl; counted = λ did. record { past = λ going. absurd cc; stays = λ aside. refl } }

@@ -7,6 +7,7 @@ abbrev pub invariant-loop : goal.invariant-loop
 invariant-loop g l = record {
   vertex : l.self.vertex ≡ l.fn.self.vertex;
   degree : l.self.degree ≡ l.fn.self.degree;
+  refusal : l.self.refusal ≡ l.fn.self.refusal;
   stopped : IsSome l.fn.self.aside → l.took ≡ false;
   unmoved : l.took ≡ false → IsUnmoved l.fn.self l.self;
 }

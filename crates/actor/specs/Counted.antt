@@ -1,0 +1,33 @@
+-- How the counter of a node counts its events, with a transcript or without.
+use Rattle.std.specs.Prelude.{◌≡◌, ◌+◌, ℕ, List, map, max, None}
+use Rattle.std.specs.declared.cmp.PartialEq as equality
+use Rattle.alpha_laws.specs.alpha_core.StampedWires.{last_stamp}
+use Rattle.alpha_laws.specs.declared.NodeProgram as program
+use Rattle.alpha_laws.specs.declared.PayloadText as text
+use Rattle.link_queue.specs.Ends.{put_stamped, taken_stamped}
+use Rattle.actor.specs.Node.{by_port}
+use Rattle.actor.specs.declared.wired.WiredPut.{WiredPut}
+use Rattle.actor.specs.declared.wired.WiredTake.{WiredTake}
+use Rattle.actor.specs.declared.wiring.Wiring as wiring
+use Rattle.actor.specs.declared.node.Node.{Node}
+
+module _ {J T : Type 0} {j : wiring.Ghosts J} where
+  -- the stamp of the last wire that was put, or taken, by a port
+  abbrev pub last_put : List (WiredPut J T j) → ℕ → ℕ
+  last_put puts i = last_stamp (by_port (map (λ e. put_stamped e.end) puts) i)
+
+  abbrev pub last_taken : List (WiredTake J T j) → ℕ → ℕ
+  last_taken takes i = last_stamp (by_port (map (λ e. taken_stamped e.end) takes) i)
+
+module _ {J P T : Type 0} {j : wiring.Ghosts J} {p : program.Ghosts P T} {t : text.Ghosts T}
+    {q : equality.Ghosts T} where
+  -- A put counts one, and the wire that was put has the new number as its stamp.
+  pub record CountsPut (port : ℕ) (old new : Node J P T j p t q) : Type 0 where
+    pub one_more : new.counter ≡ old.counter + 1
+    pub stamp : last_put new.puts.items port ≡ new.counter
+
+  -- A take moves the counter to one more than the greater of its number and the stamp of the wire that came. If the wire
+  -- was set aside, the counter stays.
+  pub record CountsTake (port : ℕ) (old new : Node J P T j p t q) : Type 0 where
+    pub past : new.aside ≡ None → new.counter ≡ max old.counter (last_taken new.takes.items port) + 1
+    pub stays : (new.aside ≡ None → ⊥) → new.counter ≡ old.counter
