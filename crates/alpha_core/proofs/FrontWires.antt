@@ -1,5 +1,5 @@
 -- The oldest of a port's wires, from its wires and their payloads.
-use Rattle.std.proofs.Common.{◌≡◌, ℕ, ◌+◌, Option, Some, None, List, [], ◌∷◌, length, drop, refl, sym, ap, ◌∙◌, arith}
+use Rattle.std.proofs.Common.{◌≡◌, ℕ, Option, Some, None, List, [], ◌∷◌, length, drop, refl, ap, arith}
 use Rattle.std.specs.Prelude.{slice_get}
 use Rattle.alpha_core.specs.declared.wire.Wire.TheVariants as wire
 use Rattle.alpha_core.specs.declared.bare.BareWire.{BareWire}

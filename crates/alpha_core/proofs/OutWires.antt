@@ -1,15 +1,16 @@
--- An out-list from its wires and their payloads, and how the count of full ones moves.
+-- An out-list from its wires and their payloads, and how a count of long ones moves.
 use Rattle.std.proofs.Common.{◌≡◌, ℕ, suc, zero, ◌<◌, ◌≤◌, ◌+◌, Bool, true, false, List, [], ◌∷◌, ◌++◌, length, get_or, set, refl, sym, ap, ◌∙◌}
 use Rattle.std.proofs.Common.{arith}
 use Rattle.std.proofs.Common.{⊎_elim, cond, ne_eqb, drop}
 use Rattle.std.specs.Prelude.{nat_eq, nat_lt}
 use Rattle.std.specs.List.{zip}
+use Rattle.std.proofs.lemmas.List.{length-append}
 use Rattle.std.proofs.lemmas.Bool.{cases_eq, cases_lt, eq-eqb, le-ltb, lt-ltb}
 use Rattle.alpha_core.specs.declared.wire.Wire.{Wire}
 use Rattle.alpha_core.specs.declared.wire.Wire.TheVariants as wire
 use Rattle.alpha_core.specs.declared.bare.BareWire.{BareWire}
 use Rattle.alpha_core.specs.declared.bare.BareWire.TheVariants.{Payload, Ack, Safe, Close}
-use Rattle.alpha_core.specs.Rows.{is_full}
+use Rattle.alpha_core.specs.Rows.{is_over}
 use Rattle.alpha_core.specs.OutLists.{bare_of, payload_count, payload_of, payloads_in, payloads_out, wires_of}
 
 -- An element of a list of any type.
@@ -123,30 +124,52 @@ pub bit-le : (n : ℕ) (b : Bool) → n ≡ bit b → n ≤ 1
 bit-le n true is = omega (arith, is)
 bit-le n false is = omega (arith, is)
 
--- A list is full once it has a fourth wire.
-pub grown : (n m : ℕ) → n + bit (nat_eq (m + 1) 4) + bit (nat_lt 3 m) ≡ n + bit (nat_lt 3 (m + 1))
-grown n m = ⊎_elim
+-- A list with a wire has that one alone if it has fewer than two.
+pub one-alone : (k : ℕ) → 0 < k → bit (nat_lt k 2) ≡ bit (nat_eq k 1)
+one-alone k some = ⊎_elim
+    (λ same. ap bit (lt-ltb k 2 (omega (arith, same))) ∙ sym (ap bit (eq-eqb k 1 same)))
+    (λ other. ap bit (le-ltb k 2 (omega (arith, some, other))) ∙ sym (ap bit (ne_eqb k 1 other)))
+    (cases_eq k 1)
+
+pub one-come : (k : ℕ) (old : List BareWire) (b : BareWire) (new : List BareWire) → new ≡ old ++ (b ∷ []) → k ≡ length new
+    → bit (nat_lt k 2) ≡ bit (nat_eq (length new) 1)
+one-come k old b new more count = ap (λ n. bit (nat_lt n 2)) count ∙ one-alone (length new) (omega (arith, ap length more, length-append old (b ∷ [])))
+
+-- A list has more than so many wires once it has one more.
+pub grown : (most n m : ℕ) → n + bit (nat_eq (m + 1) (most + 1)) + bit (nat_lt most m) ≡ n + bit (nat_lt most (m + 1))
+grown most n m = ⊎_elim
     (λ same. omega (
       arith,
-      ap bit (eq-eqb (m + 1) 4 (omega (arith, same))),
-      ap bit (le-ltb 3 m (omega (arith, same))),
-      ap bit (lt-ltb 3 (m + 1) (omega (arith, same))),
+      ap bit (eq-eqb (m + 1) (most + 1) (omega (arith, same))),
+      ap bit (le-ltb most m (omega (arith, same))),
+      ap bit (lt-ltb most (m + 1) (omega (arith, same))),
     ))
     (λ other. ⊎_elim
-    (λ lt. omega (arith, ap bit (ne_eqb (m + 1) 4 (λ e. other (omega (arith, e)))), ap bit (lt-ltb 3 m lt), ap bit (lt-ltb 3 (m + 1) (omega (arith, lt)))))
+    (λ lt. omega (
+      arith,
+      ap bit (ne_eqb (m + 1) (most + 1) (λ e. other (omega (arith, e)))),
+      ap bit (lt-ltb most m lt),
+      ap bit (lt-ltb most (m + 1) (omega (arith, lt))),
+    ))
     (λ le. omega (
       arith,
-      ap bit (ne_eqb (m + 1) 4 (λ e. other (omega (arith, e)))),
-      ap bit (le-ltb 3 m le),
-      ap bit (le-ltb 3 (m + 1) (omega (arith, le, other))),
+      ap bit (ne_eqb (m + 1) (most + 1) (λ e. other (omega (arith, e)))),
+      ap bit (le-ltb most m le),
+      ap bit (le-ltb most (m + 1) (omega (arith, le, other))),
     ))
-    (cases_lt 3 m))
-    (cases_eq m 3)
+    (cases_lt most m))
+    (cases_eq m most)
 
--- It isn't any more as its oldest goes.
-pub fell : {M : Type 0} (out : List (Wire M)) → 0 < length out → bit (nat_eq (length out) 4) + bit (is_full (drop 1 out)) ≡ bit (is_full out)
-fell [] some = absurd (omega (arith, some))
-fell (w ∷ out) some = omega (arith, grown 0 (length out), ap (λ k. bit (nat_eq k 4)) (long w out), ap (λ k. bit (nat_lt 3 k)) (long w out))
+-- It hasn't any more as its oldest goes.
+pub fell : {M : Type 0} (most : ℕ) (out : List (Wire M)) → 0 < length out
+    → bit (nat_eq (length out) (most + 1)) + bit (is_over most (drop 1 out)) ≡ bit (is_over most out)
+fell most [] some = absurd (omega (arith, some))
+fell most (w ∷ out) some = omega (
+  arith,
+  grown most 0 (length out),
+  ap (λ k. bit (nat_eq k (most + 1))) (long w out),
+  ap (λ k. bit (nat_lt most k)) (long w out),
+)
   where
     long : {A : Type 0} (x : A) (xs : List A) → length (x ∷ xs) ≡ length xs + 1
     long x xs = omega arith

@@ -1,6 +1,6 @@
 //! The payloads that a node took: of this pulse, and of the next.
 
-ghost use Rattle.std.specs.Prelude.{◌≡◌, ◌<◌, ◌≤◌, ◌↔◌, IfOk, IsTrue, OnErr, Option, length, slice_set};
+ghost use Rattle.std.specs.Prelude.{◌≡◌, ◌<◌, ◌≤◌, ◌↔◌, IfOk, IsTrue, OnErr, Option, false, length, not, slice_set};
 ghost use Rattle.node_api.below.interference.specs.declared.limits.TheConstants.{MAX_DEGREE};
 ghost use Rattle.node_api.specs.Boxes.{at_port, nothing};
 ghost use Rattle.node_api.specs.Program.{Matches};
@@ -10,12 +10,12 @@ use std::alloc::Global;
 use std::marker::Model;
 
 /// Two inboxes, used by turns: a payload is in the one of its pulse's parity, so none is moved as the node enters a
-/// pulse. Contracts see the payloads of this pulse and of the next by port.
+/// pulse. Contracts see the payloads of this pulse and of the next by port, and the parity.
 #[derive(Drop)]
 pub(crate) struct Inboxes<T> {
     even: Inbox<T>,
     odd: Inbox<T>,
-    // Whether the node's pulse is odd.
+    // Whether the node's pulse is odd: a fact of `Ports`, which has the pulse.
     at_odd: bool,
 }
 
@@ -54,7 +54,8 @@ impl<T: Copy> Inboxes<T> {
     /// Nothing at any port, at pulse 0. No later call can return out-of-memory.
     pub(crate) fn new(alloc: Global, degree: u32) -> Result<Inboxes<T>, Memory>
         requires degree { degree ≤ MAX_DEGREE }
-        ensures new { IfOk result (λ a. a ≡ record { present = nothing degree; early = nothing degree }) }
+        ensures new { IfOk result
+            (λ a. a ≡ record { odd = false; present = nothing degree; early = nothing degree }) }
     {
         Ok(Inboxes {
             even: Inbox::new(alloc, degree)?,
@@ -117,7 +118,7 @@ impl<T: Copy> Inboxes<T> {
     /// Enters the next pulse: its payloads are those of this pulse now, and those of this pulse are thrown away.
     pub(crate) fn advance(&mut self)
         ensures advanced { self.new ≡
-            record { present = self.old.early; early = nothing (length self.old.present) } }
+            record { odd = not self.old.odd; present = self.old.early; early = nothing (length self.old.present) } }
     {
         if self.at_odd {
             self.odd.clear();

@@ -22,17 +22,19 @@ const ROOM: usize = 4;
 pub(crate) struct OutLists<T> {
     // The wires of each port without their payloads, oldest first.
     wires: Vec<ArrayVec<BareWire, ROOM>>,
+    // How many lists are full: so no question about all ports costs a walk.
+    full: usize,
     // The payloads of those wires: as many as there are payload wires, in their order.
     payloads: Vec<Payloads<T>>,
-    // How many lists are full: whether there is one is asked at each wire.
-    full: usize,
+    // How many lists have a wire. Beside `full`, both would be moved as a pair, which takes more instructions.
+    busy: usize,
 }
 
 impl<T> Model for OutLists<T> {
     ghost use Rattle.std.specs.Prelude.{◌≡◌, List, length, map, All, count_by};
     ghost use Rattle.std.specs.List.{zip};
     ghost use Rattle.alpha_core.specs.declared.wire.Wire.{Wire};
-    ghost use Rattle.alpha_core.specs.Rows.{is_full};
+    ghost use Rattle.alpha_core.specs.Rows.{is_over};
     ghost use Rattle.alpha_core.specs.OutLists.{payloads_in, wires_of};
 
     ghost Value = { List (List (Wire T)) };
@@ -41,7 +43,8 @@ impl<T> Model for OutLists<T> {
 
     ghost invariant = { λ a. (length a.payloads.items ≡ length a.wires.items)
         × All (λ p. payloads_in p.0.items ≡ length p.1) (zip a.wires.items a.payloads.items)
-        × (a.full ≡ count_by (λ p. is_full (wires_of p.0.items p.1)) (zip a.wires.items a.payloads.items)) };
+        × (a.full ≡ count_by (λ p. is_over 3 (wires_of p.0.items p.1)) (zip a.wires.items a.payloads.items))
+        × (a.busy ≡ count_by (λ p. is_over 0 (wires_of p.0.items p.1)) (zip a.wires.items a.payloads.items)) };
 }
 
 impl<T: Copy> OutLists<T> {
@@ -57,29 +60,17 @@ impl<T: Copy> OutLists<T> {
         }
         Ok(OutLists {
             wires,
-            payloads,
             full: 0,
+            payloads,
+            busy: 0,
         })
     }
 
-    // How many wires a port has.
-    fn count(&self, port: usize) -> usize
-        requires port { port < length self.now }
-        ensures count { result ≡ length (out_at self.now port) }
+    /// Whether no list has a wire.
+    pub(crate) fn is_empty(&self) -> bool
+        ensures empty { result ≡ all_within 0 self.now }
     {
-        self.wires[port].len()
-    }
-
-    /// Whether every list has at most `most` wires.
-    pub(crate) fn within(&self, most: usize) -> bool
-        ensures within { result ≡ all_within most self.now }
-    {
-        for port in 0..self.wires.len() {
-            if self.count(port) > most {
-                return false;
-            }
-        }
-        true
+        self.busy == 0
     }
 
     /// Whether there is room for one wire more in every list.
@@ -107,6 +98,7 @@ impl<T: Copy> OutLists<T> {
         let count = push_last(&mut self.wires[port as usize], bare_of(&wire));
         self.payloads[port as usize].push_of(wire);
         self.full += one_if(count == ROOM);
+        self.busy += one_if(count < 2);
     }
 
     /// Takes the oldest wire of a port off.
@@ -120,6 +112,7 @@ impl<T: Copy> OutLists<T> {
         let bare = take_first(wires);
         self.payloads[port as usize].pop_of(bare);
         self.full -= one_if(count == ROOM);
+        self.busy -= one_if(count < 2);
     }
 }
 

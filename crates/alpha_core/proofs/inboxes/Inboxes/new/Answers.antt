@@ -1,4 +1,4 @@
-use Rattle.std.proofs.Common.{ap, ◌∙◌}
+use Rattle.std.proofs.Common.{false, ap, ◌∙◌}
 use Rattle.std.proofs.lemmas.Result.{IfOk-from_err}
 use Rattle.node_api.specs.Boxes.{nothing}
 use Rattle.alpha_core.proofs.inboxes.Inboxes.new.Goals as goal
@@ -11,6 +11,6 @@ returns-in_err-new-2 g c = record { new = IfOk-from_err c.from_residual-in_err-n
 
 pub returns : goal.returns
 returns g c = record {
-  new = ap (λ m. record { present = m.slots; early = c.in_ok-new-2.field-0.slots }) c.in_ok-new.ensures.empty
-      ∙ ap (λ m. record { present = nothing c.args.degree; early = m.slots }) c.in_ok-new-2.ensures.empty;
+  new = ap (λ m. record { odd = false; present = m.slots; early = c.in_ok-new-2.field-0.slots }) c.in_ok-new.ensures.empty
+      ∙ ap (λ m. record { odd = false; present = nothing c.args.degree; early = m.slots }) c.in_ok-new-2.ensures.empty;
 }

@@ -1,7 +1,6 @@
 use Rattle.std.proofs.Common.{Some, length, set, ap, ◌∙◌, arith}
 use Rattle.node_api.specs.Boxes.{at_port}
-use Rattle.alpha_core.specs.Rows.{taken_by}
-use Rattle.alpha_core.proofs.Taken.{early-even, early-odd, present-even, present-odd}
+use Rattle.alpha_core.proofs.Taken.{early-even, early-odd, present-even, present-odd, taken-even, taken-odd}
 use Rattle.alpha_core.proofs.inboxes.Inboxes.put_early.Goals as goal
 
 pub put-requires-clause-port : goal.put-requires-clause-port
@@ -22,9 +21,9 @@ returns-then-self g c =
     let present = present-odd a.at_odd a.even.slots a.odd.slots c.args.self.now c.self.view_is c.if-self.true in
     let early = early-odd a.at_odd a.even.slots a.odd.slots c.args.self.now c.self.view_is c.if-self.true in
     record {
-      put = ap (λ b. taken_by b c.put.new.self.slots a.odd.slots) c.if-self.true
-          ∙ ap (λ l. record { present = l; early = c.put.new.self.slots }) present
-          ∙ ap (λ l. record { present = c.args.self.now.present; early = l })
+      put = taken-odd a.at_odd a.even.slots a.odd.slots c.args.self.now c.self.view_is c.put.new.self.slots a.odd.slots c.if-self.true
+          ∙ ap (λ l. record { odd = c.args.self.now.odd; present = l; early = c.put.new.self.slots }) present
+          ∙ ap (λ l. record { odd = c.args.self.now.odd; present = c.args.self.now.present; early = l })
           (c.put.ensures.slots ∙ ap (λ l. set l c.args.port (Some c.args.payload)) early);
     }
 
@@ -46,8 +45,8 @@ returns-else-self g c =
     let present = present-even a.at_odd a.even.slots a.odd.slots c.args.self.now c.self.view_is c.if-self.false in
     let early = early-even a.at_odd a.even.slots a.odd.slots c.args.self.now c.self.view_is c.if-self.false in
     record {
-      put = ap (λ b. taken_by b a.even.slots c.put-else-self.new.self.slots) c.if-self.false
-          ∙ ap (λ l. record { present = l; early = c.put-else-self.new.self.slots }) present
-          ∙ ap (λ l. record { present = c.args.self.now.present; early = l })
+      put = taken-even a.at_odd a.even.slots a.odd.slots c.args.self.now c.self.view_is a.even.slots c.put-else-self.new.self.slots c.if-self.false
+          ∙ ap (λ l. record { odd = c.args.self.now.odd; present = l; early = c.put-else-self.new.self.slots }) present
+          ∙ ap (λ l. record { odd = c.args.self.now.odd; present = c.args.self.now.present; early = l })
           (c.put-else-self.ensures.slots ∙ ap (λ l. set l c.args.port (Some c.args.payload)) early);
     }
