@@ -6,6 +6,7 @@ use alpha_laws::Memory;
 use stamps::{Entries, Entry};
 
 // Room for one entry more, if entries are written down at all.
+#[inline(always)]
 pub(crate) fn keep_room<T>(transcript: bool, entries: &mut Entries<T>) -> Result<(), Memory>
     ensures same { entries.new.items ≡ entries.old.items }
     ensures stamped { entries.new.stamped ≡ entries.old.stamped }
@@ -19,6 +20,7 @@ pub(crate) fn keep_room<T>(transcript: bool, entries: &mut Entries<T>) -> Result
 }
 
 // Writes an entry down with its stamp, if entries are written down at all.
+#[inline(always)]
 pub(crate) fn write<T: Copy>(
     transcript: bool,
     entries: &mut Entries<T>,
