@@ -8,7 +8,7 @@ use crate::signals::Signals;
 use actor::{Gate, Links, Node, NodeProgram, TurnRefused, Wiring};
 use std::sync::Wait;
 use std::thread;
-use worker_deques::{Desk, Gives, Task, Thief, Worked};
+use worker_deques::{Desk, Gives, Thief};
 
 /// What all workers share besides the deques.
 #[derive(Drop)]
@@ -18,9 +18,6 @@ pub struct Crew<'a, J: Wiring, P: NodeProgram, G: Gate> {
     pub signals: &'a Signals,
     pub nodes: u64,
 }
-
-/// What a worker hands back.
-pub type Done<T: Task> = Worked<T, TurnRefused>;
 
 // The node goes to the finished places, if nothing is left for it to do, or else to the worker's own deque. If that
 // refuses it, it stays in hand.
@@ -98,7 +95,7 @@ fn look<J: Wiring, P: NodeProgram, R: Wait, G: Gate>(
     turned
 }
 
-/// At most so many looks, and none after a turn that ended early.
+/// At most so many looks, and none after a turn that ended early. The node remembers why its turn did.
 pub fn work<J: Wiring, P: NodeProgram, R: Wait, G: Gate>(
     rt: &R,
     crew: &Crew<J, P, G>,
@@ -106,13 +103,12 @@ pub fn work<J: Wiring, P: NodeProgram, R: Wait, G: Gate>(
     worker: u32,
     mut desk: Desk<Node<J, P>>,
     turns: u64,
-) -> Done<Node<J, P>>
+) -> Desk<Node<J, P>>
     requires worker { worker < vec_len thieves.now }
     requires deques { map (λ g. deque_of g.pass) desk.guests.items ≡ map stealer_deque thieves.now.items }
-    ensures own { worker_deque result.desk.own ≡ worker_deque desk.own }
-    ensures deques { map (λ g. deque_of g.pass) result.desk.guests.items ≡ map stealer_deque thieves.now.items }
+    ensures own { worker_deque result.own ≡ worker_deque desk.own }
+    ensures deques { map (λ g. deque_of g.pass) result.guests.items ≡ map stealer_deque thieves.now.items }
 {
-    let mut written = Ok(());
     for _ in 0..turns {
         if crew.signals.is_over(crew.nodes) {
             break;
@@ -120,11 +116,8 @@ pub fn work<J: Wiring, P: NodeProgram, R: Wait, G: Gate>(
         match look(rt, crew, thieves, worker, &mut desk) {
             Ok(true) => {}
             Ok(false) => thread::yield_now(),
-            Err(refused) => {
-                written = Err(refused);
-                break;
-            }
+            Err(_) => break,
         }
     }
-    Worked { desk, written }
+    desk
 }

@@ -1,15 +1,15 @@
 //! A run of workers over their deques.
 
-ghost use Rattle.std.specs.Prelude.{◌≡◌, ◌≢◌, ◌<◌, ◌≤◌, All, map, reverse, vec_len, IfOk, IfErr};
+ghost use Rattle.std.specs.Prelude.{◌≡◌, ◌≢◌, ◌<◌, ◌≤◌, All, None, map, reverse, vec_len, IfOk, IfErr};
 ghost use Rattle.actor.specs.interference.Net.{vertices};
 ghost use Rattle.crossbeam_deque.specs.Handles.{stealer_deque, worker_deque};
 ghost use Rattle.worker_deques.specs.deque_rule.Deques.{deque_of};
 ghost use Rattle.pool.specs.declared.fault.PoolFault.TheVariants.{BadOptions, Spawn};
 
 use crate::fault::PoolFault;
-use crate::looks::{Crew, Done, work};
+use crate::looks::{Crew, work};
 use crate::signals::Signals;
-use crate::told::gather_told;
+use crate::told::told;
 use actor::{Gate, Links, Node, NodeProgram, Wiring};
 use crossbeam_deque::protocol::Split;
 use run_options::MAX_WORKERS;
@@ -18,7 +18,9 @@ use std::snapshot::Snapshot;
 use std::sync::Wait;
 use std::thread;
 use std::thread::{PromisedHandle, Scope, Threads};
-use worker_deques::{Desk, Ledger, SameDeques, Task, Thief, cut, deal, make_deques, make_desks};
+use worker_deques::{
+    Desk, Ledger, SameDeques, Task, Thief, cut, deal, gather, make_deques, make_desks, make_places,
+};
 
 // A share is cut off with all that was pushed and taken so far.
 pub struct Dealt;
@@ -33,7 +35,7 @@ impl Split<Ledger> for Dealt {
 }
 
 // A worker in a thread of its own, which can be joined.
-type Child<T: Task> = PromisedHandle<Done<T>, SameDeques<T>>;
+type Child<T: Task> = PromisedHandle<Desk<T>, SameDeques<T>>;
 
 // Starts a worker in a thread of the scope.
 fn start<'s, E, J: Wiring + Send + Sync, P: NodeProgram, G: Gate + Sync, R: Threads + Wait + Sync>(
@@ -53,11 +55,11 @@ fn start<'s, E, J: Wiring + Send + Sync, P: NodeProgram, G: Gate + Sync, R: Thre
 {
     let started = scope.spawn_with(
         SameDeques(Snapshot::of(&desk)),
-        move || -> Done<Node<J, P>>
+        move || -> Desk<Node<J, P>>
             requires { (worker < vec_len thieves.now)
                 × (map (λ g. deque_of g.pass) desk.guests.items ≡ map stealer_deque thieves.now.items) }
-            ensures { (worker_deque result.desk.own ≡ worker_deque desk.own)
-                × (map (λ g. deque_of g.pass) result.desk.guests.items
+            ensures { (worker_deque result.own ≡ worker_deque desk.own)
+                × (map (λ g. deque_of g.pass) result.guests.items
                 ≡ map (λ g. deque_of g.pass) desk.guests.items) }
         { work(rt, crew, thieves, worker, desk, turns) },
     );
@@ -108,10 +110,10 @@ fn join_all<T: Task, R: Threads + Wait>(
     rt: &R,
     signals: &Signals,
     children: Vec<Child<T>>,
-) -> Result<Vec<Done<T>>, PoolFault>
-    ensures owns { IfOk result (λ done. map (λ w. worker_deque w.desk.own) done.items
+) -> Result<Vec<Desk<T>>, PoolFault>
+    ensures owns { IfOk result (λ done. map (λ d. worker_deque d.own) done.items
         ≡ map (λ d. worker_deque d.own) (map (λ h. h.promise.0.value) children.items)) }
-    ensures guests { IfOk result (λ done. map (λ w. map (λ g. deque_of g.pass) w.desk.guests.items) done.items
+    ensures guests { IfOk result (λ done. map (λ d. map (λ g. deque_of g.pass) d.guests.items) done.items
         ≡ map (λ d. map (λ g. deque_of g.pass) d.guests.items) (map (λ h. h.promise.0.value) children.items)) }
     ensures memory { IfErr result (λ fault. fault ≡ PoolFault.Memory) }
 {
@@ -125,13 +127,13 @@ fn join_all<T: Task, R: Threads + Wait>(
 }
 
 /// Runs the nodes, given from the last vertex down, by so many workers, which make at most so many looks each, and
-/// returns each node once, ascending.
+/// returns each node once, ascending. No node of them remembers a refusal of a turn.
 ///
 /// # Errors
 ///
 /// `Memory` if memory is refused, also for an entry of a node: its worker stops at once. `Spawn` if a thread is
-/// refused. `StampFull` if a stamp would pass 18446744073709551615, and no other fault is told: its worker stops at
-/// once. The workers that had begun are joined.
+/// refused. `StampFull` if a stamp of a node would pass 18446744073709551615, and there is no other fault: its worker
+/// stops at once. The workers that had begun are joined.
 pub fn run_nodes<J: Wiring + Send + Sync, P: NodeProgram, G: Gate + Sync, R: Threads + Wait + Sync>(
     rt: &R,
     alloc: Global,
@@ -144,9 +146,11 @@ pub fn run_nodes<J: Wiring + Send + Sync, P: NodeProgram, G: Gate + Sync, R: Thr
     requires nodes { map (λ b. b.value.vertex) nodes.items ≡ reverse (vertices J.net) }
     requires workers { (1 ≤ workers) × (workers ≤ MAX_WORKERS) }
     ensures order { IfOk result (λ all. map (λ n. n.vertex) all.items ≡ vertices J.net) }
+    ensures none_refused { IfOk result (λ all. All (λ n. n.refusal ≡ None) all.items) }
     ensures fault { IfErr result (λ fault. fault ≢ BadOptions) }
 {
     let count = nodes.len();
+    let places = make_places(alloc, count)?;
     let (owns, thieves) = make_deques::<Node<J, P>>(alloc, count, workers)?;
     let owns = deal(owns, nodes);
     let (owns, dealt) = cut::<Node<J, P>, Dealt>(alloc, owns)?;
@@ -162,13 +166,13 @@ pub fn run_nodes<J: Wiring + Send + Sync, P: NodeProgram, G: Gate + Sync, R: Thr
     let done = thread::scope(
         thread::scope_env(),
         rt,
-        move |scope| -> Result<Vec<Done<Node<J, P>>>, PoolFault>
+        move |scope| -> Result<Vec<Desk<Node<J, P>>>, PoolFault>
             requires { (vec_len desks ≤ MAX_WORKERS) × (vec_len desks ≡ vec_len thieves.now)
                 × All (λ d. map (λ g. deque_of g.pass) d.guests.items
                 ≡ map stealer_deque thieves.now.items) desks.items }
-            ensures owns { IfOk result (λ done. map (λ w. worker_deque w.desk.own) done.items
+            ensures owns { IfOk result (λ done. map (λ d. worker_deque d.own) done.items
                 ≡ map (λ d. worker_deque d.own) desks.items) }
-            ensures guests { IfOk result (λ done. map (λ w. map (λ g. deque_of g.pass) w.desk.guests.items) done.items
+            ensures guests { IfOk result (λ done. map (λ d. map (λ g. deque_of g.pass) d.guests.items) done.items
                 ≡ map (λ d. map (λ g. deque_of g.pass) d.guests.items) desks.items) }
             ensures fault { IfErr result (λ fault. fault ≢ BadOptions) }
         {
@@ -176,5 +180,7 @@ pub fn run_nodes<J: Wiring + Send + Sync, P: NodeProgram, G: Gate + Sync, R: Thr
             join_all(rt, crew.signals, children)
         },
     )?;
-    gather_told(rt, alloc, count, dealt, done)
+    let nodes = gather(rt, alloc, places, dealt, done)?;
+    told(nodes.as_slice())?;
+    Ok(nodes)
 }

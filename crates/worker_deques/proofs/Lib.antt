@@ -1,5 +1,6 @@
 pub mod Absorbing
 pub mod Back
+pub mod Dealing
 pub mod Each
 pub mod Holds
 pub mod Out

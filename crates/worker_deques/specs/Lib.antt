@@ -1,2 +1,3 @@
+pub mod Dealt
 pub mod Places
 pub mod deque_rule

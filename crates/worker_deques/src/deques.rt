@@ -1,10 +1,11 @@
 //! The deques of a run, before its workers begin.
 
-ghost use Rattle.std.specs.Prelude.{◌≡◌, ◌<◌, ◌≤◌, ◌+◌, ◌-◌, ◌%◌, [], All, IfOk, map, vec_len};
+ghost use Rattle.std.specs.Prelude.{◌≡◌, ◌<◌, ◌≤◌, ◌+◌, ◌-◌, ◌%◌, ℕ, [], All, IfOk, map, slice_index_or, vec_len};
 ghost use Rattle.crossbeam_deque.specs.Handles.{stealer_deque, view, worker_capacity, worker_deque, worker_index};
 ghost use Rattle.crossbeam_deque.specs.Handles.{worker_view};
 ghost use Rattle.deque_rule.specs.Ledgers.{AreDealt, CanSplit, all_shares, ledger, shares_of};
 ghost use Rattle.deque_rule.specs.Deques.{deque_of};
+ghost use Rattle.worker_deques.specs.Dealt.{begun_by};
 
 use crossbeam_deque::protocol::Split;
 use deque_rule::{Gives, Guest, Ledger, Own, Task, Thief};
@@ -40,7 +41,8 @@ fn dealt_to(number: usize, workers: usize) -> usize
     number % workers
 }
 
-/// All tasks go to the deques, the last first: each to the deque of the worker of its number modulo workers.
+/// All tasks go to the deques, the last first: each to the deque of the worker of its number modulo workers, behind
+/// those that are there.
 pub fn deal<T: Task>(mut owns: Vec<Own<T>>, mut tasks: Vec<Box<T>>) -> Vec<Own<T>>
     requires some { 0 < vec_len owns }
     requires new { All (λ o. worker_view o ≡ ledger all_shares [] []) owns.items }
@@ -48,6 +50,8 @@ pub fn deal<T: Task>(mut owns: Vec<Own<T>>, mut tasks: Vec<Box<T>>) -> Vec<Own<T
     ensures deques { map worker_deque result.items ≡ map worker_deque owns.items }
     ensures shares { All (λ o. shares_of (worker_view o) ≡ all_shares) result.items }
     ensures dealt { AreDealt (map worker_view result.items) (map (λ b. T.number_of b.value) tasks.items) }
+    ensures whose { (k : ℕ) → k < vec_len owns → (slice_index_or (map worker_view result.items) k (ledger 0 [] [])).pushed
+        ≡ begun_by (vec_len owns) k (map (λ b. T.number_of b.value) tasks.items) }
 {
     'each: while let Some(task) = tasks.pop() {
         let at = dealt_to(task.number(), owns.len());

@@ -7,7 +7,8 @@ ghost use Rattle.deque_rule.specs.Deques.{deque_of};
 
 use deque_rule::{Gets, Guest, Own, Task, Thief};
 
-/// What a worker has: its deque, its passes at the deques of all workers, the task in hand and its finished places.
+/// What a worker has, and hands back: its deque, its passes at the deques of all workers, the task in hand and its
+/// finished places.
 #[derive(Drop)]
 pub struct Desk<T: Task> {
     pub own: Own<T>,
@@ -20,23 +21,6 @@ pub struct Desk<T: Task> {
     // What it took and didn't push is in hand or finished.
     pub ghost out: { AreOut (worker_view own ∷ map (λ g. view g.pass) guests.items)
         (in_hand (λ b. T.number_of b.value) task ++ map (λ b. T.number_of b.value) finished.items) },
-}
-
-/// What a worker hands back: what it has, and whether all its turns came to their end.
-#[derive(Drop)]
-pub struct Worked<T: Task, E: Drop> {
-    pub desk: Desk<T>,
-    pub written: Result<(), E>,
-}
-
-impl<T: Task, E: Drop> Worked<T, E> {
-    /// What it has.
-    pub fn into_desk(self) -> Desk<T>
-        ensures desk { result ≡ self.desk }
-    {
-        let Worked { desk, written: _ } = self;
-        desk
-    }
 }
 
 // The worker from which an attempt steals: the first attempt from the next worker, and so on, and round.

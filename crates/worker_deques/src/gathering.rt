@@ -8,8 +8,9 @@ ghost use Rattle.deque_rule.specs.Ledgers.{pushed_by, shares_of, taken_by, weigh
 ghost use Rattle.deque_rule.specs.Deques.{deque_of};
 ghost use Rattle.deque_rule.specs.run_options.TheConstants.{MAX_WORKERS};
 
-use crate::desk::{Desk, Worked};
+use crate::desk::Desk;
 use crate::order::by_number;
+use crate::place::Places;
 use deque_rule::{Gets, Guest, OneShare, Own, Task};
 use std::alloc::{AllocError, Global};
 use std::sync::Wait;
@@ -117,13 +118,13 @@ fn with_those_of<T: Task>(
 }
 
 // What workers handed back, apart.
-fn apart<T: Task, E: Drop>(alloc: Global, done: Vec<Worked<T, E>>) -> Result<Back<T>, AllocError>
+fn apart<T: Task>(alloc: Global, done: Vec<Desk<T>>) -> Result<Back<T>, AllocError>
     ensures owns { IfOk result
-        (λ b. map worker_deque b.owns.items ≡ map (λ w. worker_deque w.desk.own) done.items) }
+        (λ b. map worker_deque b.owns.items ≡ map (λ d. worker_deque d.own) done.items) }
     ensures rows { IfOk result (λ b. map (λ row. map (λ g. deque_of g.pass) row.items) b.rows.items
-        ≡ map (λ w. map (λ g. deque_of g.pass) w.desk.guests.items) done.items) }
+        ≡ map (λ d. map (λ g. deque_of g.pass) d.guests.items) done.items) }
     ensures shares { IfOk result (λ b. map (λ o. shares_of (worker_view o)) b.owns.items
-        ≡ map (λ w. shares_of (worker_view w.desk.own)) done.items) }
+        ≡ map (λ d. shares_of (worker_view d.own)) done.items) }
     ensures out { IfOk result (λ b. (h : ℕ → ℕ) →
         taken_by h (map worker_view b.owns.items)
         + in_rows (taken_by h) (map (λ row. map (λ g. view g.pass) row.items) b.rows.items)
@@ -135,13 +136,13 @@ fn apart<T: Task, E: Drop>(alloc: Global, done: Vec<Worked<T, E>>) -> Result<Bac
     let mut owns = Vec::with_capacity(alloc, count)?;
     let mut rows = Vec::with_capacity(alloc, count)?;
     let mut tasks = Vec::new(alloc);
-    for worked in done {
+    for desk in done {
         let Desk {
             own,
             guests,
             task,
             finished,
-        } = worked.into_desk();
+        } = desk;
         owns.push_reserved(own);
         rows.push_reserved(guests);
         tasks = with_those_of(tasks, task, finished)?;
@@ -150,14 +151,14 @@ fn apart<T: Task, E: Drop>(alloc: Global, done: Vec<Worked<T, E>>) -> Result<Bac
 }
 
 // Each task once, in any order, of what was dealt and what all workers handed back.
-fn gather_boxes<T: Task, E: Drop, R: Wait>(
+fn gather_boxes<T: Task, R: Wait>(
     rt: &R,
     alloc: Global,
     dealt: Vec<Guest<T>>,
-    done: Vec<Worked<T, E>>,
+    done: Vec<Desk<T>>,
 ) -> Result<Vec<Box<T>>, AllocError>
-    requires deques { map (λ g. deque_of g.pass) dealt.items ≡ map (λ w. worker_deque w.desk.own) done.items }
-    requires guests { All (λ w. map (λ g. deque_of g.pass) w.desk.guests.items
+    requires deques { map (λ g. deque_of g.pass) dealt.items ≡ map (λ d. worker_deque d.own) done.items }
+    requires guests { All (λ d. map (λ g. deque_of g.pass) d.guests.items
         ≡ map (λ g. deque_of g.pass) dealt.items) done.items }
     requires few { vec_len dealt ≤ MAX_WORKERS }
     ensures once { (numbers : List ℕ) → AreDealt (map (λ g. view g.pass) dealt.items) numbers
@@ -173,25 +174,26 @@ fn gather_boxes<T: Task, E: Drop, R: Wait>(
     Ok(drain_all(rt, owns, tasks)?)
 }
 
-/// Each task once, by ascending number, of what was dealt and what all workers handed back.
+/// Each task once, by ascending number, of what was dealt and what all workers handed back. The places are those that
+/// were made for the tasks, empty.
 ///
 /// # Errors
 ///
 /// `AllocError` if memory is refused.
-pub fn gather<T: Task, E: Drop, R: Wait>(
+pub fn gather<T: Task, R: Wait>(
     rt: &R,
     alloc: Global,
-    count: usize,
+    places: Places<T>,
     dealt: Vec<Guest<T>>,
-    done: Vec<Worked<T, E>>,
+    done: Vec<Desk<T>>,
 ) -> Result<Vec<T>, AllocError>
-    requires deques { map (λ g. deque_of g.pass) dealt.items ≡ map (λ w. worker_deque w.desk.own) done.items }
-    requires guests { All (λ w. map (λ g. deque_of g.pass) w.desk.guests.items
+    requires deques { map (λ g. deque_of g.pass) dealt.items ≡ map (λ d. worker_deque d.own) done.items }
+    requires guests { All (λ d. map (λ g. deque_of g.pass) d.guests.items
         ≡ map (λ g. deque_of g.pass) dealt.items) done.items }
     requires few { vec_len dealt ≤ MAX_WORKERS }
-    requires dealt { AreDealt (map (λ g. view g.pass) dealt.items) (range_with_len 0 count) }
-    ensures order { IfOk result (λ all. map T.number_of all.items ≡ range_with_len 0 count) }
+    requires dealt { AreDealt (map (λ g. view g.pass) dealt.items) (range_with_len 0 (vec_len places.slots)) }
+    ensures order { IfOk result (λ all. map T.number_of all.items ≡ range_with_len 0 (vec_len places.slots)) }
 {
     let tasks = gather_boxes(rt, alloc, dealt, done)?;
-    by_number(alloc, count, tasks)
+    by_number(alloc, places, tasks)
 }

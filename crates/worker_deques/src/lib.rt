@@ -13,7 +13,8 @@
 //! let (owns, thieves) = make_deques::<T>(alloc, count, workers)?;
 //! let (owns, dealt) = cut::<T, Dealt>(alloc, deal(owns, tasks))?;   // `Dealt` is of `pool`
 //! let desks = make_desks(alloc, count, owns)?;           // one for each worker, which takes and puts
-//! let tasks = gather(&rt, alloc, count, dealt, done)?;   // each task once, ascending
+//! let all = make_places(alloc, count)?;                  // an empty place for each task
+//! let tasks = gather(&rt, alloc, all, dealt, done)?;     // each task once, ascending
 //! ```
 //!
 //! Limits: `MAX_WORKERS` of `run_options`. Nothing is promised of time, of fairness, or of which worker has a task.
@@ -29,7 +30,8 @@ mod promise;
 
 pub use deque_rule::{Gives, Guest, Ledger, Own, Task, Thief};
 pub use deques::{cut, deal, make_deques};
-pub use desk::{Desk, Worked};
+pub use desk::Desk;
 pub use desks::make_desks;
 pub use gathering::gather;
+pub use place::{Places, make_places};
 pub use promise::SameDeques;

@@ -1,6 +1,6 @@
 //! What a thread promises of what a worker hands back.
 
-use crate::desk::{Desk, Worked};
+use crate::desk::Desk;
 use deque_rule::Task;
 use std::snapshot::Snapshot;
 use std::thread::Promise;
@@ -9,11 +9,11 @@ use std::thread::Promise;
 #[derive(Drop)]
 pub struct SameDeques<T: Task>(pub Snapshot<Desk<T>>);
 
-impl<T: Task, E: Drop> Promise<Worked<T, E>> for SameDeques<T> {
+impl<T: Task> Promise<Desk<T>> for SameDeques<T> {
     ghost use Rattle.std.specs.Prelude.{◌≡◌, map};
     ghost use Rattle.crossbeam_deque.specs.Handles.{worker_deque};
     ghost use Rattle.deque_rule.specs.Deques.{deque_of};
 
-    ghost kept_by = { λ p r. (worker_deque r.desk.own ≡ worker_deque p.0.value.own)
-        × (map (λ g. deque_of g.pass) r.desk.guests.items ≡ map (λ g. deque_of g.pass) p.0.value.guests.items) };
+    ghost kept_by = { λ p r. (worker_deque r.own ≡ worker_deque p.0.value.own)
+        × (map (λ g. deque_of g.pass) r.guests.items ≡ map (λ g. deque_of g.pass) p.0.value.guests.items) };
 }

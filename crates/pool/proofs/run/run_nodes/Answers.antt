@@ -1,4 +1,4 @@
-use Rattle.std.proofs.Common.{◌≡◌, ◌-◌, [], map, refl, sym, ap, ◌∙◌, arith, rules}
+use Rattle.std.proofs.Common.{◌≡◌, ◌-◌, [], false, map, refl, sym, ap, ◌∙◌, arith, rules, vec_len}
 use Rattle.std.specs.List.{range_with_len}
 use Rattle.actor.specs.interference.Net.{count_of}
 use Rattle.crossbeam_deque.specs.Handles.{stealer_deque, view, worker_deque, worker_view}
@@ -8,6 +8,8 @@ use Rattle.worker_deques.proofs.Each.{ok_says}
 use Rattle.worker_deques.proofs.Holds.{dealt_on}
 use Rattle.worker_deques.proofs.deque_rule.Rule.{deals}
 use Rattle.worker_deques.proofs.Views.{as_many, carried}
+use Rattle.pool.specs.Ends.{told_after}
+use Rattle.pool.proofs.Ends.{none_refused}
 use Rattle.pool.proofs.Numbers.{as_many as many_nodes, from_one, from_the_last}
 use Rattle.pool.proofs.run.run_nodes.Goals as goal
 
@@ -61,18 +63,18 @@ scoped-requires g c =
       );
     }
 
-pub gather_told-requires-clause-deques : goal.gather_told-requires-clause-deques
-gather_told-requires-clause-deques g c =
+pub gather-requires-clause-deques : goal.gather-requires-clause-deques
+gather-requires-clause-deques g c =
     c.in_ok-owns-2.ensures.guests ∙ sym c.in_ok-owns-2.ensures.owns ∙ sym c.in_ok-desks.ensures.owns ∙ sym c.in_ok-done.ensures.1.0
 
-pub gather_told-requires-clause-guests : goal.gather_told-requires-clause-guests
-gather_told-requires-clause-guests g c =
-    carried (λ d. map (λ g'. deque_of g'.pass) d.guests.items) (λ w. map (λ g'. deque_of g'.pass) w.desk.guests.items)
+pub gather-requires-clause-guests : goal.gather-requires-clause-guests
+gather-requires-clause-guests g c =
+    carried (λ d. map (λ g'. deque_of g'.pass) d.guests.items) (λ d. map (λ g'. deque_of g'.pass) d.guests.items)
     (λ ids. ids ≡ map (λ g'. deque_of g'.pass) c.in_ok-owns-2.dealt.items) c.in_ok-desks.desks.items _ c.in_ok-done.ensures.1.1.0
     (λ k d lt. c.in_ok-desks.ensures.guests k d lt ∙ c.in_ok-owns-2.ensures.owns ∙ sym c.in_ok-owns-2.ensures.guests)
 
-pub gather_told-requires-clause-few : goal.gather_told-requires-clause-few
-gather_told-requires-clause-few g c =
+pub gather-requires-clause-few : goal.gather-requires-clause-few
+gather-requires-clause-few g c =
     let made = c.in_ok-owns.owns in
     let dealt = as_many worker_deque worker_deque made.items c.deal-owns.result.items c.deal-owns.ensures.deques in
     let cut = as_many worker_deque (λ g'. deque_of g'.pass) c.deal-owns.result.items c.in_ok-owns-2.dealt.items c.in_ok-owns-2.ensures.guests in
@@ -81,15 +83,17 @@ gather_told-requires-clause-few g c =
     omega (arith, made.ok.0, c.in_ok-owns-2.dealt.ok.0)
 
 -- what was dealt are the numbers below the count
-pub gather_told-requires-clause-dealt : goal.gather_told-requires-clause-dealt
-gather_told-requires-clause-dealt g c =
+pub gather-requires-clause-dealt : goal.gather-requires-clause-dealt
+gather-requires-clause-dealt g c =
     let nodes = c.args.nodes in
     let n = count_of g.J.Wiring.net in
     let many = many_nodes (λ b. b.value.vertex) nodes.items n c.requires.nodes in
     let count = c.len-count.ensures in
+    let room = vec_len c.in_ok-places.places.slots in
+    let places = c.in_ok-places.ensures.count in
     dealt_on worker_view (λ g'. view g'.pass) c.deal-owns.result.items c.in_ok-owns-2.dealt.items (map (λ b. b.value.vertex - 1) nodes.items)
-    (range_with_len 0 c.len-count.result) c.in_ok-owns-2.ensures.right
-    (from_the_last (λ b. b.value.vertex) nodes.items n c.len-count.result (omega (arith, nodes.ok.0)) c.requires.nodes) c.deal-owns.ensures.dealt
+    (range_with_len 0 room) c.in_ok-owns-2.ensures.right
+    (from_the_last (λ b. b.value.vertex) nodes.items n room (omega (arith, nodes.ok.0)) c.requires.nodes) c.deal-owns.ensures.dealt
 
 -- they come back from the first vertex up
 pub returns-clause-order : goal.returns-clause-order
@@ -98,5 +102,12 @@ returns-clause-order g c =
     let n = count_of g.J.Wiring.net in
     let many = many_nodes (λ b. b.value.vertex) nodes.items n c.requires.nodes in
     let count = c.len-count.ensures in
-    ok_says c.gather_told.result
-    (λ all order. from_one (λ n. n.vertex) (λ n. n.kept.is_vertex.0) all.items n c.len-count.result (omega (arith, nodes.ok.0)) order) c.gather_told.ensures.order
+    let room = vec_len c.in_ok-places.places.slots in
+    let places = c.in_ok-places.ensures.count in
+    from_one (λ n. n.vertex) (λ n. n.kept.is_vertex.0) c.in_ok-nodes.nodes.items n room (omega (arith, nodes.ok.0)) c.in_ok-nodes.ensures.order
+
+-- none of them remembers a refusal, since none was reported
+pub returns-clause-none_refused : goal.returns-clause-none_refused
+returns-clause-none_refused g c =
+    none_refused (tt {0}) (λ n. n.refusal) c.in_ok-nodes.nodes.items (tt {0})
+    (ap (λ nodes. told_after (tt {0}) (map (λ n. n.refusal) nodes) false) (sym c.as_slice.ensures.value) ∙ sym c.told.ensures.told ∙ c.in_ok-told.was)

@@ -1,10 +1,12 @@
-use Rattle.std.proofs.Common.{◌≡◌, ◌+◌, ◌<◌, ◌≤◌, [], ◌∷◌, length, map, ap, refl, ◌∙◌, arith, vec_len}
+use Rattle.std.proofs.Common.{◌≡◌, ◌+◌, ◌<◌, ◌≤◌, ◌%◌, [], ◌∷◌, length, map, ap, refl, sym, ◌∙◌, arith, vec_len}
+use Rattle.std.proofs.lemmas.List.{nil_from_length}
 use Rattle.std.proofs.lemmas.List.Elements.{All-set}
 use Rattle.crossbeam_deque.specs.Handles.{worker_capacity, worker_deque, worker_index, worker_view}
 use Rattle.deque_rule.specs.declared.ledger.Ledger.{Ledger}
 use Rattle.deque_rule.specs.Ledgers.{all_shares, shares_of, weigh}
 use Rattle.deque_rule.proofs.Rule.{gives, map_snoc, weigh-append}
-use Rattle.worker_deques.proofs.Views.{map_change, total_change}
+use Rattle.worker_deques.proofs.Views.{as_many, map_change, total_change}
+use Rattle.worker_deques.proofs.Dealing.{all_given, none_given, one_given}
 use Rattle.worker_deques.proofs.Holds.{fresh_sums, holds_at}
 use Rattle.worker_deques.proofs.deques.deal.Goals as goal
 
@@ -19,6 +21,8 @@ each-init g c = record {
       let t = z.0 in
       let p = z.1 in
       (omega arith, omega arith);
+  whose = λ k lt. none_given worker_view (λ b. g.T.Task.number_of b.value) (vec_len c.args.owns) c.args.owns.items c.args.tasks.items all_shares k
+      c.requires.new (let n = c.args.owns.ok.0 in omega arith);
 }
 
 pub push_as-requires-clause-pushes : goal.push_as-requires-clause-pushes
@@ -59,4 +63,17 @@ each-preserved g c =
           let i0 = i.0 in
           let i1 = i.1 in
           (omega arith, omega arith);
+      whose = λ k few.
+          let many = as_many worker_deque worker_deque c.args.owns.items owns c.each.invariant.deques in
+          let place : at ≡ g.T.Task.number_of c.in-Some.task.value % vec_len c.args.owns =
+          c.dealt_to-at.ensures.place ∙ ap (λ n. n % c.len.result) c.number.ensures.number
+          ∙ ap (λ t. g.T.Task.number_of t % c.len.result) c.deref.ensures
+          ∙ ap (λ m. g.T.Task.number_of c.in-Some.task.value % m) (c.len.ensures ∙ c.each.owns.ok.0 ∙ many ∙ sym c.args.owns.ok.0) in
+          one_given worker_view (λ b. g.T.Task.number_of b.value) (vec_len c.args.owns) owns old new c.each.tasks.items c.pop.new.self.items c.in-Some.task at k
+          lt c.index_mut.ensures.value place c.in-Some.ensures.items (ap (λ (v : Ledger). v.pushed) is) ∙ c.each.invariant.whose k few;
     }
+
+pub returns-clause-whose : goal.returns-clause-whose
+returns-clause-whose g c k lt =
+    all_given worker_view (λ b. g.T.Task.number_of b.value) (vec_len c.args.owns) c.each.owns.items c.each.tasks.items k
+    (nil_from_length c.each.tasks.items (let e = c.in_default.ensures.cases.0 in omega (arith, e, c.each.tasks.ok.0))) ∙ c.each.invariant.whose k lt

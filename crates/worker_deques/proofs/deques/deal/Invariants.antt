@@ -2,6 +2,8 @@ use Rattle.std.proofs.Common.{◌≡◌, ◌+◌, ◌<◌, ◌≤◌, ℕ, map, 
 use Rattle.std.specs.Prelude.{All}
 use Rattle.crossbeam_deque.specs.Handles.{worker_capacity, worker_deque, worker_index, worker_view}
 use Rattle.deque_rule.specs.Ledgers.{all_shares, pushed_by, shares_of, taken_by, weigh}
+use Rattle.worker_deques.specs.Dealt.{begun_by}
+use Rattle.worker_deques.proofs.Dealing.{given}
 use Rattle.worker_deques.proofs.deques.deal.Given as goal
 
 abbrev pub invariant-each : goal.invariant-each
@@ -13,6 +15,8 @@ invariant-each g l = record {
   dealt : (h : ℕ → ℕ) → (taken_by h (map worker_view l.owns.items) ≡ 0)
       × (pushed_by h (map worker_view l.owns.items) + weigh h (map (λ b. g.T.Task.number_of b.value) l.tasks.items)
       ≡ weigh h (map (λ b. g.T.Task.number_of b.value) l.fn.tasks.items));
+  whose : (k : ℕ) → k < vec_len l.fn.owns → given worker_view (λ b. g.T.Task.number_of b.value) (vec_len l.fn.owns) l.owns.items l.tasks.items k
+      ≡ begun_by (vec_len l.fn.owns) k (map (λ b. g.T.Task.number_of b.value) l.fn.tasks.items);
 }
 
 abbrev pub decreases-each : goal.decreases-each

@@ -11,27 +11,27 @@ use Rattle.worker_deques.proofs.gathering.apart.Given.{Over}
 use Rattle.worker_deques.proofs.gathering.apart.Goals.{In-Some}
 use Rattle.worker_deques.proofs.gathering.apart.Goals as goal
 
-left : (g : Over) (c : In-Some g) → length c.loop-worked.yielded < length c.args.done.items
+left : (g : Over) (c : In-Some g) → length c.loop-desk.yielded < length c.args.done.items
 left g c =
-    (YieldsList-turn (YieldsList-from_vec {s = c.into_iter-worked-iterator.result} c.args.done.items (search rules) (search rules))
-    c.loop-worked.yielded c.loop-worked.worked-iterator c.loop-worked.yielded_by c.next.result c.next.new.self c.in-Some.worked c.in-Some.is
+    (YieldsList-turn (YieldsList-from_vec {s = c.into_iter-desk-iterator.result} c.args.done.items (search rules) (search rules))
+    c.loop-desk.yielded c.loop-desk.desk-iterator c.loop-desk.yielded_by c.next.result c.next.new.self c.in-Some.desk c.in-Some.is
     c.next.ensures.steps).0
 
 pub push_reserved-requires : goal.push_reserved-requires
 push_reserved-requires g c =
-    let inv = c.loop-worked.invariant in
-    let many = as_many (λ w. worker_deque w.desk.own) worker_deque c.loop-worked.yielded c.loop-worked.owns.items inv.owns in
-    omega (arith, left g (goal.at.push_reserved-requires g c).In-Some, inv.room.0, many, c.args.done.ok.0, c.loop-worked.owns.ok.0)
+    let inv = c.loop-desk.invariant in
+    let many = as_many (λ d. worker_deque d.own) worker_deque c.loop-desk.yielded c.loop-desk.owns.items inv.owns in
+    omega (arith, left g (goal.at.push_reserved-requires g c).In-Some, inv.room.0, many, c.args.done.ok.0, c.loop-desk.owns.ok.0)
 
-pub push_reserved-requires-in-loop-worked : goal.push_reserved-requires-in-loop-worked
-push_reserved-requires-in-loop-worked g c =
-    let inv = c.loop-worked.invariant in
-    let many = as_many (λ w. map (λ g'. deque_of g'.pass) w.desk.guests.items) (λ row. map (λ g'. deque_of g'.pass) row.items)
-    c.loop-worked.yielded c.loop-worked.rows.items inv.rows in
-    omega (arith, left g (goal.at.push_reserved-requires-in-loop-worked g c).In-Some, inv.room.1, many, c.args.done.ok.0, c.loop-worked.rows.ok.0)
+pub push_reserved-requires-in-loop-desk : goal.push_reserved-requires-in-loop-desk
+push_reserved-requires-in-loop-desk g c =
+    let inv = c.loop-desk.invariant in
+    let many = as_many (λ d. map (λ g'. deque_of g'.pass) d.guests.items) (λ row. map (λ g'. deque_of g'.pass) row.items)
+    c.loop-desk.yielded c.loop-desk.rows.items inv.rows in
+    omega (arith, left g (goal.at.push_reserved-requires-in-loop-desk g c).In-Some, inv.room.1, many, c.args.done.ok.0, c.loop-desk.rows.ok.0)
 
-pub loop-worked-init : goal.loop-worked-init
-loop-worked-init g c =
+pub loop-desk-init : goal.loop-desk-init
+loop-desk-init g c =
     let owns = c.in_ok-owns.ensures.items in
     let rows = c.in_ok-rows.ensures.items in
     record {
@@ -48,44 +48,42 @@ loop-worked-init g c =
           omega arith;
     }
 
-pub loop-worked-preserved : goal.loop-worked-preserved
-loop-worked-preserved g c =
-    let inv = c.loop-worked.invariant in
-    let worked = c.in-Some.worked in
-    let desk = c.into_desk-own.result in
-    let is : desk ≡ worked.desk = c.into_desk-own.ensures.desk in
+pub loop-desk-preserved : goal.loop-desk-preserved
+loop-desk-preserved g c =
+    let inv = c.loop-desk.invariant in
+    let desk = c.in-Some.desk in
     let owns = c.push_reserved.ensures.items in
-    let rows = c.push_reserved-in-loop-worked.ensures.items in
+    let rows = c.push_reserved-in-loop-desk.ensures.items in
     record {
-      room = (omega (arith, c.push_reserved.ensures.capacity, inv.room.0), omega (arith, c.push_reserved-in-loop-worked.ensures.capacity, inv.room.1));
-      owns = both_pushed worker_deque (λ w. worker_deque w.desk.own) _ _ c.loop-worked.yielded _ _ worked owns refl
-          (ap (λ d. worker_deque d.own) is) inv.owns;
-      rows = both_pushed (λ row. map (λ g'. deque_of g'.pass) row.items) (λ w. map (λ g'. deque_of g'.pass) w.desk.guests.items) _ _
-          c.loop-worked.yielded _ _ worked rows refl (ap (λ d. map (λ g'. deque_of g'.pass) d.guests.items) is) inv.rows;
-      shares = both_pushed (λ o. shares_of (worker_view o)) (λ w. shares_of (worker_view w.desk.own)) _ _ c.loop-worked.yielded _ _ worked owns refl
-          (ap (λ d. shares_of (worker_view d.own)) is) inv.shares;
+      room = (omega (arith, c.push_reserved.ensures.capacity, inv.room.0), omega (arith, c.push_reserved-in-loop-desk.ensures.capacity, inv.room.1));
+      owns = both_pushed worker_deque (λ d. worker_deque d.own) _ _ c.loop-desk.yielded _ _ desk owns refl
+          refl inv.owns;
+      rows = both_pushed (λ row. map (λ g'. deque_of g'.pass) row.items) (λ d. map (λ g'. deque_of g'.pass) d.guests.items) _ _
+          c.loop-desk.yielded _ _ desk rows refl refl inv.rows;
+      shares = both_pushed (λ o. shares_of (worker_view o)) (λ d. shares_of (worker_view d.own)) _ _ c.loop-desk.yielded _ _ desk owns refl
+          refl inv.shares;
       out = λ h.
           let before = inv.out h in
           let tasks = c.in_ok-tasks.ensures.tasks h in
           let out = desk.out h in
-          let t = ap (λ os. taken_by h (map worker_view os)) owns ∙ total_more (λ v. weigh h v.taken) worker_view c.loop-worked.owns.items desk.own in
-          let p = ap (λ os. pushed_by h (map worker_view os)) owns ∙ total_more (λ v. weigh h v.pushed) worker_view c.loop-worked.owns.items desk.own in
+          let t = ap (λ os. taken_by h (map worker_view os)) owns ∙ total_more (λ v. weigh h v.taken) worker_view c.loop-desk.owns.items desk.own in
+          let p = ap (λ os. pushed_by h (map worker_view os)) owns ∙ total_more (λ v. weigh h v.pushed) worker_view c.loop-desk.owns.items desk.own in
           let rt = ap (λ rs. in_rows (taken_by h) (map (λ row. map (λ g'. view g'.pass) row.items) rs)) rows
-          ∙ in_rows_more (taken_by h) (λ row. map (λ g'. view g'.pass) row.items) c.loop-worked.rows.items desk.guests in
+          ∙ in_rows_more (taken_by h) (λ row. map (λ g'. view g'.pass) row.items) c.loop-desk.rows.items desk.guests in
           let rp = ap (λ rs. in_rows (pushed_by h) (map (λ row. map (λ g'. view g'.pass) row.items) rs)) rows
-          ∙ in_rows_more (pushed_by h) (λ row. map (λ g'. view g'.pass) row.items) c.loop-worked.rows.items desk.guests in
+          ∙ in_rows_more (pushed_by h) (λ row. map (λ g'. view g'.pass) row.items) c.loop-desk.rows.items desk.guests in
           omega arith;
     }
 
 pub returns : goal.returns
 returns g c =
-    let end = YieldsList-end (YieldsList-from_vec {s = c.into_iter-worked-iterator.result} c.args.done.items (search rules) (search rules))
-    c.loop-worked.yielded c.loop-worked.worked-iterator c.loop-worked.yielded_by c.next.result c.next.new.self c.in-None.is c.next.ensures.steps in
-    let all = sym (map-id c.loop-worked.yielded) ∙ end.0 in
-    let inv = c.loop-worked.invariant in
+    let end = YieldsList-end (YieldsList-from_vec {s = c.into_iter-desk-iterator.result} c.args.done.items (search rules) (search rules))
+    c.loop-desk.yielded c.loop-desk.desk-iterator c.loop-desk.yielded_by c.next.result c.next.new.self c.in-None.is c.next.ensures.steps in
+    let all = sym (map-id c.loop-desk.yielded) ∙ end.0 in
+    let inv = c.loop-desk.invariant in
     record {
-      owns = inv.owns ∙ ap (map (λ w. worker_deque w.desk.own)) all;
-      rows = inv.rows ∙ ap (map (λ w. map (λ g'. deque_of g'.pass) w.desk.guests.items)) all;
-      shares = inv.shares ∙ ap (map (λ w. shares_of (worker_view w.desk.own))) all;
+      owns = inv.owns ∙ ap (map (λ d. worker_deque d.own)) all;
+      rows = inv.rows ∙ ap (map (λ d. map (λ g'. deque_of g'.pass) d.guests.items)) all;
+      shares = inv.shares ∙ ap (map (λ d. shares_of (worker_view d.own))) all;
       out = inv.out;
     }

@@ -4,12 +4,12 @@ use Rattle.deque_rule.specs.Ledgers.{in_rows, pushed_by, shares_of, taken_by, we
 use Rattle.deque_rule.specs.Deques.{deque_of}
 use Rattle.worker_deques.proofs.gathering.apart.Given as goal
 
-abbrev pub invariant-loop-worked : goal.invariant-loop-worked
-invariant-loop-worked g l = record {
+abbrev pub invariant-loop-desk : goal.invariant-loop-desk
+invariant-loop-desk g l = record {
   room : (vec_len l.fn.done ≤ vec_capacity l.owns) × (vec_len l.fn.done ≤ vec_capacity l.rows);
-  owns : map worker_deque l.owns.items ≡ map (λ w. worker_deque w.desk.own) l.yielded;
-  rows : map (λ row. map (λ g'. deque_of g'.pass) row.items) l.rows.items ≡ map (λ w. map (λ g'. deque_of g'.pass) w.desk.guests.items) l.yielded;
-  shares : map (λ o. shares_of (worker_view o)) l.owns.items ≡ map (λ w. shares_of (worker_view w.desk.own)) l.yielded;
+  owns : map worker_deque l.owns.items ≡ map (λ d. worker_deque d.own) l.yielded;
+  rows : map (λ row. map (λ g'. deque_of g'.pass) row.items) l.rows.items ≡ map (λ d. map (λ g'. deque_of g'.pass) d.guests.items) l.yielded;
+  shares : map (λ o. shares_of (worker_view o)) l.owns.items ≡ map (λ d. shares_of (worker_view d.own)) l.yielded;
   out : (h : ℕ → ℕ) → taken_by h (map worker_view l.owns.items) + in_rows (taken_by h) (map (λ row. map (λ g'. view g'.pass) row.items) l.rows.items)
       ≡ pushed_by h (map worker_view l.owns.items) + in_rows (pushed_by h) (map (λ row. map (λ g'. view g'.pass) row.items) l.rows.items)
       + weigh h (map (λ b. g.T.Task.number_of b.value) l.tasks.items);

@@ -10,12 +10,12 @@ absorb_row-requires-clause-deques g c = c.requires.deques ∙ sym c.in_ok-owns.e
 
 pub absorb_row-requires-clause-some : goal.absorb_row-requires-clause-some
 absorb_row-requires-clause-some g c =
-    carried (λ w. shares_of (worker_view w.desk.own)) (λ o. shares_of (worker_view o)) (λ n. 0 < n) c.args.done.items _ c.in_ok-owns.ensures.shares
-    (λ k d lt. (get_or c.args.done.items k d).desk.some)
+    carried (λ d. shares_of (worker_view d.own)) (λ o. shares_of (worker_view o)) (λ n. 0 < n) c.args.done.items _ c.in_ok-owns.ensures.shares
+    (λ k d lt. (get_or c.args.done.items k d).some)
 
 pub absorb_rows-requires-clause-deques : goal.absorb_rows-requires-clause-deques
 absorb_rows-requires-clause-deques g c =
-    carried (λ w. map (λ g'. deque_of g'.pass) w.desk.guests.items) (λ row. map (λ g'. deque_of g'.pass) row.items)
+    carried (λ d. map (λ g'. deque_of g'.pass) d.guests.items) (λ row. map (λ g'. deque_of g'.pass) row.items)
     (λ ids. ids ≡ map worker_deque c.absorb_row.new.owns.items) c.args.done.items _ c.in_ok-owns.ensures.rows
     (λ k d lt. c.requires.guests k d lt ∙ c.requires.deques ∙ sym c.in_ok-owns.ensures.owns ∙ sym c.absorb_row.ensures.deques)
 
@@ -24,15 +24,15 @@ pub drain_all-requires : goal.drain_all-requires
 drain_all-requires g c =
     let dealt = c.args.dealt in
     let left = all_shares - 1 - length dealt.items in
-    let first = carried (λ w. shares_of (worker_view w.desk.own)) (λ o. shares_of (worker_view o)) (λ m. m ≡ left) c.args.done.items _
+    let first = carried (λ d. shares_of (worker_view d.own)) (λ o. shares_of (worker_view o)) (λ m. m ≡ left) c.args.done.items _
     c.in_ok-owns.ensures.shares (λ i x within.
     let w = get_or c.args.done.items i x in
-    let s = w.desk.shares in
-    let m = as_many (λ g'. deque_of g'.pass) (λ g'. deque_of g'.pass) dealt.items w.desk.guests.items (c.requires.guests i x within) in
-    omega (arith, w.desk.guests.ok.0)) in
-    let rows = as_many (λ w. map (λ g'. deque_of g'.pass) w.desk.guests.items) (λ row. map (λ g'. deque_of g'.pass) row.items) c.args.done.items _
+    let s = w.shares in
+    let m = as_many (λ g'. deque_of g'.pass) (λ g'. deque_of g'.pass) dealt.items w.guests.items (c.requires.guests i x within) in
+    omega (arith, w.guests.ok.0)) in
+    let rows = as_many (λ d. map (λ g'. deque_of g'.pass) d.guests.items) (λ row. map (λ g'. deque_of g'.pass) row.items) c.args.done.items _
     c.in_ok-owns.ensures.rows in
-    let many = as_many (λ w. worker_deque w.desk.own) (λ g'. deque_of g'.pass) c.args.done.items dealt.items c.requires.deques in
+    let many = as_many (λ d. worker_deque d.own) (λ g'. deque_of g'.pass) c.args.done.items dealt.items c.requires.deques in
     let few = c.requires.few in
     record {
       shares = λ k d lt.

@@ -11,9 +11,9 @@ memory_is_other e = absurd cc
 
 pub returns : goal.returns
 returns g c = record {
-  owns = subst (λ ds. IfOk c.join_all.result (λ done. map (λ w. worker_deque w.desk.own) done.items ≡ map (λ d. worker_deque d.own) ds))
+  owns = subst (λ ds. IfOk c.join_all.result (λ done. map (λ d. worker_deque d.own) done.items ≡ map (λ d. worker_deque d.own) ds))
       c.in_ok-children.ensures.desks c.join_all.ensures.owns;
-  guests = subst (λ ds. IfOk c.join_all.result (λ done. map (λ w. map (λ g'. deque_of g'.pass) w.desk.guests.items) done.items
+  guests = subst (λ ds. IfOk c.join_all.result (λ done. map (λ d. map (λ g'. deque_of g'.pass) d.guests.items) done.items
       ≡ map (λ d. map (λ g'. deque_of g'.pass) d.guests.items) ds))
       c.in_ok-children.ensures.desks c.join_all.ensures.guests;
   fault = err_says c.join_all.result (λ fault is no. absurd (memory_is_other (sym is ∙ no))) c.join_all.ensures.memory;
