@@ -15,6 +15,8 @@ mod colour_rules_checks;
 #[cfg(test)]
 mod counted;
 #[cfg(test)]
+mod deque_checks;
+#[cfg(test)]
 mod dimacs_col_checks;
 #[cfg(test)]
 mod forest_merge_checks;
@@ -42,5 +44,7 @@ mod shift_down_checks;
 mod sync_rounds_checks;
 #[cfg(test)]
 mod told;
+#[cfg(test)]
+mod transcripts_checks;
 #[cfg(test)]
 mod whole_streams_checks;

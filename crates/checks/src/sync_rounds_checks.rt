@@ -43,6 +43,12 @@ fn greatest_within_1_link(rt: HostRuntime) {
 }
 
 #[test]
+fn greatest_within_no_and_two_links(rt: HostRuntime) {
+    assert!(rt; path_ends_with::<0>(rt.alloc(), &[1, 2, 3]));
+    assert!(rt; path_ends_with::<2>(rt.alloc(), &[3, 3, 3]));
+}
+
+#[test]
 fn greatest_within_50_links(rt: HostRuntime) {
     assert!(rt; path_ends_with::<50>(rt.alloc(), &[3, 3, 3]));
 }

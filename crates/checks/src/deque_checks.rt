@@ -1,0 +1,137 @@
+//! In which order a worker takes tasks, without threads: those of its own deque, as they were dealt, and then the next
+//! worker's, and so on, and round.
+
+ghost use Rattle.std.specs.Prelude.{◌≡◌, ◌<◌, ◌≤◌, All, IfOk, map, vec_len};
+ghost use Rattle.crossbeam_deque.specs.Handles.{stealer_deque};
+ghost use Rattle.worker_deques.specs.deque_rule.Deques.{deque_of};
+
+use crossbeam_deque::protocol::Split;
+use std::alloc::{AllocError, Global};
+use worker_deques::{Desk, Ledger, Task, Thief, cut, deal, make_deques, make_desks};
+
+// A task that is only a number.
+#[derive(Drop)]
+struct Numbered {
+    number: usize,
+}
+
+impl Task for Numbered {
+    ghost number_of = { λ t. t.number };
+
+    fn number(&self) -> usize {
+        self.number
+    }
+}
+
+// A share is cut off with all that was pushed and taken so far.
+struct Dealt;
+
+impl Split<Ledger> for Dealt {
+    ghost use Rattle.std.specs.Prelude.{[], ◌-◌};
+    ghost use Rattle.worker_deques.specs.deque_rule.Ledgers.{ledger};
+
+    ghost left = { λ v. ledger (v.shares - 1) [] [] };
+
+    ghost right = { λ v. ledger 1 v.pushed v.taken };
+}
+
+// What three workers begin with.
+struct Begun {
+    desks: Vec<Desk<Numbered>>,
+    thieves: Vec<Thief<Numbered>>,
+    ghost three: { vec_len thieves ≡ 3 },
+    ghost deques: { All (λ d. map (λ g. deque_of g.pass) d.guests.items ≡ map stealer_deque thieves.items) desks.items },
+}
+
+// So many tasks, the last first.
+fn make_tasks(alloc: Global, count: usize) -> Result<Vec<Box<Numbered>>, AllocError> {
+    let mut tasks = Vec::new(alloc);
+    for k in 0..count {
+        let number = count - 1 - k;
+        tasks.push(Box::new(alloc, Numbered { number })?)?;
+    }
+    Ok(tasks)
+}
+
+// Seven tasks are dealt to three workers.
+fn begin(alloc: Global) -> Result<Begun, AllocError> {
+    let tasks = make_tasks(alloc, 7)?;
+    let count = tasks.len();
+    let (owns, thieves) = make_deques::<Numbered>(alloc, count, 3)?;
+    let owns = deal(owns, tasks);
+    let (owns, _dealt) = cut::<Numbered, Dealt>(alloc, owns)?;
+    let desks = make_desks(alloc, count, owns)?;
+    Ok(Begun { desks, thieves })
+}
+
+// Puts a task in hand among the finished ones, if there is one and room for it.
+fn finish(desk: &mut Desk<Numbered>)
+    ensures guests { desk.new.guests ≡ desk.old.guests }
+{
+    if desk.finished.len() == desk.finished.capacity() {
+        return;
+    }
+    if let Some(task) = desk.task.take() {
+        desk.finished.push_reserved(task);
+    }
+}
+
+// What a worker finds in so many looks becomes finished.
+fn find_all(thieves: &Vec<Thief<Numbered>>, worker: u32, desk: &mut Desk<Numbered>, looks: u32)
+    requires worker { worker < vec_len thieves.now }
+    requires deques { map (λ g. deque_of g.pass) desk.old.guests.items ≡ map stealer_deque thieves.now.items }
+{
+    for _ in 0..looks {
+        let _ = desk.find(thieves, worker);
+        finish(desk);
+    }
+}
+
+// Whether these are the numbers of the tasks.
+fn are_numbered(tasks: &[Box<Numbered>], numbers: &[usize]) -> bool {
+    if tasks.len() != numbers.len() {
+        return false;
+    }
+    for (task, number) in tasks.iter().zip(numbers) {
+        if task.number != *number {
+            return false;
+        }
+    }
+    true
+}
+
+// Whether the second of three workers finds these tasks in so many looks.
+fn second_finds(
+    mut desks: Vec<Desk<Numbered>>,
+    thieves: Vec<Thief<Numbered>>,
+    looks: u32,
+    numbers: &[usize],
+) -> bool
+    requires three { vec_len thieves ≡ 3 }
+    requires deques { All (λ d. map (λ g. deque_of g.pass) d.guests.items
+        ≡ map stealer_deque thieves.items) desks.items }
+{
+    if desks.len() < 2 {
+        return false;
+    }
+    find_all(&thieves, 1, &mut desks[1], looks);
+    are_numbered(desks[1].finished.as_slice(), numbers)
+}
+
+// The same, of workers that begin.
+fn finds(alloc: Global, looks: u32, numbers: &[usize]) -> bool {
+    match begin(alloc) {
+        Ok(Begun { desks, thieves }) => second_finds(desks, thieves, looks, numbers),
+        Err(_) => false,
+    }
+}
+
+#[test]
+fn a_worker_takes_its_own_tasks_first(rt: HostRuntime) {
+    let alloc: Global = rt.alloc();
+    // Tasks 1 and 4 were dealt to worker 1, tasks 2 and 5 to worker 2, and tasks 0, 3 and 6 to worker 0.
+    assert!(rt; finds(alloc, 1, &[1]));
+    assert!(rt; finds(alloc, 2, &[1, 4]));
+    assert!(rt; finds(alloc, 4, &[1, 4, 2, 5]));
+    assert!(rt; finds(alloc, 8, &[1, 4, 2, 5, 0, 3, 6]));
+}
