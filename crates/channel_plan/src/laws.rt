@@ -9,7 +9,7 @@ ghost use Rattle.channel_plan.specs.PlanText.{plan_of};
 ghost use Rattle.channel_plan.specs.Reading.{IsPlanText, Row, reading_of, rows_of};
 
 /// A plan has no fault exactly if each vertex has one row, no row is of another vertex, no channel is
-/// above Δ + 1, and no two neighbours share a channel.
+/// above Δ + B + 1 or barred at its vertex, and no two neighbours share a channel.
 pub fn plans_without_a_fault_are_proper()
     ensures { (net : Net) → IsNetwork net → (rows : List Row) → (fault_of net rows ≡ None) ↔ IsProper net rows }
 {}

@@ -33,7 +33,8 @@ impl Model for Colouring {
 }
 
 impl Colouring {
-    /// The node's colour so far: 0 before its first choice, and its colour once the rounds are over.
+    /// The node's colour so far: the least that isn't barred before its first choice, and its colour once the rounds
+    /// are over.
     pub fn colour(&self) -> u16
         ensures { result ≡ self.now.merged }
     {

@@ -9,7 +9,7 @@ use thiserror::Error;
 /// The first line of a text that is no line of a transcript.
 #[derive(Clone, Copy, Debug, PartialEq, Eq, Error)]
 pub enum TextFault {
-    #[error("X1 line {0}: neither `transcript 1 NODES` nor an entry")]
+    #[error("X1 line {0}: neither `transcript EDITION NODES` nor an entry")]
     Syntax(usize),
     #[error("X2: out of memory")]
     Memory,
