@@ -17,6 +17,13 @@ use node_api::{Inbox, Memory, Network, NodeProgram, Outbox};
 use std::alloc::Global;
 use std::mem::swap;
 
+// What a pulse leaves: whether something was sent, and before which pulse those rest that made it.
+#[derive(Clone, Copy)]
+struct AfterPulse {
+    sent: bool,
+    rests_until: u32,
+}
+
 /// Runs a program on a network and returns all nodes after its last pulse: entry `v - 1` is vertex `v`. A node is
 /// passed over at the pulses at which it rests (`rests_until`) and nothing came.
 ///
@@ -37,7 +44,7 @@ pub fn run_rounds<P: NodeProgram>(alloc: Global, net: &Network) -> Result<Vec<P>
         if !came && done + 1 < all_rest {
             continue;
         }
-        let (sent, until) = round(
+        let after = round(
             net,
             done,
             &mut nodes,
@@ -47,8 +54,8 @@ pub fn run_rounds<P: NodeProgram>(alloc: Global, net: &Network) -> Result<Vec<P>
             &mut later,
         );
         swap(&mut now, &mut later);
-        came = sent;
-        all_rest = until;
+        came = after.sent;
+        all_rest = after.rests_until;
     }
     Ok(nodes)
 }
@@ -97,8 +104,7 @@ fn greet<P: NodeProgram>(
     send_out(net, v, out, later);
 }
 
-// The pulse after `done` of all nodes. What was sent at `done` is in `now`; what is sent goes into `later`. Returns
-// whether something was sent, and before which pulse all nodes rest.
+// The pulse after `done` of all nodes. What was sent at `done` is in `now`; what is sent goes into `later`.
 fn round<P: NodeProgram>(
     net: &Network,
     done: u32,
@@ -107,7 +113,7 @@ fn round<P: NodeProgram>(
     untils: &mut [u32],
     now: &mut [Inbox<P::Payload>],
     later: &mut [Inbox<P::Payload>],
-) -> (bool, u32)
+) -> AfterPulse
     requires done { done + 1 < 2 ^ 32 }
     requires nodes { Lists (count_of net.now) (state_at P.program net.now done) nodes.old }
     requires outs { HasOutboxes net.now outs.old }
@@ -119,8 +125,8 @@ fn round<P: NodeProgram>(
     ensures rests { AreResting P.program net.now (suc done) untils.new }
     ensures now { Lists (count_of net.now) (empty_inbox net.now) now.new }
     ensures later { Lists (count_of net.now) (λ v. unread (inbox_at P.program net.now (suc (suc done)) v)) later.new }
-    ensures quiet { result.0 ≡ false → Lists (count_of net.now) (empty_inbox net.now) later.new }
-    ensures least { (k d : ℕ) → k < count_of net.now → result.1 ≤ slice_index_or untils.new k d }
+    ensures quiet { result.sent ≡ false → Lists (count_of net.now) (empty_inbox net.now) later.new }
+    ensures least { (k d : ℕ) → k < count_of net.now → result.rests_until ≤ slice_index_or untils.new k d }
 {
     net.is_network();
     let mut sent = false;
@@ -134,15 +140,18 @@ fn round<P: NodeProgram>(
             continue;
         }
         let node = &mut nodes[i as usize];
-        let (rests, is_loud) = turn(net, i + 1, done, node, inbox, outs, later);
-        untils[i as usize] = rests;
-        least = least.min(rests);
-        sent = sent | is_loud;
+        let after = turn(net, i + 1, done, node, inbox, outs, later);
+        untils[i as usize] = after.rests_until;
+        least = least.min(after.rests_until);
+        sent = sent | after.sent;
     }
-    (sent, least)
+    AfterPulse {
+        sent,
+        rests_until: least,
+    }
 }
 
-// The pulse after `done` of one vertex. Returns before which pulse it rests, and whether it sent something.
+// The pulse after `done` of one vertex.
 fn turn<P: NodeProgram>(
     net: &Network,
     v: u32,
@@ -151,7 +160,7 @@ fn turn<P: NodeProgram>(
     inbox: &mut Inbox<P::Payload>,
     outs: &mut [Outbox<P::Payload>],
     later: &mut [Inbox<P::Payload>],
-) -> (u32, bool)
+) -> AfterPulse
     requires vertex { IsVertex net.now v }
     requires done { done + 1 < 2 ^ 32 }
     requires node { node.old ≡ state_at P.program net.now done v }
@@ -162,13 +171,16 @@ fn turn<P: NodeProgram>(
     ensures inbox { inbox.new ≡ empty_inbox net.now v }
     ensures outs { HasOutboxes net.now outs.new }
     ensures after { Delivered net.now (sent_by P.program net.now (suc done)) (v + 1) [] later.new }
-    ensures rests { RestsUntil P.program (state_at P.program net.now (suc done) v) (suc done) result.0 }
-    ensures quiet { result.1 ≡ false → later.new ≡ later.old }
+    ensures rests { RestsUntil P.program (state_at P.program net.now (suc done) v) (suc done) result.rests_until }
+    ensures quiet { result.sent ≡ false → later.new ≡ later.old }
 {
     net.is_network();
     let out = &mut outs[net.degree(v) as usize];
     pulse_one(node, done + 1, inbox, out);
     let until = node.rests_until(done + 1);
     let is_loud = send_out(net, v, out, later);
-    (until, is_loud)
+    AfterPulse {
+        sent: is_loud,
+        rests_until: until,
+    }
 }

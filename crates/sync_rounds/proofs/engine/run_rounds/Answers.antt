@@ -28,28 +28,28 @@ loop-done-init g c = record {
 pub loop-done-smaller-then-done-all_rest : goal.loop-done-smaller-then-done-all_rest
 loop-done-smaller-then-done-all_rest g c = fewer _ _ c.loop-done-test.true
 
-pub round-sent-requires-clause-nodes : goal.round-sent-requires-clause-nodes
-round-sent-requires-clause-nodes g c κs within =
+pub round-after-requires-clause-nodes : goal.round-after-requires-clause-nodes
+round-after-requires-clause-nodes g c κs within =
     subst (λ (xs : List _). Lists (count_of c.args.net.now) (state_at g.P.NodeProgram.program c.args.net.now c.loop-done.done) xs)
     (sym c.deref_mut.ensures.value) c.loop-done.invariant.nodes
 
-pub round-sent-requires-clause-outs : goal.round-sent-requires-clause-outs
-round-sent-requires-clause-outs g c κs within =
+pub round-after-requires-clause-outs : goal.round-after-requires-clause-outs
+round-after-requires-clause-outs g c κs within =
     subst (λ (xs : List (List (Option _))). HasOutboxes c.args.net.now xs) (sym c.deref_mut-in-loop-done.ensures.value) c.loop-done.invariant.outs
 
-pub round-sent-requires-clause-rests : goal.round-sent-requires-clause-rests
-round-sent-requires-clause-rests g c κs within =
+pub round-after-requires-clause-rests : goal.round-after-requires-clause-rests
+round-after-requires-clause-rests g c κs within =
     subst (λ (xs : List ℕ). AreResting g.P.NodeProgram.program c.args.net.now c.loop-done.done xs) (sym c.deref_mut-in-loop-done-2.ensures.value)
     c.loop-done.invariant.rests
 
-pub round-sent-requires-clause-now : goal.round-sent-requires-clause-now
-round-sent-requires-clause-now g c κs within =
+pub round-after-requires-clause-now : goal.round-after-requires-clause-now
+round-after-requires-clause-now g c κs within =
     let m = g.P.NodeProgram in
     subst (λ (xs : List (Mail _)). Lists (count_of c.args.net.now) (λ v. unread (inbox_at m.program c.args.net.now (suc c.loop-done.done) v)) xs)
     (sym c.deref_mut-in-loop-done-3.ensures.value) c.loop-done.invariant.now
 
-pub round-sent-requires-clause-later : goal.round-sent-requires-clause-later
-round-sent-requires-clause-later g c κs within =
+pub round-after-requires-clause-later : goal.round-after-requires-clause-later
+round-after-requires-clause-later g c κs within =
     subst (λ (xs : List (Mail _)). Lists (count_of c.args.net.now) (empty_inbox c.args.net.now) xs) (sym c.deref_mut-in-loop-done-4.ensures.value)
     c.loop-done.invariant.later
 
@@ -62,7 +62,7 @@ loop-done-preserved g c =
     let net = c.args.net.now in
     let n = count_of net in
     let l = c.loop-done in
-    let r = c.round-sent in
+    let r = c.round-after in
     let next : suc c.loop-done.done ≡ c.loop-done.done + 1 = omega arith in
     let now_is = ap (λ v. v.items) c.swap.ensures.x_after
     ∙ whole_written l.later.items r.new.later l.later.len (r.auto.later ∙ ap length c.deref_mut-in-loop-done-4.ensures.value) (omega (arith, l.later.ok.0)) in
@@ -83,7 +83,7 @@ loop-done-preserved g c =
           (subst (λ (p : ℕ). Lists n (λ v. unread (inbox_at m.program net (suc p) v)) r.new.later) next r.ensures.later);
       later = subst (λ (xs : List (Mail _)). Lists n (empty_inbox net) xs) (sym later_is) r.ensures.now;
       quiet = λ none. subst (λ (xs : List (Mail _)). Lists n (empty_inbox net) xs) (sym now_is) (r.ensures.quiet none);
-      least = λ k d below. subst (λ (xs : List ℕ). r.result.1 ≤ slice_index_or xs k d)
+      least = λ k d below. subst (λ (xs : List ℕ). r.result.rests_until ≤ slice_index_or xs k d)
           (sym (whole_written l.untils.items r.new.untils l.untils.len (r.auto.untils ∙ ap length c.deref_mut-in-loop-done-2.ensures.value)
           (omega (arith, l.untils.ok.0)))) (r.ensures.least k d below);
     }
