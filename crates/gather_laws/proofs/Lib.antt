@@ -6,5 +6,6 @@ pub mod Asides
 pub mod Whole
 pub mod Counts
 pub mod Progress
+pub mod Held
 pub mod Merged
 pub mod alpha_laws

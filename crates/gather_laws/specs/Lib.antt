@@ -4,5 +4,6 @@ pub mod Laws
 pub mod Whole
 pub mod Counts
 pub mod Progress
+pub mod Held
 pub mod Merged
 pub mod alpha_laws

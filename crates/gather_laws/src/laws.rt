@@ -4,6 +4,7 @@
 ghost use Rattle.alpha_laws.specs.node_api.Program.{Program};
 ghost use Rattle.alpha_laws.specs.Laws.{OnEveryNetwork};
 ghost use Rattle.gather_laws.specs.Counts.{WholeOutcomesAreCounted};
+ghost use Rattle.gather_laws.specs.Held.{OutcomesHoldAtMostTwo};
 ghost use Rattle.gather_laws.specs.Laws.{MetNodesSimulate};
 ghost use Rattle.gather_laws.specs.Merged.{WholeOutcomesReplay};
 ghost use Rattle.gather_laws.specs.MergedRuns.{MergedRunsReplay, MetNodesAreWritten, MetRunsReplay, WholeRunsReplay};
@@ -27,6 +28,12 @@ pub fn whole_outcomes_are_complete<S, M, E>()
 /// R is the last pulse; and the payloads are as many as the synchronous run sends.
 pub fn whole_outcomes_are_counted<S, M, E>()
     ensures law { (program : Program S M E) (net : Net) → IsNetwork net → WholeOutcomesAreCounted program net }
+{}
+
+/// No link of an outcome holds more than two wires, whatever its capacity is: of each direction at most two emitted
+/// wires are untaken.
+pub fn outcomes_hold_at_most_two<S, M, E>()
+    ensures law { (program : Program S M E) (net : Net) → IsNetwork net → OutcomesHoldAtMostTwo program net }
 {}
 
 /// No outcome deadlocks: it is whole, or one of its nodes can take a wire, put one or make a pulse, over links that
