@@ -26,8 +26,8 @@ module _ {J P T : Type 0} {j : wiring.Ghosts J} {p : program.Ghosts P T} {t : te
     pub one_more : new.counter ≡ old.counter + 1
     pub stamp : last_put new.puts.items port ≡ new.counter
 
-  -- A take moves the counter to one more than the greater of its number and the stamp of the wire that came. If the wire
-  -- was set aside, the counter stays.
+  -- A take moves the counter to one more than the greater of its number and the stamp of the wire that came. If the
+  -- wire was set aside, the counter stays.
   pub record CountsTake (port : ℕ) (old new : Node J P T j p t q) : Type 0 where
     pub past : new.aside ≡ None → new.counter ≡ max old.counter (last_taken new.takes.items port) + 1
     pub stays : (new.aside ≡ None → ⊥) → new.counter ≡ old.counter

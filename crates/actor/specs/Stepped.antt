@@ -1,5 +1,6 @@
 -- A node before and after a part of a turn, and before and after a turn. Both may have ended early.
-use Rattle.std.specs.Prelude.{◌≡◌, ◌≤◌, ◌+◌, ◌^◌, max, Bool, Option, Result, Ok, Err, Some, None, IfErr, IfOk, IsTrue, false}
+use Rattle.std.specs.Prelude.{◌≡◌, ◌≤◌, ◌+◌, ◌^◌, max, Bool, false, IsTrue}
+use Rattle.std.specs.Prelude.{Option, Some, None, Result, Ok, Err, IfErr, IfOk}
 use Rattle.std.specs.declared.cmp.PartialEq as equality
 use Rattle.alpha_laws.specs.declared.NodeProgram as program
 use Rattle.alpha_laws.specs.declared.PayloadText as text
@@ -29,8 +30,8 @@ module _ {J P T : Type 0} {j : wiring.Ghosts J} {p : program.Ghosts P T} {t : te
     pub full : IfErr result
         (λ error. error ≡ turn.StampFull → 2 ^ 64 ≤ max new.counter (aside_stamp new.aside) + 1)
 
-  -- The three parts of a turn, one after the other. If they did nothing and set no wire aside, the node is as it was and
-  -- can't make its next pulse.
+  -- The three parts of a turn, one after the other. If they did nothing and set no wire aside, the node is as it was
+  -- and can't make its next pulse.
   pub record Turned (old new : Node J P T j p t q) (result : Result Bool TurnRefused) : Type 0 where
     pub vertex : new.vertex ≡ old.vertex
     pub refusal : new.refusal ≡ old.refusal

@@ -217,7 +217,7 @@ impl<J: Wiring, P: NodeProgram> Node<J, P> {
         Ok(put)
     }
 
-    // The parts of a turn, one after the other. Returns whether the node did anything, but false if it set a wire aside.
+    // The parts of a turn, one after the other. Returns whether the node did anything; false if it set a wire aside.
     fn parts<R: Wait, G: Gate>(
         &mut self,
         rt: &R,

@@ -11,7 +11,7 @@
 //! alpha_laws::laws::kept_links_simulate::<S, M, E>(); // brings the law into a proof
 //! ```
 //!
-//! Limits: it is laws alone. No code that runs a node stands here.
+//! Limits: it has laws alone, and no code that runs a node.
 #![tactic(auto)]
 
 pub mod laws;

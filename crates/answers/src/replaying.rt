@@ -22,12 +22,12 @@ use replay::{ReplayRefused, WholeRefused, event_of, replay, replay_whole};
 use std::alloc::{AllocError, Global};
 use transcripts::{TextFault, Transcript, entry_lines, network_text, read_any_behind_network};
 
-/// Why a transcript isn't replayed: its first line that is none, or its first entry that isn't possible or has another
-/// pulse or wire, with the number of its line. Behind it are words for what its event lacks or comes to, as
-/// `missing_words` and `expected_words` of `event_texts` have them.
+/// Why a transcript isn't replayed: its first line that isn't a line of a transcript, or its first entry that isn't
+/// possible or has another pulse or wire, with the number of its line. After it come words for what the event lacks or
+/// leads to, as `missing_words` and `expected_words` of `event_texts` have them.
 #[derive(Debug, PartialEq, Eq, Drop)]
 pub enum ReplayFault {
-    /// The line is none of a transcript.
+    /// The line isn't a line of a transcript.
     Syntax(usize),
     /// The node can't make its next pulse yet.
     NotReady(usize, Vec<u8>),
@@ -35,13 +35,13 @@ pub enum ReplayFault {
     NothingToPut(usize, Vec<u8>),
     /// No wire of the neighbour waits.
     LinkEmpty(usize, Vec<u8>),
-    /// There is no such vertex, or the neighbour is none.
+    /// There is no such vertex, or no such neighbour of it.
     NoSuch(usize),
     /// The event has another pulse or wire.
     WrongWire(usize, Vec<u8>),
     /// The entry has another stamp than the counter of its node gives it, or comes too late in the order.
     WrongStamp(usize),
-    /// A node isn't drained at the end, or a link isn't empty; the line is that of the last entry.
+    /// A node isn't drained at the end, or a link isn't empty; the line is the last entry's.
     NotWhole(usize),
     /// Memory ran out.
     Memory,
@@ -272,7 +272,7 @@ fn replayed(
 
 /// The state of the nodes of the colouring after the entries of a transcript, as `events_bytes` writes it: the
 /// input is a DIMACS text, and then a transcript, which begins at the first line whose first field is
-/// `transcript`. The entries are played in the order in which they stand. Those of edition 2 have to have the stamps of
+/// `transcript`. The entries are played in the order of their lines. Those of edition 2 have to have the stamps of
 /// their nodes' counters, in their order, and to lead to a whole state.
 ///
 /// # Errors

@@ -2,7 +2,7 @@
 
 use alpha_core::Wire;
 
-/// An entry of a node. The start at pulse 0 is none.
+/// An entry of a node: an event that it made. The start at pulse 0 is no event, so it has no entry.
 #[derive(Debug, Clone, Copy, PartialEq, Eq)]
 pub enum Entry<T> {
     /// This pulse was made.

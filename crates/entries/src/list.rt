@@ -10,8 +10,8 @@ use alpha_core::Memory;
 use std::alloc::{AllocError, Global};
 use std::marker::Model;
 
-/// The entries of a node in its own order with their stamps, in 20 bytes each and those of the payloads. Contracts see
-/// the list of entries (`items`), the same list with the stamps (`stamped`), and for how many more there is room,
+/// The entries of a node in its own order with their stamps, in 20 bytes each and the bytes of the payloads. Contracts
+/// see the list of entries (`items`), the same list with the stamps (`stamped`), and for how many more there is room,
 /// whatever their wires (`room`).
 #[derive(Drop)]
 pub struct Entries<T> {

@@ -64,7 +64,7 @@ impl Reader {
 ///
 /// # Errors
 ///
-/// `NoEvent` with the first line that is none of these; `Memory` if memory is refused.
+/// `NoEvent` with the first line that isn't an event; `Memory` if memory is refused.
 pub fn read_events(alloc: Global, text: &[u8]) -> Result<Vec<(usize, Event)>, EventFault>
     ensures ok { IfOk result (λ script. script_of (lines_of text.now) ≡ Ok script.items) }
     ensures fault { IfErr result (IsFaultOfReading (lines_of text.now)) }

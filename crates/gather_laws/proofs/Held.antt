@@ -16,9 +16,9 @@ at_most_two {S} {M} program net ok capacity transcript outcome is v i vertex lt 
     let link = link_in outcome v i in
     let out : List (Wire M) = (port_at (node_in program net outcome v).view i).out in
     let here : length (taken_over net (λ w j. (link_into net outcome w j).taken) v i) ≡ length link.taken =
-        ap (λ (ws : List (Wire M)). length ws) (over net ok (λ w j. (link_in outcome w j).taken) v i vertex lt) in
+    ap (λ (ws : List (Wire M)). length ws) (over net ok (λ w j. (link_in outcome w j).taken) v i vertex lt) in
     let few : length (link.put ++ out) ≤ length (taken_over net (λ w j. (link_into net outcome w j).taken) v i) + 2 =
-        is.simulates.at_most_two_untaken v i vertex lt in
+    is.simulates.at_most_two_untaken v i vertex lt in
     let parts : length link.put ≡ length link.taken + length link.held =
-        ap (λ (ws : List (Wire M)). length ws) (is.splits v i vertex lt) ∙ length-append link.taken link.held in
+    ap (λ (ws : List (Wire M)). length ws) (is.splits v i vertex lt) ∙ length-append link.taken link.held in
     omega (arith, here, few, parts, length-append link.put out)

@@ -66,7 +66,8 @@ pub fn merged_runs_replay<S, M, E>()
     ensures law { (program : Program S M E) → OnEveryNetwork program (MergedRunsReplay program) }
 {}
 
-/// Once all ends have met, the stamps of nodes that keep theirs rise, and each take of a link is of its put, and later.
+/// Once all ends have met, the stamps of nodes that keep theirs rise. The k-th take on a link takes its k-th put, and
+/// has a greater stamp.
 pub fn met_nodes_are_written<S, M, E>()
     ensures law { (program : Program S M E) → OnEveryNetwork program (MetNodesAreWritten program) }
 {}

@@ -20,8 +20,8 @@
 //! gather_laws::laws::whole_outcomes_are_complete::<S, M, E>();
 //! ```
 //!
-//! Limits: these are laws alone. No code that gathers nodes stands here, so that `async_colour_laws` speaks of outcomes
-//! without standing on that code.
+//! Limits: these are laws alone. The code that gathers nodes is elsewhere, so that `async_colour_laws` can speak of
+//! outcomes without depending on it.
 #![tactic(auto)]
 
 pub mod laws;

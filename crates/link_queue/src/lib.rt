@@ -7,7 +7,7 @@
 //! let met = link.meet(&rt, alloc, put_end, take_end)?;           // once both ends are back
 //! ```
 //!
-//! A `Link` stands outside the scope of the threads, which share it; its ends move with the nodes. Contracts see the
+//! A `Link` lives outside the scope of the threads, which share it; its ends move with the nodes. Contracts see the
 //! list that an end put or took. What is put has to begin a legal list of the link in the synchronous run of the
 //! program `P`; so what is taken does too, and when the ends meet, what was put is what was taken and then what is
 //! held. This rests on the promise of `crossbeam_queue`'s ruled array queue, and holds if no queue is pushed more than

@@ -26,7 +26,7 @@ use std::marker::Brand;
 use std::sync::Wait;
 
 /// A bounded, lock-free, directed link of the program `P`: wires that one end puts, the other takes in the same order.
-/// It stands outside the scope of the threads that use it.
+/// It lives outside the scope of the threads that use it.
 #[derive(Drop)]
 pub struct Link<P: NodeProgram> {
     queue: RuledArrayQueue<Queued<P::Payload>, EndView<P::Payload>, LinkRule<P>>,
@@ -68,7 +68,7 @@ fn take_end_of<T>(pass: Pass<Queued<T>, EndView<T>>) -> TakeSide<T>
 
 type Made<P: NodeProgram> = (Link<P>, PutEnd<P>, TakeEnd<P>);
 
-// A new link of a name that its making picks. Network, vertex and port are there for the name alone.
+// A new link, whose name is picked when it is made. Network, vertex and port are there for the name alone.
 fn named<J: Naming, P: NodeProgram>(
     alloc: Global,
     _network: &Network,

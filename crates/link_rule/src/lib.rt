@@ -10,7 +10,7 @@
 //! if its payloads, safes and close begin that stream and its acknowledgements begin those that are due.
 //! `StreamCheck` looks at the order of wires and at their stamps, as they come one by one, and not at what they carry;
 //! no program uses it. `laws` says that every legal list passes it, and what a legal list with a close is.
-//! `link_queue` stands on the names and the legality of this crate (`specs/Legal.antt`).
+//! `link_queue` uses the names and the legality of this crate (`specs/Legal.antt`).
 #![tactic(auto)]
 
 mod check;

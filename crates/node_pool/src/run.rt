@@ -67,7 +67,7 @@ fn run_made<J: Wiring + Send + Sync, P: NodeProgram, G: Gate + Sync, R: Threads 
 /// Runs all nodes of a network asynchronously, on worker threads with links between the nodes.
 ///
 /// At the start worker (v - 1) mod workers has node v, ascending. Each worker looks for a node at most `options.turns`
-/// times, in its own deque, or else in those of the others. If it finds one it calls `gate.enter`, makes one turn of
+/// times, in its own deque, or else in the others' deques. If it finds one it calls `gate.enter`, makes one turn of
 /// the node, calls `gate.leave`, and puts the node on its own deque, unless nothing is left for it to do.
 ///
 /// # Errors

@@ -46,7 +46,7 @@ pub struct NodesAndEnds<J: Wiring, P: NodeProgram> {
     pub takes: Vec<Vec<WiredTake<J, P::Payload>>>,
 }
 
-// Whether a node has set a wire aside since the stamp of its take would be too great.
+// Whether a node set a wire aside because taking it would overflow its counter.
 fn is_full<J: Wiring, P: NodeProgram>(node: &Node<J, P>) -> bool
     ensures { result ≡ is_full node.now.aside }
 {
@@ -71,7 +71,7 @@ pub fn some_full<J: Wiring, P: NodeProgram>(nodes: &Vec<Node<J, P>>) -> bool
     false
 }
 
-// No nodes and ends, with room for those of so many nodes.
+// No nodes and no ends, with room for `count` nodes and their ends.
 fn none_yet<J: Wiring, P: NodeProgram>(
     alloc: Global,
     count: usize,

@@ -12,7 +12,7 @@ use alpha_laws::{Network, NodeProgram, Wire};
 use net_core::{Event, NetState, StepRefused};
 use stamps::Entry;
 
-// The port of a vertex that leads to a neighbour; `None` if it is none.
+// The port of vertex `v` that leads to `w`; `None` if `w` isn't its neighbour.
 fn port_to(net: &Network, v: u32, w: u32) -> Option<u32>
     requires vertex { IsVertex net.now v }
     ensures port { IfSome result (λ port. (port ≡ port_to net.now v w) × (port < degree_of net.now v)) }

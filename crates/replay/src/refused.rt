@@ -7,10 +7,10 @@ use alpha_laws::Memory;
 use net_core::{RunRefused, StepRefused};
 use thiserror::Error;
 
-/// Why `replay` refuses a list of entries: by the first that no event writes down where it stands.
+/// Why `replay` refuses a list of entries: the first entry that no event writes down at its place.
 #[derive(Debug, Clone, Copy, PartialEq, Eq, Error)]
 pub enum ReplayRefused {
-    /// The event of an entry isn't possible. A neighbour that is none is `NoSuch`.
+    /// The event of an entry isn't possible. `NoSuch` also if the vertex has no such neighbour.
     #[error("{0}")]
     Run(RunRefused),
     /// The event of the entry of this index, from 0, is possible, but has another pulse or wire.

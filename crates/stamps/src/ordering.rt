@@ -8,7 +8,7 @@ ghost use Rattle.stamps.specs.Gathered.{rows_from, with_vertex};
 use entries::{Entry, Memory};
 use std::alloc::{AllocError, Global};
 
-// The entries of a node, each behind its stamp and the vertex, behind those of other nodes.
+// Appends the entries of a node, each after its stamp and the vertex, to the entries of other nodes.
 fn add_entries<T: Copy>(
     rows: &mut Vec<(u64, u32, Entry<T>)>,
     vertex: u32,

@@ -132,7 +132,7 @@ impl StampTable {
     ///
     /// # Errors
     ///
-    /// `Memory` if memory is refused. Of what rows the table then is isn't said.
+    /// `Memory` if memory is refused; the contents of the table are then unspecified.
     pub fn add<T: Copy>(&mut self, alloc: Global, row: &(u64, u32, Entry<T>)) -> Result<(), Memory>
         ensures added { OnOk result ((rows : List (StampedRow T)) → IsTableOf rows self.old
             → IsInPlace rows row.now → IsTableOf (rows ++ row.now ∷ []) self.new) }

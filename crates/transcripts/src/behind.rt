@@ -47,7 +47,7 @@ fn has_fields(mut fields: Fields) -> bool
     fields.next().is_some()
 }
 
-// The numbers of those lines that have fields, but the first line; so many lines stand before it.
+// Appends the numbers of the lines that have fields, except the first such line; `before` lines precede the text.
 fn push_numbers(numbers: &mut Vec<usize>, before: usize, text: &[u8]) -> Result<(), AllocError>
     requires room { before + length text.now + 1 < 2 ^ 64 }
     ensures { IfOk result (λ _. numbers.new.items

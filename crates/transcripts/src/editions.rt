@@ -48,7 +48,8 @@ fn is_stamped(before: usize, text: &[u8]) -> bool
     false
 }
 
-// The transcript of either edition that a text is, which so many other lines stand before.
+// Parses a transcript of either edition. `before` lines of the input precede it, and line numbers count from the first
+// of them.
 fn read_any_lines<T: PayloadText>(
     alloc: Global,
     before: usize,
@@ -72,7 +73,7 @@ fn read_any_lines<T: PayloadText>(
 ///
 /// # Errors
 ///
-/// `Syntax` with the first line that is none of these, or with line 1 if no line has a field. `Memory` if memory is
+/// `Syntax` with the first line that is neither, or with line 1 if no line has a field. `Memory` if memory is
 /// refused.
 pub fn read_any<T: PayloadText>(alloc: Global, text: &[u8]) -> Result<Transcript<T>, TextFault>
     ensures ok { IfOk result (λ read. any_reading_of T.payload_of (lines_of text.now) ≡ Ok (said_by read)) }

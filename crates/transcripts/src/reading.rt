@@ -87,7 +87,7 @@ fn step<T: PayloadText>(
     Ok(())
 }
 
-/// The transcript that a text is, which so many other lines stand before.
+/// Parses a transcript. `before` lines of the input precede it, and line numbers count from the first of them.
 pub(crate) fn read_lines<T: PayloadText>(
     alloc: Global,
     before: usize,
@@ -111,7 +111,7 @@ pub(crate) fn read_lines<T: PayloadText>(
 ///
 /// # Errors
 ///
-/// `Syntax` with the first line that is none of these, or with line 1 if no line has a field. `Memory` if memory is
+/// `Syntax` with the first line that is neither, or with line 1 if no line has a field. `Memory` if memory is
 /// refused.
 pub fn read_transcript<T: PayloadText>(
     alloc: Global,

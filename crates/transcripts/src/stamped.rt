@@ -48,7 +48,8 @@ fn stamped_step<T: PayloadText>(
     Ok(())
 }
 
-/// The transcript with stamps that a text is, which so many other lines stand before.
+/// Parses a transcript with stamps. `before` lines of the input precede it, and line numbers count from the first of
+/// them.
 pub(crate) fn read_stamped_lines<T: PayloadText>(
     alloc: Global,
     before: usize,

@@ -49,7 +49,7 @@ fn push_header(text: &mut Vec<u8>, words: &[u8], nodes: u32) -> Result<(), Alloc
     Ok(text.push(b'\n')?)
 }
 
-/// Appends the first line of a transcript of so many nodes, of edition 1.
+/// Appends the first line of a transcript of edition 1, with this number of nodes.
 ///
 /// # Errors
 ///
@@ -60,7 +60,7 @@ pub fn push_first_line(text: &mut Vec<u8>, nodes: u32) -> Result<(), AllocError>
     push_header(text, b"transcript 1 ", nodes)
 }
 
-/// The transcript of so many nodes: `transcript 1 NODES`, and a line for each entry, in the order given. Read by
+/// The transcript of these entries: `transcript 1 NODES`, and a line for each entry, in the order given. Read by
 /// `read_transcript`, it is these entries.
 ///
 /// # Errors
@@ -80,7 +80,7 @@ pub fn transcript_text<T: PayloadText>(
     Ok(text)
 }
 
-/// The transcript of so many nodes with stamps: `transcript 2 NODES`, and a line for each entry, in the order given.
+/// The transcript of these entries with stamps: `transcript 2 NODES`, and a line for each entry, in the order given.
 /// Read by `read_any`, it is these entries.
 ///
 /// # Errors

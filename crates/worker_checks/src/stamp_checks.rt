@@ -1,5 +1,5 @@
-//! The one merged run of two nodes that only close their links, lists of stamped entries that are none, the merged runs
-//! of workers on small networks, and a counter at its end.
+//! The one merged run of two nodes that only close their links, lists of stamped entries that aren't a run, the merged
+//! runs of workers on small networks, and a counter at its end.
 
 use crate::replay_checks::MERGED;
 use crate::runs::{pair, small};
