@@ -17,8 +17,8 @@ use Rattle.actor.specs.Written.{IsTranscript}
 
 module _ {J S M E : Type 0} {j : wiring.Ghosts J} where
   pub record IsKept (program : Program S M E) (vertex degree : ℕ) (transcript : Bool) (aside : Option (Aside M))
-      (last : ℕ) (node : Node S M) (puts : List (WiredPut J M j)) (takes : List (WiredTake J M j)) (entries : List (Entry M))
-      (stamped : List (StampedEntry M)) (counter : ℕ) : Type 0 where
+      (last : ℕ) (node : Node S M) (puts : List (WiredPut J M j)) (takes : List (WiredTake J M j))
+      (entries : List (Entry M)) (stamped : List (StampedEntry M)) (counter : ℕ) : Type 0 where
     -- It is a vertex of the network, with an end that puts and one that takes for each port, and writes down what it
     -- does if the run's nodes do.
     pub network : IsNetwork j.net

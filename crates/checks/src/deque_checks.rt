@@ -40,7 +40,8 @@ struct Begun {
     desks: Vec<Desk<Numbered>>,
     thieves: Vec<Thief<Numbered>>,
     ghost three: { vec_len thieves ≡ 3 },
-    ghost deques: { All (λ d. map (λ g. deque_of g.pass) d.guests.items ≡ map stealer_deque thieves.items) desks.items },
+    ghost deques: { All (λ d. map (λ g. deque_of g.pass) d.guests.items ≡ map stealer_deque thieves.items)
+        desks.items },
 }
 
 // So many tasks, the last first.

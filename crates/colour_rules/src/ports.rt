@@ -1,6 +1,6 @@
 //! The first rule that a port breaks.
-ghost use Rattle.std.specs.Prelude.{◌≡◌, ◌==◌, ◌≤◌, ◌<◌, IfOk, MatchResult, None, Some, false, if◌then◌else◌, length, take, ℕ};
-ghost use Rattle.std.specs.Prelude.{slice_index_or};
+ghost use Rattle.std.specs.Prelude.{◌≡◌, ◌==◌, ◌≤◌, ◌<◌, ℕ, if◌then◌else◌, IfOk, MatchResult, None, Some, false};
+ghost use Rattle.std.specs.Prelude.{length, slice_index_or, take};
 ghost use Rattle.forest_merge.specs.Free.{is_among};
 ghost use Rattle.node_api.specs.Boxes.{HasFrom, unread};
 ghost use Rattle.forests.specs.declared.numbering.Role.{Role};

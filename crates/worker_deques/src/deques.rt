@@ -50,7 +50,8 @@ pub fn deal<T: Task>(mut owns: Vec<Own<T>>, mut tasks: Vec<Box<T>>) -> Vec<Own<T
     ensures deques { map worker_deque result.items ≡ map worker_deque owns.items }
     ensures shares { All (λ o. shares_of (worker_view o) ≡ all_shares) result.items }
     ensures dealt { AreDealt (map worker_view result.items) (map (λ b. T.number_of b.value) tasks.items) }
-    ensures whose { (k : ℕ) → k < vec_len owns → (slice_index_or (map worker_view result.items) k (ledger 0 [] [])).pushed
+    ensures whose { (k : ℕ) → k < vec_len owns
+        → (slice_index_or (map worker_view result.items) k (ledger 0 [] [])).pushed
         ≡ begun_by (vec_len owns) k (map (λ b. T.number_of b.value) tasks.items) }
 {
     'each: while let Some(task) = tasks.pop() {
