@@ -10,6 +10,7 @@ import sys
 
 # What each command's module is; its `main` takes the arguments and returns the status.
 COMMANDS = {
+    "channels": "lab.networks.channels",
     "check-transcript": "lab.transcripts.check",
     "explore": "lab.schedules.explore",
     "network": "lab.networks.network",

@@ -2,6 +2,7 @@
 subgraph in braces at an end of an edge stands for all its nodes."""
 import re
 
+from lab.networks.listed import Listed
 from lab.networks.network_text import shown
 from lab.wrong import wrong_line
 
@@ -128,12 +129,14 @@ class Reader:
         return line, [name]
 
 
-def read(text, name):
-    """The graph of a text."""
-    found = Reader(without_comments(text), name)
-    while found.word():
-        found.at += 1
-    if not found.skip("{"):
+def read(text: str, name: str) -> Listed:
+    """The nodes and edges of a text."""
+    reader = Reader(without_comments(text), name)
+    while reader.word():
+        reader.at += 1
+    if not reader.skip("{"):
         raise wrong_line(name, 1, "no `graph {` or `digraph {`")
-    found.list_of_statements()
-    return found.graph
+    reader.list_of_statements()
+    graph = reader.graph
+    notes = ["directions aren't read"] if graph.is_directed else []
+    return Listed("DOT", graph.edges, graph.nodes, notes)

@@ -4,8 +4,8 @@ code.
 Comment lines may give places (`c at V X Y`) and names (`c name V NAME`); to the programs they are comments like any
 other."""
 import re
-from functools import lru_cache
 
+from lab.networks.fields import fields_of, shown, whole, why_no_number
 from lab.wrong import Wrong, wrong_line
 
 FORMATS = {"edge", "edges", "col"}
@@ -16,8 +16,6 @@ MAX_DEGREE = 1023
 IDENTIFIERS = 2 ** 128
 MAX_CHANNEL = 2048
 MAX_BARS = 1024
-# More digits than any number has that a text of ours may hold.
-MOST_DIGITS = 40
 
 
 class Network:
@@ -63,20 +61,6 @@ def stem(path):
     return re.sub(r"\.\w+$", "", path.split("/")[-1])
 
 
-def fields_of(line):
-    """The fields of a line, with empty ones between two blanks; a carriage return at its end is dropped."""
-    return line.removesuffix("\r").replace("\t", " ").split(" ")
-
-
-@lru_cache(1 << 16)
-def whole(field):
-    """The number of a field, or None."""
-    if not re.fullmatch(r"[0-9]+", field):
-        return None
-    digits = field.lstrip("0")
-    return int(digits or "0") if len(digits) <= MOST_DIGITS else 10 ** MOST_DIGITS
-
-
 def place_of(fields):
     """(vertex, (x, y)) of the fields of a comment line `c at V X Y`, or None."""
     if len(fields) == 5 and fields[:2] == ["c", "at"] and whole(fields[2]) is not None:
@@ -91,33 +75,12 @@ def name_of(line):
     return (whole(found.group(1)), found.group(2)) if found and found.group(2) else None
 
 
-def shown(field):
-    """A field as it may be printed in one line."""
-    short = field if len(field) <= 40 else field[:37] + ".."
-    return "".join(letter if letter.isprintable() else letter.encode("unicode_escape").decode() for letter in short)
-
-
-def why_no_number(fields, names):
-    """What is wrong with the first of these fields that is missing or no number."""
-    for at, name in enumerate(names):
-        if at >= len(fields):
-            return f"{name} is missing"
-        if whole(fields[at]) is None:
-            if "\r" in fields[at]:
-                return "a carriage return stands inside the line, and only a line feed ends one"
-            return f"`{shown(fields[at])}` is no number"
-    return None
-
-
 def problem_of(path, line, fields):
     """NODES and EDGES of a `p` line."""
     form = "`p edge NODES EDGES`"
     if len(fields) > 1 and fields[1] not in FORMATS:
-        what = (
-            "the word `edge` is missing"
-            if whole(fields[1]) is not None
-            else f"`p {shown(fields[1])}` is another format"
-        )
+        is_missing = whole(fields[1]) is not None
+        what = "the word `edge` is missing" if is_missing else f"`p {shown(fields[1])}` is another format"
         raise wrong_line(path, line, f"{what}: the line has to be {form} (F4)")
     why = why_no_number(fields[2:], ["NODES", "EDGES"])
     if len(fields) < 2 or why:
@@ -125,6 +88,15 @@ def problem_of(path, line, fields):
     if whole(fields[2]) > MAX_NODES:
         raise wrong_line(path, line, f"more than {MAX_NODES} nodes (F7)")
     return whole(fields[2]), whole(fields[3])
+
+
+def check_vertices(path, line, fields, nodes):
+    """Refuses what is no vertex, with the digits that the text has; of two, 0 first and then the greater one."""
+    least, most = min(fields, key=whole), max(fields, key=whole)
+    if whole(least) == 0:
+        raise wrong_line(path, line, "vertex 0 is none, since vertices count from 1 (F5)")
+    if whole(most) > nodes:
+        raise wrong_line(path, line, f"vertex {shown(most)} is none, since the `p` line has {nodes} (F5)")
 
 
 def edge_of(path, line, fields, nodes):
@@ -135,10 +107,7 @@ def edge_of(path, line, fields, nodes):
     if why:
         raise wrong_line(path, line, f"no `e V W`: {why} (F4)")
     v, w = sorted(map(whole, fields[1:3]))
-    if v == 0:
-        raise wrong_line(path, line, "vertex 0 is none, since vertices count from 1 (F5)")
-    if w > nodes:
-        raise wrong_line(path, line, f"vertex {shown(str(w))} is none, since the `p` line has {nodes} (F5)")
+    check_vertices(path, line, fields[1:3], nodes)
     if v == w:
         raise wrong_line(path, line, f"an edge from vertex {v} to itself (F6)")
     return v, w
@@ -151,12 +120,8 @@ def said_of_vertex(path, line, fields, read, what, form):
     why = why_no_number(fields[1:], form.split()[1:])
     if why:
         raise wrong_line(path, line, f"no `{form}`: {why} (F4)")
-    v, number = map(whole, fields[1:3])
-    if v == 0:
-        raise wrong_line(path, line, "vertex 0 is none, since vertices count from 1 (F5)")
-    if v > read.nodes:
-        raise wrong_line(path, line, f"vertex {shown(str(v))} is none, since the `p` line has {read.nodes} (F5)")
-    return v, number
+    check_vertices(path, line, fields[1:2], read.nodes)
+    return whole(fields[1]), whole(fields[2])
 
 
 def identifier_of(path, line, fields, read):
@@ -173,9 +138,7 @@ def bar_of(path, line, fields, read):
     """Vertex and channel of a `b` line."""
     v, channel = said_of_vertex(path, line, fields, read, "a barred channel", "b V CHANNEL")
     if not 1 <= channel <= MAX_CHANNEL:
-        raise wrong_line(
-            path, line, f"channel {shown(str(channel))} is none that can be barred, which are 1 to {MAX_CHANNEL} (F13)"
-        )
+        raise wrong_line(path, line, f"channel {shown(fields[2])} is none that can be barred, which are 1 to {MAX_CHANNEL} (F13)")
     barred = read.bars.get(v, ())
     if channel not in barred and len(barred) == MAX_BARS:
         raise wrong_line(path, line, f"more than {MAX_BARS} channels are barred at vertex {v} (F14)")

@@ -1,35 +1,55 @@
 """`bin/network read`: a network in one of the forms, as a text that the programs read, and what was guessed and left
 out."""
-from lab.networks.forms import decoded, listed
+from lab.networks.forms import listed
+from lab.networks.listed import clean, decoded
 from lab.networks.network_text import MAX_DEGREE, MAX_EDGES, MAX_NODES, shown, two_alike, whole
 from lab.networks.texts import Made
 from lab.wrong import Wrong
 
+# Places of more digits before the point aren't written.
+FARTHEST = 10 ** 9
+
 
 def read(data, name, form=None, heading=None):
     """The network, and the lines that say what was read, guessed and left out."""
+    made, said, left_out = made_of(listed_of(data, name, form, heading), name)
+    return made, said + left_out
+
+
+def listed_of(data, name, form=None, heading=None):
+    """What a text lists."""
     text, mended = decoded(data, name)
     found = listed(text, name, form, heading)
-    order, by = numbered_by_text(found, name) if found.nodes is not None else numbered(found)
+    found.notes[:0] = mended
+    return found
+
+
+def made_of(found, name):
+    """The network of what a text lists, the lines that say what was read and guessed, and those of what was left
+    out."""
+    by_text = found.nodes is not None and found.order is None
+    order, by = numbered_by_text(found, name) if by_text else numbered(found)
     number = {node: v for v, node in order.items()}
     edges, left_out = kept(found, number)
+    by_number = by_text or found.form == "DIMACS"
+    places = found.places if by_number else given(found.places, number, name, "a place")
     names = {v: node for v, node in order.items() if node != str(v)} | found.names
     made = Made(
         max(order, default=0),
         edges,
         names,
-        found.places,
+        {v: place for v, place in places.items() if all(abs(part) < FARTHEST for part in place)},
         identifiers=given(found.identifiers, number, name, "an identifier"),
         bars=given(found.bars, number, name, "a barred channel"),
     )
     check(made, name)
-    return made, [summary(made, found, by)] + mended + found.notes + left_out
+    return made, [summary(made, found, by)] + found.notes, found.left_out + left_out
 
 
 def numbered(found):
     """{vertex: name}. Whole numbers without a gap from 0 or 1 on stay in their order; other names count as they
     come."""
-    names = {}
+    names = dict.fromkeys(found.order or ())
     for line, *ends in sorted(found.edges + found.alone, key=lambda row: row[0]):
         for end in ends:
             names.setdefault(clean(end))
@@ -41,7 +61,7 @@ def numbered(found):
         if numbers == set(range(len(names))):
             return dict(enumerate(ordered, 1)), "it counts from 0, so each number is one more"
         return dict(enumerate(ordered, 1)), "some numbers are missing, so the nodes are numbered anew, in their order"
-    return dict(enumerate(names, 1)), "numbers by first appearance"
+    return dict(enumerate(names, 1)), f"numbers by {'the order of the sites' if found.order else 'first appearance'}"
 
 
 def numbered_by_text(found, name):
@@ -70,13 +90,9 @@ def given(found, number, name, what):
     return {number[node]: said for node, said in found.items()}
 
 
-def clean(name):
-    """A name as one line has it."""
-    return " ".join(name.split())
-
-
 def kept(found, number):
-    """The edges by number, each once and none from a node to itself; and lines that count what is left out."""
+    """The edges by number, each once and none from a node to itself; and lines that count what is left out. That an
+    edge is there in both directions is noted alone."""
     edges, both, again, loops = set(), 0, 0, []
     for line, one, other in found.edges:
         v, w = number[clean(one)], number[clean(other)]
@@ -93,7 +109,7 @@ def kept(found, number):
             f"{counted(len(loops), 'edge')} from a node to itself left out, first at line {loops[0][0]}: {loops[0][1]}"
         )
     if both:
-        notes.append(f"{counted(both, 'edge')} there in both directions, counted once")
+        found.notes.append(f"{counted(both, 'edge')} there in both directions, counted once")
     if again:
         notes.append(f"{counted(again, 'line')} with an edge that was there before, counted once")
     return edges, notes

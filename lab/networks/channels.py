@@ -1,0 +1,106 @@
+"""Real channel numbers (36, 40, 44, ..) beside those of a plan, which count from 1; and the command `bin/channels`."""
+import argparse
+import re
+import sys
+
+from lab.networks.listed import clean
+from lab.networks.network_text import MAX_CHANNEL, shown, whole
+from lab.wrong import Wrong, wrong_line
+
+# Real numbers of channels, as frequencies in kHz are, have at most so many digits.
+MOST_DIGITS = 12
+
+HELP = """\
+Puts real channel numbers in place of those of a plan, or the other way round.
+
+A plan counts channels from 1. TABLE has the real number of channel 1, then of channel
+2, and so on: `36 40 44 48`, or `1-13`, or `36-64/4` for each fourth. The plan is read
+from standard input, and written with the other numbers. So `forestplan check` can judge
+a plan of real numbers, whoever made it.
+
+With --back without TABLE, channel 1 is the lowest number that the plan has, channel 2
+the next, and so on; which is which is said on standard error. Take that only for a
+network without barred channels, which are given by number.
+"""
+
+MORE_HELP = """\
+Status: 0 done, 1 the text is no plan, or has a channel that the table hasn't, 2 the
+command line is refused.
+
+Examples:
+  bin/forestplan plain < net.col | bin/channels 1 6 11
+  (cat net.col; bin/channels --back 1 6 11 < real.plan) | bin/forestplan check
+"""
+
+
+def table_of(words: list[str]) -> list[int]:
+    """The real numbers that words name, in their order; each once."""
+    found = []
+    for word in re.split(r"[\s,;]+", " ".join(words).strip(" ,;")):
+        parts = re.fullmatch(r"(\d{1,%d})(?:-(\d{1,%d})(?:/(\d{1,6}))?)?" % (MOST_DIGITS, MOST_DIGITS), word)
+        if not parts:
+            raise Wrong(f"`{shown(word)}` is no channel, and no range as 1-13 or 36-64/4")
+        first, last, step = (int(part) if part else None for part in parts.groups())
+        numbers = range(first, (first if last is None else last) + 1, step or 1) if step != 0 else ()
+        if not numbers or len(numbers) > MAX_CHANNEL:
+            raise Wrong(f"`{word}` names no channel, or more than {MAX_CHANNEL}")
+        found += numbers
+    if len(set(found)) != len(found) or len(found) > MAX_CHANNEL:
+        raise Wrong(f"the table names a channel twice, or more than {MAX_CHANNEL} channels")
+    return found
+
+
+def rows_of(text: str, name: str) -> list[tuple[int, str, int]]:
+    """(line, vertex, channel) of the lines of a plan."""
+    lines = [(at, line.split()) for at, line in enumerate(text.split("\n"), 1) if line.strip()]
+    if not lines or lines[0][1] != ["plan"]:
+        raise wrong_line(name, lines[0][0] if lines else 1, "no line `plan`")
+    found = []
+    for at, fields in lines[1:]:
+        if len(fields) != 2 or None in map(whole, fields) or len(fields[1]) > MOST_DIGITS:
+            raise wrong_line(name, at, f"no vertex and its channel: `{shown(clean(' '.join(fields)))}`")
+        found.append((at, fields[0], int(fields[1])))
+    return found
+
+
+def to_real(rows: list, table: list[int], name: str) -> dict[int, int]:
+    """The real number of each channel of a plan."""
+    for line, _, channel in rows:
+        if not 1 <= channel <= len(table):
+            raise wrong_line(name, line, f"channel {channel}, and the table has {len(table)}: it takes "
+                                         f"{max(channel for _, _, channel in rows)} channels")
+    return dict(enumerate(table, 1))
+
+
+def from_real(rows: list, table: list[int], name: str) -> dict[int, int]:
+    """The channel of each real number of a plan."""
+    known = {number: channel for channel, number in enumerate(table, 1)}
+    for line, _, number in rows:
+        if number not in known:
+            raise wrong_line(name, line, f"channel {number} isn't one of the table")
+    return known
+
+
+def main(words: list[str]) -> int:
+    asked = argparse.ArgumentParser(prog="channels", usage="channels [--back] TABLE.. < PLAN", description=HELP,
+                                    epilog=MORE_HELP, formatter_class=argparse.RawDescriptionHelpFormatter)
+    asked.add_argument("--back", action="store_true", help="from real numbers to those that count from 1")
+    asked.add_argument("table", nargs="*", metavar="TABLE", help="the real numbers, in order")
+    given = asked.parse_args(words)
+    if not given.table and not given.back:
+        asked.error("a table is wanted, as 1 6 11")
+    try:
+        table = table_of(given.table) if given.table else None
+    except Wrong as why:
+        asked.error(str(why))
+    try:
+        rows = rows_of(sys.stdin.buffer.read().decode("utf-8", "replace"), "the plan")
+        if table is None:
+            table = sorted({number for _, _, number in rows})
+            print(f"channels: 1 to {len(table)} are {' '.join(map(str, table))}", file=sys.stderr)
+        of = (from_real if given.back else to_real)(rows, table, "the plan")
+    except Wrong as why:
+        print(f"channels: {why}", file=sys.stderr)
+        return 1
+    sys.stdout.write("plan\n" + "".join(f"{vertex} {of[channel]}\n" for _, vertex, channel in rows))
+    return 0

@@ -1,0 +1,192 @@
+"""The command line of `bin/network`: its commands with what each does, more of it, and an example."""
+import argparse
+
+from lab.networks.forms import FORMS
+from lab.networks.numbering import WAYS
+
+HELP = """\
+Makes networks, reads them in other forms, and says what they are.
+
+  path NODES          a row
+  ring NODES          a row whose ends are joined
+  star NODES          one centre, which is the last node; the others are its leaves
+  complete NODES      each node is joined to each other
+  grid ROWS COLUMNS   squares of a board that share a side, numbered row by row
+  queen ROWS COLUMNS  squares of a board that a queen joins in one move
+  tree NODES          each node but the first is joined to one before it, by chance
+  disk NODES          places by chance in a square, joined if they are near
+  random NODES EDGES  so many edges by chance
+
+  read FILE           another form of a network: pairs (CSV), adjacency, GraphML, GML,
+                      JSON, DOT, Matrix Market, DIMACS; or sites and a reach
+  number FILE         the same network, with other numbers
+  tell FILE           what a network is, what a run on it costs, or what is wrong with it
+  names FILE          a plan on standard input, with the names of a network that was read
+"""
+
+MORE_HELP = """\
+A network is written in the DIMACS format on standard output, with places and names
+of its nodes in comment lines: `c at V X Y` and `c name V NAME`. FILE may be - for
+standard input. Whatever is guessed, mended or left out is said on standard error.
+A text that may be two things, or is of a form that isn't read, is refused.
+This is Python: tested, not proved. So compare the counts that it reports.
+
+Status: 0 done, 1 the file can't be read as a network, 2 the command line is refused.
+
+`bin/network KIND --help` has the options and an example.
+"""
+
+SIZES = {"path": ["nodes"], "ring": ["nodes"], "star": ["nodes"], "complete": ["nodes"], "grid": ["rows", "columns"],
+         "queen": ["rows", "columns"], "tree": ["nodes"], "disk": ["nodes"], "random": ["nodes", "edges"]}
+CHANCE = ("tree", "disk", "random")
+# What each command does: a line of help, more of it, and its example.
+COMMANDS = {
+    "path": ("A row: node 1 is joined to 2, 2 to 3, and so on.", "", "bin/network path 20 | bin/forestplan plain"),
+    "ring": ("A row whose last node is joined to its first.", "", "bin/network ring 12 | bin/forestplan plain"),
+    "star": (
+        "One centre, joined to all others, its leaves.",
+        "The centre has the greatest number, so there is one forest;\n"
+        "`number --by degree --reverse` gives it the number 1.",
+        "bin/network star 9 | bin/forestplan forests",
+    ),
+    "complete": ("Each node is joined to each other.", "", "bin/network complete 8 | bin/forestplan plan"),
+    "grid": (
+        "The squares of a board; two are joined if they share a side.",
+        "They are numbered row by row.",
+        "bin/network grid 10 10 > grid.col",
+    ),
+    "queen": (
+        "The squares of a board; two are joined if a queen moves from one to the other.",
+        "They are numbered row by row.",
+        "bin/network queen 5 5 | bin/forestplan plain",
+    ),
+    "tree": (
+        "Each node but the first is joined to one before it, by chance.",
+        "",
+        "bin/network tree 30 --seed 7 > tree.col",
+    ),
+    "disk": (
+        "Places by chance in a square; two are joined if they are near.",
+        "So transmitters interfere that stand near each other (a unit-disk graph).",
+        "bin/network disk 30 --reach 0.26 --seed 5 > masts.col",
+    ),
+    "random": (
+        "So many different edges by chance, each choice as likely as any other.",
+        "",
+        "bin/network random 50 120 --seed 3 > net.col",
+    ),
+    "read": (
+        "Reads a network in another form, and writes it in the DIMACS format.",
+        "  pairs         two nodes a line, as CSV, with tabs or with blanks; a heading may\n"
+        "                name the columns, and a weight may follow, which isn't read\n"
+        "  adjacency     a node and its neighbours a line, with blanks between\n"
+        "  multiline     a node and how many neighbours it has, and then a line for each\n"
+        "  graphml, gml  as networkx, yEd, Gephi and igraph write them\n"
+        "  json          lists `nodes` and `links`, as networkx writes and D3 reads them\n"
+        "  matrixmarket  a sparse matrix of coordinates\n"
+        "  dot           a graph in the language of Graphviz\n"
+        "  dimacs        `p` and `e` lines, with mistakes that are mended if that can be\n"
+        "The form is guessed unless --as names it. Numbers from 1 on are kept, those from 0\n"
+        "on become one more, other names get numbers and stay in lines `c name V NAME`.\n"
+        "Mended, and said: a byte order mark, line ends of a carriage return alone, edges from\n"
+        "a node to itself (left out), and edges that come again or in both directions (once).\n"
+        "\n"
+        "A table of sites is CSV with a heading: site (or name, id), and if there are any\n"
+        "lat and lon (degrees), x and y (km), or easting and northing (m), and identifier.\n"
+        "With it the nodes are the sites of the table, in its order, those without a\n"
+        "neighbour too. A table of bars is CSV with the heading site,channel.",
+        "bin/network read pairs.csv --sites sites.csv > sites.col\n"
+        "  bin/network read --sites sites.csv --reach 5.5 --bars bars.csv > sites.col",
+    ),
+    "number": (
+        "Numbers the nodes of a network anew.",
+        "  random  by chance, by --seed\n"
+        "  degree  fewest neighbours first\n"
+        "  place   from left to right, by the comment lines `c at V X Y`\n"
+        "A node keeps its name; one without a name gets its old number as name. Identifiers and\n"
+        "barred channels of lines `i` and `b` go with their nodes.\n"
+        "The forests depend on the numbers, and so does the plan.",
+        "bin/network number examples/petersen.col --by random --seed 2 | bin/forestplan forests",
+    ),
+    "tell": (
+        "Says what a network is, and what a run on it comes to; or what is wrong with its text.",
+        "  barred      how many channels are barred, if any is\n"
+        "  forests     the greatest number of neighbours of a node with a greater identifier\n"
+        "  in turn     how long it would take if nodes chose in the order of their numbers\n"
+        "  payloads    the messages of the rounds: every run of `plan` has just these\n"
+        "  wires       what all links of such a run carry: the payloads, as many\n"
+        "              acknowledgements, a safe of each pulse and a closing mark\n"
+        "  transcript  what `transcript` prints of it\n"
+        "  time        how long `plain` takes, which is run meanwhile, and about how long `plan`\n"
+        "              and `transcript`, by the wires alone: a smaller run is measured. Nodes\n"
+        "              without edges, other work on the machine and more workers than\n"
+        "              processors can double it. `plain` prints the same plan as `plan`.",
+        "bin/network tell examples/petersen.col",
+    ),
+    "names": (
+        "Puts the names of a network on a plan, which it reads from standard input.",
+        "A line has a node's name and its channel; a node without a name has its number.\n"
+        "With --channels the channels are real numbers: see `bin/channels --help`.",
+        "bin/forestplan plain < sites.col | bin/network names sites.col --channels '1 6 11'",
+    ),
+}
+
+
+def command_line():
+    words = argparse.ArgumentParser(
+        prog="network",
+        usage="network COMMAND WORDS.. [options]",
+        description=HELP,
+        epilog=MORE_HELP,
+        formatter_class=argparse.RawDescriptionHelpFormatter,
+    )
+    commands = words.add_subparsers(
+        prog="network", dest="command", metavar="COMMAND", required=True, help="one of those above"
+    )
+    for name, (what, more, example) in COMMANDS.items():
+        sizes = " ".join(size.upper() for size in SIZES.get(name, ["file"]))
+        command = commands.add_parser(
+            name,
+            usage=f"network {name} {sizes if name != 'read' else '[FILE]'} [options]",
+            description=f"{what}\n\n{more}".rstrip(),
+            epilog=f"Example:\n  {example}",
+            formatter_class=argparse.RawDescriptionHelpFormatter,
+        )
+        add_words(command, name)
+        command.set_defaults(refuse=command.error)
+    return words
+
+
+def add_words(command, name):
+    for size in SIZES.get(name, ()):
+        command.add_argument(size, type=int, metavar=size.upper(), help=f"how many {size}")
+    if name not in SIZES:
+        count = "?" if name == "read" else None
+        command.add_argument("file", metavar="FILE", nargs=count, help="a file, or - for standard input")
+    if name in CHANCE + ("number",):
+        command.add_argument(
+            "--seed", type=int, default=1, metavar="N", help="the same number chooses the same again; default: 1"
+        )
+    if name == "disk":
+        command.add_argument(
+            "--reach",
+            type=float,
+            default=0.26,
+            metavar="R",
+            help="joined if nearer than R sides of the square; default: 0.26",
+        )
+    if name == "read":
+        command.add_argument("--as", dest="form", choices=FORMS, help="the form, if the guess is wrong")
+        command.add_argument("--heading", choices=("yes", "no"), help="whether the first line of pairs is a heading")
+        command.add_argument("--sites", metavar="CSV", help="a table of sites")
+        command.add_argument("--reach", type=float, metavar="KM", help="joins sites that are less than KM apart")
+        command.add_argument("--bars", metavar="CSV", help="a table of channels that are barred at sites")
+        command.add_argument("--licence", metavar="TABLE", help="the channels that all may use, as '1 6 11': the first\n"
+                             "is channel 1 of the plan; bars are of these numbers, and `bin/channels` puts them back")
+        command.add_argument("--strict", action="store_true", help="refuses, where something would be left out")
+    if name == "number":
+        command.add_argument("--by", choices=WAYS, required=True, help="the order of the new numbers")
+        command.add_argument("--reverse", action="store_true", help="the other way round")
+    if name == "names":
+        command.add_argument("--csv", action="store_true", help="as CSV with a heading")
+        command.add_argument("--channels", metavar="TABLE", help="real channel numbers, as '36 40 44 48'")

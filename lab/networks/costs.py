@@ -1,0 +1,180 @@
+"""What a run on a network comes to: its payloads, wires and entries, and how long the commands take here."""
+import os
+import re
+import subprocess
+import time
+
+from lab.networks import kinds
+from lab.networks.network_text import read_network
+from lab.networks.reading import counted
+from lab.networks.texts import Made, text_of
+from lab.pictures.colouring import LAST_COLOUR, Rounds
+from lab.programs import TOP
+from lab.wrong import Wrong
+
+# Up to so many nodes times pulses the rounds are worked out here, in less than a second; above them `forestplay rounds`
+# is asked, and if it isn't built they are worked out here up to so many, in some seconds.
+MOST_AT_ONCE, MOST_HERE = 300_000, 5_000_000
+# Up to so many wires nobody waits for a run.
+AN_INSTANT = 100_000
+
+
+class NotMeasured(Wrong):
+    """A program that was asked ended with a status of its own, which says nothing of the network's text."""
+
+
+class Run:
+    """What every whole run of a network comes to; `payloads` counts them, `how` says who counted, and `is_bound` that
+    it is the most that there can be."""
+
+    def __init__(self, network):
+        higher = {v: len(higher_of(network, v)) for v in network.vertices}
+        self.network, self.forests = network, max(higher.values(), default=0)
+        self.last = LAST_COLOUR + 3 * self.forests * network.channels
+        self.is_bound = False
+        self.payloads, self.bytes, self.how = counted_payloads(self)
+        self.wires = 2 * self.payloads + 2 * len(network.edges) * (self.last + 1)
+        self.entries = 2 * self.wires + network.nodes * self.last
+        self.bytes += plain_bytes(self)
+
+
+def higher_of(network, v):
+    """The neighbours with a higher identifier."""
+    return [w for w in network.neighbours[v] if network.identifiers[w] > network.identifiers[v]]
+
+
+def digits(count):
+    """How many digits the numbers from 0 to count - 1 have together."""
+    total, least, length = 0, 0, 1
+    while least < count:
+        total += length * (min(count, 10 ** length) - least)
+        least, length = 10 ** length, length + 1
+    return total
+
+
+def plain_bytes(run):
+    """The bytes of a transcript without its payloads and acknowledgements: each safe and closing mark twice, and the
+    pulses."""
+    network, total = run.network, len(f"transcript 1 {run.network.nodes}\n")
+    safes = run.last * len("safe ") + digits(run.last) + len("close")
+    for v in network.vertices:
+        total += run.last * (len(f"{v} pulse \n")) + digits(run.last + 1) - 1
+        total += sum((run.last + 1) * len(f"{v} put {w} \n{w} take {v} \n") + 2 * safes for w in network.neighbours[v])
+    return total
+
+
+def payload_bytes(v, w, pulse, words):
+    """A payload and its acknowledgement, each put and taken."""
+    ends = len(f"{v} put {w} \n{w} take {v} \n")
+    return 2 * ends + 2 * len(f"payload {pulse} {words}") + 2 * len(f"ack {pulse}")
+
+
+def counted_payloads(run):
+    """How many payloads a run has, the bytes of their entries, and who counted."""
+    network, steps, program = run.network, run.network.nodes * run.last, built("forestplay")
+    if steps <= MOST_AT_ONCE or steps <= MOST_HERE and not program:
+        rounds = Rounds(network, network.identifiers)
+        puts = [
+            payload_bytes(v, w, pulse.number, f"{word} {number}")
+            for pulse in rounds.pulses
+            for v, w, word, number in pulse.puts
+        ]
+        return len(puts), sum(puts), "counted by the definition of the rounds"
+    if program:
+        return *payloads_by(program, network), "counted by `forestplay rounds`"
+    most = most_payloads(run)
+    ends = sum(len(f"{v}{w}") for v, w in network.edges) / max(1, len(network.edges))
+    run.is_bound = True
+    return most, round(most * (2 * (2 * ends + 13) + 2 * 20 + 2 * 7)), "forestplay isn't built, which counts them"
+
+
+def built(name):
+    """The program if it is built: in the tree, or in a folder in which it was installed, in place of the script that
+    builds it."""
+    program = os.path.join(TOP, "crates", name, "out", name)
+    if os.path.exists(program):
+        return program
+    program = os.path.join(TOP, "bin", name)
+    try:
+        with open(program, "rb") as file:
+            return program if file.read(4) == b"\x7fELF" else None
+    except OSError:
+        return None
+
+
+def bytes_for(network):
+    """The network as the programs are given it."""
+    return text_of(Made(network.nodes, network.edges, identifiers=network.identifiers, bars=network.bars)).encode()
+
+
+def payloads_by(program, network):
+    """The lines of the rounds that put a payload, read as they are written, and the bytes of their entries."""
+    count = size = 0
+    with subprocess.Popen([program, "rounds"], stdin=subprocess.PIPE, stdout=subprocess.PIPE) as started:
+        started.stdin.write(bytes_for(network))
+        started.stdin.close()
+        for line in started.stdout:
+            found = re.match(rb"(\d+) put (\d+) payload (\d+) (.*)\n", line)
+            if found:
+                count += 1
+                size += payload_bytes(*(field.decode() for field in found.groups()))
+    if started.returncode:
+        raise NotMeasured(f"forestplay rounds ended with status {started.returncode}; is there too little memory?")
+    return count, size
+
+
+def most_payloads(run):
+    """A greeting both ways, a label and ten colours of each edge; and in each merge both ends of each edge choose."""
+    number = {}
+    for v in run.network.vertices:
+        for f in range(len(higher_of(run.network, v))):
+            number[f] = number.get(f, 0) + 1
+    merged = sum(count * (run.forests - f) for f, count in number.items())
+    return 13 * len(run.network.edges) + 2 * merged
+
+
+def times(run):
+    """How long `plain` takes, which is run, and about how long `plan` and `transcript`, by their wires, as measured on
+    another network just now."""
+    if run.wires <= AN_INSTANT:
+        return "less than a second"
+    program = built("forestplan")
+    if not program:
+        return "unknown, since forestplan isn't built, by which it is measured"
+    known = network_for_time()
+    plain = seconds_of(program, "plain", run, times=1)
+    seconds = {
+        command: run.wires / known.wires * seconds_of(program, command, known) for command in ("plan", "transcript")
+    }
+    reckoned = ", ".join(f"{command} {in_words(took)}" for command, took in seconds.items())
+    return f"plain {in_words(plain)}, the same plan; {reckoned}; by a run of {known.wires:,} wires, made just now"
+
+
+def network_for_time():
+    """A run of some tenths of a second."""
+    return Run(read_network(text_of(kinds.grid(40, 40)), "grid"))
+
+
+def seconds_of(program, command, run, times=2):
+    """The least time of some runs."""
+    took = []
+    for _ in range(times):
+        start = time.monotonic()
+        done = subprocess.run([program, command], input=bytes_for(run.network), stdout=subprocess.DEVNULL)
+        took.append(time.monotonic() - start)
+        if done.returncode:
+            raise NotMeasured(f"forestplan {command} ended with status {done.returncode}; is there too little memory?")
+    return min(took)
+
+
+def in_words(seconds):
+    """About so long, rounded up to one digit."""
+    if seconds < 1:
+        return "less than a second"
+    for bound, unit in ((5400, 3600), (90, 60), (0, 1)):
+        if seconds > bound:
+            count = -(-seconds // unit)
+            step = 10 ** (len(str(int(count))) - 1)
+            count = int(-(-count // step) * step)
+            return f"about {counted(count, {3600: 'hour', 60: 'minute', 1: 'second'}[unit])}"
+    raise AssertionError

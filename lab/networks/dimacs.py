@@ -1,0 +1,77 @@
+"""DIMACS with mistakes that can be mended, and its relatives: what `bin/network read` takes for a network that the
+programs wouldn't read."""
+import re
+
+from lab.networks.listed import Listed
+from lab.networks.network_text import IDENTIFIERS, MAX_BARS, MAX_CHANNEL, fields_of, name_of, place_of, shown, whole
+from lab.wrong import wrong_line
+
+BEGINS = re.compile(
+    r"^[ \t]*(p[ \t]+[a-z]+[ \t]+[0-9]+|p[ \t]+[0-9]+[ \t]+[0-9]+|e[ \t]+[0-9]+[ \t]+[0-9]+)\b", re.M
+)
+
+
+def begins(text: str) -> bool:
+    return BEGINS.search(text) is not None
+
+
+def read(text: str, name: str) -> Listed:
+    """Edges are lines `e V W` or `a V W WEIGHT`, or `V W` after `p tw`. Without a `p` line the greatest number counts.
+    A line `i V NUMBER` gives V an identifier, and `b V CHANNEL` bars a channel at V."""
+    found = Listed("DIMACS")
+    for line, raw in enumerate(text.split("\n"), 1):
+        fields = [field for field in fields_of(raw) if field]
+        if not fields or fields[0] in ("n", "d", "v", "x"):
+            continue
+        if fields[0] == "p":
+            read_head(found, name, line, fields)
+        elif fields[0].startswith("c"):
+            read_comment(found, raw, fields)
+        elif fields[0] == "i":
+            read_identifier(found, name, line, fields)
+        elif fields[0] == "b":
+            read_bar(found, name, line, fields)
+        else:
+            ends = fields[1:3] if fields[0] in ("e", "a") else fields[:2]
+            if len(ends) < 2 or None in map(whole, ends):
+                raise wrong_line(name, line, f"no edge: `{shown(raw.strip())}`")
+            found.edges.append((line, str(whole(ends[0])), str(whole(ends[1]))))
+    return found
+
+
+def read_head(found, name, line, fields):
+    numbers = [whole(field) for field in fields[1:] if whole(field) is not None]
+    if found.nodes is not None:
+        raise wrong_line(name, line, "a second `p` line")
+    if len(numbers) < 2:
+        raise wrong_line(name, line, f"no number of nodes and of edges: `{shown(' '.join(fields))}`")
+    found.nodes = numbers[0]
+    if fields[1] not in ("edge", "edges", "col"):
+        found.notes.append(f"`{shown(' '.join(fields[:2]))}` is read like `p edge`")
+
+
+def read_identifier(found, name, line, fields):
+    v, number = map(whole, (fields[1:3] + ["", ""])[:2])
+    if v is None or number is None or number >= IDENTIFIERS:
+        raise wrong_line(name, line, f"no vertex with an identifier below 2^128: `{shown(' '.join(fields))}`")
+    if str(v) in found.identifiers:
+        raise wrong_line(name, line, f"a second identifier of vertex {v}")
+    found.identifiers[str(v)] = number
+
+
+def read_bar(found, name, line, fields):
+    v, channel = map(whole, (fields[1:3] + ["", ""])[:2])
+    if v is None or channel is None or not 1 <= channel <= MAX_CHANNEL:
+        raise wrong_line(name, line, f"no vertex with a channel of 1 to {MAX_CHANNEL}: `{shown(' '.join(fields))}`")
+    bars = found.bars.setdefault(str(v), set())
+    bars.add(channel)
+    if len(bars) > MAX_BARS:
+        raise wrong_line(name, line, f"more than {MAX_BARS} channels are barred at vertex {v}")
+
+
+def read_comment(found, raw, fields):
+    place, name = place_of(fields), name_of(raw)
+    if place:
+        found.places[place[0]] = place[1]
+    if name:
+        found.names[name[0]] = name[1]

@@ -1,0 +1,38 @@
+"""The fields of a line, and the numbers in them."""
+import re
+from functools import lru_cache
+
+# More digits than any number has that a text of ours may hold.
+MOST_DIGITS = 40
+
+
+def fields_of(line):
+    """The fields of a line, with empty ones between two blanks; a carriage return at its end is dropped."""
+    return line.removesuffix("\r").replace("\t", " ").split(" ")
+
+
+@lru_cache(1 << 16)
+def whole(field):
+    """The number of a field, or None."""
+    if not re.fullmatch(r"[0-9]+", field):
+        return None
+    digits = field.lstrip("0")
+    return int(digits or "0") if len(digits) <= MOST_DIGITS else 10 ** MOST_DIGITS
+
+
+def shown(field):
+    """A field as it may be printed in one line."""
+    short = field if len(field) <= 40 else field[:37] + ".."
+    return "".join(letter if letter.isprintable() else letter.encode("unicode_escape").decode() for letter in short)
+
+
+def why_no_number(fields, names):
+    """What is wrong with the first of these fields that is missing or no number."""
+    for at, name in enumerate(names):
+        if at >= len(fields):
+            return f"{name} is missing"
+        if whole(fields[at]) is None:
+            if "\r" in fields[at]:
+                return "a carriage return stands inside the line, and only a line feed ends one"
+            return f"`{shown(fields[at])}` is no number"
+    return None

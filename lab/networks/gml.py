@@ -1,0 +1,102 @@
+"""A network in GML, as networkx, yEd, Gephi and igraph write it: lists of keys with a number, a string or a list."""
+import html
+import re
+
+from lab.networks.listed import Listed, named_by_labels
+from lab.networks.network_text import shown
+from lab.wrong import Wrong, wrong_line
+
+BEGINS = re.compile(r"\s*(#[^\n]*\n\s*)*((creator|version|comment|directed|label)\s+(\"[^\"]*\"|[0-9.]+)\s+)*graph\s*\[", re.I)
+TOKEN = re.compile(r'(?P<space>\s+|#[^\n]*)|(?P<mark>[\[\]])|"(?P<string>[^"]*)"|(?P<word>[^\s\[\]"]+)')
+
+
+def begins(text: str) -> bool:
+    return BEGINS.match(text) is not None
+
+
+def tokens_of(text: str):
+    """(line, mark, value) of each token: a mark is a bracket, a value a string or a word."""
+    line, at = 1, 0
+    while at < len(text):
+        found = TOKEN.match(text, at)
+        if not found:
+            yield line, "?", text[at]
+            return
+        if found.lastgroup == "mark":
+            yield line, found["mark"], None
+        elif found.lastgroup == "string":
+            yield line, None, html.unescape(found["string"])
+        elif found.lastgroup == "word":
+            yield line, None, found["word"]
+        line += found.group().count("\n")
+        at = found.end()
+
+
+def tree_of(text: str, name: str) -> list:
+    """Lists of (line, key, value), one inside the other; a value is a text or a list."""
+    top, open_lists, key, line = [], [], None, 1
+    inside = top
+    for line, mark, value in tokens_of(text):
+        if mark == "[" and key is not None:
+            below = []
+            inside.append((*key, below))
+            open_lists.append(inside)
+            inside, key = below, None
+        elif mark == "]" and key is None and open_lists:
+            inside = open_lists.pop()
+        elif mark:
+            raise wrong_line(name, line, f"GML isn't read on from `{shown(value or mark)}`")
+        elif key is None:
+            key = line, value.lower()
+        else:
+            inside.append((*key, value))
+            key = None
+    if open_lists or key:
+        raise wrong_line(name, line, "GML ends before its last bracket: is the text cut?")
+    return top
+
+
+def value_of(entries: list, key: str):
+    """The first value of a key, or None."""
+    return next((value for _, known, value in entries if known == key), None)
+
+
+def read(text: str, name: str) -> Listed:
+    """The nodes and edges of the one graph."""
+    graphs = [value for _, key, value in tree_of(text, name) if key == "graph" and isinstance(value, list)]
+    if len(graphs) != 1:
+        raise Wrong(f"{name}: it has {len(graphs)} graphs, and one is read")
+    found, labels, lines = Listed("GML"), {}, {}
+    for line, key, entries in graphs[0]:
+        if key == "node":
+            node = value_of(entries, "id") if isinstance(entries, list) else None
+            if not isinstance(node, str) or node in lines:
+                raise wrong_line(name, line, "a node without an id" if node is None else f"a second node {shown(str(node))}")
+            lines[node] = line
+            found.alone.append((line, node))
+            read_node(found, node, entries, labels)
+        elif key == "edge":
+            ends = [value_of(entries, end) for end in ("source", "target")] if isinstance(entries, list) else [None]
+            if not all(isinstance(end, str) for end in ends):
+                raise wrong_line(name, line, "an edge without source or target")
+            found.edges.append((line, *ends))
+    for line, *ends in found.edges:
+        for end in ends:
+            if end not in lines:
+                raise wrong_line(name, line, f"an edge names {shown(end)}, which is no node")
+    named_by_labels(found, labels, "label")
+    if value_of(graphs[0], "directed") == "1":
+        found.notes.append("directions aren't read")
+    return found
+
+
+def read_node(found: Listed, node: str, entries: list, labels: dict) -> None:
+    """The label of a node, and its place of `graphics [ x .. y .. ]`."""
+    label, drawn = value_of(entries, "label"), value_of(entries, "graphics")
+    if isinstance(label, str):
+        labels[node] = label
+    if isinstance(drawn, list):
+        try:
+            found.places[node] = float(value_of(drawn, "x")), float(value_of(drawn, "y"))
+        except (TypeError, ValueError):
+            pass

@@ -1,0 +1,83 @@
+"""A network in GraphML, as networkx, yEd, Gephi and igraph write it."""
+from xml.etree import ElementTree
+
+from lab.networks.listed import Listed, named_by_labels
+from lab.networks.network_text import shown
+from lab.wrong import Wrong
+
+# The names of data that say where a node is: networkx and Gephi write them. y grows downwards there.
+ACROSS, DOWN = ("x",), ("y",)
+LABELS = ("label", "name")
+
+
+def begins(text: str) -> bool:
+    head = text[:4096].lower()
+    return head.lstrip().startswith("<") and "<graphml" in head
+
+
+def plain(tag: str) -> str:
+    """The name of an element without its space."""
+    return tag.rpartition("}")[2]
+
+
+def read(text: str, name: str) -> Listed:
+    """Its nodes and edges; those of graphs inside nodes too."""
+    if "<!ENTITY" in text or "<!DOCTYPE" in text:
+        raise Wrong(f"{name}: GraphML with a document type or entities isn't read")
+    try:
+        # The text is decoded already, whatever encoding its first line names.
+        root = ElementTree.fromstring(text.lstrip().encode(), ElementTree.XMLParser(encoding="utf-8"))
+    except ElementTree.ParseError as why:
+        raise Wrong(f"{name} line {why.position[0]}: it begins like GraphML, and is no XML: {why}") from None
+    graphs = [child for child in root if plain(child.tag) == "graph"]
+    if len(graphs) != 1:
+        raise Wrong(f"{name}: it has {len(graphs)} graphs, and one is read")
+    found = Listed("GraphML")
+    words = {key.get("id"): key.get("attr.name", "").lower() for key in root.iter() if plain(key.tag) == "key"}
+    said = {word: {} for word in LABELS + ACROSS + DOWN}
+    for at, element in enumerate(graphs[0].iter(), 1):
+        read_element(found, name, at, element, words, said)
+    listed = {node for _, node in found.alone}
+    if len(listed) != len(found.alone):
+        raise Wrong(f"{name}: two nodes have one id")
+    unknown = next((end for _, *ends in found.edges for end in ends if end not in listed), None)
+    if unknown is not None:
+        raise Wrong(f"{name}: an edge names {shown(unknown)}, which is no node")
+    read_places(found, said)
+    for word in LABELS:
+        if said[word]:
+            named_by_labels(found, said[word], word)
+            break
+    if any(graph.get("edgedefault") == "directed" for graph in graphs):
+        found.notes.append("directions aren't read")
+    return found
+
+
+def read_element(found: Listed, name: str, at: int, element: ElementTree.Element, words: dict, said: dict) -> None:
+    """A node with what is said of it, or an edge."""
+    tag = plain(element.tag)
+    if tag == "hyperedge":
+        raise Wrong(f"{name}: a hyperedge isn't read, since an edge has two ends")
+    if tag == "node":
+        node = element.get("id")
+        if not node:
+            raise Wrong(f"{name}: a node has no id")
+        found.alone.append((at, node))
+        for data in element:
+            word = words.get(data.get("key"))
+            if plain(data.tag) == "data" and word in said and data.text:
+                said[word][node] = data.text
+    if tag == "edge":
+        ends = [element.get("source"), element.get("target")]
+        if not all(ends):
+            raise Wrong(f"{name}: an edge has no source or no target")
+        found.edges.append((at, *ends))
+
+
+def read_places(found: Listed, said: dict) -> None:
+    """Places of the nodes, if each has two numbers."""
+    try:
+        places = {node: (float(said["x"][node]), float(said["y"][node])) for _, node in found.alone}
+    except (KeyError, ValueError):
+        return
+    found.places = places

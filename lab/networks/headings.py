@@ -1,0 +1,55 @@
+"""Whether the first row of pairs is a heading, and which columns name the ends of an edge."""
+from lab.networks.network_text import shown, whole
+from lab.networks.unread import is_number
+from lab.wrong import Wrong
+
+# Headings of the two columns that name an edge's ends, as Gephi, networkx, igraph and people write them.
+ENDS = {"source": "target", "from": "to", "node1": "node2", "node_1": "node_2", "node 1": "node 2", "nodea": "nodeb",
+        "node_a": "node_b", "site_a": "site_b", "site a": "site b", "site1": "site2", "site_1": "site_2", "src": "dst",
+        "start": "end", "id1": "id2", "vertex1": "vertex2", "node": "neighbour", "from_id": "to_id",
+        "source_id": "target_id", "from_site": "to_site", "from site": "to site"}
+
+
+def columns_of(rows: list, name: str, heading: bool | None) -> tuple[bool, tuple[int, int] | None]:
+    """Whether the first row is a heading, and the columns of both ends if it names them. `heading` is what the caller
+    knows of it; if it isn't known and the rows don't show it, they are refused."""
+    named = ends_named(rows)
+    if heading is not None:
+        return heading, named if heading else None
+    if named or shows_numbers(rows):
+        return True, named
+    if is_alone(rows):
+        raise Wrong(f"{name}: line {rows[0][0]} (`{shown(','.join(rows[0][1]))}`) may be a heading or a pair: say "
+                    "--heading yes or --heading no")
+    return False, None
+
+
+def ends_named(rows: list) -> tuple[int, int] | None:
+    """The columns that the first row names as ends, unless these words come again below them."""
+    words = [word.lower() for word in rows[0][1]]
+    for one, other in ENDS.items():
+        if one in words and other in words:
+            columns = words.index(one), words.index(other)
+            below = {fields[at].lower() for _, fields in rows[1:] for at in columns if at < len(fields)}
+            return None if below & {one, other} else columns
+    return None
+
+
+def shows_numbers(rows: list) -> bool:
+    """Whether a column has a number in each row but the first: both ends, or one behind them."""
+    first, body = rows[0][1], [fields for _, fields in rows[1:]]
+    if not body or len(first) < 2:
+        return False
+    ends = {field for fields in body for field in fields[:2]}
+    if all(whole(field) is not None for field in ends) and None in map(whole, first[:2]):
+        return True
+    return any(not is_number(first[at]) and all(at < len(fields) and is_number(fields[at]) for fields in body)
+               for at in range(2, len(first)))
+
+
+def is_alone(rows: list) -> bool:
+    """Whether the words of the first row come in no other, though names of the others come again: it may be a
+    heading."""
+    first, body = set(rows[0][1][:2]), [field for _, fields in rows[1:] for field in fields[:2] if field]
+    return (len(rows) > 2 and len(rows[0][1]) > 1 and not any(map(is_number, first)) and not first & set(body)
+            and len(set(body)) < len(body))

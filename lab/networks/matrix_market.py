@@ -1,0 +1,52 @@
+"""A network as a sparse matrix in the form Matrix Market: an entry in row V and column W joins V and W."""
+from lab.networks.listed import Listed
+from lab.networks.network_text import MAX_NODES, shown, whole
+from lab.networks.unread import unread
+from lab.wrong import Wrong, wrong_line
+
+HEAD = "%%matrixmarket"
+
+
+def begins(text: str) -> bool:
+    return text.lstrip()[:len(HEAD)].lower() == HEAD
+
+
+def read(text: str, name: str) -> Listed:
+    """The entries that aren't zero as edges; a node for each row."""
+    found = Listed("Matrix Market")
+    rows = [(line, raw.split()) for line, raw in enumerate(text.split("\n"), 1) if raw.strip()]
+    words = [word.lower() for word in rows[0][1]]
+    if words[1:3] != ["matrix", "coordinate"]:
+        raise unread(name, f"Matrix Market of the kind `{shown(' '.join(words[1:3]))}`",
+                     "G = nx.from_scipy_sparse_array(scipy.io.mmread(FILE))")
+    rows = [(line, fields) for line, fields in rows[1:] if not fields[0].startswith("%")]
+    sizes = [whole(field) for field in rows[0][1]] if rows else []
+    if len(sizes) != 3 or None in sizes:
+        raise wrong_line(name, rows[0][0] if rows else 1, "no line ROWS COLUMNS ENTRIES")
+    if sizes[0] != sizes[1]:
+        raise wrong_line(name, rows[0][0], f"{sizes[0]} rows and {sizes[1]} columns, and a network has as many")
+    if sizes[0] > MAX_NODES:
+        raise Wrong(f"{name}: {sizes[0]} nodes, and a network has at most {MAX_NODES}")
+    if len(rows) - 1 != sizes[2]:
+        raise Wrong(f"{name}: it says {sizes[2]} entries and has {len(rows) - 1}: is it cut?")
+    found.nodes = sizes[0]
+    zeros = [line for line, fields in rows[1:] if is_zero(fields[2:])]
+    for line, fields in rows[1:]:
+        ends = [whole(field) for field in fields[:2]]
+        if len(ends) < 2 or None in ends or not all(1 <= end <= sizes[0] for end in ends):
+            raise wrong_line(name, line, f"no row and column of 1 to {sizes[0]}: `{shown(' '.join(fields))}`")
+        if not is_zero(fields[2:]):
+            found.edges.append((line, str(ends[0]), str(ends[1])))
+    if zeros:
+        found.left_out.append(f"entries of value zero left out: {len(zeros)}, first at line {zeros[0]}")
+    if len(words) > 3 and words[3] != "pattern":
+        found.notes.append("values, as weights are, aren't read")
+    return found
+
+
+def is_zero(values: list[str]) -> bool:
+    """Whether an entry has values, all of them zero."""
+    try:
+        return bool(values) and not any(float(value) for value in values)
+    except ValueError:
+        return False

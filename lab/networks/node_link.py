@@ -1,0 +1,78 @@
+"""A network in JSON as nodes and links: networkx writes it (`node_link_data`), and D3 reads it."""
+import json
+
+from lab.networks.listed import Listed, named_by_labels
+from lab.networks.network_text import shown
+from lab.networks.unread import unread
+from lab.wrong import Wrong
+
+READERS = {"adjacency": "G = nx.adjacency_graph(json.load(open(FILE)))",
+           "elements": "G = nx.cytoscape_graph(json.load(open(FILE)))",
+           "children": "G = nx.Graph(nx.tree_graph(json.load(open(FILE))))"}
+LINKS = ("links", "edges")
+
+
+def begins(text: str) -> bool:
+    return text.lstrip().startswith("{")
+
+
+def word_of(value) -> str:
+    """A node's id as a name: a text stays, a number or a list is what JSON writes of it."""
+    return value if isinstance(value, str) else json.dumps(value)
+
+
+def read(text: str, name: str) -> Listed:
+    """The graph of an object with a list of nodes and a list of links."""
+    try:
+        graph = json.loads(text)
+    except (ValueError, RecursionError) as why:
+        raise Wrong(f"{name}: it begins like JSON, and is none: {shown(str(why))}") from None
+    links = next((graph[key] for key in LINKS if isinstance(graph.get(key), list)), None)
+    nodes = graph.get("nodes")
+    if links is None or not isinstance(nodes, list):
+        known = next((key for key in READERS if key in graph), None)
+        raise unread(name, "JSON, and no object with lists `nodes` and `links`", READERS.get(known))
+    found, labels = Listed("JSON of nodes and links"), {}
+    ids = [id_of(name, at, node) for at, node in enumerate(nodes)]
+    by_place = all(one is None for one in ids)
+    known = [str(at) if by_place else word_of(one) for at, one in enumerate(ids)]
+    if None in ids and not by_place or len(set(known)) != len(known):
+        raise Wrong(f"{name}: not each node has an `id` of its own")
+    for at, (node, one) in enumerate(zip(nodes, known), 1):
+        found.alone.append((at, one))
+        read_node(found, node, one, labels)
+    for at, link in enumerate(links, 1 + len(nodes)):
+        found.edges.append((at, *ends_of(name, link, set(known))))
+    named_by_labels(found, labels, "label or name")
+    if graph.get("directed") is True:
+        found.notes.append("directions aren't read")
+    return found
+
+
+def id_of(name: str, at: int, node):
+    if not isinstance(node, dict):
+        raise Wrong(f"{name}: node {at + 1} of the list is no object")
+    return node.get("id", node.get("key"))
+
+
+def read_node(found: Listed, node: dict, one: str, labels: dict) -> None:
+    """The label of a node, and its place."""
+    label = next((node[key] for key in ("label", "name") if isinstance(node.get(key), str)), None)
+    if label:
+        labels[one] = label
+    place = node.get("x"), node.get("y")
+    if all(isinstance(number, (int, float)) for number in place):
+        found.places[one] = place
+
+
+def ends_of(name: str, link, known: set) -> list[str]:
+    ends = [link.get(end) for end in ("source", "target")] if isinstance(link, dict) else []
+    # D3 puts the whole nodes into the links once it has laid them out.
+    ends = [end.get("id") if isinstance(end, dict) else end for end in ends]
+    if len(ends) != 2 or None in ends:
+        raise Wrong(f"{name}: a link has no `source` or no `target`: `{shown(json.dumps(link))}`")
+    ends = [word_of(end) for end in ends]
+    for end in ends:
+        if end not in known:
+            raise Wrong(f"{name}: a link names {shown(end)}, which is no node")
+    return ends
