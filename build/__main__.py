@@ -1,4 +1,5 @@
-"""The door of what proves, builds and installs: `python3 build NAME [arguments]`, as the scripts call it."""
+"""The door of what proves, builds and installs: `python3 build NAME [arguments]`, as the scripts call it. How a command
+ends in place of a traceback is in lab/door.py."""
 import importlib
 import os
 import sys
@@ -7,8 +8,10 @@ MODULES = {
     "prove": "prove",
     "prove-crate": "prove_crate",
     "install": "install",
+    "pack": "pack",
     "paths": "paths",
     "promises": "promises",
+    "vendor": "vendor",
     "wrong-bodies": "wrong_bodies",
 }
 
@@ -16,11 +19,24 @@ MODULES = {
 def main():
     # Run as a folder, its own place comes first where modules are looked for; the package's is one above.
     sys.path[0] = os.path.dirname(os.path.dirname(os.path.realpath(__file__)))
-    if len(sys.argv) < 2 or sys.argv[1] not in MODULES:
+    name = sys.argv[1] if len(sys.argv) > 1 else "build"
+    sys.argv[:2] = sys.argv[1:2]
+    try:
+        door = importlib.import_module("lab.door")
+    except KeyboardInterrupt:
+        return 130
+    return door.run(name, lambda: command(name))
+
+
+def command(name):
+    """Runs a command of this name, which takes its words from `sys.argv`."""
+    if sys.argv[1:] == ["--version"]:
+        sys.stdout.write(importlib.import_module("lab.version").text())
+        return 0
+    if name not in MODULES:
         print(f"build: one of these is wanted: {', '.join(MODULES)}", file=sys.stderr)
         return 2
-    sys.argv[:2] = sys.argv[1:2]
-    return importlib.import_module(f"build.{MODULES[sys.argv[0]]}").main()
+    return importlib.import_module(f"build.{MODULES[name]}").main()
 
 
 if __name__ == "__main__":

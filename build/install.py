@@ -5,34 +5,42 @@ import os
 import shutil
 import subprocess
 import sys
+import tempfile
 
-from build import manuals
+from build import kit, manuals, sums
+from lab import version
 
 TOP = os.path.dirname(os.path.dirname(os.path.realpath(__file__)))
 
 # What is copied, each at the path that it has here.
 PROGRAMS = ("forestplan", "forestplay")
-SCRIPTS = ("picture", "network", "explore", "check-transcript", "replay")
-FOLDERS = ("examples", "docs/learn", "docs/pictures", "lab")
+SCRIPTS = ("picture", "network", "channels", "explore", "check-transcript", "replay")
+# Those whose issues may still be open are copied if they are there.
+LATER = ("workshop",)
+FOLDERS = ("examples", "docs", "lab")
+FILES = ("README.md", "CHANGELOG.md", "LICENSE-MIT", "LICENSE-APACHE")
 
 HELP = """\
 Copies forestplan and what belongs to it into a folder, so that it runs there
 without the toolchain and without this tree.
 
 The folder gets the layout of this tree: in bin/ the two programs and the scripts
-picture, network, explore, check-transcript and replay, and besides their modules, the
-examples, the lessons, and a manual page for each command. So the lessons' commands
-work in it as they do here; with its bin/ on the PATH they work anywhere without the
-bin/ before them. The programs need the C library alone, the scripts bash and
-Python 3. One such folder serves every machine of the same kind: copy it with cp -r,
-or put it where all can read it.
+picture, network, channels, explore, check-transcript and replay, and besides their
+modules, the examples, README, the pages and lessons, the licences, and a manual page
+for each command. So the lessons' commands work in it as they do here; with its bin/
+on the PATH they work anywhere without the bin/ before them. VERSION says what it was
+made from, and SHA256SUMS has a sum of each file: sha256sum -c SHA256SUMS. The programs
+need the C library alone, the scripts bash and Python 3. One such folder serves every
+machine of the same kind: copy it with cp -r, or bin/pack makes one archive of it.
 
-Programs that aren't built yet are proved and built first, once. That takes the
-minutes that README.md says, and needs the toolchain's command rt.
+Programs that aren't built from these sources are proved and built first. That takes
+the minutes that README.md says, and needs the toolchain's command rt.
 """
 
 MORE_HELP = """\
-What is in the folder under one of these names is replaced; all else in it stays.
+What is in the folder under one of these names is replaced, and what an earlier install
+put there and this one doesn't is removed; all else in it stays. If it can't be written
+to the end, as on a full disk, the folder stays as it was.
 
 Status: 0 done, 1 the folder can't be written, 2 the command line is refused; if the
 programs can't be built, what bin/forestplan ends with.
@@ -54,29 +62,20 @@ def built(name):
 
 def build_programs():
     """Has the programs built by their scripts, which do nothing if they are; returns the status."""
-    missing = [name for name in PROGRAMS if not os.path.exists(built(name))]
-    if missing:
-        say(f"{' and '.join(missing)} will be proved and built first, once; README.md says how long that takes")
     for name in PROGRAMS:
-        done = subprocess.run(
-            [os.path.join(TOP, "bin", name), "--help"], stdin=subprocess.DEVNULL, stdout=subprocess.DEVNULL
-        )
+        done = subprocess.run([os.path.join(TOP, "bin", name)], stdin=subprocess.DEVNULL,
+                              env=dict(os.environ, FORESTPLAN_BUILD_ONLY="1"))
         if done.returncode:
-            return done.returncode
+            return 130 if done.returncode < 0 else done.returncode
     return 0
-
-
-def replaced(source, target):
-    """A copy in place of what the target was, even if that is being run or is a link."""
-    os.makedirs(os.path.dirname(target), exist_ok=True)
-    shutil.copy(source, target + ".new")
-    os.replace(target + ".new", target)
 
 
 def files_to_copy():
     """(source, path in the folder) of each file."""
     yield from ((built(name), os.path.join("bin", name)) for name in PROGRAMS)
-    yield from ((os.path.join(TOP, "bin", name), os.path.join("bin", name)) for name in SCRIPTS)
+    scripts = [*SCRIPTS, *(name for name in LATER if os.path.exists(os.path.join(TOP, "bin", name)))]
+    yield from ((os.path.join(TOP, "bin", name), os.path.join("bin", name)) for name in scripts)
+    yield from ((os.path.join(TOP, name), name) for name in FILES)
     for folder in FOLDERS:
         for at, below, names in os.walk(os.path.join(TOP, folder)):
             below[:] = sorted(name for name in below if name != "__pycache__")
@@ -85,14 +84,54 @@ def files_to_copy():
                 yield source, os.path.relpath(source, TOP)
 
 
-def install(folder):
+def version_text():
+    """What the file VERSION says; of the kit, which one is here if it isn't the one that the sources name."""
+    text = version.text()
+    if kit.command() and kit.found() not in (None, kit.wanted()):
+        text += f"built where rt is of {kit.found()}\n"
+    return text
+
+
+def write(path, text):
+    os.makedirs(os.path.dirname(path), exist_ok=True)
+    with open(path, "w", encoding="utf-8") as file:
+        file.write(text)
+
+
+def make(room):
+    """Makes all that is installed in an empty folder."""
     for source, path in files_to_copy():
-        replaced(source, os.path.join(folder, path))
-    pages = os.path.join(folder, "share", "man", "man1")
-    os.makedirs(pages, exist_ok=True)
-    for name in PROGRAMS + SCRIPTS:
-        with open(os.path.join(pages, f"{name}.1"), "w", encoding="utf-8") as page:
-            page.write(manuals.page_of(name, os.path.join(folder, "bin", name)))
+        os.makedirs(os.path.dirname(os.path.join(room, path)), exist_ok=True)
+        shutil.copy(source, os.path.join(room, path))
+    for path in sorted(os.listdir(os.path.join(room, "bin"))):
+        write(os.path.join(room, "share", "man", "man1", f"{path}.1"), manuals.page_of(path, os.path.join(room, "bin", path)))
+    write(os.path.join(room, "VERSION"), version_text())
+    write(os.path.join(room, sums.NAME), sums.text_of(room))
+
+
+def put(room, folder):
+    """Moves all from a folder beside it into place, each file in place of what was there, even if that is being run or
+    is a link; and removes what an earlier install put there and this one doesn't."""
+    before, now = sums.read(folder), sums.read(room)
+    for path in [*now, sums.NAME]:
+        os.makedirs(os.path.dirname(os.path.join(folder, path)), exist_ok=True)
+        os.replace(os.path.join(room, path), os.path.join(folder, path))
+    for path, known in before.items():
+        if path not in now and sums.of(os.path.join(folder, path)) == known:
+            os.remove(os.path.join(folder, path))
+
+
+def install(folder):
+    is_new = not os.path.isdir(folder)
+    os.makedirs(folder, exist_ok=True)
+    try:
+        with tempfile.TemporaryDirectory(prefix=".install-", dir=folder) as room:
+            make(room)
+            put(room, folder)
+    except BaseException:
+        if is_new:
+            shutil.rmtree(folder, ignore_errors=True)
+        raise
 
 
 def main():
@@ -107,8 +146,8 @@ def main():
         return status
     try:
         install(folder)
-    except (OSError, shutil.Error) as failed:
-        say(failed)
+    except (OSError, shutil.Error, subprocess.CalledProcessError) as failed:
+        say(f"{failed}; {folder} is as it was")
         return 1
     say(f"{folder} has all; with {folder}/bin on the PATH the commands work anywhere, and man finds their pages")
     return 0

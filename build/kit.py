@@ -13,7 +13,7 @@ import os
 import shutil
 import sys
 
-from build.paths import TOP, listed
+from build.paths import TOP, listed, with_below
 
 PARTS = ("src", "specs", "proofs")
 # So many states of a crate stay in the store.
@@ -32,6 +32,34 @@ def command():
     """The file of the toolchain's command `rt`, if it is on the PATH."""
     found = shutil.which("rt")
     return found and os.path.realpath(found)
+
+
+def wanted():
+    """The line of the kit that these sources are for."""
+    with open(os.path.join(TOP, "build", "kit_name.txt"), encoding="utf-8") as line:
+        return line.read().strip()
+
+
+def found():
+    """The line of the kit that `rt` is of, or None if it is no command of a kit."""
+    try:
+        with open(os.path.join(os.path.dirname(os.path.dirname(command())), "KIT-ID"), encoding="utf-8") as line:
+            return line.read().strip()
+    except OSError:
+        return None
+
+
+def is_there(name):
+    """Whether the toolchain's command is there; says if it isn't, and if it is of another kit."""
+    if not command():
+        print(f"{name}: the toolchain's command rt is not on the PATH: {wanted()} is wanted", file=sys.stderr)
+        return False
+    if not found():
+        print(f"{name}: {command()} is no command of a kit, which has a file KIT-ID; {wanted()} is wanted", file=sys.stderr)
+        return False
+    if found() != wanted():
+        print(f"{name}: these sources are for {wanted()}, and rt is of {found()}: proofs may fail", file=sys.stderr)
+    return True
 
 
 def kit_named():
@@ -65,18 +93,20 @@ def sum_of_texts(folder):
     return sum_of(*(part for path, text in files_of(folder) for part in (path.encode(), text)))
 
 
-def keys():
-    """For each crate of crates.txt the name that what it is proved from has in the store."""
+def keys(crates=None):
+    """For each of these crates and those below them, or each of crates.txt, the name that what it is proved from has in
+    the store. A crate that isn't asked for may be broken."""
     with open(os.path.join(TOP, "HANDLES"), "rb") as handles:
         common = kit_named() + handles.read()
     with open(os.path.join(TOP, "crates.txt"), encoding="utf-8") as text:
         lines = {
             line.partition(":")[0].split()[0]: line.partition("#")[0] for line in text if ":" in line.partition("#")[0]
         }
-    found = {}
-    for crate, below in listed().items():
+    found, below = {}, listed()
+    for crate in with_below(below if crates is None else crates, below):
         own = sum_of_texts(os.path.join(TOP, "crates", crate))
-        found[crate] = sum_of(common, lines[crate].encode(), own.encode(), *(found[lower].encode() for lower in below))
+        lower = (found[name].encode() for name in below[crate])
+        found[crate] = sum_of(common, lines[crate].encode(), own.encode(), *lower)
     return found
 
 
@@ -93,12 +123,18 @@ def forget_old(crate):
         shutil.rmtree(state, ignore_errors=True)
 
 
-def toolchain():
-    """The module of the toolchain's command, with the gate's rules."""
+def command_as_module():
+    """The module of the toolchain's command, as the command itself has it."""
     sys.dont_write_bytecode = True
     loader = importlib.machinery.SourceFileLoader("rt_of_kit", command())
     rt = importlib.util.module_from_spec(importlib.util.spec_from_loader("rt_of_kit", loader))
     loader.exec_module(rt)
+    return rt
+
+
+def toolchain():
+    """The module of the toolchain's command, with the gate's rules."""
+    rt = command_as_module()
     rt.Crate.allowed = rt.handles_of(TOP)
     rt.Crate.cuts_libraries = True
     # What lies below a crate is told by the keys above.

@@ -32,6 +32,21 @@ def listed():
     return {crate: [name for name in named if name in lines] for crate, named in lines.items()}
 
 
+def with_below(crates, below):
+    """The given crates and all below them, lower ones first."""
+    found = {}
+
+    def visit(crate):
+        if crate not in found:
+            for lower in below[crate]:
+                visit(lower)
+            found[crate] = True
+
+    for crate in crates:
+        visit(crate)
+    return list(found)
+
+
 def paths():
     """For each crate the number of paths, itself counted."""
     below, found = listed(), {}

@@ -8,8 +8,8 @@ Those below a crate are proved with it, each from nothing, as the gate does it (
 docs/work/DECISIONS.md, 93 and 99). What is proved is kept for all checkouts of this user (in ~/.cache/forestplan), so a
 call that was interrupted goes on where it was, and nothing is proved twice. A program goes into its crate's out/.
 
-With --kept the crates are built in their out/ instead, over what earlier checks kept there, and keep their work for `rt
-check`.
+What is proved is offered to `rt check` of every checkout, which then builds none of the libraries below a crate
+(shared.py). With --kept the crates are built in their out/ instead, over what earlier checks kept there.
 
 Standard error shows how far it is; the log of a crate is out/build/CRATE.log. Two calls at once wait for each other.
 What has to be proved is decided by what the sources say, not by the times of files. The status is 0 if all is proved, 1
@@ -29,90 +29,18 @@ import subprocess
 import sys
 import time
 
-from build import kit
-from build.paths import TOP, listed
+from build import kit, shared
+from build.paths import TOP, listed, with_below
+from build.reckoning import jobs_with_room, measured_seconds, processors, seconds_of
+from build.shown import Shown
 
 LOGS = os.path.join(TOP, "out", "build")
-# Memory that a crate takes at most, in the mean.
-ROOM = 4 << 30
 # A crate lowers its priority by WAY steps if the chain behind it is shorter than NEAR of the longest.
 WAY, NEAR = 19, 0.8
 # To prove these is mostly to read the crates below, and to compile, which more processes don't shorten.
 PROGRAMS = ("forestplan", "forestplay")
 # A crate of fewer seconds isn't worth a second process.
 SMALL = 40
-
-
-def with_below(crates, below):
-    """The given crates and all below them, lower ones first."""
-    found = {}
-
-    def visit(crate):
-        if crate not in found:
-            for lower in below[crate]:
-                visit(lower)
-            found[crate] = True
-
-    for crate in crates:
-        visit(crate)
-    return list(found)
-
-
-def processors():
-    return len(os.sched_getaffinity(0))
-
-
-def jobs_with_room():
-    with open("/proc/meminfo", encoding="ascii") as text:
-        free = next(int(line.split()[1]) << 10 for line in text if line.startswith("MemAvailable"))
-    return max(1, min(processors(), free // ROOM))
-
-
-def measured_seconds():
-    """What proof_seconds.txt says of each crate."""
-    with open(os.path.join(TOP, "build", "proof_seconds.txt"), encoding="utf-8") as text:
-        rows = [line.split() for line in text if line.strip() and not line.startswith("#")]
-    return {crate: int(seconds) for crate, seconds in rows}
-
-
-def seconds_of(crate, measured):
-    """About how many seconds one processor takes for a crate: as measured, or else a start and its lines of code."""
-    if crate in measured:
-        return measured[crate]
-    files = kit.files_of(os.path.join(TOP, "crates", crate))
-    return 15 + 0.2 * sum(text.count(b"\n") for path, text in files if path.endswith(".rt"))
-
-
-class Shown:
-    """The progress on standard error: on a terminal one line that is rewritten, else a line a crate."""
-
-    def __init__(self, name, total):
-        self.name, self.total, self.start = name, total, time.monotonic()
-        self.is_terminal = sys.stderr.isatty()
-
-    def time(self):
-        seconds = int(time.monotonic() - self.start)
-        return f"{seconds // 60} min {seconds % 60} s" if seconds >= 60 else f"{seconds} s"
-
-    def line(self, done, running):
-        now = f"now {', '.join(running)}" if running else "nothing to do"
-        return f"{self.name}: {done} of {self.total} crates proved, {self.time()}: {now}"
-
-    def tick(self, done, running):
-        """Called about five times a second; only a terminal sees it."""
-        if self.is_terminal:
-            width = shutil.get_terminal_size().columns
-            print(f"\r\033[K{self.line(done, running)[: width - 1]}", end="", file=sys.stderr, flush=True)
-
-    def step(self, done, running):
-        """Called after each crate that was begun or proved."""
-        if not self.is_terminal:
-            print(self.line(done, running), file=sys.stderr, flush=True)
-        else:
-            self.tick(done, running)
-
-    def end(self, text):
-        print(("\r\033[K" if self.is_terminal else "") + f"{self.name}: {text}", file=sys.stderr, flush=True)
 
 
 class Proving:
@@ -245,7 +173,7 @@ def put_program(name, made, start):
 def prove_anew(crates, below, jobs, shown):
     """Proves crates into the store, and puts the programs among them in place; returns a crate that isn't proved, if
     there is one."""
-    start, keys = time.time(), kit.keys()
+    start, keys = time.time(), kit.keys(crates)
 
     def is_proved(crate):
         with contextlib.suppress(FileNotFoundError):
@@ -267,6 +195,7 @@ def prove_anew(crates, below, jobs, shown):
             made = os.path.join(kit.place(crate, keys[crate]), crate)
             if os.path.isfile(made):
                 put_program(crate, made, start)
+        shared.share(crates, keys)
     return failed
 
 
@@ -310,8 +239,7 @@ def main():
     words.add_argument("--name", default="prove", help="the name at the head of each line of progress")
     words.add_argument("crates", nargs="*", metavar="CRATE")
     asked = words.parse_args()
-    if not kit.command():
-        print(f"{asked.name}: the toolchain's command rt is not on the PATH", file=sys.stderr)
+    if not kit.is_there(asked.name):
         return 2
     signal.signal(signal.SIGTERM, signal.default_int_handler)
     return proved(asked.crates, max(1, asked.jobs), asked.kept, asked.name)

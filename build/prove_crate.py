@@ -73,7 +73,7 @@ def prove_anew(rt, name, flags, keys):
                 shutil.copytree(os.path.join(crate.folder, part), os.path.join(room, part))
         if (
             kit.sum_of_texts(room) != kit.sum_of_texts(os.path.join(TOP, "crates", name))
-            or kit.keys()[name] != keys[name]
+            or kit.keys([name])[name] != keys[name]
         ):
             print("its sources were changed meanwhile: call again")
             return 1

@@ -1,9 +1,5 @@
 """The door of the commands that are written in Python: `python3 -S lab NAME [arguments]`, as the scripts of bin/ call
-it.
-
-Here, and here alone, a command ends with one line in place of a traceback: at Ctrl-C, without memory, or if what it
-writes can't be written. A reader that has gone away is no fault.
-"""
+it. How a command ends in place of a traceback is in door.py."""
 import importlib
 import os
 import sys
@@ -18,42 +14,26 @@ COMMANDS = {
 }
 
 
-def failed(name, what, status=1):
-    print(f"{name}: {what}", file=sys.stderr)
-    return status
-
-
-def without_output():
-    """Has nothing more written to standard output, which is closed or full."""
-    os.dup2(os.open(os.devnull, os.O_WRONLY), 1)
-
-
-def run(name, words):
-    """Runs a command, and returns its status."""
-    try:
-        try:
-            return importlib.import_module(COMMANDS[name]).main(words)
-        finally:
-            sys.stdout.flush()
-    except BrokenPipeError:
-        without_output()
-        return 0
-    except OSError as why:
-        without_output()
-        return failed(name, f"the output can't be written: {why.strerror}")
-    except MemoryError:
-        return failed(name, "out of memory")
-    except KeyboardInterrupt:
-        without_output()
-        return failed(name, "interrupted", 130)
-
-
 def main():
     # Run as a folder, its own place comes first where modules are looked for; the package's is one above.
     sys.path[0] = os.path.dirname(os.path.dirname(os.path.realpath(__file__)))
-    if len(sys.argv) < 2 or sys.argv[1] not in COMMANDS:
-        return failed("lab", f"a command is wanted: {', '.join(COMMANDS)}", 2)
-    return run(sys.argv[1], sys.argv[2:])
+    name, words = sys.argv[1] if len(sys.argv) > 1 else "lab", sys.argv[2:]
+    try:
+        door = importlib.import_module("lab.door")
+    except KeyboardInterrupt:
+        return 130
+    return door.run(name, lambda: command(name, words))
+
+
+def command(name, words):
+    """Runs a command of this name."""
+    if name == "version" or name in COMMANDS and words == ["--version"]:
+        sys.stdout.write(importlib.import_module("lab.version").text())
+        return 0
+    if name not in COMMANDS:
+        print(f"lab: a command is wanted: {', '.join(COMMANDS)}", file=sys.stderr)
+        return 2
+    return importlib.import_module(COMMANDS[name]).main(words)
 
 
 if __name__ == "__main__":

@@ -1,0 +1,130 @@
+#!/usr/bin/env python3
+"""Copies crates, and all below them, into another repository, so that a program there can use them."""
+import argparse
+import os
+import shutil
+import sys
+
+from build import kit
+from build.paths import TOP, listed, with_below
+
+# What of a crate is copied: what it is proved from, and what shows that its contracts refuse wrong bodies.
+PARTS = ("src", "specs", "proofs", "must-fail")
+# What `python3 build prove NAME` needs besides build/, which takes what is proved here from the store.
+LAB = ("__init__.py", "door.py", "version.py")
+
+HELP = """\
+Copies crates of this tree, and all below them, into another repository.
+
+A crate goes to crates/NAME there, and its line into crates.txt, which is made if there
+is none. A crate that is there already stays if it says the same; if it says anything
+else, nothing is copied, unless --replace is given. Then write a line of your own, as
+mine: node_api interference sync_rounds
+and `rt try`, `rt check` and `rt ci` work there. With --build the folder build/ goes
+along, so that `python3 build prove mine` takes from the store what ./forestplan has
+proved here. Copies know nothing of later changes: call it again with --replace.
+They stay under the licences of this tree, LICENSE-MIT or LICENSE-APACHE.
+"""
+
+MORE_HELP = """\
+Status: 0 done, 1 it can't be copied, 2 the command line is refused.
+
+Examples:
+  bin/vendor ~/mine sync_rounds           a node program, run round by round
+  bin/vendor ~/mine node_pool --build     one that runs on worker threads
+"""
+
+
+def lines_of(top):
+    """The lines of crates.txt by the names of their crates."""
+    try:
+        with open(os.path.join(top, "crates.txt"), encoding="utf-8") as file:
+            lines = [line.strip() for line in file]
+    except FileNotFoundError:
+        return {}
+    return {line.partition(":")[0].split()[0]: line for line in lines if ":" in line.partition("#")[0]}
+
+
+def differs(crate, top):
+    """Whether another repository has a crate of this name that says something else."""
+    there = os.path.join(top, "crates", crate)
+    here = os.path.join(TOP, "crates", crate)
+    return os.path.isdir(there) and kit.sum_of_texts(there) != kit.sum_of_texts(here)
+
+
+def copy(crate, top):
+    """Copies the parts of a crate, each as a whole."""
+    for part in PARTS:
+        source, to = (os.path.join(it, "crates", crate, part) for it in (TOP, top))
+        shutil.rmtree(to, ignore_errors=True)
+        if os.path.isdir(source):
+            shutil.copytree(source, to)
+
+
+def copy_build(top):
+    """Copies what proves from the store: build/ without its help texts, and the door that it calls."""
+    leave = shutil.ignore_patterns("__pycache__", "help")
+    shutil.copytree(os.path.join(TOP, "build"), os.path.join(top, "build"), ignore=leave, dirs_exist_ok=True)
+    os.makedirs(os.path.join(top, "lab"), exist_ok=True)
+    for name in LAB:
+        shutil.copy(os.path.join(TOP, "lab", name), os.path.join(top, "lab", name))
+
+
+def handles(top):
+    """What a repository's file HANDLES allows; without one it allows none."""
+    try:
+        with open(os.path.join(top, "HANDLES"), encoding="utf-8") as file:
+            return file.read().strip()
+    except FileNotFoundError:
+        return None
+
+
+def vendor(top, crates, replaces):
+    """Copies crates in the order of crates.txt, and adds their lines; returns what is said of it."""
+    lines, there = lines_of(TOP), lines_of(top)
+    changed = [crate for crate in crates if differs(crate, top) or there.get(crate, lines[crate]) != lines[crate]]
+    if changed and not replaces:
+        raise OSError(f"{top} has another crate {changed[0]}, or another line of it: --replace replaces it")
+    for crate in crates:
+        copy(crate, top)
+    new = [lines[crate] for crate in crates if crate not in there]
+    kept = [line for name, line in there.items() if name not in crates]
+    if new or changed:
+        text = "".join(f"{line}\n" for line in [*(lines[crate] for crate in crates), *kept])
+        with open(os.path.join(top, "crates.txt"), "w", encoding="utf-8") as file:
+            file.write("# one line a crate, lowest layer first:  NAME: DEP DEP ..\n" + text)
+    if handles(top) is None:
+        shutil.copy(os.path.join(TOP, "HANDLES"), top)
+
+
+def main():
+    words = argparse.ArgumentParser(prog="vendor", usage="vendor DIR CRATE .. [options]", description=HELP,
+                                    epilog=MORE_HELP, formatter_class=argparse.RawDescriptionHelpFormatter)
+    words.add_argument("dir", metavar="DIR", help="the top of the other repository")
+    words.add_argument("crates", metavar="CRATE", nargs="+", help="crates of crates.txt")
+    words.add_argument("--replace", action="store_true", help="crates that say something else are replaced")
+    words.add_argument("--build", action="store_true", help="copies build/ too, which proves from the store")
+    asked = words.parse_args()
+    below = listed()
+    unknown = [crate for crate in asked.crates if crate not in below]
+    if unknown:
+        words.error(f"crates.txt names no crate {unknown[0]}")
+    top = os.path.abspath(asked.dir)
+    if not os.path.isdir(top) or os.path.realpath(top) == os.path.realpath(TOP):
+        words.error("DIR has to be a folder that is there, and not this tree")
+    crates = with_below(asked.crates, below)
+    try:
+        vendor(top, crates, asked.replace)
+        if asked.build:
+            copy_build(top)
+    except (OSError, shutil.Error) as failed:
+        print(f"vendor: {failed}", file=sys.stderr)
+        return 1
+    print(f"vendor: {len(crates)} crates are in {top}/crates: {' '.join(crates)}", file=sys.stderr)
+    if handles(top) != handles(TOP):
+        print(f"vendor: HANDLES here is `{handles(TOP)}`, and there `{handles(top)}`", file=sys.stderr)
+    return 0
+
+
+if __name__ == "__main__":
+    sys.exit(main())

@@ -1,0 +1,90 @@
+"""How a command that is written in Python ends: with one line in place of a traceback, whatever happens.
+
+A closed or full output, an input that can't be read, too little memory and Ctrl-C are no faults of the command. A
+reader that has gone away is no fault at all."""
+import contextlib
+import io
+import os
+import sys
+import traceback
+
+# The statuses of a fault of the command itself, and of Ctrl-C.
+OWN_FAULT, STOPPED = 70, 130
+
+
+class Input(io.FileIO):
+    """Standard input, whose faults have its name."""
+
+    @contextlib.contextmanager
+    def named(self):
+        try:
+            yield
+        except OSError as why:
+            raise OSError(why.errno, why.strerror, "standard input") from None
+
+    def readinto(self, room):
+        with self.named():
+            return super().readinto(room)
+
+    def readall(self):
+        with self.named():
+            return super().readall()
+
+
+def open_streams():
+    """Gives a closed stream a file that refuses what it is for, so that no other file gets its number; what would be
+    said on a closed standard error is dropped."""
+    for number, mode in ((0, os.O_WRONLY), (1, os.O_RDONLY), (2, os.O_WRONLY)):
+        try:
+            os.fstat(number)
+        except OSError:
+            opened = os.open(os.devnull, mode)
+            if opened != number:
+                os.dup2(opened, number)
+                os.close(opened)
+    # Buffered, whatever Python is asked for: argparse passes over a text of help that can't be written at once.
+    coding = {"encoding": getattr(sys.stdout, "encoding", None) or "utf-8", "errors": "surrogateescape"}
+    sys.stdin = io.TextIOWrapper(io.BufferedReader(Input(0, closefd=False)), **coding)
+    sys.stdout = io.TextIOWrapper(open(1, "wb", closefd=False), line_buffering=os.isatty(1), **coding)
+    sys.stderr = sys.stderr or io.TextIOWrapper(open(2, "wb", closefd=False), encoding="utf-8", errors="backslashreplace")
+
+
+def said(name, what, status):
+    """Says one line, if that can be, and returns the status."""
+    with contextlib.suppress(OSError, ValueError):
+        print(f"{name}: {what}", file=sys.stderr, flush=True)
+    return status
+
+
+def without_output():
+    """Has nothing more written to standard output, which is closed or full."""
+    with contextlib.suppress(OSError, ValueError):
+        os.dup2(os.open(os.devnull, os.O_WRONLY), 1)
+
+
+def run(name, command):
+    """Runs a command, a function that returns its status, and returns the status to end with."""
+    try:
+        open_streams()
+        try:
+            return command()
+        finally:
+            sys.stdout.flush()
+    except BrokenPipeError:
+        without_output()
+        return 0
+    except OSError as why:
+        without_output()
+        what = why.strerror or str(why)
+        return said(name, f"{why.filename}: {what}" if why.filename else f"the output can't be written: {what}", 1)
+    except MemoryError:
+        without_output()
+        return said(name, "out of memory", 1)
+    except KeyboardInterrupt:
+        without_output()
+        return said(name, "interrupted", STOPPED)
+    except Exception as why:
+        without_output()
+        at = traceback.extract_tb(why.__traceback__)[-1]
+        return said(name, f"a fault of this command itself, please report it: {type(why).__name__}: "
+                          f"{' '.join(str(why).split())} ({os.path.basename(at.filename)} line {at.lineno})", OWN_FAULT)
