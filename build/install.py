@@ -104,7 +104,8 @@ def make(room):
         os.makedirs(os.path.dirname(os.path.join(room, path)), exist_ok=True)
         shutil.copy(source, os.path.join(room, path))
     for path in sorted(os.listdir(os.path.join(room, "bin"))):
-        write(os.path.join(room, "share", "man", "man1", f"{path}.1"), manuals.page_of(path, os.path.join(room, "bin", path)))
+        page = os.path.join(room, "share", "man", "man1", f"{path}.1")
+        write(page, manuals.page_of(path, os.path.join(room, "bin", path)))
     write(os.path.join(room, "VERSION"), version_text())
     write(os.path.join(room, sums.NAME), sums.text_of(room))
 

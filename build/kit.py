@@ -55,7 +55,7 @@ def is_there(name):
         print(f"{name}: the toolchain's command rt is not on the PATH: {wanted()} is wanted", file=sys.stderr)
         return False
     if not found():
-        print(f"{name}: {command()} is no command of a kit, which has a file KIT-ID; {wanted()} is wanted", file=sys.stderr)
+        print(f"{name}: {command()} is no command of a kit, which has a KIT-ID; {wanted()} is wanted", file=sys.stderr)
         return False
     if found() != wanted():
         print(f"{name}: these sources are for {wanted()}, and rt is of {found()}: proofs may fail", file=sys.stderr)

@@ -30,4 +30,4 @@ def read(folder: str) -> dict[str, str]:
     except (OSError, UnicodeDecodeError):
         return {}
     found = (re.fullmatch(r"([0-9a-f]{64})  (.+)", line) for line in lines)
-    return {line[2]: line[1] for line in found if line and ".." not in line[2].split("/") and not line[2].startswith("/")}
+    return {line[2]: line[1] for line in found if line and not {"", ".."} & set(line[2].split("/"))}

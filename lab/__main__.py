@@ -12,6 +12,8 @@ COMMANDS = {
     "network": "lab.networks.network",
     "picture": "lab.pictures.picture",
 }
+# What scripts ask for besides.
+INNER = {"watch": "lab.watch"}
 
 
 def main():
@@ -30,6 +32,8 @@ def command(name, words):
     if name == "version" or name in COMMANDS and words == ["--version"]:
         sys.stdout.write(importlib.import_module("lab.version").text())
         return 0
+    if name in INNER:
+        return importlib.import_module(INNER[name]).main(words)
     if name not in COMMANDS:
         print(f"lab: a command is wanted: {', '.join(COMMANDS)}", file=sys.stderr)
         return 2

@@ -46,7 +46,7 @@ def open_streams():
     coding = {"encoding": getattr(sys.stdout, "encoding", None) or "utf-8", "errors": "surrogateescape"}
     sys.stdin = io.TextIOWrapper(io.BufferedReader(Input(0, closefd=False)), **coding)
     sys.stdout = io.TextIOWrapper(open(1, "wb", closefd=False), line_buffering=os.isatty(1), **coding)
-    sys.stderr = sys.stderr or io.TextIOWrapper(open(2, "wb", closefd=False), encoding="utf-8", errors="backslashreplace")
+    sys.stderr = sys.stderr or open(2, "w", encoding="utf-8", errors="backslashreplace", closefd=False)
 
 
 def said(name, what, status):

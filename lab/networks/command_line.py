@@ -181,7 +181,7 @@ def add_words(command, name):
         command.add_argument("--sites", metavar="CSV", help="a table of sites")
         command.add_argument("--reach", type=float, metavar="KM", help="joins sites that are less than KM apart")
         command.add_argument("--bars", metavar="CSV", help="a table of channels that are barred at sites")
-        command.add_argument("--licence", metavar="TABLE", help="the channels that all may use, as '1 6 11': the first\n"
+        command.add_argument("--licence", metavar="TABLE", help="the channels that all may use, as '1 6 11': the first "
                              "is channel 1 of the plan; bars are of these numbers, and `bin/channels` puts them back")
         command.add_argument("--strict", action="store_true", help="refuses, where something would be left out")
     if name == "number":

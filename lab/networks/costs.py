@@ -1,6 +1,7 @@
 """What a run on a network comes to: its payloads, wires and entries, and how long the commands take here."""
 import os
 import re
+import resource
 import subprocess
 import time
 
@@ -146,8 +147,21 @@ def times(run):
     seconds = {
         command: run.wires / known.wires * seconds_of(program, command, known) for command in ("plan", "transcript")
     }
-    reckoned = ", ".join(f"{command} {in_words(took)}" for command, took in seconds.items())
-    return f"plain {in_words(plain)}, the same plan; {reckoned}; by a run of {known.wires:,} wires, made just now"
+    longer = ", ".join(f"{command} {in_words(took)}" for command, took in seconds.items())
+    return f"plain {in_words(plain)}, the same plan; {longer}; by a run of {known.wires:,} wires, made just now"
+
+
+def processor_seconds_for(run, command):
+    """About how many seconds of processor time `plan` or `transcript` takes for a run, by its wires and those of a
+    smaller one that is made now; None if the program isn't built."""
+    known, program = network_for_time(), built("forestplan")
+    if not program:
+        return None
+    before = resource.getrusage(resource.RUSAGE_CHILDREN)
+    seconds_of(program, command, known, times=1)
+    after = resource.getrusage(resource.RUSAGE_CHILDREN)
+    used = after.ru_utime + after.ru_stime - before.ru_utime - before.ru_stime
+    return run.wires / known.wires * used
 
 
 def network_for_time():

@@ -6,7 +6,9 @@ from lab.networks.listed import Listed, named_by_labels
 from lab.networks.network_text import shown
 from lab.wrong import Wrong, wrong_line
 
-BEGINS = re.compile(r"\s*(#[^\n]*\n\s*)*((creator|version|comment|directed|label)\s+(\"[^\"]*\"|[0-9.]+)\s+)*graph\s*\[", re.I)
+BEGINS = re.compile(
+    r"\s*(#[^\n]*\n\s*)*((creator|version|comment|directed|label)\s+(\"[^\"]*\"|[0-9.]+)\s+)*graph\s*\[", re.I
+)
 TOKEN = re.compile(r'(?P<space>\s+|#[^\n]*)|(?P<mark>[\[\]])|"(?P<string>[^"]*)"|(?P<word>[^\s\[\]"]+)')
 
 
@@ -71,7 +73,8 @@ def read(text: str, name: str) -> Listed:
         if key == "node":
             node = value_of(entries, "id") if isinstance(entries, list) else None
             if not isinstance(node, str) or node in lines:
-                raise wrong_line(name, line, "a node without an id" if node is None else f"a second node {shown(str(node))}")
+                what = "a node without an id" if node is None else f"a second node {shown(str(node))}"
+                raise wrong_line(name, line, what)
             lines[node] = line
             found.alone.append((line, node))
             read_node(found, node, entries, labels)

@@ -19,7 +19,7 @@ class Listed:
     """`edges` has (line, name, name), and `alone` (line, name) of nodes that are named without a neighbour. If the text
     says how many nodes there are, that is `nodes`, and the names are numbers. `names` and `places` are by numbers then,
     and else `places`, `identifiers` and `bars` are by those names. `notes` says what was guessed or mended, `left_out`
-    what of the text isn't in the network, and `order` has all nodes in the order of a table of sites, if there is one."""
+    what of the text isn't in the network, and `order` all nodes in the order of a table of sites, if there is one."""
 
     form: str
     edges: list[tuple[int, str, str]] = field(default_factory=list)

@@ -138,7 +138,8 @@ def bar_of(path, line, fields, read):
     """Vertex and channel of a `b` line."""
     v, channel = said_of_vertex(path, line, fields, read, "a barred channel", "b V CHANNEL")
     if not 1 <= channel <= MAX_CHANNEL:
-        raise wrong_line(path, line, f"channel {shown(fields[2])} is none that can be barred, which are 1 to {MAX_CHANNEL} (F13)")
+        what = f"channel {shown(fields[2])} is none that can be barred, which are 1 to {MAX_CHANNEL} (F13)"
+        raise wrong_line(path, line, what)
     barred = read.bars.get(v, ())
     if channel not in barred and len(barred) == MAX_BARS:
         raise wrong_line(path, line, f"more than {MAX_BARS} channels are barred at vertex {v} (F14)")

@@ -43,7 +43,8 @@ def renumbered(network, way, seed, is_reversed):
     same = two_alike({v: v for v in network.vertices} | identifiers)
     if same:
         raise Wrong(
-            f"{network.name}: nodes {same[0]} and {same[1]} would have one identifier; give each node a line `i V NUMBER`"
+            f"{network.name}: nodes {same[0]} and {same[1]} would have one identifier; "
+            "give each node a line `i V NUMBER`"
         )
     return Made(
         network.nodes,

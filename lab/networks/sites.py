@@ -12,7 +12,8 @@ from lab.wrong import Wrong, wrong_line
 # Headings of the columns, in small letters without blanks, lines and points.
 NAMES = ("site", "name", "id", "siteid", "sitename", "node", "label", "transmitter", "station", "mast", "cell", "ap")
 # Columns of a place, with what makes kilometres of them; latitude and longitude are in degrees.
-PLANES = (("x", "y", 1.0), ("xkm", "ykm", 1.0), ("xm", "ym", 0.001), ("easting", "northing", 0.001), ("east", "north", 0.001))
+PLANES = (("x", "y", 1.0), ("xkm", "ykm", 1.0), ("xm", "ym", 0.001), ("easting", "northing", 0.001),
+          ("east", "north", 0.001))
 GLOBES = (("lat", "lon"), ("lat", "lng"), ("lat", "long"), ("latitude", "longitude"))
 IDENTIFIER, CHANNELS = "identifier", ("channel", "channels", "barred", "bar")
 # The mean radius of the earth in kilometres.
@@ -170,8 +171,8 @@ def with_sites(found: Listed, sites: Sites, name: str, reach: float | None) -> N
     strange = [(line, end) for line, *ends in found.edges + found.alone for end in map(clean, ends) if end not in known]
     if strange:
         lines = {line for line, _ in strange}
-        found.left_out.append(f"{counted(len(lines), 'line')} with a site that {name} hasn't left out, first line {strange[0][0]}: "
-                              f"{shown(strange[0][1])}")
+        found.left_out.append(f"{counted(len(lines), 'line')} with a site that {name} hasn't left out, first line "
+                              f"{strange[0][0]}: {shown(strange[0][1])}")
         found.edges = [row for row in found.edges if row[0] not in lines]
         found.alone = [row for row in found.alone if row[0] not in lines]
     found.order = names
@@ -182,7 +183,8 @@ def with_sites(found: Listed, sites: Sites, name: str, reach: float | None) -> N
         return
     lost = [one for one, point in zip(names, sites.points) if point is None]
     if lost:
-        found.left_out.append(f"{counted(len(lost), 'site')} without a place, joined to none by the reach, first: {shown(lost[0])}")
+        found.left_out.append(f"{counted(len(lost), 'site')} without a place, joined to none by the reach, first: "
+                              f"{shown(lost[0])}")
     for count, (one, other) in enumerate(near(sites.points, reach)):
         if count > MAX_EDGES:
             raise Wrong(f"{name}: more than {MAX_EDGES} edges within {reach:g} km")
@@ -211,11 +213,12 @@ def with_bars(found: Listed, data: bytes, name: str, licence: list[int] | None) 
             elif number is None:
                 outside.append((line, word))
             elif not 1 <= number <= MAX_CHANNEL:
-                raise wrong_line(name, line, f"channel {number} is none that can be barred, which are 1 to {MAX_CHANNEL}")
+                raise wrong_line(name, line, f"channel {number} can't be barred, but 1 to {MAX_CHANNEL} can")
             else:
                 found.bars.setdefault(one, set()).add(number)
         if len(found.bars.get(one, ())) > MAX_BARS:
             raise wrong_line(name, line, f"more than {MAX_BARS} channels are barred at {shown(one)}")
     for lost, what in ((strange, "of a site that there isn't"), (outside, "of a channel outside the licence")):
         if lost:
-            found.left_out.append(f"{counted(len(lost), 'bar')} {what} left out, first at line {lost[0][0]}: {shown(lost[0][1])}")
+            first = f"first at line {lost[0][0]}: {shown(lost[0][1])}"
+            found.left_out.append(f"{counted(len(lost), 'bar')} {what} left out, {first}")

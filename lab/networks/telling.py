@@ -57,8 +57,8 @@ def barred(network):
     """The line that a network with barred channels has besides."""
     if network.bars:
         yield "barred", (
-            f"{counted(sum(map(len, network.bars.values())), 'channel')} at {counted(len(network.bars), 'node')}, at most "
-            f"{network.most_bars:,} at one" + enough(network)
+            f"{counted(sum(map(len, network.bars.values())), 'channel')} at {counted(len(network.bars), 'node')}, "
+            f"at most {network.most_bars:,} at one" + enough(network)
         )
 
 

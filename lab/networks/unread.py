@@ -44,7 +44,8 @@ def refuse_rows(rows: list[tuple[int, list[str]]], text: str, name: str) -> None
     if is_trivial(text):
         raise unread(name, "TGF, nodes and then `#` and edges")
     if is_matrix(fields) or is_labelled(fields):
-        raise unread(name, "a matrix", "G = nx.from_numpy_array(numpy.loadtxt(FILE))", "; if these are pairs of nodes: --as pairs")
+        reader = "G = nx.from_numpy_array(numpy.loadtxt(FILE))"
+        raise unread(name, "a matrix", reader, "; if these are pairs of nodes: --as pairs")
     if is_metis(fields):
         raise unread(name, "METIS, the number of nodes and of edges and then each node's neighbours", None,
                      "; if each line is a node and its neighbours: --as adjacency")
@@ -56,7 +57,8 @@ def refuse_rows(rows: list[tuple[int, list[str]]], text: str, name: str) -> None
 def is_trivial(text: str) -> bool:
     """Whether a line of `#` alone parts lines that have something."""
     before, mark, after = text.partition("\n#\n")
-    return bool(mark and after.strip()) and any(line.strip() and not line.startswith("#") for line in before.split("\n"))
+    is_begun = any(line.strip() and not line.startswith("#") for line in before.split("\n"))
+    return bool(mark and after.strip()) and is_begun
 
 
 def is_number(field: str) -> bool:
@@ -85,8 +87,9 @@ def is_labelled(fields: list[list[str]]) -> bool:
         return False
     names = fields[0][has_corner:]
     body = fields[1:]
-    return (len(names) > 1 and names == [row[0] for row in body if row] and len(body) == len(names)
-            and all(len(row) == len(names) + 1 and all(is_number(field) or not field for field in row[1:]) for row in body))
+    is_square = len(names) > 1 and len(body) == len(names) and all(len(row) == len(names) + 1 for row in body)
+    is_numbers = all(is_number(field) or not field for row in body for field in row[1:])
+    return is_square and is_numbers and names == [row[0] for row in body]
 
 
 def is_metis(fields: list[list[str]]) -> bool:

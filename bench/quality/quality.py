@@ -1,0 +1,171 @@
+#!/usr/bin/env python3
+"""Compares how many channels a plan takes with what sequential greedy colourings take of the same network.
+
+  quality.py [NAME ..]        default: every network of the table
+
+DSATUR (D. Brelaz, New methods to color the vertices of a graph, 1979) and smallest last (D. W. Matula and L. L. Beck,
+Smallest-last ordering and clustering and graph coloring algorithms, 1983) look at the whole network, one node after the
+other; our nodes know their neighbours alone. Both are written here; if networkx is there, its own numbers are in two
+further columns. The networks are made anew each time, by seeds. The plan is that of `bin/forestplan plain`.
+"""
+import argparse
+import heapq
+import os
+import random
+import subprocess
+import sys
+
+TOP = os.path.dirname(os.path.dirname(os.path.dirname(os.path.abspath(__file__))))
+sys.path.insert(0, TOP)
+
+from lab.networks import kinds
+from lab.networks.texts import Made, text_of
+
+Neighbours = dict[int, set[int]]
+
+
+def mycielski(steps: int) -> Made:
+    """The graphs of Mycielski without triangles, each of one more colour; from one edge on."""
+    nodes, edges = 2, [(1, 2)]
+    for _ in range(steps):
+        copies = [(v, w + nodes) for one, other in edges for v, w in ((one, other), (other, one))]
+        edges = edges + copies + [(v + nodes, 2 * nodes + 1) for v in range(1, nodes + 1)]
+        nodes = 2 * nodes + 1
+    return Made(nodes, edges)
+
+
+def preferential(nodes: int, edges: int, seed: int) -> Made:
+    """Each node is joined to some before it, the likelier the more neighbours they have (Barabasi and Albert, 1999)."""
+    source, made, ends = random.Random(seed), set(), list(range(1, edges + 1))
+    for v in range(edges + 1, nodes + 1):
+        chosen = set()
+        while len(chosen) < edges:
+            chosen.add(ends[int(source.random() * len(ends))])
+        made |= {(w, v) for w in chosen}
+        ends += [*chosen, *[v] * edges]
+    return Made(nodes, made)
+
+
+def classes(nodes: int, groups: int, share: float, seed: int) -> Made:
+    """Nodes in hidden groups, and edges by chance between different ones, so that as many colours as groups do."""
+    source = random.Random(seed)
+    pairs = ((v, w) for v in range(1, nodes + 1) for w in range(v + 1, nodes + 1) if v % groups != w % groups)
+    return Made(nodes, {pair for pair in pairs if source.random() < share})
+
+
+NETWORKS = {
+    "2,000 sites, 55 of 1,000 apart": lambda: kinds.disk(2000, 0.055, 1),
+    "400 sites, 100 of 1,000 apart": lambda: kinds.disk(400, 0.1, 1),
+    "queen 5x5": lambda: kinds.queen(5, 5),
+    "queen 8x8": lambda: kinds.queen(8, 8),
+    "queen 13x13": lambda: kinds.queen(13, 13),
+    "Mycielski 3": lambda: mycielski(2),
+    "Mycielski 7": lambda: mycielski(6),
+    "450 nodes, 5 groups": lambda: classes(450, 5, 0.07, 1),
+    "450 nodes, 15 groups": lambda: classes(450, 15, 0.09, 1),
+    "450 nodes, 25 groups": lambda: classes(450, 25, 0.18, 1),
+    "385 nodes, 14 groups": lambda: classes(385, 14, 0.15, 1),
+    "125 nodes, half of all pairs": lambda: kinds.any_edges(125, 3875, 1),
+    "grid 50x50": lambda: kinds.grid(50, 50),
+    "tree of 1,000": lambda: kinds.tree(1000, 1),
+    "2,000 by preference, 5 each": lambda: preferential(2000, 5, 1),
+}
+
+
+def neighbours_of(network: Made) -> Neighbours:
+    found = {v: set() for v in range(1, network.nodes + 1)}
+    for v, w in network.edges:
+        found[v].add(w)
+        found[w].add(v)
+    return found
+
+
+def least(neighbours: Neighbours, colours: dict[int, int], v: int) -> int:
+    """The least colour from 1 that no neighbour has."""
+    taken = {colours[w] for w in neighbours[v] if w in colours}
+    return next(colour for colour in range(1, len(taken) + 2) if colour not in taken)
+
+
+def dsatur(neighbours: Neighbours) -> int:
+    """The colours of DSATUR: next is the node whose neighbours have the most colours, then the most neighbours."""
+    colours, seen = {}, {v: set() for v in neighbours}
+    heap = [(0, -len(ws), v) for v, ws in neighbours.items()]
+    heapq.heapify(heap)
+    while heap:
+        count, degree, v = heapq.heappop(heap)
+        if v in colours or -count != len(seen[v]):
+            continue
+        colours[v] = least(neighbours, colours, v)
+        for w in neighbours[v] - colours.keys():
+            if colours[v] not in seen[w]:
+                seen[w].add(colours[v])
+                heapq.heappush(heap, (-len(seen[w]), -len(neighbours[w]), w))
+    return max(colours.values(), default=0)
+
+
+def smallest_last(neighbours: Neighbours) -> int:
+    """The colours if nodes choose in the reverse of the order in which one of the fewest neighbours left is removed."""
+    left, order = {v: len(ws) for v, ws in neighbours.items()}, []
+    heap = [(degree, v) for v, degree in left.items()]
+    heapq.heapify(heap)
+    while heap:
+        degree, v = heapq.heappop(heap)
+        if left.get(v) != degree:
+            continue
+        del left[v]
+        order.append(v)
+        for w in neighbours[v] & left.keys():
+            left[w] -= 1
+            heapq.heappush(heap, (left[w], w))
+    colours = {}
+    for v in reversed(order):
+        colours[v] = least(neighbours, colours, v)
+    return max(colours.values(), default=0)
+
+
+def ours(network: Made) -> int:
+    """The channels of `plain`, which is checked here to be proper."""
+    done = subprocess.run([os.path.join(TOP, "bin", "forestplan"), "plain"], input=text_of(network).encode(),
+                          stdout=subprocess.PIPE, check=True)
+    plan = dict(map(int, line.split()) for line in done.stdout.decode().split("\n")[1:] if line)
+    if len(plan) != network.nodes or any(plan[v] == plan[w] for v, w in network.edges):
+        raise SystemExit("quality: the plan isn't proper")
+    return max(plan.values(), default=0)
+
+
+def by_networkx(network: Made) -> list[int]:
+    """What networkx takes by the same two ways, or nothing if it isn't there."""
+    try:
+        import networkx
+    except ImportError:
+        return []
+    graph = networkx.Graph()
+    graph.add_nodes_from(range(1, network.nodes + 1))
+    graph.add_edges_from(network.edges)
+    plans = (networkx.greedy_color(graph, strategy=way) for way in ("DSATUR", "smallest_last"))
+    return [1 + max(plan.values(), default=-1) for plan in plans]
+
+
+def main() -> int:
+    summary, _, more = __doc__.partition("\n")
+    shape = argparse.RawDescriptionHelpFormatter
+    words = argparse.ArgumentParser(description=summary, epilog=more, formatter_class=shape)
+    words.add_argument("names", metavar="NAME", nargs="*", help="a name of the table")
+    asked = words.parse_args()
+    unknown = [name for name in asked.names if name not in NETWORKS]
+    if unknown:
+        words.error(f"there is no network {unknown[0]}; there are {', '.join(NETWORKS)}")
+    row = "| {:32} | {:>6} | {:>6} | {:>5} | {:>5} | {:>6} | {:>13} |{}"
+    print(row.format("network", "nodes", "edges", "most", "ours", "DSATUR", "smallest last", " networkx: both |"))
+    print("|---|---|---|---|---|---|---|---|")
+    for name in asked.names or NETWORKS:
+        network = NETWORKS[name]()
+        neighbours = neighbours_of(network)
+        most = max(map(len, neighbours.values()))
+        print(row.format(name, network.nodes, len(network.edges), most, ours(network), dsatur(neighbours),
+                         smallest_last(neighbours), f" {' '.join(map(str, by_networkx(network)))} |"), flush=True)
+    return 0
+
+
+if __name__ == "__main__":
+    sys.exit(main())

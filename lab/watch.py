@@ -1,0 +1,70 @@
+"""What the script `forestplan` shows of a run of minutes on a terminal: how long it has taken, and how much processor
+time, of about how much that a run of as many messages takes. The program itself says nothing before it ends."""
+import os
+import stat
+import sys
+import time
+from itertools import chain, count
+
+from lab.networks.costs import Run, processor_seconds_for
+from lab.networks.network_text import read_network
+from lab.wrong import Wrong
+
+# Seconds after which a line is written, and then every half hour.
+MOMENTS = chain((10, 30, 60, 120, 300, 600, 1200), count(1800, 1800))
+
+
+def fields_of(process: int) -> list[str] | None:
+    """What the system says of a process after its name, or None once it has ended."""
+    try:
+        with open(f"/proc/{process}/stat", encoding="utf-8", errors="replace") as file:
+            fields = file.read().rpartition(")")[2].split()
+    except OSError:
+        return None
+    return None if fields[0] in ("Z", "X") else fields
+
+
+def used_by(fields: list[str]) -> float:
+    return (int(fields[11]) + int(fields[12])) / os.sysconf("SC_CLK_TCK")
+
+
+def exactly(seconds: float) -> str:
+    minutes, seconds = divmod(int(seconds), 60)
+    return f"{minutes} min {seconds} s" if minutes else f"{seconds} s"
+
+
+def about(process: int, command: str) -> str:
+    """About how much processor time a run takes, if its input is a file that can be read once more; or nothing."""
+    try:
+        with open(f"/proc/{process}/fd/0", "rb") as file:
+            if not stat.S_ISREG(os.fstat(file.fileno()).st_mode):
+                return ""
+            run = Run(read_network(file.read().decode("utf-8", "replace"), "the network"))
+        takes = processor_seconds_for(run, command)
+    except (OSError, Wrong, MemoryError):
+        return ""
+    return "" if takes is None else f", of about {exactly(takes)} for {run.wires:,} wires"
+
+
+def main(words: list[str]) -> int:
+    """Watches a process until it ends: PROCESS NAME COMMAND."""
+    process, name, command = int(words[0]), words[1], words[2]
+    start, begun, reckons = time.monotonic(), None, None
+    for moment in MOMENTS:
+        if begun and moment < time.monotonic() - start:
+            continue
+        while time.monotonic() - start < moment:
+            fields = fields_of(process)
+            # The number of a process that has ended may be another's: its time of start is not.
+            if fields is None or begun not in (None, fields[19]):
+                return 0
+            begun = fields[19]
+            time.sleep(0.5)
+        if reckons is None:
+            reckons = about(process, command)
+            fields = fields_of(process)
+            if fields is None:
+                return 0
+        took, used = exactly(time.monotonic() - start), exactly(used_by(fields))
+        print(f"{name}: {took}, {used} of processor time{reckons}", file=sys.stderr, flush=True)
+    return 0
