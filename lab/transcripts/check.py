@@ -254,12 +254,13 @@ def network_in(data, name):
 
 
 def bytes_of(name):
-    """The bytes of a file, or of standard input."""
+    """The bytes of a file, or of standard input, which `-` is."""
+    is_input = name in (None, "-")
     try:
-        with open(name or 0, "rb") as file:
+        with open(0 if is_input else name, "rb", closefd=not is_input) as file:
             return file.read()
     except OSError as failed:
-        raise OSError(f"{name or 'standard input'}: {failed.strerror}") from None
+        raise OSError(f"{'standard input' if is_input else name}: {failed.strerror}") from None
 
 
 def words_of_command():
@@ -275,7 +276,7 @@ def words_of_command():
         help="instead of that line print the transcript in the order found, in which it is a run line by line; of edition 2 as it is",
     )
     words.add_argument("network", metavar="NETWORK.col", help="a network that `forestplan` reads without a fault")
-    words.add_argument("transcript", nargs="?", metavar="TRANSCRIPT", help="default: standard input")
+    words.add_argument("transcript", nargs="?", metavar="TRANSCRIPT", help="a file, or - for standard input; default: -")
     return words
 
 
