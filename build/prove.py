@@ -189,13 +189,14 @@ def prove_anew(crates, below, jobs, shown):
             shutil.rmtree(os.path.join(kit.store(), name), ignore_errors=True)
     proving = Proving(crates, below, jobs, shown, words)
     proving.pass_over(is_proved)
+    is_done = not proving.left
     failed = proving.run()
     if not failed:
         for crate in crates:
             made = os.path.join(kit.place(crate, keys[crate]), crate)
             if os.path.isfile(made):
                 put_program(crate, made, start)
-        shared.share(crates, keys)
+        shared.share(crates, keys, is_done=is_done)
     return failed
 
 

@@ -45,9 +45,19 @@ def is_put(made: str, to: str, name: str, stamp: str) -> bool:
         return False
 
 
-def share(crates: list[str], keys: dict[str, str]) -> None:
-    """Offers the libraries of these crates, which are proved. Where the toolchain's command has no such function, or
-    anything fails, `rt check` builds its own."""
+def key_of(name: str) -> str | None:
+    """The key of what was offered last of a crate."""
+    try:
+        with open(os.path.join(folder_of(name), "key"), encoding="utf-8") as file:
+            return file.read()
+    except OSError:
+        return None
+
+
+def share(crates: list[str], keys: dict[str, str], is_done: bool = False) -> None:
+    """Offers the libraries of these crates, which are proved; if all was proved before (`is_done`), only those that
+    weren't offered then. Where the toolchain's command has no such function, or anything fails, `rt check` builds its
+    own."""
     rt = kit.command_as_module()
     if not hasattr(rt, "offer") or not hasattr(rt, "take_rlib"):
         return
@@ -55,8 +65,10 @@ def share(crates: list[str], keys: dict[str, str]) -> None:
         known = {}
         for name in crates:
             made = os.path.join(kit.place(name, keys[name]), f"{name}.rlib")
-            if os.path.isdir(made):
+            if os.path.isdir(made) and not (is_done and key_of(name) == keys[name]):
                 offer(rt, rt.Crate(os.path.join(TOP, "crates", name), TOP, known), made)
+                with open(os.path.join(folder_of(name), "key"), "w", encoding="utf-8") as file:
+                    file.write(keys[name])
     except (Exception, SystemExit) as why:
         print(f"the libraries aren't offered to rt check: {why}", file=sys.stderr)
 
