@@ -41,14 +41,19 @@ def refuse_rows(rows: list[tuple[int, list[str]]], text: str, name: str) -> None
     mark = next((field for row in fields for field in row if field and not any(map(str.isalnum, field))), ":")
     if mark != ":":
         raise Wrong(f"{name}: `{shown(mark)}` is no name of a node; if it is: --as pairs, or --as adjacency")
+    if any(field.count("(") != field.count(")") for row in fields for field in row):
+        raise Wrong(f"{name}: names in brackets with blanks or commas can't be told apart; "
+                    "networkx: nx.convert_node_labels_to_integers(G), or nx.write_graphml(G, FILE)")
     if is_trivial(text):
         raise unread(name, "TGF, nodes and then `#` and edges")
     if is_matrix(fields) or is_labelled(fields):
         reader = "G = nx.from_numpy_array(numpy.loadtxt(FILE))"
         raise unread(name, "a matrix", reader, "; if these are pairs of nodes: --as pairs")
-    if is_metis(fields):
+    if is_metis(rows):
         raise unread(name, "METIS, the number of nodes and of edges and then each node's neighbours", None,
                      "; if each line is a node and its neighbours: --as adjacency")
+    if ["0", "0"] in fields and all(row[1:] == ["0"] for row in fields):
+        raise Wrong(f"{name}: these may be pairs with 0, or nodes with no neighbours: say --as pairs or --as multiline")
     if all(len(row) < 2 or not any(row[1:]) for row in fields):
         raise Wrong(f"{name}: no line has two nodes, so it may be graph6 or a list of names; if each line is a node "
                     "without a neighbour: --as pairs")
@@ -92,11 +97,12 @@ def is_labelled(fields: list[list[str]]) -> bool:
     return is_square and is_numbers and names == [row[0] for row in body]
 
 
-def is_metis(fields: list[list[str]]) -> bool:
-    """Whether the first row counts the rows behind it and half of what they have, as METIS does."""
-    if not 2 <= len(fields[0]) <= 4 or any(whole(field) is None for row in fields for field in row):
+def is_metis(rows: list[tuple[int, list[str]]]) -> bool:
+    """Whether the first row counts the nodes and edges, and the line of each node has its neighbours, as in METIS."""
+    first, head = rows[0]
+    if not 2 <= len(head) <= 4 or any(whole(field) is None for _, row in rows for field in row):
         return False
-    nodes, edges = whole(fields[0][0]), whole(fields[0][1])
-    body = fields[1:]
-    return (0 < len(body) <= nodes and edges > 0 and sum(map(len, body)) == 2 * edges and max(map(len, body)) != 2
-            and all(1 <= whole(field) <= nodes for row in body for field in row))
+    nodes, edges = whole(head[0]), whole(head[1])
+    said = {(line - first, whole(field)) for line, row in rows[1:] for field in row}
+    return (edges > 0 and len(said) == 2 * edges == sum(len(row) for _, row in rows[1:])
+            and rows[-1][0] - first <= nodes and all((w, v) in said for v, w in said))
