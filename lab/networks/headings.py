@@ -36,15 +36,18 @@ def ends_named(rows: list) -> tuple[int, int] | None:
 
 
 def shows_numbers(rows: list) -> bool:
-    """Whether a column has a number in each row but the first: both ends, or one behind them."""
+    """Whether a column has numbers, but for its first row: both ends, or one after them."""
     first, body = rows[0][1], [fields for _, fields in rows[1:]]
     if not body or len(first) < 2:
         return False
     ends = {field for fields in body for field in fields[:2]}
     if all(whole(field) is not None for field in ends) and None in map(whole, first[:2]):
         return True
-    return any(not is_number(first[at]) and all(at < len(fields) and is_number(fields[at]) for fields in body)
-               for at in range(2, len(first)))
+    for at in range(2, len(first)):
+        below = [fields[at] for fields in body if at < len(fields) and fields[at]]
+        if first[at] and not is_number(first[at]) and below and all(map(is_number, below)):
+            return True
+    return False
 
 
 def is_alone(rows: list) -> bool:

@@ -93,8 +93,7 @@ def refuse_others(body: Rows, name: str, separator: str | None) -> None:
             not all(map(is_number, ones))):
         raise Wrong(f"{name}: a name and two numbers in each line look like places, which --sites reads "
                     "(if they are pairs: --as pairs)")
-    if len(ones) > 1 and others and any(all(map(is_number, these)) and not any(map(is_number, those))
-                                        for these, those in ((ones, others), (others, ones))):
+    if any(are_of_two_kinds(part) for part in (fields, fields[1:])):
         raise unsure(name, "names beside numbers may be no pairs of nodes", PAIRS)
     if all(len(row) <= 2 for row in fields):
         return
@@ -105,6 +104,12 @@ def refuse_others(body: Rows, name: str, separator: str | None) -> None:
         raise unsure(name, "not each line is a pair and a weight, and not each neighbour has a line", *choices)
     if is_apart and len(fields) > 2:
         raise unsure(name, "a first field that comes in no other line may be a line's number", *choices)
+
+
+def are_of_two_kinds(fields: list[list[str]]) -> bool:
+    """Whether of the ends of some pairs one is always a number, and the other never."""
+    pairs = [row for row in fields if len(row) > 1 and row[1]]
+    return len(pairs) > 1 and any(all(is_number(row[at]) and not is_number(row[1 - at]) for row in pairs) for at in (0, 1))
 
 
 def read_adjacency(rows: Rows) -> Listed:
