@@ -103,10 +103,13 @@ SCRIPTS = (
         commands=("path", "ring", "star", "complete", "grid", "queen", "tree", "disk", "random", "read", "number",
                   "tell", "names"),
     ),
+    Script("channels", ("1", "6", "11"), "plan|1 3|2 1|", r"plan\n1 11\n2 1\n"),
     # Each of two nodes that are apart makes its 12 pulses by itself: 13 times 13 states.
     Script("explore", ("FILE",), "", r"every schedule of net: 169 states, [^\0]*\none end: channels 1 1\n"),
     Script("check-transcript", ("FILE",), ENDED, r"whole run of 2 nodes, 24 entries, 0 payloads, 0 wires\n"),
     Script("replay", ("FILE",), ENDED, r"node 1 pulse 12 channel 1\nnode 2 pulse 12 channel 1\n"),
-    Script("install", ("--help",), "", r"usage: install [^\0]*", is_installed=False),
+    Script("install", ("--help",), "", r"usage: install DIR\n[^\0]*", is_installed=False),
+    Script("pack", ("--help",), "", r"usage: pack FOLDER [^\0]*", is_installed=False),
+    Script("vendor", ("--help",), "", r"usage: vendor DIR CRATE [^\0]*", is_installed=False),
     Script("wrong-bodies", ("--help",), "", r"usage: wrong-bodies [^\0]*", is_installed=False),
 )

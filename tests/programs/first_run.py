@@ -34,7 +34,7 @@ def handles_of(root):
         return text.read()
 
 
-KIT = "kit"
+KIT = os.environ.get("XDG_CACHE_HOME", "kit")
 
 
 class Crate:
@@ -49,7 +49,7 @@ class Crate:
         return [it for dep in self.deps for it in [*dep.below(), dep]]
 
     def words(self, flags, keeps=True):
-        if not all(os.path.isfile(it.rlib) for it in self.below()):
+        if not all(os.path.isfile(f"{it.rlib}/format") for it in self.below()):
             raise SystemExit("a crate below isn't there")
         return flags
 
@@ -63,14 +63,31 @@ class Crate:
         if "wrong" in said:
             print(f"fn {self.name}::f: not proved")
             return 1
-        with open(os.path.join(self.folder, words[-1]), "w") as made:
-            made.write("#!/bin/sh\\necho \\"$@\\"; cat\\n")
+        to = os.path.join(self.folder, words[-1])
+        if to.endswith(".rlib"):
+            os.makedirs(to)
+            to += "/format"
+        with open(to, "w") as made:
+            made.write(said if "format" in to else "#!/bin/sh\\necho \\"$@\\"; cat\\n")
         return 0
+
+    def stamp(self):
+        with open(f"{self.folder}/src/lib.rt") as text:
+            return text.read()
 
     def link(self, made, program):
         os.rename(f"{self.folder}/{made}", f"{self.folder}/{program}")
         os.chmod(f"{self.folder}/{program}", 0o755)
         return 0
+
+
+def take_rlib(crate):
+    return False
+
+
+def offer(crate, stamp):
+    with open(f"{crate.folder}/out/rlib/{crate.name}.rlib/format") as text, open(f"{KIT}.offered", "a") as said:
+        said.write(f"{crate.name} {stamp == crate.stamp() == text.read()}\\n")
 
 
 rtlib = types.SimpleNamespace(Crate=Crate, guarded=lambda: [], help_of=lambda command: "--empty-contracts")
@@ -92,7 +109,7 @@ class Tree:
 
     def __init__(self, folder):
         self.top = os.path.join(folder, "tree")
-        for name in ("forestplan", "build"):
+        for name in ("forestplan", "build", "lab"):
             whole, part = os.path.join(TOP, name), os.path.join(self.top, name)
             if os.path.isdir(whole):
                 shutil.copytree(whole, part, ignore=shutil.ignore_patterns("__pycache__"))
@@ -108,7 +125,8 @@ class Tree:
         kit = os.path.join(folder, "kits", "rattle", "bin")
         write(os.path.join(kit, "rt"), RT, 0o755)
         write(os.path.join(kit, "rattle"), "")
-        write(os.path.join(folder, "kits", "rattle", "KIT-ID"), "a kit\n")
+        self.kit = os.path.join(folder, "kits", "rattle", "KIT-ID")
+        shutil.copy(os.path.join(TOP, "build", "kit_name.txt"), self.kit)
         self.environment = dict(os.environ, PATH=f"{kit}:{os.environ['PATH']}",
                                 XDG_CACHE_HOME=os.path.join(folder, "cache"))
         self.store = os.path.join(folder, "cache", "forestplan")
@@ -179,8 +197,11 @@ class FirstRun(Case):
         self.run_stored_helps(tree)
         self.run_first(tree)
         self.run_elsewhere(tree, os.path.join(self.folder, "other"))
+        self.run_offered(tree)
         self.run_failures(tree)
         self.run_stopped(tree)
+        self.run_versions(tree)
+        self.run_kits(tree)
 
     def run_stored_helps(self, tree):
         """Help is asked for before anything is built: it is the stored text."""
@@ -209,8 +230,11 @@ class FirstRun(Case):
         self.note("a crate of tests is no part of the program", got == (0, "plan\n", ""), got)
         tree.source("aside", "changed")
         got = tree.call("plan")
-        self.note("what the program isn't made from is not proved",
-                  got[:2] == (0, "plan\n") and " 3 of 3 crates proved" in got[2], got)
+        self.note("nor is another crate", got == (0, "plan\n", ""), got)
+        write(os.path.join(tree.top, "crates.txt"), f"{CRATES}mine: nothing\n")
+        got = tree.call("plan")
+        self.note("nor is a line of it, be it wrong", got == (0, "plan\n", ""), got)
+        write(os.path.join(tree.top, "crates.txt"), CRATES)
         tree.source("middle", "changed")
         status, out, err = tree.call("plan")
         self.note("a changed source is proved",
@@ -220,7 +244,8 @@ class FirstRun(Case):
         got = tree.call("plan")
         self.note("the state before is still known",
                   got[:2] == (0, "plan\n") and " 3 of 3 crates proved, 0 s: nothing to do" in got[2], got)
-        self.note("no room is left", sorted(os.listdir(tree.store)) == ["forestplan", "lock", "lower", "middle"],
+        self.note("no room is left",
+                  sorted(os.listdir(tree.store)) == ["checkout", "forestplan", "lock", "lower", "middle"],
                   os.listdir(tree.store))
 
     def run_elsewhere(self, tree, folder):
@@ -310,3 +335,81 @@ class FirstRun(Case):
             good = done.returncode == 0 and len(done.stdout) > 60 and not done.stderr
             self.note(f"{name} --help", good, done)
         self.note("no script has made anything", not os.path.exists(os.path.join(top, "crates")))
+
+    def run_offered(self, tree):
+        """What is proved is offered to `rt check`: each library of the store, with the stamp of its text, and again if
+        that has changed. Nothing else is."""
+        offered = f"{tree.environment['XDG_CACHE_HOME']}.offered"
+
+        def taken():
+            with open(offered, encoding="utf-8") as file:
+                lines = file.read().split("\n")[:-1]
+            os.remove(offered)
+            return lines
+
+        taken()
+        tree.source("middle", "to be offered")
+        self.note("a program to offer of", tree.call("plan")[:2] == (0, "plan\n"))
+        lines = taken()
+        self.note("both libraries are offered as they are", sorted(lines) == ["lower True", "middle True"], lines)
+        tree.source("forestplan", "anew")
+        self.note("a program over the same libraries", tree.call("plan")[:2] == (0, "plan\n"))
+        lines = taken()
+        self.note("they are offered again", sorted(lines) == ["lower True", "middle True"], lines)
+        shutil.rmtree(os.path.join(tree.top, "crates", "forestplan", "out"))
+        got = tree.call("plan")
+        self.note("nothing is left to prove", got[:2] == (0, "plan\n") and "nothing to do" in got[2], got)
+        self.note("nothing is offered that was", not os.path.exists(offered))
+
+    def run_versions(self, tree):
+        """The version without a build, and a build without a run."""
+        for words in (["forestplan", "--version"], ["bin/network", "--version"]):
+            done = subprocess.run([os.path.join(TOP, *words[0].split("/")), *words[1:]], capture_output=True, text=True)
+            said = r"forestplan \d+\.\d+\.\d+\ncommit [^\n]+\nkit rattle-kit-[^\n]+\n"
+            self.note(" ".join(words), done.returncode == 0 and re.fullmatch(said, done.stdout), done)
+        tree.source("middle", "built alone")
+        built = os.path.join(tree.top, "crates", "forestplan", "out", "forestplan")
+        before = os.stat(built).st_ino
+        tree.environment["FORESTPLAN_BUILD_ONLY"] = "1"
+        got = tree.call("--help")
+        self.note("built, and not run", got[:2] == (0, "") and os.stat(built).st_ino != before, got)
+        del tree.environment["FORESTPLAN_BUILD_ONLY"]
+
+    def run_kits(self, tree):
+        """Another kit is named before proofs begin, and so is a command that is of none, or none at all."""
+        tree.source("lower", "by another kit")
+        write(tree.kit, "rattle-kit-99z logic 0\n")
+        status, out, err = tree.call("plan")
+        with open(os.path.join(TOP, "build", "kit_name.txt"), encoding="utf-8") as file:
+            wanted = file.read().strip()
+        self.note("another kit is named, and tried", (status, out) == (0, "plan\n"), (status, out))
+        first = err.split(" crates proved")[0]
+        self.note("both kits", f"for {wanted}, and rt is of rattle-kit-99z logic 0" in first, err)
+        tree.source("lower", "by no kit")
+        os.remove(tree.kit)
+        status, out, err = tree.call("plan")
+        self.note("a command of no kit", (status, out) == (70, "") and f"KIT-ID; {wanted} is wanted" in err, err)
+        tree.environment["PATH"] = ":".join(
+            part for part in tree.environment["PATH"].split(":") if not os.path.exists(os.path.join(part, "rt")))
+        status, out, err = tree.call("plan")
+        self.note("no command", (status, out) == (70, "") and f"rt is not on the PATH: {wanted} is wanted" in err, err)
+        self.note("what it would take isn't said then", "minutes" not in err and "Traceback" not in err, err)
+        for words, status in ((["--help"], 0), (["plan"], 70)):
+            done = subprocess.run([os.path.join(TOP, "try"), *words], capture_output=True, text=True,
+                                  stdin=subprocess.DEVNULL, env=tree.environment)
+            said = done.stderr if status else done.stdout
+            self.note(f"try {words}", done.returncode == status and (wanted if status else "usage: try") in said, done)
+
+    def test_watch(self):
+        """A line of a run now and then, until it ends; of another process, or none, nothing."""
+        script = ("import sys; from lab import watch; watch.MOMENTS = [0.1, 0.2, 60]; "
+                  "sys.exit(watch.main(sys.argv[1:]))")
+        network = os.path.join(TOP, "examples", "triangle.col")
+        with open(network, "rb") as given, subprocess.Popen(["sleep", "4"], stdin=given) as run:
+            done = subprocess.run([sys.executable, "-c", script, str(run.pid), "forestplan", "plan"], cwd=TOP,
+                                  capture_output=True, text=True, timeout=LIMIT)
+        lines = done.stderr.splitlines()
+        shape = r"forestplan: \d+ s, 0 s of processor time(, of about 0 s for 284 wires)?"
+        good = done.returncode == 0 and lines and all(re.fullmatch(shape, it) for it in lines)
+        self.note("lines of a run", good, done)
+        self.note("nothing on standard output", done.stdout == "", done)

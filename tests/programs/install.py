@@ -2,10 +2,13 @@
 
 What is installed has to run from another folder, through symbolic links, and from a copy of the folder; its manual
 pages have to be the help texts, which build/help/ has."""
+import hashlib
 import os
 import re
+import resource
 import shutil
 import subprocess
+import tarfile
 import tempfile
 
 from lab.definitions.colours import network_of, plan_text
@@ -184,5 +187,147 @@ class Install(Case):
                             ignore=shutil.ignore_patterns("__pycache__"))
         got = run([os.path.join(tree, "bin", "install"), target], env=ENVIRONMENT)
         self.note("install from a tree that isn't built",
-                  got[0] != 0 and b"will be proved and built first" in got[2].split(b"\n")[0], got)
+                  got[0] == 70 and b"not built, and the toolchain's command rt is not on the PATH" in got[2], got)
         self.note("nothing is installed then", got[0] != 0 and not os.path.exists(target), got)
+
+    def test_contents(self):
+        """What says which forestplan it is, the texts of the licences, README and pages, and a sum of each file."""
+        version = contents(os.path.join(self.target, "VERSION")).decode()
+        lines = r"forestplan \d+\.\d+\.\d+\ncommit [^\n]+\nkit rattle-kit-[^\n]+\n(built where rt is of [^\n]+\n)?"
+        self.note("VERSION", re.fullmatch(lines, version), version)
+        for name in SCRIPTS:
+            got = run([os.path.join(self.target, "bin", name), "--version"], env=ENVIRONMENT)
+            self.note(f"{name} --version", got == (0, version.encode(), b""), got)
+        for name in ("README.md", "LICENSE-MIT", "LICENSE-APACHE", "CHANGELOG.md", "docs/claim/FORMATS.md"):
+            there, here = (contents(os.path.join(top, name)) for top in (self.target, TOP))
+            self.note(f"{name} is there", there == here)
+        rows = [line.split("  ", 1) for line in contents(os.path.join(self.target, "SHA256SUMS")).decode().splitlines()]
+        wrong = [path for known, path in rows
+                 if hashlib.sha256(contents(os.path.join(self.target, path))).hexdigest() != known]
+        self.note("each sum is that of its file", not wrong and len(rows) > 100, wrong)
+        self.note("the programs have sums", {"bin/forestplan", "bin/forestplay"} <= {path for _, path in rows})
+
+    def small_tree(self, name):
+        """A tree of this one's scripts, whose programs are of one crate each, and were built by another command."""
+        tree = os.path.join(self.folder, name)
+        for part in ("bin", "build", "lab", "examples", "docs"):
+            shutil.copytree(os.path.join(TOP, part), os.path.join(tree, part), symlinks=True,
+                            ignore=shutil.ignore_patterns("__pycache__"))
+        for part in ("forestplan", "README.md", "CHANGELOG.md", "LICENSE-MIT", "LICENSE-APACHE"):
+            shutil.copy(os.path.join(TOP, part), tree)
+        with open(os.path.join(tree, "crates.txt"), "w", encoding="utf-8") as file:
+            file.write("forestplan:\nforestplay:\n")
+        for program in PROGRAMS:
+            folder = os.path.join(tree, "crates", program)
+            os.makedirs(os.path.join(folder, "src"))
+            os.makedirs(os.path.join(folder, "out"))
+            with open(os.path.join(folder, "src", "main.rt"), "w", encoding="utf-8") as file:
+                file.write("// as it was built\n")
+            shutil.copy(os.path.join(self.target, "bin", program), os.path.join(folder, "out", program))
+        return tree
+
+    def test_changed(self):
+        """A tree whose sources have changed since installs nothing old, and a full disk leaves nothing half."""
+        tree, target = self.small_tree("small tree"), os.path.join(self.folder, "of the small tree")
+        script = os.path.join(tree, "bin", "install")
+        os.makedirs(os.path.join(target, "lab"))
+        with open(os.path.join(target, "README.md"), "w", encoding="utf-8") as file:
+            file.write("mine\n")
+        # The limit is on the size of a file, and the programs are larger.
+        for folder in (target, os.path.join(self.folder, "nowhere yet")):
+            got = run([script, folder], env=ENVIRONMENT,
+                      preexec_fn=lambda: resource.setrlimit(resource.RLIMIT_FSIZE, (200_000, 200_000)))
+            self.note(f"no room in {folder}", got[:2] == (1, b"") and got[2].count(b"\n") == 1, got)
+        self.note("what was there stays",
+                  sorted(os.listdir(target)) == ["README.md", "lab"] and not os.listdir(os.path.join(target, "lab"))
+                  and contents(os.path.join(target, "README.md")) == b"mine\n", os.listdir(target))
+        self.note("a new folder isn't left", not os.path.exists(os.path.join(self.folder, "nowhere yet")))
+        got = run([script, target], env=ENVIRONMENT)
+        self.note("with room", got[:2] == (0, b""), got)
+        old, kept = (os.path.join(target, "lab", name) for name in ("old.py", "own.py"))
+        for path in (old, kept):
+            with open(path, "wb") as file:
+                file.write(b"x")
+        with open(os.path.join(target, "SHA256SUMS"), "a", encoding="utf-8") as file:
+            file.write(f"{hashlib.sha256(b'x').hexdigest()}  lab/old.py\n")
+        with open(os.path.join(tree, "crates", "forestplan", "src", "main.rt"), "a", encoding="utf-8") as file:
+            file.write("// changed\n")
+        before = os.stat(os.path.join(target, "bin", "forestplan")).st_ino
+        got = run([script, target], env=ENVIRONMENT)
+        self.note("from changed sources", got[0] == 70 and b"forestplan: not built" in got[2], got)
+        self.note("the old program isn't put there again",
+                  os.stat(os.path.join(target, "bin", "forestplan")).st_ino == before)
+        out = os.path.join(tree, "crates", "forestplan", "out")
+        os.remove(os.path.join(out, "forestplan.made-from"))
+        shutil.copy(os.path.join(self.target, "bin", "forestplan"), out)
+        got = run([script, target], env=ENVIRONMENT)
+        after = os.stat(os.path.join(target, "bin", "forestplan")).st_ino
+        self.note("built again by another command", got[0] == 0 and after != before, got)
+        self.note("what an earlier install put there is removed, and nothing else",
+                  (os.path.exists(old), os.path.exists(kept)) == (False, True))
+
+    def test_pack(self):
+        """An archive of an installed folder is that folder again, and nothing that was put there besides."""
+        packs, out = os.path.join(self.folder, "packs"), os.path.join(self.folder, "unpacked")
+        os.mkdir(packs)
+        with open(os.path.join(self.target, "mine.txt"), "w", encoding="utf-8") as file:
+            file.write("mine\n")
+        pack = os.path.join(TOP, "bin", "pack")
+        sums = set()
+        for _ in range(2):
+            got = run([pack, self.target, packs])
+            self.note("pack", got[0] == 0 and got[2] == b"", got)
+            archive = next(name for name in os.listdir(packs) if name.endswith(".tar.gz"))
+            made = contents(os.path.join(packs, archive))
+            sums.add(hashlib.sha256(made).hexdigest())
+        self.note("the same archive again", len(sums) == 1, sums)
+        self.note("its sum", contents(os.path.join(packs, f"{archive}.sha256")).decode() == f"{min(sums)}  {archive}\n")
+        with tarfile.open(os.path.join(packs, archive)) as packed:
+            packed.extractall(out)
+        top = os.path.join(out, archive.removesuffix(".tar.gz"))
+        paths = [line[66:] for line in contents(os.path.join(top, "SHA256SUMS")).decode().splitlines()]
+        same = all(contents(os.path.join(top, path)) == contents(os.path.join(self.target, path)) for path in paths)
+        self.note("it has what was installed", same and not os.path.exists(os.path.join(top, "mine.txt")))
+        data = contents(os.path.join(TOP, "examples", "petersen.col"))
+        got = run([os.path.join(top, "bin", "forestplan"), "plain"], data, env=ENVIRONMENT)
+        self.note("its program plans", got == (0, plan_text(data), b""), got)
+        with open(os.path.join(top, "README.md"), "a", encoding="utf-8") as file:
+            file.write("more\n")
+        got = run([pack, top, packs])
+        self.note("a changed folder isn't packed", got[:2] == (1, b"") and b"first: README.md" in got[2], got)
+        got = run([pack, self.elsewhere])
+        self.note("another folder isn't packed", got[:2] == (2, b"") and b"pack: error: " in got[2], got)
+
+    def test_vendor(self):
+        """Crates go to another repository with those below them and their lines, and replace nothing unasked."""
+        vendor, there = os.path.join(TOP, "bin", "vendor"), os.path.join(self.folder, "other repository")
+        os.mkdir(there)
+        got = run([vendor, there, "cole_vishkin", "--build"], env=ENVIRONMENT)
+        self.note("vendor", got[:2] == (0, b"") and b"2 crates" in got[2], got)
+        with open(os.path.join(there, "crates.txt"), encoding="utf-8") as file:
+            lines = [line for line in file.read().split("\n") if line and not line.startswith("#")]
+        self.note("their lines", lines == ["colour_base:", "cole_vishkin: colour_base"], lines)
+        for crate in ("colour_base", "cole_vishkin"):
+            for part in ("src", "specs", "proofs"):
+                here, copy = (os.path.join(top, "crates", crate, part) for top in (TOP, there))
+                self.note(f"{part} of {crate}", subprocess.run(["diff", "-r", here, copy]).returncode == 0)
+        self.note("nothing else of a crate", not os.path.exists(os.path.join(there, "crates", "cole_vishkin", "out")))
+        got = run(["python3", os.path.join(there, "build"), "paths"], env=ENVIRONMENT)
+        paths = b"     1 colour_base\n     2 cole_vishkin\n     3 in all\n"
+        self.note("what proves works there", got == (0, paths, b""), got)
+        with open(os.path.join(there, "crates.txt"), "a", encoding="utf-8") as file:
+            file.write("mine: cole_vishkin\n")
+        changed = os.path.join(there, "crates", "colour_base", "src", "lib.rt")
+        with open(changed, "a", encoding="utf-8") as file:
+            file.write("// changed\n")
+        got = run([vendor, there, "shift_down"], env=ENVIRONMENT)
+        is_refused = got[:2] == (1, b"") and b"another crate colour_base" in got[2]
+        self.note("a changed crate isn't replaced", is_refused and b"// changed" in contents(changed), got)
+        self.note("nor is anything copied then", not os.path.exists(os.path.join(there, "crates", "shift_down")))
+        got = run([vendor, there, "shift_down", "--replace"], env=ENVIRONMENT)
+        text_of_lines = contents(os.path.join(there, "crates.txt"))
+        self.note("it is if that is asked for", got[0] == 0 and b"// changed" not in contents(changed), got)
+        self.note("a line of one's own stays", b"\nmine: cole_vishkin\n" in text_of_lines, text_of_lines)
+        for words in ([there, "nothing"], [TOP, "forests"], [os.path.join(there, "away"), "forests"]):
+            got = run([vendor, *words], env=ENVIRONMENT)
+            self.note(f"vendor {words}", got[:2] == (2, b"") and b"vendor: error: " in got[2], got)

@@ -15,9 +15,9 @@ from lab.definitions.colours import network_of
 from lab.definitions.nodes import last_pulse
 from lab.definitions.rounds import rounds_text
 from lab.networks import network
+from lab.networks.costs import Run, most_payloads
 from lab.networks.network_text import read_network
 from lab.networks.reading import read
-from lab.networks.telling import Run, most_payloads
 from lab.networks.texts import text_of
 from tests import TOP
 from tests.cases import Case, run_program
@@ -398,7 +398,7 @@ class OwnNetworks(Case):
             self.note(f"read as {form}", len(edges_of(text)) == edges, text)
         asked = call("read", "-", data=b"site,other\nA,B\nB,C\nC,D\n")
         self.note("a heading that isn't known is asked for",
-                  asked[0] == 0 and b"is line 1 (`site,other`) a heading? then --heading yes" in asked[2], asked)
+                  asked[:2] == (1, b"") and b"line 1 (`site,other`) may be a heading or a pair" in asked[2], asked)
         places = call("read", "-", data=b"name,x,y\nUlm,1,2.5\nAue,3,4\nHof,5,6\n")
         self.note("a list of places is refused", places[:2] == (1, b"") and b"look like places" in places[2], places)
         heading = b"north,south\na,b\n"
@@ -637,8 +637,9 @@ class OwnNetworks(Case):
         told, _ = self.told_of(data)
         done = run_program(PLAY, ["rounds"], data)
         payloads = len(re.findall(rb"^\d+ put ", done.stdout, re.M))
+        plain = r"plain (less than a second|about \d+ seconds?), the same plan"
         long = r"(plan|transcript) (less than a second|about \d+ (second|minute|hour)s?)"
-        self.note("the time of a large network",
-                  re.fullmatch(rf"{long}, {long}; by a run of [\d,]+ wires, made just now", told["time"]), told)
+        shape = rf"{plain}; {long}, {long}; by a run of [\d,]+ wires, made just now"
+        self.note("the time of a large network", re.fullmatch(shape, told["time"]), told)
         self.note("payloads of a large network", told["payloads"] == f"{payloads:,}; counted by `forestplay rounds`",
                   (told, payloads))

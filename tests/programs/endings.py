@@ -1,0 +1,94 @@
+"""Tests of how the commands that are written in Python end: with one line, and never with a traceback, if the output is
+closed or full, the input can't be read, or someone presses Ctrl-C."""
+import os
+import signal
+import subprocess
+import sys
+import time
+
+from lab.__main__ import COMMANDS
+from tests import TOP
+from tests.cases import Case
+
+LIMIT = 120
+TRIANGLE = os.path.join(TOP, "examples", "triangle.col")
+# A call of each command that prints something, and needs no program.
+CALLS = {
+    "channels": ["1", "6", "11"],
+    "check-transcript": ["--help"],
+    "explore": [os.path.join(TOP, "examples", "two.col")],
+    "network": ["path", "3"],
+    "picture": ["forests", TRIANGLE],
+}
+PLAN = b"plan\n1 1\n"
+
+
+class Endings(Case):
+    needs_programs = False
+
+    def test_outputs(self):
+        """A closed or full output is one line and status 1, of help too; a standard error that can't be written changes
+        nothing."""
+        for name in COMMANDS:
+            for words in (CALLS.get(name, ["--help"]), ["--help"], ["--version"]):
+                for redirected, said in ((">/dev/full", b"No space left on device"), (">&-", b"Bad file descriptor")):
+                    done = subprocess.run(
+                        ["bash", "-c", f'exec "$0" "$@" {redirected}', os.path.join(TOP, "bin", name), *words],
+                        input=PLAN, capture_output=True, timeout=LIMIT)
+                    wanted = b"%s: the output can't be written: %s\n" % (name.encode(), said)
+                    self.note(f"{name} {words} {redirected}", (done.returncode, done.stderr) == (1, wanted), done)
+        for redirected in ("2>/dev/full", "2>&-"):
+            done = subprocess.run(["bash", "-c", f'exec "$0" read - {redirected}', os.path.join(TOP, "bin", "network")],
+                                  input=b"", capture_output=True, timeout=LIMIT)
+            self.note(f"a fault {redirected}", (done.returncode, done.stdout) == (1, b""), done)
+
+    def test_inputs(self):
+        """An input that is closed, or a folder, is one line."""
+        for name, words, status in (("network", ["read", "-"], 1), ("network", ["tell", "-"], 1),
+                                    ("channels", ["1"], 1), ("check-transcript", [TRIANGLE], 2),
+                                    ("explore", ["-"], None), ("picture", ["plan", "-"], None)):
+            done = subprocess.run(["bash", "-c", 'exec "$0" "$@" <&-', os.path.join(TOP, "bin", name), *words],
+                                  capture_output=True, timeout=LIMIT)
+            good = done.stderr.count(b"\n") == 1 and b"Bad file descriptor" in done.stderr and done.stdout == b""
+            good = good and done.returncode in ((1, 2) if status is None else (status,))
+            self.note(f"{name} {words} of a closed input", good, done)
+
+    def test_interrupts(self):
+        """Ctrl-C while a command waits for its input is one line and status 130."""
+        for name, words in (("network", ["read", "-"]), ("channels", ["1"]), ("check-transcript", [TRIANGLE]),
+                            ("picture", ["plan", "-"]), ("explore", ["-"])):
+            # A shell has what it runs in the background ignore SIGINT.
+            with subprocess.Popen([os.path.join(TOP, "bin", name), *words], stdin=subprocess.PIPE,
+                                  stdout=subprocess.PIPE, stderr=subprocess.PIPE,
+                                  preexec_fn=lambda: signal.signal(signal.SIGINT, signal.SIG_DFL)) as run:
+                self.wait_for_reading(run.pid)
+                run.send_signal(signal.SIGINT)
+                out, said = run.communicate(timeout=LIMIT)
+            got, wanted = (run.returncode, out, said), (130, b"", b"%s: interrupted\n" % name.encode())
+            self.note(f"{name} {words}", got == wanted, got)
+
+    def wait_for_reading(self, process):
+        """Waits until a process is Python, no longer the script, and waits for what a pipe gives."""
+        end = time.monotonic() + LIMIT
+        while time.monotonic() < end:
+            time.sleep(0.05)
+            with open(f"/proc/{process}/comm", encoding="utf-8") as name, \
+                    open(f"/proc/{process}/wchan", encoding="utf-8") as place:
+                if name.read().startswith("python") and "pipe" in place.read():
+                    return
+
+    def test_own_faults(self):
+        """A fault of a command itself is one line, too."""
+        for fault, said in (("{}['x']", "KeyError: 'x'"), ("1 / 0", "ZeroDivisionError"), ("[].pop()", "IndexError")):
+            script = f"import sys; from lab import door; sys.exit(door.run('some', lambda: {fault}))"
+            done = subprocess.run([sys.executable, "-c", script], capture_output=True, text=True, cwd=TOP)
+            good = done.returncode == 70 and done.stderr.count("\n") == 1 and said in done.stderr
+            self.note(f"a command that fails by {fault}", good and done.stderr.startswith("some: a fault of"), done)
+
+    def test_words(self):
+        """The doors themselves, without a command, or with one that there isn't."""
+        for folder, said in (("lab", "lab: a command is wanted: "), ("build", "build: one of these is wanted: ")):
+            for words in ([], ["nothing"]):
+                door = os.path.join(TOP, folder)
+                done = subprocess.run([sys.executable, door, *words], capture_output=True, text=True)
+                self.note(f"{folder} {words}", done.returncode == 2 and done.stderr.startswith(said), done)

@@ -1,0 +1,177 @@
+"""Tests of what `bin/network read` makes of networks that other programs wrote: it reads them as they are, or refuses
+them by their name; never as another network.
+
+The texts of networkx are those of its version 3.6.1."""
+import tempfile
+
+from tests.cases import Case, run_program
+from tests.programs.own_networks import DOOR, call, comments, pairs_in
+from tests.settings import PLAN
+
+# Three sites that interfere, and one by itself.
+EDGES, ALONE = {frozenset(("Ulm", "Aue")), frozenset(("Aue", "Hof")), frozenset(("Ulm", "Hof"))}, {"Bonn"}
+GRAPHML = """<?xml version='1.0' encoding='utf-8'?>
+<graphml xmlns="http://graphml.graphdrawing.org/xmlns">
+  %s<graph edgedefault="%s">
+    %s
+    %s
+  </graph>
+</graphml>
+"""
+NODES = ('<node id="Ulm" />', '<node id="Aue" />', '<node id="Hof" />', '<node id="Bonn" />')
+LINES = (
+    '<edge source="Ulm" target="Aue" />', '<edge source="Ulm" target="Hof" />', '<edge source="Aue" target="Hof" />'
+)
+NAMES = ("Ulm", "Aue", "Hof", "Bonn")
+LABELLED = "".join(
+    f'<node id="n{at}"><data key="d4">{name}</data><data key="d5">{at}</data><data key="d6">0</data></node>'
+    for at, name in enumerate(NAMES)
+)
+NUMBERED = '<edge source="n0" target="n1"/><edge source="n1" target="n2"/><edge source="n0" target="n2"/>'
+KEYS = "".join(f'<key id="{key}" for="node" attr.name="{name}" attr.type="string" />'
+               for key, name in (("d4", "label"), ("d5", "x"), ("d6", "y")))
+GML = (
+    "graph [\n" + "".join(f'  node [\n    id {at}\n    label "{name}"\n  ]\n' for at, name in enumerate(NAMES))
+    + "".join(f"  edge [\n    source {v}\n    target {w}\n    weight 3.5\n  ]\n" for v, w in ((0, 1), (0, 2), (1, 2)))
+    + "]\n"
+)
+JSON = ('{"directed": false, "multigraph": false, "graph": {}, "nodes": [{"id": "Ulm"}, {"id": "Aue"}, {"id": "Hof"}, '
+        '{"id": "Bonn"}], "%s": [{"source": "Ulm", "target": "Aue"}, {"source": "Ulm", "target": "Hof"}, '
+        '{"source": "Aue", "target": "Hof"}]}')
+D3 = ('{"nodes":[{"name":"Ulm","x":1,"y":2},{"name":"Aue","x":3,"y":4},{"name":"Hof","x":5,"y":6},'
+      '{"name":"Bonn","x":7,"y":8}],"links":[{"source":0,"target":1},{"source":0,"target":2},{"source":1,"target":2}]}')
+# (what it is, its text, a part of what is said). Each is the network above.
+READ = [
+    ("GraphML", GRAPHML % ("", "undirected", "".join(NODES), "".join(LINES)), "GraphML; 4 nodes, 1 of them without"),
+    ("GraphML in one line", (GRAPHML % ("", "directed", "".join(NODES), "".join(LINES))).replace("\n", ""),
+     "directions aren't read"),
+    ("GraphML with labels", GRAPHML % (KEYS, "undirected", LABELLED, NUMBERED), "nodes are named by their label"),
+    ("GML", GML, "GML; 4 nodes, 1 of them without a neighbour, 3 edges"),
+    ("GML of yEd", 'Creator "yFiles"\nVersion 2.17\n' + GML.replace('label "Ulm"', 'label "Ulm" graphics [ x 1 y 2 ]'),
+     "nodes are named by their label"),
+    ("JSON", JSON % "edges", "JSON of nodes and links; 4 nodes"),
+    ("JSON with links", (JSON % "links").replace("{", "{\n").replace(",", ",\n"), "JSON of nodes and links; 4 nodes"),
+    ("JSON of D3", D3, "nodes are named by their label or name"),
+    ("a heading and a weight", "site_x,site_y,distance_km\nUlm,Aue,3.5\nUlm,Hof,1\nAue,Hof,2\nBonn,,\n",
+     "with a heading"),
+    ("a heading over numbers", "a b km\nUlm Aue 1\nUlm Hof 2\nAue Hof 3\nBonn Bonn 0\n",
+     "1 edge from a node to itself left out"),
+]
+PETERSEN = [pair for v in range(5) for pair in ((v, (v + 1) % 5), (v + 5, (v + 2) % 5 + 5), (v, v + 5))]
+BESIDE = {v: sorted({a + b - v for a, b in PETERSEN if v in (a, b)}) for v in range(10)}
+MATRIX = [["01"[w in BESIDE[v]] for w in range(10)] for v in range(10)]
+# (what it is, its text, a part of the refusal).
+REFUSED = [
+    ("GEXF", '<?xml version="1.0"?>\n<gexf version="1.2"><graph><nodes><node id="a"/></nodes></graph></gexf>\n',
+     "looks like GEXF"),
+    ("another XML", "<?xml version='1.0'?>\n<osm><node id='1'/></osm>\n", "XML and no GraphML"),
+    ("HTML", "<!DOCTYPE html>\n<html><body>a</body></html>\n", "HTML"),
+    ("Pajek", "*vertices 2\n1 Ulm 0.0 0.0 ellipse\n2 Aue 0.0 0.0 ellipse\n*edges\n1 2 1.0\n", "Pajek"),
+    ("graph6", ">>graph6<<IheA@GUAo\n", "graph6"),
+    ("graph6 without a head", "IheA@GUAo\n", "graph6"),
+    ("sparse6", ">>sparse6<<:I`ES@obGkqegW~\n", "sparse6"),
+    ("sparse6 without a head", ":I`ES@obGkqegW~\n", "sparse6"),
+    ("JSON of adjacency", '{"nodes": [{"id": 0}, {"id": 1}], "adjacency": [[{"id": 1}], [{"id": 0}]]}',
+     "adjacency_graph"),
+    ("JSON of cytoscape", '{"elements": {"nodes": [{"data": {"id": "a"}}], "edges": []}}', "cytoscape_graph"),
+    ("JSON of a tree", '{"id": 0, "children": [{"id": 1}]}', "tree_graph"),
+    ("a list in JSON", "[[0, 1], [1, 2]]\n", "JSON"),
+    ("JSON that is cut", '{"nodes": [{"id": 0}', "begins like JSON, and is none"),
+    ("METIS", "10 15\n" + "".join(" ".join(str(w + 1) for w in BESIDE[v]) + "\n" for v in range(10)), "METIS"),
+    ("METIS of a row", "3 2\n2\n1 3\n2\n", "METIS"),
+    ("a matrix", "".join(" ".join(row) + "\n" for row in MATRIX), "a matrix"),
+    ("a matrix in CSV", "".join(",".join(row) + "\n" for row in MATRIX), "a matrix"),
+    ("a matrix with weights", "0 2 0.5\n2 0 1\n0.5 1 0\n", "a matrix"),
+    ("a matrix with names", ",A,B,C\nA,0,1,1\nB,1,0,0\nC,1,0,0\n", "a matrix"),
+    ("a small matrix", "0 1\n1 0\n", "--as pairs"),
+    ("TGF", "1 First\n2 Second\n#\n1 2\n", "TGF"),
+    ("UCINET", "dl n=3 format=edgelist1\ndata:\n1 2\n2 3\n", "UCINET"),
+    ("GDF", "nodedef>name VARCHAR\na\nb\nedgedef>node1,node2\na,b\n", "GDF"),
+    ("settings", "a = 1\nb = 2\n", "`=` is no name of a node"),
+    ("arrows", "1 -> 2\n2 -> 3\n", "`->` is no name of a node"),
+    ("prose", "The quick brown fox\njumps over the lazy\ndog and goes away\n", "--as pairs"),
+    ("tuples of networkx", "(0, 0) 1\n(0, 1) {}\n(0, 1) 1\n(0, 0) {}\n", "convert_node_labels_to_integers"),
+    ("nodes without neighbours, or pairs", "0 0\n1 0\n2 0\n", "--as pairs or --as multiline"),
+    ("names and numbers", "site,channel\nUlm,1\nAue,6\n", "names beside numbers"),
+    ("a table with a number of each line", "link,one,other,km\n1,Ulm,Aue,5\n2,Aue,Hof,6\n", "--as pairs"),
+    ("neighbours without lines", "Ulm Aue Hof\nBonn Kiel Jena\n", "--as adjacency"),
+    ("a heading or a pair", "one,other\nUlm,Aue\nAue,Hof\nHof,Ulm\n", "--heading yes or --heading no"),
+    ("a sheet of Excel", "PK\x03\x04" + "x" * 40, "save the sheet as CSV"),
+    ("two graphs", GML + GML, "2 graphs, and one is read"),
+    ("GML that is cut", GML[:-20], "is the text cut?"),
+    ("GraphML that is cut", (GRAPHML % ("", "undirected", "".join(NODES), "".join(LINES)))[:-30], "is no XML"),
+    ("GraphML with an edge of no node", GRAPHML % ("", "undirected", NODES[0], LINES[0]), "which is no node"),
+    ("GraphML with entities", '<!DOCTYPE g [<!ENTITY a "b">]>\n' + GRAPHML % ("", "undirected", NODES[0], ""),
+     "entities"),
+    ("Matrix Market of a table", "%%MatrixMarket matrix array real general\n1 1\n1\n", "`matrix array`"),
+    ("Matrix Market that is no square", "%%MatrixMarket matrix coordinate real general\n2 3 1\n1 1 1\n",
+     "2 rows and 3"),
+    ("Matrix Market that is cut", "%%MatrixMarket matrix coordinate real general\n3 3 2\n1 2 1\n", "is it cut?"),
+]
+
+
+class ForeignForms(Case):
+    def test_read(self):
+        for name, text, said in READ:
+            status, wrote, told = call("read", "-", data=text.encode())
+            good = status == 0 and (pairs_in(wrote)[0], pairs_in(wrote)[1]) == (EDGES, ALONE)
+            self.note(f"read: {name}", good, (status, wrote, told))
+            self.note(f"read: {name}: what is said", said.encode() in told, told)
+            done = run_program(PLAN, ["plain"], wrote)
+            self.note(f"read: {name}: it is planned", done.stdout.count(b"\n") == 5, done)
+        for name in ("GraphML with labels", "JSON of D3"):
+            text = next(text for known, text, _ in READ if known == name)
+            places = comments(call("read", "-", data=text.encode())[1], "at")
+            wanted = {v: (f"{v - 1} 0" if "GraphML" in name else f"{2 * v - 1} {2 * v}") for v in range(1, 5)}
+            self.note(f"read: {name}: its places", places == wanted, places)
+
+    def test_matrix_market(self):
+        head = "%%MatrixMarket matrix coordinate real symmetric\n% by hand\n"
+        text = head + "4 4 5\n2 1 0.5\n3 2 1\n3 3 1\n4 1 0\n3 1 2\n"
+        status, wrote, told = call("read", "-", data=text.encode())
+        wanted = {frozenset(pair) for pair in ("12", "23", "13")}
+        self.note("Matrix Market", status == 0 and pairs_in(wrote) == (wanted, {"4"}), (wrote, told))
+        for said in (b"1 edge from a node to itself left", b"entries of value zero left out: 1", b"values, as weights"):
+            self.note(f"it says {said.decode()}", said in told, told)
+
+    def test_refused(self):
+        """A line that names the form, with status 1; and `tell` doesn't send anyone to `read` then."""
+        for name, text, said in REFUSED:
+            data = text.encode("latin-1")
+            status, wrote, told = call("read", "-", data=data)
+            good = (status, wrote, told.count(b"\n")) == (1, b"", 1) and said.encode() in told
+            self.note(f"refused: {name}", good, (status, wrote, told))
+            self.note(f"tell of {name}", b"can read it" not in call("tell", "-", data=data)[2])
+
+    def test_vouched(self):
+        """What the guess refuses is read if its form is named."""
+        for words, data, edges in (
+            (["--as", "pairs"], b"0 1\n1 0\n", 1),
+            (["--as", "pairs"], b"A,B,t,u\nB,C,s,v\n", 2),
+            (["--as", "pairs", "--heading", "yes"], b"A,B,t,u\nB,C,s,v\n", 1),
+            (["--as", "adjacency"], b"Ulm Aue Hof\nBonn Kiel Jena\n", 4),
+            (["--as", "adjacency"], b"3 2\n2\n1 3\n2\n", 2),
+            (["--heading", "no"], b"one,other\nUlm,Aue\nAue,Hof\nHof,Ulm\n", 4),
+            (["--as", "pairs"], b"1 -> 2\n2 -> 3\n", 2),
+        ):
+            status, wrote, told = call("read", "-", *words, data=data)
+            good = status == 0 and b"\np edge " in b"\n" + wrote and wrote.count(b"\ne ") == edges
+            self.note(f"{words} {data}", good, (wrote, told))
+
+    def test_strict(self):
+        """Something that would be left out is a refusal if that is asked for; nothing is, if nothing would be."""
+        loop = b"1 2\n2 2\n"
+        status, wrote, told = call("read", "-", "--strict", data=loop)
+        said = b"--strict is asked for: 1 edge from a node to itself left out, first at line 2: 2"
+        self.note("a loop", (status, wrote) == (1, b"") and said in told, told)
+        self.note("without the word", call("read", "-", data=loop)[0] == 0)
+        for data in (b"1 2\n2 1\n", b"source,target,km\nA,B,3\n", "\ufeff1 2\n".encode()):
+            self.note(f"nothing is left out of {data}", call("read", "-", "--strict", data=data)[0] == 0)
+
+    def test_large(self):
+        """A text that begins with what is no text isn't read to its end."""
+        with tempfile.TemporaryFile() as file:
+            file.truncate(2 << 30)
+            done = run_program(DOOR, ["read", "-"], stdin=file)
+            said = b"it has bytes of value zero, so it is no text"
+            self.note("two gigabytes of zeros", done.returncode == 1 and said in done.stderr, done.stderr)

@@ -1,0 +1,182 @@
+"""Tests of tables of sites and of real channel numbers: of `bin/network read --sites`, `--reach`, `--bars` and
+`--licence`, of `bin/network names --channels`, and of `bin/channels`."""
+import math
+import os
+import random
+import subprocess
+import tempfile
+
+from lab.definitions.colours import network_of
+from tests import TOP
+from tests.cases import Case, run_program
+from tests.programs.own_networks import call, comments, edges_of
+from tests.settings import PLAN
+
+SITES = ("site,lat,lon,identifier\nUlm,48.4,10.0,7\nAue,50.6,12.7,\nHof,50.3,11.9,0x10\n"
+         "Bonn,50.7,7.1,00:1b:63:84:45:e6\n")
+PAIRS = "site_a,site_b,km\nUlm,Hof,300\nHof,Aue,65\nHof,Prag,200\nAue,Aue,0\n"
+
+
+def on_ground(one, other):
+    """Kilometres between two places of latitude and longitude, by the law of haversines."""
+    (a, b), (c, d) = (tuple(map(math.radians, place)) for place in (one, other))
+    half = math.sin((c - a) / 2) ** 2 + math.cos(a) * math.cos(c) * math.sin((d - b) / 2) ** 2
+    return 2 * 6371.0088 * math.asin(math.sqrt(half))
+
+
+class Sites(Case):
+    def setUp(self):
+        self.folder = self.enterContext(tempfile.TemporaryDirectory())
+
+    def file(self, name, text):
+        path = os.path.join(self.folder, name)
+        with open(path, "wb") as file:
+            file.write(text if isinstance(text, bytes) else text.encode())
+        return path
+
+    def refused(self, name, said, *words):
+        status, wrote, told = call("read", *words)
+        good = (status, wrote, told.count(b"\n")) == (1, b"", 1) and said.encode() in told
+        self.note(f"refused: {name}", good, (status, wrote, told))
+
+    def test_table(self):
+        """The sites in their order, with those of no pair; a pair of another site is left out, and so is a loop."""
+        pairs, sites = self.file("pairs.csv", PAIRS), self.file("sites.csv", SITES)
+        status, wrote, told = call("read", pairs, "--sites", sites)
+        self.note("names", comments(wrote, "name") == {1: "Ulm", 2: "Aue", 3: "Hof", 4: "Bonn"}, (status, wrote, told))
+        self.note("edges", edges_of(wrote) == {(1, 3), (2, 3)}, wrote)
+        self.note("identifiers", network_of(wrote).identifiers == {1: 7, 2: 2, 3: 16, 4: 0x1b63_8445_e6}, wrote)
+        self.note("a pair of a strange site is counted",
+                  b"1 line with a site that %s hasn't left out, first line 4: Prag" % sites.encode() in told, told)
+        self.note("a loop is counted", b"1 edge from a node to itself left out, first at line 5: Aue" in told, told)
+        places = {v: tuple(map(float, rest.split())) for v, rest in comments(wrote, "at").items()}
+        self.note("north is on top, and east is right",
+                  places[1][1] > places[3][1] > places[4][1] and places[4][0] < places[1][0] < places[2][0], places)
+        self.note("the program reads it", run_program(PLAN, ["forests"], wrote).stdout.startswith(b"forests 4 1\n"))
+        self.refused("what is left out, if that is asked for", "--strict is asked for: 1 line with a site that", pairs,
+                     "--sites", sites, "--strict")
+
+    def test_spreadsheets(self):
+        """A table as spreadsheets of some countries write it: semicolons, decimal commas, a mark, carriage returns."""
+        text = "\ufeffName;Easting;Northing\r\nUlm;1000,5;0\r\nAue;2000;0\r\nHof;9000;0\r\nBonn;;\r\n"
+        status, wrote, told = call("read", "--sites", self.file("sites.csv", text), "--reach", "1")
+        self.note("edges by a reach of a kilometre", (status, edges_of(wrote)) == (0, {(1, 2)}), (wrote, told))
+        self.note("places in kilometres", comments(wrote, "at") == {1: "1 0", 2: "2 0", 3: "9 0"}, wrote)
+        self.note("a site without a place is counted", b"1 site without a place" in told and b": Bonn" in told, told)
+
+    def test_columns(self):
+        """The names are those of the column that the pairs name."""
+        sites = self.file("sites.csv", "name,id\nUpper Hill,u1\nDam,d2\nMill,m3\n")
+        for pairs, names in (("u1 d2\n", ["u1", "d2", "m3"]), ("Dam,Mill\n", ["Upper Hill", "Dam", "Mill"])):
+            wrote = call("read", self.file("pairs.csv", pairs), "--sites", sites)[1]
+            self.note(f"names by {pairs!r}", list(comments(wrote, "name").values()) == names, wrote)
+        dimacs = self.file("net.col", "c name 1 Dam\nc name 2 Mill\np edge 2 1\ne 1 2\nb 2 3\n")
+        wrote = call("read", dimacs, "--sites", sites)[1]
+        self.note("a network with names", edges_of(wrote) == {(2, 3)} and b"\nb 3 3\n" in wrote, wrote)
+
+    def test_reach(self):
+        """Places by chance: two are joined just if they are less than the reach apart, on a plane and on the ground;
+        near the poles and over the line where the longitudes meet, too."""
+        source = random.Random(7)
+        for name, south, north, west, east, reach in (
+            ("a town", 52.3, 52.6, 13.1, 13.7, 4.0),
+            ("a pole", 88, 90, -180, 180, 60),
+            ("the line", -1, 1, 179, 181, 30),
+            ("the earth", -90, 90, -180, 180, 1500),
+        ):
+            places = [(source.uniform(south, north), source.uniform(west, east)) for _ in range(150)]
+            text = "id,lat,lon\n" + "".join(f"s{at},{lat!r},{lon!r}\n" for at, (lat, lon) in enumerate(places))
+            wrote = call("read", "--sites", self.file("sites.csv", text), "--reach", reach)[1]
+            wanted = {(v + 1, w + 1) for v in range(150) for w in range(v + 1, 150)
+                      if on_ground(places[v], places[w]) < reach}
+            self.note(f"near each other: {name}", edges_of(wrote) == wanted and 20 < len(wanted) < 8000, len(wanted))
+        places = [(source.randrange(100), source.randrange(100)) for _ in range(200)]
+        text = "id,x,y\n" + "".join(f"s{at},{x},{y}\n" for at, (x, y) in enumerate(places))
+        wrote = call("read", "--sites", self.file("sites.csv", text), "--reach", 10)[1]
+        wanted = {(v + 1, w + 1) for v in range(200) for w in range(v + 1, 200) if math.dist(places[v], places[w]) < 10}
+        self.note("near each other: a plane", edges_of(wrote) == wanted, len(wanted))
+        wrote = call("read", self.file("pairs.csv", "s0,s1\n"), "--sites", os.path.join(self.folder, "sites.csv"),
+                     "--reach", 10)[1]
+        self.note("and pairs besides", edges_of(wrote) == wanted | {(1, 2)}, wrote[:200])
+
+    def test_bars(self):
+        pairs, bars = self.file("pairs.csv", "Ulm,Aue\n"), "site,channel\nUlm,6\nUlm,11 6\nAue,1\nHof,1\n"
+        for words, wanted, left_out in (
+            ([], {1: [6, 11], 2: [1]}, b"1 bar of a site that there isn't left out, first at line 5: Hof"),
+            (["--licence", "1 6 11"], {1: [2, 3], 2: [1]}, b"first at line 5: Hof"),
+            (["--licence", "6-11/5"], {1: [1, 2]}, b"1 bar of a channel outside the licence left out"),
+        ):
+            status, wrote, told = call("read", pairs, "--bars", self.file("bars.csv", bars), *words)
+            # The definition counts channels from 0.
+            barred = {v: [channel + 1 for channel in sorted(own)] for v, own in network_of(wrote).barred.items() if own}
+            self.note(f"bars {words}", (status, barred) == (0, wanted) and left_out in told, (wrote, told))
+        self.refused("a bar that is no channel", "line 2: `six` is no channel", pairs, "--bars",
+                     self.file("bars.csv", "site,channel\nUlm,six\n"))
+        self.refused("bars without a heading", "a heading with site and channel", pairs, "--bars",
+                     self.file("bars.csv", "Ulm,6\nAue,1\n"))
+
+    def test_faults(self):
+        for name, text, said in (
+            ("no heading", "Ulm,1,2\nAue,3,4\n", "no column is named site, name, id"),
+            ("a site again", "id,x,y\na,1,2\nb,1,3\na,4,4\n", "line 4: a second site a"),
+            ("a site without a name", "id,x,y\na,1,2\n,1,3\n", "line 3: a site without a name"),
+            ("half a place", "id,x,y\na,1,\n", "line 2: no place"),
+            ("no place", "id,x,y\na,1,east\n", "line 2: no place"),
+            ("a latitude of 91", "id,lat,lon\na,91,0\n", "line 2: no latitude and longitude"),
+            ("an identifier that is none", "id,x,y,identifier\na,1,2,me\n", "line 2: no identifier below 2^128"),
+            ("identifiers alike", "id,x,y,identifier\na,1,2,9\nb,1,2,9\n", "nodes 1 and 2 have one identifier"),
+            ("too many near", "id,x,y\n" + "".join(f"s{at},0,0\n" for at in range(1100)), "edges within 5 km"),
+            ("no table", "a b c\nd e f\n", "no table"),
+        ):
+            self.refused(name, said, "--sites", self.file("sites.csv", text), "--reach", "5")
+        sites = self.file("sites.csv", SITES)
+        for words in (["--reach", "5"], [], ["--sites", sites], ["--sites", sites, "--reach", "0"],
+                      ["--licence", "x", sites], ["-", "--sites", "-"], ["-", "--licence", "6 6"]):
+            status, wrote, told = call("read", *words)
+            self.note(f"refused words: {words}", (status, wrote) == (2, b"") and b"error: " in told, (status, told))
+        self.note("no such table", call("read", "-", "--sites", "/nowhere.csv", data=b"1 2\n")[0] == 1)
+
+
+class Channels(Case):
+    def call(self, *words, data=""):
+        door = os.path.join(TOP, "bin", "channels")
+        done = subprocess.run([door, *words], input=data, capture_output=True, text=True)
+        return done.returncode, done.stdout, done.stderr
+
+    def test_both_ways(self):
+        plan, real = "plan\n1 2\n2 3\n3 1\n", "plan\n1 6\n2 11\n3 1\n"
+        for table in (["1", "6", "11"], ["1,6,11"], ["1-11/5"], ["1-1", "6 11"]):
+            got = self.call(*table, data=plan)
+            self.note(f"to {table}", got == (0, real, ""), got)
+            got = self.call("--back", *table, data=real)
+            self.note(f"from {table}", got == (0, plan, ""), got)
+        got = self.call("--back", data="plan\n1 40\n2 36\n3 44\n")
+        self.note("without a table", got == (0, "plan\n1 2\n2 1\n3 3\n", "channels: 1 to 3 are 36 40 44\n"), got)
+        with open(os.path.join(TOP, "examples", "triangle.col"), encoding="utf-8") as file:
+            done = run_program(PLAN, ["check"], (file.read() + got[1]).encode())
+        self.note("a real plan is judged", done.stdout == b"proper 3\n", done)
+
+    def test_refused(self):
+        for words, data, said in (
+            (["1", "6"], "plan\n1 2\n2 3\n", "line 3: channel 3, and the table has 2: it takes 3 channels"),
+            (["1", "6"], "plan\n1 0\n", "line 2: channel 0"),
+            (["--back", "1", "6"], "plan\n1 6\n2 7\n", "line 3: channel 7 isn't one of the table"),
+            (["1"], "1 1\n", "line 1: no line `plan`"),
+            (["1"], "", "no line `plan`"),
+            (["1"], "plan\n1 x\n", "line 2: no vertex and its channel: `1 x`"),
+        ):
+            got = self.call(*words, data=data)
+            self.note(f"{words} {data!r}", got[:2] == (1, "") and said in got[2] and got[2].count("\n") == 1, got)
+        for words in ([], ["x"], ["1", "1"], ["1-"], ["5-1"], ["1-5/0"], ["1-3000"], ["--forth", "1"]):
+            got = self.call(*words, data="plan\n")
+            self.note(f"refused words: {words}", got[:2] == (2, "") and "channels: error: " in got[2], got)
+
+    def test_names(self):
+        """Real numbers on a plan with names."""
+        with tempfile.NamedTemporaryFile(suffix=".col") as file:
+            file.write(call("read", "-", data=b"source,target\nUlm,Aue\n")[1])
+            file.flush()
+            got = call("names", file.name, "--channels", "36 40", data=b"plan\n1 2\n2 1\n")
+            self.note("names with real channels", got == (0, b"Ulm 40\nAue 36\n", b""), got)
+            got = call("names", file.name, "--channels", "36", data=b"plan\n1 2\n2 1\n")
+            self.note("more channels than the licence", got[:2] == (1, b"") and b"takes 2 channels" in got[2], got)
