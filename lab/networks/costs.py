@@ -1,4 +1,5 @@
 """What a run on a network comes to: its payloads, wires and entries, and how long the commands take here."""
+import contextlib
 import os
 import re
 import resource
@@ -112,8 +113,10 @@ def payloads_by(program, network):
     """The lines of the rounds that put a payload, read as they are written, and the bytes of their entries."""
     count = size = 0
     with subprocess.Popen([program, "rounds"], stdin=subprocess.PIPE, stdout=subprocess.PIPE) as started:
-        started.stdin.write(bytes_for(network))
-        started.stdin.close()
+        # One that ends before it has read all has its status below.
+        with contextlib.suppress(BrokenPipeError):
+            started.stdin.write(bytes_for(network))
+            started.stdin.close()
         for line in started.stdout:
             found = re.match(rb"(\d+) put (\d+) payload (\d+) (.*)\n", line)
             if found:

@@ -3,6 +3,7 @@ them by their name; never as another network.
 
 The texts of networkx are those of its version 3.6.1."""
 import tempfile
+from unittest import mock
 
 from tests.cases import Case, run_program
 from tests.programs.own_networks import DOOR, call, comments, pairs_in
@@ -167,6 +168,24 @@ class ForeignForms(Case):
         self.note("without the word", call("read", "-", data=loop)[0] == 0)
         for data in (b"1 2\n2 1\n", b"source,target,km\nA,B,3\n", "\ufeff1 2\n".encode()):
             self.note(f"nothing is left out of {data}", call("read", "-", "--strict", data=data)[0] == 0)
+
+    def test_tell(self):
+        """A number is quoted as it is in the text, and a text that says fewer edges than it has isn't cut. That a
+        program fails says nothing of the text."""
+        for data, status, said in (
+            (b"p edge 3 1\ne 1 %s\n" % (b"9" * 36 + b"\n"), 1, b"vertex %s is none" % (b"9" * 36)),
+            (b"p edge 3 1\ne 1 %s\n" % (b"9" * 60), 1, b"vertex %s.. is none" % (b"9" * 37)),
+            (b"p edge 3 1\nb 1 %s\n" % (b"8" * 60), 1, b"channel %s.. is none" % (b"8" * 37)),
+            (b"p edge 3 1\ne 1 2\ne 1 3\n", 0, b"the text has 2: does the line belong to another text?"),
+            (b"p edge 3 5\ne 1 2\ne 1 3\n", 0, b"says 5 edges, and the text has 2: is it cut?"),
+        ):
+            got = call("tell", "-", data=data)
+            self.note(f"tell of {data[:60]}", got[0] == status and said in got[2], got)
+        network = call("random", "3000", "9000")[1]
+        with mock.patch("lab.networks.costs.built", lambda name: "false"):
+            got = call("tell", "-", data=network)
+        said = b"network: forestplay rounds ended with status 1; is there too little memory?\n"
+        self.note("a program that fails", got == (1, b"", said), got)
 
     def test_large(self):
         """A text that begins with what is no text isn't read to its end."""
