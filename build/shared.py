@@ -1,13 +1,13 @@
 """Has `rt check`, in every checkout of this user, begin with the libraries of the store.
 
-`rt check` builds the libraries below a crate, unless it finds one of the same text that another checkout built over the
-same libraries. So the store has a folder like a checkout, `checkout/crates/NAME/out/rlib`, with a second name for each
-library, and the stamp of its text. It is offered to `rt` by rt's own function, which compares the formats of all that
-is below. What the gate proves rests on none of it: it builds anew.
+`rt check` builds the libraries below a crate, unless it finds one of the same text that another checkout built over
+the same libraries. So the store has a folder like a checkout, `checkout/crates/NAME/out/rlib`, with a second name for
+each library, and the stamp of its text. It is offered to `rt` by rt's own function, which compares the formats of all
+that is below. What the gate proves rests on none of it: it builds anew.
 
-A library of the store fits those below it as the store has them. If a checkout has such a one above, and takes one below
-of the same text from another checkout, `rt check` refuses it (`unusable-built-library`): remove `crates/*/out/rlib`, and
-all come from the store again.
+A library of the store fits those below it as the store has them. If a checkout has such a one above, and takes one
+below of the same text from another checkout, `rt check` refuses it (`unusable-built-library`): remove
+`crates/*/out/rlib`, and all come from the store again.
 """
 import copy
 import os
