@@ -1,13 +1,35 @@
 """The forests and the colours of a good network text by their definitions (docs/claim/DEFINITIONS.md), slow and plain:
-what the tests compare the program with. A list over the vertices is a dictionary, and is made for all of them at
+what the tests compare the program with.
+
+A vertex is a number from 1, an identifier a number below 2^128, a forest a number from 0, and a colour a number from 0:
+the channel of the text less one. A list over the vertices is a dictionary (`Colours`), and is made for all of them at
 once."""
+from typing import Iterable, Mapping
+
+Colours = dict[int, int]
 
 
 class Network:
     """The identifier of each vertex, the set of edges, and the barred colours of some vertices; and what the
-    definitions read off these."""
+    definitions read off these.
 
-    def __init__(self, identifiers, edges, barred=None):
+    `edges` are pairs of vertices, each edge once. `neighbours[v]` are the vertices that an edge joins to v, and
+    `higher[v]` those with a higher identifier, by ascending identifier: entry f is v's parent in forest f.
+    `number[frozenset((v, w))]` is the forest of an edge. `span` is the greatest degree and the greatest number of bars
+    together: the colours of a plan are 0 to `span`."""
+
+    identifiers: dict[int, int]
+    barred: dict[int, frozenset[int]]
+    neighbours: dict[int, set[int]]
+    higher: dict[int, list[int]]
+    number: dict[frozenset[int], int]
+    greatest_degree: int
+    forest_count: int
+    greatest_bars: int
+    span: int
+
+    def __init__(self, identifiers: dict[int, int], edges: Iterable[tuple[int, int]],
+                 barred: Mapping[int, Iterable[int]] | None = None):
         self.identifiers = identifiers
         self.barred = {v: frozenset((barred or {}).get(v, ())) for v in identifiers}
         self.neighbours = {v: set() for v in identifiers}
@@ -22,16 +44,17 @@ class Network:
         self.greatest_bars = max(map(len, self.barred.values()), default=0)
         self.span = self.greatest_degree + self.greatest_bars
 
-    def parent(self, f, v):
+    def parent(self, f: int, v: int) -> int | None:
+        """The parent of v in forest f; None at a root."""
         return self.higher[v][f] if f < len(self.higher[v]) else None
 
 
-def fields_of(line):
+def fields_of(line: bytes) -> list[bytes]:
     """The fields of a line: blanks and tabs part them, and a carriage return at the end is dropped."""
     return [field for field in line.removesuffix(b"\r").replace(b"\t", b" ").split(b" ") if field]
 
 
-def network_of(text):
+def network_of(text: bytes) -> Network:
     """The network of a text without a fault; a vertex has the identifier that a line gives it, and else its number. A
     colour is a channel less one."""
     nodes, given, edges, barred = 0, {}, set(), {}
@@ -48,35 +71,37 @@ def network_of(text):
     return Network({v: given.get(v, v) for v in range(1, nodes + 1)}, edges, barred)
 
 
-def text_of(lines):
+def text_of(lines: Iterable[str]) -> bytes:
+    """The lines as a text, each with a line feed."""
     return "".join(line + "\n" for line in lines).encode()
 
 
-def forests_text(text):
+def forests_text(text: bytes) -> bytes:
     """The forests text: entry F of a vertex's higher neighbours, by ascending identifier, is its parent in forest F."""
     net = network_of(text)
     triples = sorted((f, v, w) for v, ws in net.higher.items() for f, w in enumerate(ws))
     return text_of([f"forests {len(net.neighbours)} {net.forest_count}"] + [f"{f} {v} {w}" for f, v, w in triples])
 
 
-def plan_text(text):
+def plan_text(text: bytes) -> bytes:
     """The plan text: the channel of a vertex is its colour plus one."""
     return text_of(["plan"] + [f"{v} {c + 1}" for v, c in sorted(colours(network_of(text)).items())])
 
 
-def at_parent(net, f, c, v):
+def at_parent(net: Network, f: int, c: Colours, v: int) -> int | None:
     """The parent's entry, or None at a root."""
     return c.get(net.parent(f, v))
 
 
-def digit(i, number):
+def digit(i: int, number: int) -> int:
+    """The binary digit of a number at place i; place 0 is the last one."""
     return number >> i & 1
 
 
-def bit(net, f, c):
+def bit(net: Network, f: int, c: Colours) -> Colours:
     """The bit step: twice the least place in which a vertex differs from its parent, plus its own digit there. A root's
     place is 0."""
-    def step(own, parent):
+    def step(own: int, parent: int | None) -> int:
         if parent is None:
             return digit(0, own)
         i = min(i for i in range((own ^ parent).bit_length()) if digit(i, own) != digit(i, parent))
@@ -84,22 +109,25 @@ def bit(net, f, c):
     return {v: step(c[v], at_parent(net, f, c, v)) for v in c}
 
 
-def other_than(*taken):
+def other_than(*taken: int | None) -> int:
+    """The least of 0, 1, 2 that isn't taken; at most two are."""
     return min({0, 1, 2} - set(taken))
 
 
-def shift(net, f, c):
+def shift(net: Network, f: int, c: Colours) -> Colours:
     """Each vertex has its parent's colour, and a root the least of 0, 1, 2 other than its own."""
     return {v: other_than(c[v]) if net.parent(f, v) is None else at_parent(net, f, c, v) for v in c}
 
 
-def drop(x, net, f, c, before):
-    """Each vertex of colour x has the least of 0, 1, 2 other than its colour before, and other than its parent's."""
+def drop(x: int, net: Network, f: int, c: Colours, before: Colours) -> Colours:
+    """Each vertex of colour x (3 to 5) has the least of 0, 1, 2 other than its colour before the shift, and other than
+    its parent's."""
     return {v: other_than(before[v], at_parent(net, f, c, v)) if c[v] == x else c[v] for v in c}
 
 
-def three(net, f):
-    """Four bit steps from the identifiers; then shift, and drop 5; shift, and drop 4; shift, and drop 3."""
+def three(net: Network, f: int) -> Colours:
+    """Colours 0 to 2 in forest f, with no edge of it between two alike: four bit steps from the identifiers; then
+    shift, and drop 5; shift, and drop 4; shift, and drop 3."""
     c = net.identifiers
     for _ in range(4):
         c = bit(net, f, c)
@@ -108,11 +136,12 @@ def three(net, f):
     return c
 
 
-def merge(net, f, old):
+def merge(net: Network, f: int, old: Colours) -> Colours:
+    """The merged colours after forest f, from those before it."""
     return merged(net, f, old, three(net, f))
 
 
-def merged(net, f, old, colour_in_f):
+def merged(net: Network, f: int, old: Colours, colour_in_f: Colours) -> Colours:
     """The list that its own equation gives back: each vertex has the least colour of 0 to the span that is not barred
     at it and not among those of the neighbours that it looks at. There is one such list, since these have lower pairs;
     the equation is applied until it holds."""
@@ -127,13 +156,13 @@ def merged(net, f, old, colour_in_f):
     return new
 
 
-def first_colours(net):
+def first_colours(net: Network) -> Colours:
     """The least colour of each vertex that is not barred at it."""
     return {v: min(set(range(net.span + 1)) - net.barred[v]) for v in net.neighbours}
 
 
-def colours(net):
-    """The first colours, merged for each forest in turn."""
+def colours(net: Network) -> Colours:
+    """The colours of the plan, 0 to the span: the first colours, merged for each forest in turn."""
     c = first_colours(net)
     for f in range(net.forest_count):
         c = merge(net, f, c)

@@ -2,40 +2,74 @@
 by their definitions (docs/claim/DEFINITIONS.md), slow and plain. What a caller may only do wrong (a wire that is
 refused, an event that isn't possible) raises `Refused`.
 
-A wire is a tuple: ("Payload", pulse, (kind, number)), ("Ack", pulse), ("Safe", pulse) or ("Close",)."""
-from lab.definitions.colours import other_than
+A vertex is a number from 1. Its ports are numbers from 0: port 0 goes to its neighbour with the least number. A pulse
+is a number from 0, a forest and a colour too.
+
+A payload is (kind, number), the kind being "Hello", "Label", "Colour" or "Chosen"; None stands for no payload. A wire
+is a tuple: ("Payload", pulse, (kind, number)), ("Ack", pulse), ("Safe", pulse) or ("Close",). An event is
+("Pulse", vertex, None), ("Put", vertex, port) or ("Take", vertex, port)."""
+from collections.abc import Iterator
+from dataclasses import dataclass, field
+
+from lab.definitions.colours import Network, other_than
+
+Payload = tuple[str, int]
+Slot = Payload | None
+Wire = tuple
+Event = tuple[str, int, int | None]
 
 
 class Refused(Exception):
-    pass
+    """Why an event isn't possible, in one word of docs/claim/FORMATS.md; of a wire that isn't due, which it is."""
 
 
-def ports_of(net, v):
+def ports_of(net: Network, v: int) -> list[int]:
+    """The neighbours of v, ascending: entry 0 is the one at port 0."""
     return sorted(net.neighbours[v])
 
 
-def last_pulse(net):
+def last_pulse(net: Network) -> int:
+    """The last pulse R of every node; the pulses are 0 to R."""
     return 12 + 3 * net.forest_count * (net.span + 1)
 
 
 class Colouring:
-    """A node of the colouring; on a synchronous run nothing is refused, so refusals are left out."""
+    """A node of the colouring; on a synchronous run nothing is refused, so refusals are left out.
 
-    def __init__(self, net, v):
+    `roles[port]` is ("Up", f) if the neighbour there is the node's parent in forest f, and ("Down", f) if the node is
+    the neighbour's parent there; it is None before pulse 1, and below a port of the second kind before pulse 2.
+    `colours[f]` is the node's colour in forest f, `before[f]` the one before the last shift. `merged` is its colour in
+    the forests merged so far, `old` the one before this merge, and `chosen` has what neighbours chose in this merge."""
+
+    id: int
+    degree: int
+    span: int
+    forests: int
+    barred: frozenset[int]
+    roles: list[tuple[str, int] | None]
+    colours: list[int]
+    before: list[int]
+    old: int
+    merged: int
+    chosen: set[int]
+
+    def __init__(self, net: Network, v: int):
         self.id, self.degree = net.identifiers[v], len(net.neighbours[v])
         self.span, self.forests, self.barred = net.span, net.forest_count, net.barred[v]
         self.roles = [None] * self.degree
         self.colours, self.before = [0] * self.forests, [0] * self.forests
         self.old, self.merged, self.chosen = 0, self.least_free(()), set()
 
-    def least_free(self, chosen):
+    def least_free(self, chosen) -> int:
+        """The least colour of 0 to the span that is neither barred at the node nor chosen."""
         return min(set(range(self.span + 1)) - self.barred - set(chosen))
 
-    def greet(self):
+    def greet(self) -> list[Slot]:
+        """What it sends at pulse 0, by port."""
         return [("Hello", self.id)] * self.degree
 
-    def next(self, pulse, inbox):
-        """What it sends at a pulse, by port, on what came."""
+    def next(self, pulse: int, inbox: list[Slot]) -> list[Slot]:
+        """What it sends at a pulse of 1 to R, by port, on what came by each port in the pulse before."""
         if pulse == 1:
             return self.orient(inbox)
         if pulse == 2:
@@ -44,20 +78,24 @@ class Colouring:
             return self.work(pulse, inbox)
         return self.merge(pulse - 13, inbox)
 
-    def orient(self, inbox):
+    def orient(self, inbox: list[Slot]) -> list[Slot]:
+        """Pulse 1: the higher neighbours, by ascending identifier, are the parents in forests 0, 1, 2 and so on."""
         higher = sorted(number for _, number in inbox if number > self.id)
         self.roles = [("Up", higher.index(number)) if number in higher else None for _, number in inbox]
         return [("Label", role[1]) if role else None for role in self.roles]
 
-    def seed(self, inbox):
+    def seed(self, inbox: list[Slot]) -> list[Slot]:
+        """Pulse 2: the forests of the other edges are known, and each colour is the identifier."""
         self.roles = [role or ("Down", slot[1]) for role, slot in zip(self.roles, inbox)]
         self.colours = [self.id] * self.forests
         return self.colours_sent()
 
-    def colours_sent(self):
+    def colours_sent(self) -> list[Slot]:
+        """Its colour in the edge's forest to each child."""
         return [("Colour", self.colours[f]) if way == "Down" else None for way, f in self.roles]
 
-    def work(self, pulse, inbox):
+    def work(self, pulse: int, inbox: list[Slot]) -> list[Slot]:
+        """Pulses 3 to 12: four bit steps, and then a shift and a drop for each of 5, 4 and 3."""
         parents = {f: slot[1] for (way, f), slot in zip(self.roles, inbox) if way == "Up"}
         for f, own in enumerate(self.colours):
             parent = parents.get(f)
@@ -70,7 +108,9 @@ class Colouring:
                 self.colours[f] = other_than(self.before[f], parent)
         return [None] * self.degree if pulse == 12 else self.colours_sent()
 
-    def merge(self, t, inbox):
+    def merge(self, t: int, inbox: list[Slot]) -> list[Slot]:
+        """Merge step t, from 0, so pulse 13 + t: a node whose colours are the step's pair chooses, and tells it to its
+        neighbours in the forests merged so far."""
         width = self.span + 1
         forest, step = divmod(t, 3 * width)
         if step == 0:
@@ -83,12 +123,14 @@ class Colouring:
         return [("Chosen", self.merged) if f <= forest and not is_last else None for _, f in self.roles]
 
 
-def bit_step(own, parent):
+def bit_step(own: int, parent: int | None) -> int:
+    """Twice the least place in which two numbers below 2^128 differ, plus the own digit there; at a root the place is
+    0."""
     i = 0 if parent is None else next(i for i in range(128) if (own ^ parent) >> i & 1)
     return 2 * i + (own >> i & 1)
 
 
-def synchronous_run(net):
+def synchronous_run(net: Network) -> dict[int, Colouring]:
     """The nodes after the last pulse, all pulses being made at once."""
     nodes = {v: Colouring(net, v) for v in net.neighbours}
     sent = {v: nodes[v].greet() for v in nodes}
@@ -98,21 +140,40 @@ def synchronous_run(net):
     return nodes
 
 
+@dataclass(eq=False)
 class Port:
-    def __init__(self):
-        self.waits = self.safe = self.early_safe = self.closed = False
-        self.present = self.early = None
-        self.out = []
+    """What a node keeps for one neighbour.
+
+    `waits`: the acknowledgement of its payload is still to come. `safe`, `present`: the neighbour's safe and payload of
+    this pulse, if they came; `early_safe`, `early`: those of the next pulse. `closed`: the neighbour's last wire came.
+    `out`: the wires that are to be put on the link, the first one next."""
+    waits: bool = False
+    safe: bool = False
+    early_safe: bool = False
+    closed: bool = False
+    present: Slot = None
+    early: Slot = None
+    out: list[Wire] = field(default_factory=list)
 
 
 class AlphaNode:
-    def __init__(self, net, v):
+    """A node of the colouring under synchroniser alpha: `pulse_number` is 0 to `last`, and `said` means that it has
+    said safe for this pulse."""
+
+    program: Colouring
+    last: int
+    ports: list[Port]
+    pulse_number: int
+    said: bool
+
+    def __init__(self, net: Network, v: int):
         self.program, self.last = Colouring(net, v), last_pulse(net)
         self.ports = [Port() for _ in net.neighbours[v]]
         self.pulse_number, self.said = 0, False
         self.enter(self.program.greet())
 
-    def enter(self, sent):
+    def enter(self, sent: list[Slot]):
+        """It begins a pulse: its payloads, or at the last pulse the closing marks, are to be put."""
         for port, payload in zip(self.ports, sent):
             if self.pulse_number == self.last:
                 port.out.append(("Close",))
@@ -122,23 +183,28 @@ class AlphaNode:
         self.settle()
 
     def settle(self):
+        """Without an acknowledgement still to come, it says safe to all neighbours."""
         if self.pulse_number < self.last and not any(port.waits for port in self.ports):
             self.said = True
             for port in self.ports:
                 port.out.append(("Safe", self.pulse_number))
 
-    def can_take(self):
+    def can_take(self) -> bool:
+        """Whether there is room for an answer to whatever comes."""
         return all(len(port.out) <= 3 for port in self.ports)
 
-    def can_pulse(self):
+    def can_pulse(self) -> bool:
+        """Whether it may begin its next pulse: it has said safe, and all neighbours have."""
         return (
             self.pulse_number != self.last and self.said and all(port.safe for port in self.ports) and self.can_take()
         )
 
-    def drained(self):
+    def drained(self) -> bool:
+        """Whether it is through with everything."""
         return self.pulse_number == self.last and all(port.closed and not port.out for port in self.ports)
 
     def pulse(self):
+        """It begins its next pulse."""
         if not self.can_pulse():
             raise Refused("NotReady")
         sent = self.program.next(self.pulse_number + 1, [port.present for port in self.ports])
@@ -148,8 +214,9 @@ class AlphaNode:
             port.safe, port.early_safe = port.early_safe, False
         self.enter(sent)
 
-    def on_wire(self, at, wire):
-        """The 36 cells, as one condition for each kind of wire; which refusal it is isn't said."""
+    def on_wire(self, at: int, wire: Wire):
+        """It takes a wire by a port. The 36 cells, as one condition for each kind of wire; which
+        refusal it is isn't said."""
         port, p = self.ports[at], self.pulse_number
         expected = p + port.safe + port.early_safe
         paid = port.present is not None and expected == p or port.early is not None and expected == p + 1
@@ -181,18 +248,23 @@ class AlphaNode:
 class NetState:
     """Every node at its start; `link[v, port]` holds what was put on the link out of v by that port and not taken."""
 
-    def __init__(self, net):
+    neighbours: dict[int, list[int]]
+    port_to: dict[tuple[int, int], int]
+    nodes: dict[int, AlphaNode]
+    link: dict[tuple[int, int], list[Wire]]
+
+    def __init__(self, net: Network):
         self.neighbours = {v: ports_of(net, v) for v in net.neighbours}
         self.port_to = {(v, w): port for v, ws in self.neighbours.items() for port, w in enumerate(ws)}
         self.nodes = {v: AlphaNode(net, v) for v in net.neighbours}
         self.link = {(v, port): [] for (v, _), port in self.port_to.items()}
 
-    def link_to(self, v, port):
+    def link_to(self, v: int, port: int) -> list[Wire]:
         """What the link holds that comes to v by that port."""
         w = self.neighbours[v][port]
         return self.link[w, self.port_to[w, v]]
 
-    def carried(self, kind, v, port=None):
+    def carried(self, kind: str, v: int, port: int | None = None) -> int | Wire:
         """What an event carries that is possible now: the number of the pulse, or the wire that is put or taken."""
         if v not in self.nodes or port is not None and port >= len(self.nodes[v].ports):
             raise Refused("NoSuch")
@@ -206,8 +278,8 @@ class NetState:
             raise Refused("NothingToPut" if kind == "Put" else "LinkEmpty")
         return wires[0]
 
-    def step(self, kind, v, port=None):
-        """An event; returns the wire that was put or taken."""
+    def step(self, kind: str, v: int, port: int | None = None) -> Wire | None:
+        """Makes an event that is possible; returns the wire that was put or taken."""
         wire = self.carried(kind, v, port)
         if kind == "Pulse":
             return self.nodes[v].pulse()
@@ -218,12 +290,13 @@ class NetState:
             self.link_to(v, port).pop(0)
         return wire
 
-    def possible(self):
+    def possible(self) -> Iterator[Event]:
         """All events that are possible now."""
         for v in self.nodes:
             yield from self.possible_at(v)
 
-    def possible_at(self, v):
+    def possible_at(self, v: int) -> Iterator[Event]:
+        """Those at v."""
         if self.nodes[v].can_pulse():
             yield "Pulse", v, None
         for port, other in enumerate(self.nodes[v].ports):
@@ -233,12 +306,12 @@ class NetState:
                 yield "Take", v, port
 
 
-def named(names):
+def named(names: list[int]) -> str:
     """`2`, `2 and 3`, `2, 3 and 5`."""
     return ", ".join(map(str, names[:-1])) + " and " * (len(names) > 1) + str(names[-1])
 
 
-def missing_words(state, kind, v, port=None):
+def missing_words(state: NetState, kind: str, v: int, port: int | None = None) -> str:
     """What stands behind the line of an event that isn't possible: the wires of the pulse that are still to come, or
     the out-list or the link that is empty."""
     if v not in state.nodes or port is not None and port >= len(state.nodes[v].ports):
@@ -253,8 +326,8 @@ def missing_words(state, kind, v, port=None):
     return ": " + "; ".join(f"{word} {node.pulse_number} of {named(names)}" for word, names in lacks if names)
 
 
-def event_of(state, entry):
-    """The event of an entry of a transcript."""
+def event_of(state: NetState, entry) -> tuple:
+    """The event of an entry of a transcript (an `Entry` of lab/transcripts/reading.py)."""
     if entry.kind == "Pulse":
         return entry.kind, entry.vertex
     if (entry.vertex, entry.neighbour) not in state.port_to:
@@ -262,7 +335,7 @@ def event_of(state, entry):
     return entry.kind, entry.vertex, state.port_to[entry.vertex, entry.neighbour]
 
 
-def entry_words(state, entry, refused):
+def entry_words(state: NetState, entry, refused: Refused) -> str:
     """What stands behind the line of a refused entry: what its event lacks, or the pulse or wire to which its event
     comes."""
     if str(refused) == "NoSuch":
@@ -274,7 +347,7 @@ def entry_words(state, entry, refused):
     return f": expected pulse {due}" if entry.kind == "Pulse" else f": expected {wire_words(due)}"
 
 
-def make(state, entry):
+def make(state: NetState, entry):
     """The event of an entry of a transcript, if it is possible with what the entry says; otherwise nothing is
     changed."""
     event = event_of(state, entry)
@@ -283,14 +356,15 @@ def make(state, entry):
     state.step(*event)
 
 
-def wire_words(wire):
+def wire_words(wire: Wire) -> str:
     """A wire as the texts of states and transcripts have it."""
     if wire[0] == "Payload":
         return f"payload {wire[1]} {wire[2][0].lower()} {wire[2][1]}"
     return " ".join(map(str, wire)).lower()
 
 
-def text_of_wire(wire):
+def text_of_wire(wire: Wire) -> str:
+    """A wire as DEFINITIONS writes it."""
     if wire[0] == "Payload":
         return f"Payload({wire[1]}, {wire[2][0]}({wire[2][1]}))"
     return f"{wire[0]}({wire[1]})" if len(wire) > 1 else wire[0]

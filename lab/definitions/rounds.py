@@ -1,39 +1,45 @@
 """The text of `forestplay rounds` by the definitions (docs/claim/DEFINITIONS.md, docs/claim/FORMATS.md), slow and
 plain: from lists over the vertices, as lab/definitions/colours.py has them, and without a node that keeps anything.
-`made_text` is the same text from the nodes of lab/definitions/nodes.py."""
-from lab.definitions.colours import bit, drop, first_colours, merge, shift, text_of
+`made_text` is the same text from the nodes of lab/definitions/nodes.py.
+
+A pulse p is 0 to R, a vertex v from 1, a forest f and a colour from 0."""
+from collections.abc import Iterator
+
+from lab.definitions.colours import Colours, Network, bit, drop, first_colours, merge, shift, text_of
 from lab.definitions.nodes import Colouring, last_pulse, ports_of
 
 FIRST_MERGE = 13
 WORK_NAMES = ["step"] * 4 + ["shift", "drop"] * 3
 
 
-def rounds_text(net):
+def rounds_text(net: Network) -> bytes:
     """The text of a network; its identifiers may be any numbers that differ."""
     return text_of(head_of(net) + [line for p in range(last_pulse(net) + 1) for line in pulse_lines(net, p)])
 
 
-def head_of(net):
-    """Edition 1, and edition 2 if a channel is barred."""
+def head_of(net: Network) -> list[str]:
+    """The first line. Edition 1, and edition 2 if a channel is barred."""
     sizes = [1, len(net.neighbours), net.greatest_degree, net.forest_count, last_pulse(net)]
     if net.greatest_bars:
         sizes[:3] = [2, *sizes[1:3], net.greatest_bars]
     return ["rounds " + " ".join(map(str, sizes))]
 
 
-def phase_words(net, p):
+def phase_words(net: Network, p: int) -> str:
+    """What pulse p is for."""
     if p < FIRST_MERGE:
         return (["greet", "orient", "seed"] + WORK_NAMES)[p]
     return "merge {} {} {}".format(*merge_step(net, p))
 
 
-def merge_step(net, p):
-    """Forest, three-colour and old colour of a merge pulse."""
+def merge_step(net: Network, p: int) -> tuple[int, int, int]:
+    """Forest, three-colour (0 to 2) and old colour (0 to the span) of a merge pulse, 13 to R."""
     forest, step = divmod(p - FIRST_MERGE, 3 * (net.span + 1))
     return forest, *divmod(step, net.span + 1)
 
 
-def pulse_lines(net, p):
+def pulse_lines(net: Network, p: int) -> list[str]:
+    """The line of pulse p, and those of each vertex after it."""
     facts = Facts.of(net)
     lines = [f"pulse {p} {phase_words(net, p)}"]
     for v in sorted(net.neighbours):
@@ -43,9 +49,14 @@ def pulse_lines(net, p):
 
 
 class Facts:
-    """Of each forest the colours after each pulse, and before and after each merge the merged colours."""
+    """Of each forest the colours after each pulse, and before and after each merge the merged colours: `colours[f][p]`
+    for p from 2 to 12, and `merged[f]` after the merges of the forests below f."""
 
-    def __init__(self, net):
+    net: Network
+    colours: list[dict[int, Colours]]
+    merged: list[Colours]
+
+    def __init__(self, net: Network):
         self.net = net
         self.colours = [self.colours_of(f) for f in range(net.forest_count)]
         self.merged = [first_colours(net)]
@@ -53,12 +64,13 @@ class Facts:
             self.merged.append(merge(net, f, self.merged[f]))
 
     @staticmethod
-    def of(net):
+    def of(net: Network) -> "Facts":
+        """The facts of a network, which are worked out once."""
         if not hasattr(net, "facts"):
             net.facts = Facts(net)
         return net.facts
 
-    def colours_of(self, f):
+    def colours_of(self, f: int) -> dict[int, Colours]:
         """By pulse, from 2: the identifiers, four bit steps, then a shift and a drop for 5, 4 and 3."""
         lists = [self.net.identifiers]
         for _ in range(4):
@@ -68,22 +80,24 @@ class Facts:
             lists.append(drop(x, self.net, f, lists[-1], lists[-2]))
         return dict(enumerate(lists, 2))
 
-    def chooses(self, p, v):
+    def chooses(self, p: int, v: int) -> bool:
         """Whether v chooses at a pulse: its three-colour and its old colour are the pair of the merge step."""
         if p < FIRST_MERGE:
             return False
         f, three, old = merge_step(self.net, p)
         return (self.colours[f][12][v], self.merged[f][v]) == (three, old)
 
-    def choice(self, p, v):
+    def choice(self, p: int, v: int) -> int:
+        """The colour that v has after the merge of pulse p's forest."""
         return self.merged[merge_step(self.net, p)[0] + 1][v]
 
-    def own_lines(self, p, v):
+    def own_lines(self, p: int, v: int) -> list[str]:
+        """What v is after pulse p, as far as it changes."""
         if 2 <= p < FIRST_MERGE:
             return [f"{v} colour {f} {self.colours[f][p][v]}" for f in range(self.net.forest_count)]
         return [f"{v} chose {self.choice(p, v)}"] if self.chooses(p, v) else []
 
-    def sent(self, p, v):
+    def sent(self, p: int, v: int) -> Iterator[tuple[int, str, int]]:
         """(neighbour, word, number): all hear the identifier; parents the forest; children the colour; and who is a
         neighbour in the forests merged so far the choice, but at the last step of a forest."""
         for w in sorted(self.net.neighbours[v]):
@@ -97,11 +111,12 @@ class Facts:
             elif self.chooses(p, v) and f <= merge_step(self.net, p)[0] and not self.is_last_step(p):
                 yield w, "chosen", self.choice(p, v)
 
-    def is_last_step(self, p):
+    def is_last_step(self, p: int) -> bool:
+        """Whether p is the last pulse of a merge."""
         return merge_step(self.net, p)[1:] == (2, self.net.span)
 
 
-def made_text(net):
+def made_text(net: Network) -> bytes:
     """The same text from nodes that hear and send, pulse by pulse."""
     nodes = {v: Colouring(net, v) for v in net.neighbours}
     sent = {v: nodes[v].greet() for v in nodes}
@@ -118,7 +133,8 @@ def made_text(net):
     return text_of(lines)
 
 
-def state_lines(net, p, v, node):
+def state_lines(net: Network, p: int, v: int, node: Colouring) -> list[str]:
+    """The lines of a node after pulse p."""
     if p < 2:
         return []
     if p < FIRST_MERGE:
