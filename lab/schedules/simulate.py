@@ -1,0 +1,179 @@
+"""The door: `bin/simulate NETWORK [options]`. Plays a run without a clock by a seed, step by step, on the slow
+definitions (lab/definitions/nodes.py), and writes its transcript, or one line on standard error."""
+import argparse
+import sys
+from collections import deque
+
+from lab.definitions.nodes import NetState, wire_words
+from lab.schedules.policies import POLICIES, Step, policy_of
+from lab.schedules.reading import network_at
+from lab.transcripts.stamps import Clock
+from lab.wrong import Wrong
+
+HABITS = {
+    "random": "any step that is possible, each as likely as any other",
+    "slow-link": "what goes over one edge, in either direction, waits",
+    "slow-node": "what one node does waits",
+    "fast-node": "what one node does comes first",
+    "bursts": "one link until nothing is possible on it, then another",
+    "newest": "the link that was put on last",
+    "oldest": "the step that has been possible for longest: the friendliest order",
+    "in-turn": "each link in turn",
+    "late-acks": "acknowledgements wait",
+    "late-safes": "safes wait",
+}
+HELP = """\
+Writes the transcript of a run without a clock that no thread made: step by step, a
+policy chooses what happens next among all that is possible. The same network, policy
+and seed give the same run on every machine.
+
+A step is a put, a take or a pulse of one node. What waits comes when nothing else is
+possible, so it is as slow as it can be.
+"""
+MORE_HELP = f"""\
+The policies; those that choose an edge or a node choose it by the seed:
+{chr(10).join(f"  {name:<12}{habit}" for name, habit in HABITS.items())}
+
+The transcript is of edition 2, as `forestplan transcript` writes it, so that
+bin/check-transcript, bin/picture and `bin/forestplay replay` read it. NETWORK is a file in
+the DIMACS format, or - for standard input. 4,500 entries (petersen) take half a second,
+and half a million one to several minutes.
+
+This is Python over slow definitions, written from the project's pages. It is tested,
+and not proved. `forestplay replay`, which is, accepts what it writes.
+
+Status: 0 done, 1 the network can't be read or a slow edge is none of it (one line on
+standard error says why), 2 the command line is refused.
+
+Examples:
+  bin/simulate examples/chain6.col --slow 2-3 --seed 7 > slow.transcript
+  bin/picture run examples/chain6.col --transcript slow.transcript > slow.svg
+  (cat examples/chain6.col; cat slow.transcript) | bin/forestplay replay
+"""
+
+
+class Held:
+    """A policy, beside which the steps on slow edges and of lazy nodes wait until no other is possible."""
+
+    def __init__(self, policy, slow=(), lazy=()):
+        self.policy, self.slow, self.lazy = policy, {tuple(sorted(edge)) for edge in slow}, set(lazy)
+
+    def waits(self, step):
+        return step.node in self.lazy or tuple(sorted(step.link)) in self.slow
+
+    def choose(self, steps):
+        return self.policy.choose([step for step in steps if not self.waits(step)] or steps)
+
+
+class Player:
+    """A run on its way. `steps[v]` are the steps that are possible at v; beside each list of wires stands when each was
+    added to it, by the number of steps made."""
+
+    def __init__(self, net):
+        self.state, self.now, self.rows = NetState(net), 0, []
+        self.clock = Clock(net.neighbours)
+        links = list(self.state.link)
+        self.out_since, self.link_since = {at: deque() for at in links}, {at: deque() for at in links}
+        self.pulse_since = {}
+        self.steps = {}
+        for v in sorted(self.state.nodes):
+            self.look_at(v)
+
+    def look_at(self, v):
+        """What is possible at v now."""
+        node, found = self.state.nodes[v], []
+        if node.can_pulse():
+            found.append(Step("pulse", v, since=self.pulse_since.setdefault(v, self.now)))
+            found[-1].latest = found[-1].since
+        else:
+            self.pulse_since.pop(v, None)
+        for port, w in enumerate(self.state.neighbours[v]):
+            out, since = node.ports[port].out, self.out_since[v, port]
+            since.extend([self.now] * (len(out) - len(since)))
+            if out:
+                found.append(Step("put", v, w, out[0][0].lower(), since[0], since[0]))
+            wires, since = self.state.link_to(v, port), self.link_since[w, self.state.port_to[w, v]]
+            if wires:
+                found.append(Step("take", v, w, wires[0][0].lower(), since[0], since[-1]))
+        self.steps[v] = found
+
+    def make(self, step):
+        """One of the steps; adds its row (stamp, vertex, line)."""
+        self.now += 1
+        v, w, kind = step.node, step.neighbour, step.kind.title()
+        port = self.state.port_to[v, w] if w else None
+        wire = self.state.step(kind, v, port)
+        words = f"{v} pulse {self.state.nodes[v].pulse_number}" if not w else f"{v} {step.kind} {w} {wire_words(wire)}"
+        if step.kind == "put":
+            self.out_since[v, port].popleft()
+            self.link_since[v, port].append(self.now)
+        elif step.kind == "take":
+            self.link_since[w, self.state.port_to[w, v]].popleft()
+        self.rows.append((self.clock.next(kind, v, w), v, words))
+        self.look_at(v)
+        if step.kind == "put":
+            self.look_at(w)
+
+    def play(self, policy):
+        """Goes on until nothing is possible."""
+        while steps := [step for own in self.steps.values() for step in own]:
+            self.make(policy.choose(steps))
+
+
+def edges_of(net):
+    return sorted(tuple(sorted(edge)) for edge in net.number)
+
+
+def played(net, policy="random", seed="1", slow=(), lazy=()):
+    """The rows (stamp, vertex, line) of a run of a network of the definitions, in the order in which they were made."""
+    player, chooser = Player(net), policy_of(policy, sorted(net.neighbours), edges_of(net), seed)
+    player.play(Held(chooser, slow, lazy) if slow or lazy else chooser)
+    return player.rows
+
+
+def text_of_rows(nodes, rows):
+    """The transcript of edition 2: its lines by stamp, and those of one stamp by node."""
+    lines = [f"{stamp} {line}" for stamp, _, line in sorted(rows, key=lambda row: row[:2])]
+    return "".join(line + "\n" for line in [f"transcript 2 {nodes}", *lines])
+
+
+def edge(text):
+    v, dash, w = text.partition("-")
+    if not dash or not all(word.isascii() and word.isdigit() for word in (v, w)):
+        raise argparse.ArgumentTypeError("two neighbours, as 2-3")
+    return int(v), int(w)
+
+
+def command_line():
+    words = argparse.ArgumentParser(prog="simulate", usage="simulate NETWORK [options]", description=HELP,
+                                    epilog=MORE_HELP, formatter_class=argparse.RawDescriptionHelpFormatter)
+    words.add_argument("network", metavar="NETWORK", help="the network's file, or - for standard input")
+    words.add_argument("--seed", default="1", metavar="N", help="any word or number; 1 if none is given")
+    words.add_argument("--policy", choices=POLICIES, default="random", metavar="NAME", help="one of those below (random)")
+    words.add_argument("--slow", type=edge, action="append", default=[], metavar="V-W",
+                       help="what goes over this edge waits, whatever the policy is; may be given again")
+    words.add_argument("--lazy", type=int, action="append", default=[], metavar="V",
+                       help="what this node does waits, whatever the policy is; may be given again")
+    return words
+
+
+def main(words):
+    given = command_line().parse_args(words)
+    try:
+        name, net = network_at(given.network)
+        for v, w in given.slow:
+            if frozenset((v, w)) not in net.number:
+                raise Wrong(f"{name} has no edge {v}-{w}")
+        for v in given.lazy:
+            if v not in net.neighbours:
+                raise Wrong(f"{name} has no node {v}: its nodes are 1 to {len(net.neighbours)}")
+    except Wrong as why:
+        print(f"simulate: {why}", file=sys.stderr)
+        return 1
+    rows = played(net, given.policy, given.seed, given.slow, given.lazy)
+    sys.stdout.buffer.write(text_of_rows(len(net.neighbours), rows).encode())
+    return 0
+
+
+if __name__ == "__main__":
+    sys.exit(main(sys.argv[1:]))
