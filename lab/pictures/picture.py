@@ -11,7 +11,7 @@ from lab.networks.plan_text import read_plan
 from lab.pictures import (
     adversary_page, automaton_picture, bits_picture, broken_picture, forests_picture, matrix_picture,
     overview_picture, plan_picture, player_page, rounds_picture, run_picture, schedules_picture, schedules_space,
-    tally_picture, timing_picture,
+    tally_picture, timing_picture, watch_page,
 )
 from lab.pictures.places import note
 from lab.pictures.rounds import read_rounds
@@ -34,6 +34,7 @@ draw what `bin/explore` searches.
   node       the synchroniser as an automaton; with --vertex its timing
   tally      the wires of a run by pulse
   player     a page that plays the pulses (HTML)
+  watch      a page that plays a run, or two side by side: messages move (HTML)
   schedules  every order of events of a tiny network, as a lattice
   adversary  a page on which you choose what happens next (HTML)
   broken     what the rounds do without a rule, beside what they do with all
@@ -115,6 +116,16 @@ KINDS = {
         "Add #pulse-P to the page's address for a link to pulse P, and #pulse-P-forest-F for\n"
         "one of its forests. With --frame N, frame N alone as SVG.",
         "bin/picture player examples/petersen.col > petersen.html",
+    ),
+    "watch": (
+        "A page that plays a run without a clock: messages move, and each node shows what it waits for.",
+        "At most 40 nodes, and 20,000 entries: of a longer run the first pulses, or others with\n"
+        "--pulses. TRANSCRIPT is a stored text, or - for standard input; without it the program\n"
+        "writes one. With a second one both are beside each other, pulse by pulse. Add\n"
+        "#pulse-P to the page's address for a link to pulse P.",
+        "bin/simulate examples/chain6.col --slow 2-3 > slow.transcript\n"
+        "  bin/picture watch examples/chain6.col slow.transcript > slow.html\n"
+        "  bin/picture watch examples/chain6.col slow.transcript examples/chain6_slow.transcript > two.html",
     ),
     "schedules": (
         "Every order of events of a tiny network: its states as a lattice, one column an event.",
@@ -202,6 +213,9 @@ def add_options(kind, name):
     """A stored text in place of the program's, and what the kind can be told."""
     if name in OF_SPACE:
         return add_space_options(kind, name)
+    if name == "watch":
+        kind.add_argument("transcripts", metavar="TRANSCRIPT", nargs="*", help="a stored run, or two of them")
+        return kind.add_argument("--pulses", type=pulses, metavar="A..B", help="these pulses alone")
     if name == "broken":
         return kind.add_argument("--without", type=rules_of_rounds, required=True, metavar="RULES",
                                  help=f"some of {','.join(RULES_OF_ROUNDS)}")
@@ -282,6 +296,8 @@ def drawn(given):
     """The picture of a kind."""
     if given.kind == "broken":
         return drawn_broken(given)
+    if given.kind == "watch":
+        return drawn_watch(given)
     if given.kind not in OF_SPACE and given.network == stored(given) == "-":
         raise Wrong("standard input has one text: name a file for the network or for the other text")
     network_text = file_text(given.network)
@@ -316,6 +332,26 @@ def until_of(given, network):
     if given.kind == "overview":
         return overview_picture.usual(last)[1]
     return (automaton_picture.usual(network, last) if given.vertex is None else timing_picture.usual(last))[1]
+
+
+def drawn_watch(given):
+    files = given.transcripts
+    if len(files) > 2:
+        raise Wrong("a page has room for two runs")
+    if [given.network, *files].count("-") > 1:
+        raise Wrong("standard input has one text: name a file for each other one")
+    network_text = file_text(given.network)
+    network = read_network(network_text, "standard input" if given.network == "-" else given.network)
+    check_size(given.kind, network)
+    if not files:
+        if check_run(given.kind, network):
+            note(f"a run of {network.name} has more than {least_wires(network):,} wires, so its text takes a while")
+        text = programs.text_of("forestplan", ["transcript"], network_text.encode())
+        return watch_page.draw([watch_page.Run(network.name, network, text, given.pulses)])
+    names = ["standard input" if file == "-" else file for file in files]
+    return watch_page.draw([
+        watch_page.Run(name, network, file_text(file), given.pulses) for name, file in zip(names, files)
+    ])
 
 
 def drawn_broken(given):

@@ -9,6 +9,7 @@ NODES = {
     "run": (12, "overview"),
     "overview": (100, "tally"),
     "player": (40, "rounds"),
+    "watch": (40, "overview"),
     "schedules": (4, "run, which draws one schedule"),
     "adversary": (4, "player"),
     "broken": (2000, "`bin/explore NETWORK --without RULES`, which says it in words"),

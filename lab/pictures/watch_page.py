@@ -1,0 +1,282 @@
+"""The page on which a run without a clock is watched: wires move on their edges, and each node shows its pulse, what it
+waits for, what it keeps, and its channel. One run, or two of one network side by side.
+
+The page has no algorithm in it: what a node is after each entry is worked out here, by the slow definitions
+(lab/definitions/nodes.py), and written into the page as rows. The page itself is watch_page.html."""
+import json
+import os
+import re
+
+from lab.definitions.nodes import NetState, Refused, entry_words, make, wire_words
+from lab.pictures.marks import label_boxes, label_margin, label_of
+from lab.pictures.palette import WIRES, channel_hue, is_ring, text_on
+from lab.pictures.places import bends, label_places, middle, moved, places_of, spaced
+from lab.pictures.svg import escaped, shown
+from lab.schedules.reading import network_of
+from lab.transcripts.check import find_order
+from lab.transcripts.reading import Wrong as WrongEntry, read, words
+from lab.transcripts.stamps import Clock
+from lab.wrong import Wrong
+
+PAGE = os.path.join(os.path.dirname(os.path.abspath(__file__)), "watch_page.html")
+MOST_ENTRIES = 20_000
+# In pixels; two nodes are at least APART radii from each other, so that there is room for a message between them.
+SIZE, MARGIN, RADIUS, LEAST, LABEL, APART = 600, 74, 24, 9, 12, 4.5
+ORDER = ("The order is one of those that are possible, not that of real time: a stamp is Lamport’s clock, "
+         "and it only says that a node’s own steps, and a take after its put, come one after the other.")
+
+
+class Moment:
+    """An entry of the part that is shown: its stamp, its node, the node's state after it, its words, and the pulse
+    during which it was made; `kind` is pulse, put or take."""
+
+    def __init__(self, entry, stamp, state, during):
+        self.stamp, self.vertex, self.state, self.during = stamp, entry.vertex, state, during
+        self.kind, self.words = entry.kind.lower(), step_words(entry)
+
+
+class Flight:
+    """A wire: between which entries it is on its link, None if before or after those that are shown."""
+
+    def __init__(self, entry, stamp, at):
+        self.start, self.end, self.wire = entry.vertex, entry.neighbour, entry.what
+        self.put_at, self.put_stamp, self.take_at, self.take_stamp = at, stamp, None, None
+
+
+def step_words(entry):
+    """What an entry says of its node."""
+    if entry.kind == "Pulse":
+        return f"makes pulse {entry.what}"
+    way = "for" if entry.kind == "Put" else "from"
+    return f"{entry.kind.lower()}s {wire_words(entry.what)} {way} {entry.neighbour}"
+
+
+def look_of(state, v):
+    """What is shown of a node: its pulse; of whom it awaits which wire; what it has taken for its next pulse, and what
+    came a pulse early; and its channel, once it has chosen one."""
+    node, near = state.nodes[v], state.neighbours[v]
+    p, ports = node.pulse_number, list(zip(near, node.ports))
+    if node.drained():
+        waits = []
+    elif p == node.last:
+        waits = [("close", w) for w, port in ports if not port.closed]
+    else:
+        waits = [("ack", w) for w, port in ports if port.waits] + [("safe", w) for w, port in ports if not port.safe]
+    has = [(payload_words(port.present), w) for w, port in ports if port.present]
+    early = [(payload_words(port.early), w) for w, port in ports if port.early]
+    early += [("safe", w) for w, port in ports if port.early_safe]
+    return {"p": p, "s": int(node.said), "e": int(node.drained()), "w": waits, "h": has, "k": early,
+            "c": node.program.merged + 1 if has_chosen(node) else 0}
+
+
+def payload_words(payload):
+    return f"{payload[0].lower()} {payload[1]}"
+
+
+def has_chosen(node):
+    """Whether the node has chosen in the first merge: its turn there is over, or nothing is merged."""
+    program, p = node.program, node.pulse_number
+    if program.forests == 0:
+        return p == node.last
+    width = program.span + 1
+    first = program.least_free(())
+    return p >= 13 + program.colours[0] * width + first
+
+
+class Run:
+    """The entries of a transcript that are shown, the wires among them, and the nodes before the first one."""
+
+    def __init__(self, name, network, text, pulses=None):
+        self.name, self.network, self.net = name, network, network_of(network)
+        self.moments, self.flights, self.at_pulse = [], [], {v: {0: 0} for v in network.vertices}
+        self.last_stamp, self.is_cut = 0, False
+        self.read(text, pulses)
+
+    def read(self, text, pulses):
+        state, clock = NetState(self.net), Clock(self.net.neighbours)
+        self.last = state.nodes[1].last
+        self.start = {v: look_of(state, v) for v in self.net.neighbours}
+        every = []
+        for entry in self.ordered(text):
+            try:
+                make(state, entry)
+            except Refused as refused:
+                said = words(entry) + entry_words(state, entry, refused)
+                raise Wrong(f"{self.name} line {entry.line}: {said} ({refused})") from None
+            stamp = clock.next(entry.kind, entry.vertex, entry.neighbour)
+            if entry.stamp not in (None, stamp):
+                raise Wrong(f"{self.name} line {entry.line}: stamp {entry.stamp}, but the clock of node {entry.vertex} "
+                            f"gives {stamp} there (WrongStamp)")
+            during = state.nodes[entry.vertex].pulse_number
+            every.append((entry, stamp, during, look_of(state, entry.vertex)))
+            if entry.kind == "Pulse":
+                self.at_pulse[entry.vertex][entry.what] = stamp
+            if not pulses and len(every) > MOST_ENTRIES + 1 or pulses and self.all_beyond(pulses[1]):
+                break
+        self.is_whole = all(node.drained() for node in state.nodes.values())
+        self.cut(every, pulses)
+
+    def all_beyond(self, pulse):
+        return all(pulse + 1 in reached for reached in self.at_pulse.values())
+
+    def ordered(self, text):
+        """The entries in an order that is a run: as they stand in edition 2, and else as one is found."""
+        try:
+            head, entries = read(text.encode())
+        except WrongEntry as why:
+            raise Wrong(f"{self.name} {why}") from None
+        if head.nodes != self.network.nodes:
+            raise Wrong(f"{self.name} line {head.line}: {head.nodes} nodes, and {self.network.name} has "
+                        f"{self.network.nodes} (Nodes)")
+        if head.edition == 2:
+            return entries
+        found = find_order(self.net, entries)
+        if found.left:
+            first = min((left[-1] for left in found.left.values()), key=lambda entry: entry.line)
+            raise Wrong(f"{self.name} line {first.line}: {words(first)}, which can't come in any order "
+                        "(bin/check-transcript says more)")
+        clock = Clock(self.net.neighbours)
+        rows = [(clock.next(entry.kind, entry.vertex, entry.neighbour), entry.vertex, at, entry)
+                for at, entry in enumerate(found.made)]
+        return [entry for *_, entry in sorted(rows, key=lambda row: row[:3])]
+
+    def cut(self, every, pulses):
+        """Keeps the entries from where a first node begins the first pulse to where the last one ends the last."""
+        reached = min(max(during) for during in self.at_pulse.values())
+        if pulses and pulses[1] > min(self.last, reached):
+            raise Wrong(f"{self.name}: pulses {pulses[0]} to {pulses[1]} are not among 0 to {min(self.last, reached)}")
+        if not pulses and len(every) > MOST_ENTRIES:
+            every.pop()
+            pulses = 0, reached - 1
+            if reached == 0:
+                raise Wrong(f"{self.name}: not one pulse fits into {MOST_ENTRIES:,} entries")
+        self.pulses = pulses or (0, min(self.last, max(max(during) for during in self.at_pulse.values())))
+        self.is_cut = pulses is not None and pulses != (0, self.last)
+        shown_ = [at for at, (_, _, during, _) in enumerate(every)
+                  if self.pulses[0] <= during <= self.pulses[1]]
+        first, end = (shown_[0], shown_[-1] + 1) if shown_ else (0, 0)
+        if end - first > MOST_ENTRIES:
+            raise Wrong(f"{self.name}: pulses {self.pulses[0]} to {self.pulses[1]} have {end - first:,} entries, and a "
+                        f"page shows at most {MOST_ENTRIES:,}: name fewer with --pulses")
+        flying = {}
+        for at, (entry, stamp, during, look) in enumerate(every[:end]):
+            if entry.kind == "Put":
+                flight = Flight(entry, stamp, at - first)
+                self.flights.append(flight)
+                flying.setdefault((entry.vertex, entry.neighbour), []).append(flight)
+            elif entry.kind == "Take":
+                flight = flying[entry.neighbour, entry.vertex].pop(0)
+                flight.take_at, flight.take_stamp = at - first, stamp
+            if at < first:
+                self.start[entry.vertex] = look
+            else:
+                self.moments.append(Moment(entry, stamp, look, during))
+        self.flights = [flight for flight in self.flights if flight.take_at is None or flight.take_at >= 0]
+        self.first_stamp = self.moments[0].stamp - 1 if self.moments else 0
+        self.last_stamp = self.moments[-1].stamp if self.moments else 0
+
+    def payloads(self, pulse):
+        """What was put in a pulse, in words, in one order for all runs."""
+        return sorted((flight.start, flight.end, payload_words(flight.wire[2])) for flight in self.flights
+                      if flight.wire[0] == "Payload" and flight.wire[1] == pulse)
+
+    def table(self):
+        """The rows that the page follows; what comes again and again has a number."""
+        looks, texts = Numbers(), Numbers()
+        rows = [[moment.stamp, moment.vertex, looks.of(json.dumps(moment.state)), texts.of(moment.words)]
+                for moment in self.moments]
+        wires = [[flight.start, flight.end, texts.of(wire_words(flight.wire)), flight.put_at, flight.put_stamp,
+                  flight.take_at, flight.take_stamp] for flight in self.flights]
+        return {
+            "name": self.name,
+            "start": [self.start[v] for v in self.network.vertices],
+            "looks": [json.loads(look) for look in looks.listed],
+            "texts": texts.listed,
+            "rows": rows,
+            "wires": wires,
+            "stamps": [self.first_stamp, self.last_stamp],
+            "all": [self.all_at(pulse) for pulse in range(self.pulses[0], self.pulses[1] + 1)],
+        }
+
+    def all_at(self, pulse):
+        """The stamp from which on all nodes have made a pulse, as far as it is shown."""
+        stamps = [reached.get(pulse, self.last_stamp) for reached in self.at_pulse.values()]
+        return min(max([*stamps, self.first_stamp]), self.last_stamp)
+
+
+class Numbers:
+    """A list without repetitions, and the place of each member."""
+
+    def __init__(self):
+        self.listed, self.place = [], {}
+
+    def of(self, member):
+        if member not in self.place:
+            self.place[member] = len(self.listed)
+            self.listed.append(member)
+        return self.place[member]
+
+
+def draw(runs, title=None):
+    """The page of one run, or of two of one network."""
+    network, first = runs[0].network, runs[0]
+    pulses = max(run.pulses[0] for run in runs), min(run.pulses[1] for run in runs)
+    title = title or (f"{network.name}: a run without a clock" if len(runs) == 1
+                      else f"{network.name}: two orders of events, the same rounds")
+    names = {
+        "TITLE": escaped(title),
+        "ABOUT": escaped(about(runs, pulses)),
+        "ORDER": escaped(ORDER),
+        "COUNT": "one" if len(runs) == 1 else "two",
+        "DATA": compact({
+            "last": first.last,
+            "pulses": pulses,
+            "map": map_of(network),
+            "runs": [run.table() for run in runs],
+            "same": [all(run.payloads(p) == first.payloads(p) for run in runs) for p in range(pulses[0], pulses[1] + 1)]
+            if len(runs) == 2 else [],
+            "sent": [[[v, w, said] for v, w, said in first.payloads(p)] for p in range(pulses[0], pulses[1] + 1)]
+            if len(runs) == 2 else [],
+        }),
+    }
+    with open(PAGE, encoding="utf-8") as file:
+        return re.sub(r"@([A-Z]+)@", lambda found: names[found.group(1)], file.read())
+
+
+def compact(value):
+    return json.dumps(value, separators=(",", ":"), ensure_ascii=False).replace("</", "<\\/")
+
+
+def about(runs, pulses):
+    run = runs[0]
+    shown_ = f"Pulses {pulses[0]} to {pulses[1]} of {run.last}"
+    entries = " and ".join(f"{len(one.moments):,}" for one in runs)
+    said = f"{shown_}, {entries} entries: each is a pulse, a put or a take of one node."
+    cut = [one for one in runs if not one.is_whole and not one.is_cut]
+    return said + (f" {cut[0].name} ends before the nodes are through." if cut else "")
+
+
+def map_of(network):
+    """Where nodes, edges and labels are, and the hues."""
+    beside = label_margin(network, LABEL)
+    places, radius = spaced(places_of(network), SIZE - 2 * beside, SIZE, MARGIN, RADIUS, LEAST, APART)
+    places = moved(places, beside, 0)
+    bend = bends(places, network.edges, radius + 1)
+    labels = label_places(places, network.edges, bend, radius + 15, label_boxes(network, LABEL), radius * 1.3)
+    xs, ys = [x for x, _ in places.values()], [y for _, y in places.values()]
+    low, high = min(ys) - MARGIN, max(ys) + MARGIN
+    return {
+        "radius": tidy(radius),
+        "box": [*map(tidy, (min(xs) - MARGIN - beside, low, max(xs) - min(xs) + 2 * (MARGIN + beside), high - low))],
+        "nodes": [{"x": tidy(places[v][0]), "y": tidy(places[v][1]), "lx": tidy(labels[v][0]), "ly": tidy(labels[v][1]),
+                   "label": label_of(network, v), "near": network.neighbours[v]} for v in network.vertices],
+        "edges": [[v, w, *map(tidy, middle(places, bend, v, w))] for v, w in network.edges],
+        "hues": {channel: [channel_hue(channel), text_on(channel_hue(channel)), int(is_ring(channel))]
+                 for channel in range(1, network.channels + 1)},
+        "wires": WIRES,
+    }
+
+
+def tidy(number):
+    """A number as SVG text has it, with one decimal place at most."""
+    return float(shown(number))

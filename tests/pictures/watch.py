@@ -1,0 +1,245 @@
+#!/usr/bin/env python3
+"""Tests of `bin/picture watch`. The last line is 'N passed, M failed'.
+
+  python3 -m tests.pictures.watch
+
+What is read here is the page's table. It is compared with the transcript's own lines, counted: a node waits for the
+acknowledgements of the payloads that it put and hasn't had, and so on. Nothing comes from lab/pictures."""
+import json
+import os
+import random
+import re
+import subprocess
+import sys
+import tempfile
+import unittest
+
+from lab.definitions.colours import colours, network_of
+from lab.definitions.nodes import last_pulse
+from tests import TOP
+from tests.programs.made_transcripts import made_transcript, merged_text, transcript_text
+
+LIMIT = 120
+
+
+def contents(name):
+    with open(os.path.join(TOP, "examples", name), "rb") as file:
+        return file.read()
+
+
+def watch(*words, data=b""):
+    done = subprocess.run([os.path.join(TOP, "bin", "picture"), "watch", *words], input=data, capture_output=True,
+                          timeout=LIMIT)
+    return done.returncode, done.stdout.decode(), done.stderr.decode()
+
+
+def table_of(page):
+    """What the page follows."""
+    return json.loads(re.search(r"^var D = (.*);$", page, re.M).group(1))
+
+
+class Counted:
+    """What the lines of a transcript say of a node, line by line: which wires it put and took, and its pulse."""
+
+    def __init__(self, neighbours, last):
+        self.near, self.last, self.pulse, self.asked, self.taken = neighbours, last, 0, {}, {}
+
+    def step(self, words):
+        if words[1] == "pulse":
+            self.pulse = int(words[2])
+        elif words[1] == "take":
+            self.taken.setdefault((int(words[2]), words[3], words[4] if len(words) > 4 else ""), []).append(words[3:])
+        elif words[3] == "payload":
+            self.asked.setdefault(int(words[4]), []).append(int(words[2]))
+
+    def took(self, w, kind, pulse):
+        return self.taken.get((w, kind, str(pulse)), [])
+
+    def has(self, pulse):
+        return sorted([" ".join(wire[2:]), w] for w in self.near for wire in self.took(w, "payload", pulse))
+
+    def safes(self, pulse):
+        return [w for w in self.near if self.took(w, "safe", pulse)]
+
+    def closed(self):
+        return [w for w in self.near if (w, "close", "") in self.taken]
+
+
+class Page(unittest.TestCase):
+    def setUp(self):
+        self.folder = tempfile.TemporaryDirectory()
+        self.addCleanup(self.folder.cleanup)
+
+    def file(self, name, data):
+        path = os.path.join(self.folder.name, name)
+        with open(path, "wb") as file:
+            file.write(data)
+        return path
+
+    def drawn(self, *words, data=b""):
+        status, page, fault = watch(*words, data=data)
+        self.assertEqual((status, fault), (0, ""))
+        return page
+
+
+class OneRun(Page):
+    def check_rows(self, data, text, table):
+        """The page's rows are the text's lines, and what a node is after each is what its lines say."""
+        net = network_of(data)
+        nodes = {v: Counted(sorted(ws), last_pulse(net)) for v, ws in net.neighbours.items()}
+        lines = [line.split(" ") for line in text.decode().splitlines()[1:]]
+        run = table["runs"][0]
+        self.assertEqual(len(run["rows"]), len(lines))
+        for (stamp, v, look, said), line in zip(run["rows"], lines):
+            self.assertEqual([str(stamp), str(v)], line[:2])
+            node = nodes[v]
+            node.step(line[1:])
+            self.check_look(run["looks"][look], node)
+        links, ends = {}, {}
+        for at, line in enumerate(lines):
+            if line[2] == "put":
+                links.setdefault((line[1], line[3]), []).append([at, int(line[0])])
+            elif line[2] == "take":
+                ends.setdefault((line[3], line[1]), []).append([at, int(line[0])])
+        self.assertEqual(len(run["wires"]), sum(map(len, links.values())))
+        for v, w, _, *flight in run["wires"]:
+            link = str(v), str(w)
+            self.assertEqual(flight, links[link].pop(0) + ends[link].pop(0))
+        final = {v: run["looks"][[row for row in run["rows"] if row[1] == v][-1][2]] for v in nodes}
+        self.assertEqual({v: look["c"] - 1 for v, look in final.items()}, colours(net))
+        self.assertTrue(all(look["e"] for look in final.values()))
+
+    def check_look(self, look, node):
+        p = node.pulse
+        self.assertEqual(look["p"], p)
+        self.assertEqual(sorted(look["h"]), node.has(p))
+        self.assertEqual(sorted(look["k"]), sorted(node.has(p + 1) + [["safe", w] for w in node.safes(p + 1)]))
+        if p == node.last:
+            self.assertEqual(look["w"], [["close", w] for w in node.near if w not in node.closed()])
+            return
+        asked = node.asked.get(p, [])
+        waits = [["ack", w] for kind, w in look["w"] if kind == "ack"]
+        # Right after a pulse its payloads are still to be put, and their acknowledgements already awaited.
+        self.assertLessEqual({w for w in asked if not node.took(w, "ack", p)}, {w for _, w in waits})
+        self.assertTrue(all(not node.took(w, "ack", p) for _, w in waits))
+        safes = [w for kind, w in look["w"] if kind == "safe"]
+        self.assertEqual(safes, [w for w in node.near if w not in node.safes(p)])
+
+    def test_rows(self):
+        for name in ("two", "triangle", "barred", "star", "petersen"):
+            with self.subTest(name):
+                data = contents(f"{name}.col")
+                net = network_of(data)
+                text = merged_text(len(net.neighbours), made_transcript(random.Random(f"watch {name}"), net, 3))
+                page = self.drawn(self.file("net.col", data), self.file("run", text))
+                self.check_rows(data, text, table_of(page))
+                self.assertNotRegex(page, r"(src|href)=|https?://(?!www\.w3\.org/2000/svg)|@[A-Z]+@")
+
+    def test_edition_1_is_put_in_an_order(self):
+        data = contents("chain6.col")
+        page = self.drawn(self.file("chain6.col", data), os.path.join(TOP, "examples", "chain6_slow.transcript"))
+        table = table_of(page)
+        rows = table["runs"][0]["rows"]
+        self.assertEqual(len(rows), 866)
+        self.assertEqual(rows, sorted(rows, key=lambda row: row[:2]))
+
+    def test_pulses(self):
+        data = contents("petersen.col")
+        net = network_of(data)
+        text = merged_text(10, made_transcript(random.Random("pulses"), net, 3))
+        whole = table_of(self.drawn(self.file("net.col", data), self.file("run", text)))["runs"][0]
+        part = table_of(self.drawn(self.file("net.col", data), self.file("run", text), "--pulses", "3..5"))
+        run = part["runs"][0]
+        self.assertEqual(part["pulses"], [3, 5])
+        stamps = [row[0] for row in run["rows"]]
+        self.assertTrue(0 < len(stamps) < len(whole["rows"]))
+        pulses = [run["looks"][row[2]]["p"] for row in run["rows"]]
+        self.assertTrue(pulses[0] == 3 and pulses[-1] == 5)
+        # What the nodes are before the first row, and the wires that are on their way, come from the rows before.
+        at = [row[:2] for row in whole["rows"]].index(run["rows"][0][:2])
+        before = {row[1]: whole["looks"][row[2]] for row in whole["rows"][:at]}
+        self.assertEqual(run["start"], [before.get(v, whole["start"][v - 1]) for v in range(1, 11)])
+        flying = [wire[:2] + wire[4:5] for wire in whole["wires"] if wire[3] < at <= wire[5]]
+        self.assertEqual(sorted(wire[:2] + wire[4:5] for wire in run["wires"] if wire[3] < 0), sorted(flying))
+
+    def test_cut_text(self):
+        """A text that ends early is drawn as far as it goes, and says so."""
+        data = contents("triangle.col")
+        net = network_of(data)
+        lines = merged_text(3, made_transcript(random.Random("cut"), net, 3)).splitlines(keepends=True)
+        page = self.drawn(self.file("net.col", data), "-", data=b"".join(lines[:200]))
+        self.assertEqual(len(table_of(page)["runs"][0]["rows"]), 199)
+        self.assertIn("standard input ends before the nodes are through.", page)
+
+    def test_title(self):
+        data = b"p edge 1 0\n"
+        page = self.drawn(self.file("net.col", data), "-", data=b"transcript 2 1\n")
+        self.assertIn("<h1>net: a run without a clock</h1>", page)
+
+
+class TwoRuns(Page):
+    def test_same_rounds(self):
+        data = contents("petersen.col")
+        net = network_of(data)
+        texts = [merged_text(10, made_transcript(random.Random(f"two {k}"), net, 3)) for k in "ab"]
+        paths = [self.file(name, text) for name, text in zip("ab", texts)]
+        page = self.drawn(self.file("net.col", data), *paths)
+        table = table_of(page)
+        self.assertEqual(table["same"], [True] * (last_pulse(net) + 1))
+        self.assertEqual(sum(map(len, table["sent"])), 269)
+        for run in table["runs"]:
+            pulses = [[] for _ in range(last_pulse(net) + 1)]
+            for stamp, _, look, _ in run["rows"]:
+                p = run["looks"][look]["p"]
+                pulses[p].append(stamp)
+            first = {}
+            for stamp, v, look, _ in run["rows"]:
+                first.setdefault((v, run["looks"][look]["p"]), stamp)
+            for p, stamp in enumerate(run["all"]):
+                reached = [first.get((v, p), 0) for v in range(1, 11)]
+                self.assertEqual(stamp, max(reached) if p else 0)
+
+
+class Refusals(Page):
+    def test_refusals(self):
+        data = contents("triangle.col")
+        net = network_of(data)
+        lines = made_transcript(random.Random("wrong"), net, 3)
+        good, old = merged_text(3, lines), transcript_text(3, lines)
+        rows = good.splitlines(keepends=True)
+        first_take = next(at for at, line in enumerate(rows) if b" take " in line)
+        forged = b"".join(rows[:first_take] + [rows[first_take].replace(b"hello 1", b"hello 7")
+                                               .replace(b"hello 2", b"hello 7").replace(b"hello 3", b"hello 7")])
+        late = re.sub(rb"^1 ", b"2 ", good, count=1, flags=re.M)
+        network, two = self.file("net.col", data), self.file("two.col", contents("two.col"))
+        at = old.index(b"\n1 pulse 5\n")
+        missing = old[:at] + old[at + len(b"\n1 pulse 5"):]
+        cases = [
+            ("a forged take", [network, "-"], forged, f"line {first_take + 1}: "),
+            ("a wrong stamp", [network, "-"], late, "(WrongStamp)"),
+            ("another network", [two, "-"], good, "line 1: 3 nodes, and two has 2 (Nodes)"),
+            ("a line left out", [network, "-"], missing, "which can't come in any order"),
+            ("no transcript", [network, "-"], b"plan\n", "X1"),
+            ("three runs", [network, "a", "b", "c"], b"", "a page has room for two runs"),
+            ("standard input twice", ["-", "-"], b"", "standard input has one text"),
+            ("pulses that aren't there", [network, "-", "--pulses", "3..99"], good, "pulses 3 to 99 are not among 0"),
+            ("too large", [os.path.join(TOP, "examples", "disk100.col"), "-"], b"", "watch draws at most 40 nodes"),
+        ]
+        for name, words, given, end in cases:
+            with self.subTest(name):
+                status, page, fault = watch(*words, data=given)
+                self.assertEqual((status, page), (1, ""))
+                self.assertIn(end, fault)
+                self.assertEqual(fault.count("\n"), 1)
+
+
+def main():
+    loaded = unittest.defaultTestLoader.loadTestsFromModule(sys.modules[__name__])
+    done = unittest.TextTestRunner(stream=sys.stdout, verbosity=0).run(loaded)
+    failed = len(done.failures) + len(done.errors)
+    print(f"{max(0, done.testsRun - failed)} passed, {failed} failed")
+    return 1 if failed else 0
+
+
+if __name__ == "__main__":
+    sys.exit(main())
