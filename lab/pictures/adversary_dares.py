@@ -1,8 +1,8 @@
 """The dares of the adversary's page, and what the table says of each: whether it can be won, and with how few events.
 
 A dare is {"kind", "words", "answer"} and what the page needs to see that it is won: `apart` has `pairs` and `least`,
-`plan` the round's `plan`, `few` a `node` and the fewest events `best`, `wrong` nothing. Events are takes and pulses; a
-put is made by itself, and isn't counted."""
+`plan` the round's `plan`, `few` a `node` and the fewest events `best`, `wrong` nothing. What is counted are takes and
+pulses; a put is made by itself."""
 from lab.pictures.schedules_space import fault_words
 
 
@@ -45,7 +45,7 @@ class Seen:
 
 
 def events(count):
-    return f"{count} event" + ("" if count == 1 else "s")
+    return f"{count} take or pulse" if count == 1 else f"{count} takes and pulses"
 
 
 def wrong_dare(seen):
@@ -102,8 +102,8 @@ def few_dare(seen, v):
         "kind": "few",
         "node": v,
         "best": best,
-        "words": f"Use as few events as you can until node {v} has made pulse 1.",
-        "answer": f"{events(best).capitalize()}; puts aren’t counted.",
+        "words": f"Use as few takes and pulses as you can until node {v} has made pulse 1.",
+        "answer": f"{events(best).capitalize()}; puts make themselves.",
     }
 
 

@@ -89,6 +89,14 @@ class Automaton:
             )
 
 
+def begins(svg, x, y):
+    """The mark of the stage in which all begin, to the left of its box."""
+    with svg.group("begins", "begins here"):
+        svg.circle(x - 38, y, 6, INK)
+        svg.line(x - 38, y, x - 8, y, INK, 1.6)
+        svg.head(x - 1, y, 1, 0, 9, INK)
+
+
 def draw_node(automaton):
     y = ROW_OF_NODE
     ack, safe = "#6E6E6E", WIRES["safe"]
@@ -126,6 +134,7 @@ def draw_node(automaton):
         "next pulse, both at once",
         (1000, y - 82),
     )
+    begins(automaton.svg, 85, y)
     for x, row, name, under in STAGES.values():
         automaton.box(x, row, 170 if row == ROW_OF_NODE else 130, 60 if row == ROW_OF_NODE else 52, name, under)
 
@@ -154,5 +163,6 @@ def draw_port(automaton):
             "pulse",
             (middle, y + 84),
         )
+    begins(automaton.svg, at[0, False] - 54, y)
     for level, name in LEVELS:
         automaton.box(at[level], y, 108, 44, name, fill=FILLS[level[0]])

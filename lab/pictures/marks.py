@@ -31,7 +31,7 @@ def bar_mark(svg, x, y, radius, channel, mark="bar"):
     svg.circle(x, y, radius, PAPER, channel_hue(channel), 1, mark=mark)
     size = round(radius * (1.2, 1.0, 0.8, 0.62)[len(str(channel)) - 1], 1)
     svg.text(x, y + size * 0.36, channel, size, INK, "middle", bold=True)
-    svg.line(x - 0.9 * radius, y + 0.9 * radius, x + 0.9 * radius, y - 0.9 * radius, WRONG, 0.9, opacity="0.8")
+    svg.line(x - 0.9 * radius, y + 0.9 * radius, x + 0.9 * radius, y - 0.9 * radius, WRONG, 1.5, opacity="0.9")
 
 
 def more_bars(channels):
@@ -75,9 +75,14 @@ def number_square(svg, x, y, half, number, mark="colour"):
     svg.text(x, y + half * 0.33, text, round(half * (1.0 if len(text) < 3 else 0.8), 1), ink, "middle", bold=True)
 
 
-def alone_chip(svg, x, y, half):
-    """A vertex at which no edge of the forest ends."""
-    svg.rect(x - half, y - half, 2 * half, 2 * half, ALONE, PAPER, 1, 2, mark="alone")
+def alone_chip(svg, x, y, half, colour=None):
+    """A vertex at which no edge of the forest ends, with its colour in the forest if that is one of 0 to 5."""
+    if colour is None or colour >= len(FOREST_COLOURS):
+        svg.rect(x - half, y - half, 2 * half, 2 * half, ALONE, PAPER, 1, 2, mark="alone")
+        return
+    fill = FOREST_COLOURS[colour]
+    svg.rect(x - half, y - half, 2 * half, 2 * half, fill, PAPER, 1, 2, mark="alone", fill_opacity="0.3")
+    svg.text(x, y + half * 0.45, colour, round(half * 1.3, 1), INK, "middle", mark="alone-colour")
 
 
 def draw_edge(svg, places, bend, a, b, colour, width, head=0, distance=0, dash=None, mark="edge"):

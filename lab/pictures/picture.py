@@ -9,7 +9,7 @@ from lab import programs
 from lab.networks.network_text import read_network, stem
 from lab.networks.plan_text import read_plan
 from lab.pictures import (
-    adversary_page, automaton_picture, bits_picture, broken_picture, forests_picture, matrix_picture,
+    adversary_page, automaton_picture, bits_picture, broken_picture, forests_picture, map_picture, matrix_picture,
     overview_picture, plan_picture, player_page, rounds_picture, run_picture, schedules_picture, schedules_space,
     tally_picture, timing_picture, watch_page,
 )
@@ -24,6 +24,7 @@ HELP = """\
 Draws what the programs computed, as SVG on standard output; the last three kinds
 draw what `bin/explore` searches.
 
+  map        the network alone, without a plan: for a question sheet
   plan       the plan on the map: who has which channel
   matrix     the plan as a matrix: proper if the diagonal blocks are blank
   forests    the forests with their colours, and the plan after each merge
@@ -56,6 +57,11 @@ line is refused; if a program refuses, its own line and status.
 
 # What each kind draws: a line of help, more of it, and its example.
 KINDS = {
+    "map": (
+        "The network alone, without a plan.",
+        "At most 400 nodes. Identifiers that differ from the numbers are written beside them.",
+        "bin/picture map examples/petersen.col > petersen-map.svg",
+    ),
     "plan": (
         "Who has which channel.",
         "At most 400 nodes. A plan that is not proper is refused; matrix draws it.",
@@ -68,7 +74,8 @@ KINDS = {
     ),
     "forests": (
         "Each forest with its three colours, and the plan after each merge.",
-        "At most 400 nodes; of more than six forests the first four and the last, or up to\nsix others with --forests.",
+        "At most 400 nodes; of more than six forests the first four and the last, or up to\n"
+        "six others with --forests.",
         "bin/picture forests examples/four_cycle.col > four_cycle-forests.svg",
     ),
     "rounds": (
@@ -79,7 +86,8 @@ KINDS = {
     ),
     "bits": (
         "One node above its parent, digit by digit, over the four bit steps.",
-        "Without --vertex, the least one that has a parent. Vertices' names are their own\nnumbers, so they have few digits.",
+        "Without --vertex, the least one that has a parent. A vertex without a line `i V NUMBER`\n"
+        "has its own number as its name, of few digits.",
         "bin/picture bits examples/petersen.col --vertex 6 > petersen-bits.svg",
     ),
     "run": (
@@ -129,8 +137,9 @@ KINDS = {
     ),
     "schedules": (
         "Every order of events of a tiny network: its states as a lattice, one column an event.",
-        "At most four nodes and 200,000 states. Of long ones the first columns, or those of --events. With a rule left\n"
-        "out, up to the first event that goes wrong, which is red; with --events what comes behind it, too.",
+        "At most four nodes and 200,000 states. Of long ones the first columns, or those of --events.\n"
+        "With a rule left out, up to the first event that goes wrong, which is red; with --events what\n"
+        "comes after it, too.",
         "bin/picture schedules examples/triangle.col --events 0..24 > triangle-schedules.svg\n"
         "  bin/picture schedules examples/path.col --without safes > path-without-safes.svg",
     ),
@@ -201,6 +210,7 @@ def command_line():
                                 epilog=f"Example:\n  {example}", formatter_class=argparse.RawDescriptionHelpFormatter)
         kind.add_argument("network", metavar="NETWORK", nargs="?" if name == "broken" else None,
                           help="the network's file, or - for standard input")
+        kind.add_argument("--title", metavar="NAME", help="what the picture calls the network, in place of its file")
         add_options(kind, name)
     return words, kinds.choices
 
@@ -213,6 +223,8 @@ def add_options(kind, name):
     """A stored text in place of the program's, and what the kind can be told."""
     if name in OF_SPACE:
         return add_space_options(kind, name)
+    if name == "map":
+        return None
     if name == "watch":
         kind.add_argument("transcripts", metavar="TRANSCRIPT", nargs="*", help="a stored run, or two of them")
         return kind.add_argument("--pulses", type=pulses, metavar="A..B", help="these pulses alone")
@@ -292,17 +304,30 @@ def name_of(given, network):
     return {"plan": "the plan", "rounds": "the rounds"}.get(given.kind, f"the text of {network.name}")
 
 
+def path_of(given):
+    """What a fault of the network's text calls it."""
+    return "standard input" if given.network == "-" else given.network
+
+
+def named(given, network):
+    """The network with the name that its picture gives it."""
+    network.name = given.title or ("this network" if given.network == "-" else network.name)
+    return network
+
+
 def drawn(given):
     """The picture of a kind."""
     if given.kind == "broken":
         return drawn_broken(given)
     if given.kind == "watch":
         return drawn_watch(given)
-    if given.kind not in OF_SPACE and given.network == stored(given) == "-":
+    if given.kind not in (*OF_SPACE, "map") and given.network == stored(given) == "-":
         raise Wrong("standard input has one text: name a file for the network or for the other text")
     network_text = file_text(given.network)
-    network = read_network(network_text, "standard input" if given.network == "-" else given.network)
+    network = named(given, read_network(network_text, path_of(given)))
     check_size(given.kind, network)
+    if given.kind == "map":
+        return map_picture.draw(network)
     if given.kind in OF_SPACE:
         return drawn_space(given, network)
     text = told(given, network, network_text.encode())
@@ -316,7 +341,7 @@ def drawn(given):
         counts = tally_picture.counts_by(read_rounds(text, name, network))
         return tally_picture.draw(network, network.name, counts, given.pulses, by_rounds=True)
     run = read_transcript(text, name, network, until_of(given, network))
-    run.name = stem(given.text) if given.text and given.text != "-" else network.name
+    run.name = stem(given.text) if given.text and given.text != "-" and not given.title else network.name
     return drawn_run(given, run)
 
 
@@ -341,7 +366,7 @@ def drawn_watch(given):
     if [given.network, *files].count("-") > 1:
         raise Wrong("standard input has one text: name a file for each other one")
     network_text = file_text(given.network)
-    network = read_network(network_text, "standard input" if given.network == "-" else given.network)
+    network = named(given, read_network(network_text, path_of(given)))
     check_size(given.kind, network)
     if not files:
         if check_run(given.kind, network):
@@ -357,7 +382,7 @@ def drawn_watch(given):
 def drawn_broken(given):
     if given.network is None:
         return broken_picture.draw(None, given.without)
-    network = read_network(file_text(given.network), "standard input" if given.network == "-" else given.network)
+    network = named(given, read_network(file_text(given.network), path_of(given)))
     check_size(given.kind, network)
     return broken_picture.draw(network, given.without)
 

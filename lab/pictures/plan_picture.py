@@ -1,13 +1,13 @@
 """The plan on the map: who has which channel."""
 from lab.networks.plan_text import clashes
 from lab.pictures.marks import bar_row, bars_width, channel_circle, channel_legend, draw_edge, label_margin, label_of
-from lab.pictures.palette import PAPER, SOFT
+from lab.pictures.palette import INK, PAPER
 from lab.pictures.places import bends, box_height, label_places, moved, places_of, spaced
 from lab.pictures.svg import Svg, counted, text_width
 from lab.wrong import Wrong
 
 SMALL, LARGE, LARGEST_NUMBERED = 12, 40, 100
-BAR, GAP = 7.5, 3
+BAR, GAP = 10.5, 3
 # Of a vertex's barred channels so many stand in its title.
 MOST_SAID = 12
 
@@ -50,7 +50,7 @@ def said_of(network):
 
 def size_of(network):
     """The size of the vertices' numbers."""
-    return 7.5 if network.nodes > LARGE else 9.5
+    return 8.5 if network.nodes > LARGE else 13
 
 
 def beside_of(network):
@@ -80,7 +80,7 @@ def draw_label(svg, network, v, x, y):
         y + size * 0.37,
         label_of(network, v),
         size,
-        SOFT,
+        INK,
         "middle",
         halo=2.5 if network.nodes > LARGE else 3,
         mark="number",
@@ -105,7 +105,7 @@ def draw_map(svg, network, plan, places, radius):
         draw_edge(svg, places, bend, v, w, colour, width)
     if network.nodes <= LARGEST_NUMBERED:
         boxes = boxes_of(network, size_of(network))
-        spots = label_places(places, network.edges, bend, radius + (6.5 if is_large else 9), boxes, radius + 2)
+        spots = label_places(places, network.edges, bend, radius + (7 if is_large else 11.5), boxes, radius + 2)
         for v, (x, y) in spots.items():
             draw_label(svg, network, v, x, y)
     for v, (x, y) in sorted(places.items()):

@@ -26,24 +26,34 @@ SAY = {
     "merge": "Merge: those whose turn it is choose the least free channel and tell it.",
 }
 PAGE = """<!doctype html>
-<html lang="en"><head><meta charset="utf-8"><meta name="viewport" content="width=device-width"><title>{name}, pulse by pulse</title>
-<style>body{{margin:0;font:15px/1.4 DejaVu Sans,Verdana,sans-serif;color:#1b1b1b;display:grid;grid-template-columns:minmax(0,1fr) 330px}}
-#stage{{height:100vh;padding:8px;box-sizing:border-box}}figure{{margin:0;height:100%}}figure svg{{width:100%;height:100%}}
-figcaption{{display:none}}aside{{padding:10px 14px 0 0}}h1{{font-size:19px;margin:0 0 8px}}input{{width:100%;margin:0 0 8px}}
-button,select{{font:inherit;padding:3px 9px;margin-right:4px}}#said{{min-height:112px}}.panel[data-forest]{{cursor:pointer}}
+<html lang="en"><head><meta charset="utf-8"><meta name="viewport" content="width=device-width">
+<meta name="color-scheme" content="only light"><title>{name}, pulse by pulse</title>
+<style>:root{{color-scheme:only light;background:#fff}}
+body{{margin:0;font:15px/1.4 DejaVu Sans,Verdana,sans-serif;color:#1b1b1b;background:#fff;
+display:grid;grid-template-columns:minmax(0,1fr) 330px}}
+#stage{{height:100vh;padding:8px;box-sizing:border-box}}figure{{margin:0;height:100%}}
+figure svg{{width:100%;height:100%}}
+figcaption{{display:none}}aside{{padding:10px 14px 0 0}}h1{{font-size:19px;margin:0 0 8px}}
+input{{width:100%;margin:0 0 8px}}button,select{{font:inherit;padding:3px 9px;margin-right:4px;color:#1b1b1b}}
+#said{{min-height:112px}}.panel[data-forest]{{cursor:pointer}}
 small{{display:block;color:#6b6b6b}}[hidden]{{display:none}}
-@media(max-width:760px){{body{{display:block}}#stage{{height:60vh}}aside{{padding:0 14px}}}}</style></head><body>
+@media(max-width:760px) and (orientation:portrait){{body{{display:block}}#stage{{height:60vh}}aside{{padding:0 14px}}}}
+@media(max-height:480px) and (orientation:landscape){{body{{grid-template-columns:minmax(0,1fr) 270px;font-size:12px}}
+#stage{{padding:2px;position:sticky;top:0}}h1{{font-size:14px;margin:0}}#said{{min-height:0}}}}
+@media print{{body{{display:block}}#stage{{height:auto}}figure{{height:auto}}figure svg{{width:75%;height:auto}}
+input,button,select,small{{display:none}}#said{{min-height:0}}}}</style></head><body>
 {shared}
 <div id="stage">
 {frames}
 </div>
 <aside><h1>{name}, pulse by pulse</h1>
 <input id="pulse" type="range" min="0" max="{last}" value="0" aria-label="pulse">
-<div><button id="back" title="one pulse back">◀</button><button id="play" title="play or stop">▶ play</button><button
- id="next" title="one pulse on">▶</button>{choice}</div>
+<div><button id="back" title="one pulse back">◀</button><button id="play"
+ title="play or stop">▶ play</button><button id="next" title="one pulse on">▶</button>{choice}</div>
 <p id="said" aria-live="polite"></p>
 {legend}
-<small>Arrow keys step, the space bar plays and stops.{click} The address names the pulse: copy it to link to what you see.</small></aside>
+<small>Arrow keys step, the space bar plays and stops.{click} The address names the pulse: copy it to link to what you
+see.</small></aside>
 <script>
 {script}
 </script>
@@ -57,10 +67,13 @@ SCRIPT = """(function () {
   function look() {
     var picture = all[at].querySelector("svg");
     var panel = chosen() && picture.querySelector('.panel[data-forest="' + chosen() + '"]');
-    picture.querySelectorAll(".panel").forEach(function (other) { other.style.display = panel && other !== panel ? "none" : ""; });
+    picture.querySelectorAll(".panel").forEach(function (other) {
+      other.style.display = panel && other !== panel ? "none" : "";
+    });
     picture.setAttribute("viewBox", panel ? panel.getAttribute("data-box") : "0 0 SIZE SIZE");
     var link = "#pulse-" + all[at].getAttribute("data-pulse") + (chosen() ? "-forest-" + chosen() : "");
-    if (location.hash !== link) { try { history.replaceState(null, "", link); } catch (refused) { location.hash = link; } }
+    if (location.hash === link) { return; }
+    try { history.replaceState(null, "", link); } catch (refused) { location.hash = link; }
   }
   function show(frame) {
     all[at].hidden = true;
@@ -83,7 +96,9 @@ SCRIPT = """(function () {
       forest.value = words && words[2] || "all";
       if (forest.selectedIndex < 0) { forest.value = "all"; }
     }
-    all.forEach(function (figure, index) { if (words && +figure.getAttribute("data-pulse") <= +words[1]) { frame = index; } });
+    all.forEach(function (figure, index) {
+      if (words && +figure.getAttribute("data-pulse") <= +words[1]) { frame = index; }
+    });
     show(frame);
   }
   play.onclick = function () { if (timer) { stop(); } else { start(); } };
@@ -116,8 +131,9 @@ def draw(rounds):
         caption, said = film.caption(pulse)
         hidden = " hidden" if number else ""
         frames.append(
-            f'<figure class="frame" data-pulse="{pulse}"{hidden}><figcaption><b>{escaped(caption)}</b><br>{escaped(said)}'
-            f'</figcaption>\n<svg viewBox="0 0 {SIZE} {SIZE}">\n{film.frame(pulse).inner()}\n</svg></figure>'
+            f'<figure class="frame" data-pulse="{pulse}"{hidden}><figcaption><b>{escaped(caption)}</b><br>'
+            f'{escaped(said)}</figcaption>\n'
+            f'<svg viewBox="0 0 {SIZE} {SIZE}">\n{film.frame(pulse).inner()}\n</svg></figure>'
         )
     has_choice = rounds.forests > 1
     options = "".join(f'<option value="{f}">forest {f}</option>' for f in range(rounds.forests))
@@ -151,13 +167,14 @@ def draw_frame(rounds, number):
 
 def legend():
     """What the marks are."""
-    svg = Svg(320, 136, "legend")
+    svg = Svg(320, 162, "legend")
     rows = [
         "a payload, sent in this pulse",
         "a colour in a forest (grey: still a name)",
         "a channel: a colour plus one",
         "chooses in this pulse",
         "has none yet; arrows go to parents",
+        "still to choose: its pair K, J",
     ]
     for row, words in enumerate(rows):
         svg.text(52, 17 + 26 * row, words, 12, SOFT)
@@ -172,7 +189,16 @@ def legend():
     svg.circle(14, 117, 8, PAPER, INK, 1.4)
     svg.line(24, 117, 36, 117, MINE, 1.8)
     svg.head(42, 117, 1, 0, 8, MINE)
+    turn_mark(svg, 16, 143, 8, 1, 0, "legend")
     return f'<svg width="{svg.width}" height="{svg.height}" role="img" aria-label="legend">\n{svg.inner()}\n</svg>'
+
+
+def turn_mark(svg, x, y, half, colour, old, mark="turn"):
+    """The pair of a node that is still to choose: its colour in this forest as a square, and after it its colour so
+    far."""
+    with svg.group(mark, f"K {colour}, J {old}"):
+        colour_square(svg, x, y, half, colour, mark="legend" if mark == "legend" else "turn-colour")
+        svg.text(x + 1.3 * half, y + 0.6 * half, old, round(1.5 * half, 1), INK, halo=3, bold=True)
 
 
 class Film:
@@ -213,8 +239,8 @@ class Film:
         if pulse.step:
             forest, colour, old = pulse.step
             caption += f" · forest {forest}"
-            said += (f" Now: colour {colour} in forest {forest}, colour {old} (channel {old + 1}) so far."
-                     + ("" if pulse.chosen else " There is no such node."))
+            said += (f" Now the pair K = {colour}, J = {old}: colour {colour} in forest {forest}, colour {old} "
+                     f"(channel {old + 1}) so far." + ("" if pulse.chosen else " There is no such node."))
         elif number >= SEED:
             caption += " · forest 0" if forests == 1 else f" · forests 0 to {forests - 1}"
         return caption, said
@@ -306,3 +332,12 @@ class Film:
             channel_circle(svg, x, y, self.radius, merged[v] + 1)
         else:
             svg.circle(x, y, self.radius, PAPER, INK, 1.6, mark="blank")
+        if pulse.step and not self.has_chosen(v, pulse):
+            old = merged[v] if v in merged else self.rounds.first[v]
+            colour = self.rounds.pulses[LAST_COLOUR].colours[v, forest]
+            turn_mark(svg, x + self.radius, y + 1.2 * self.radius, 0.52 * self.radius, colour, old)
+
+    def has_chosen(self, v, pulse):
+        """Whether v has chosen in the merge of this pulse, or does in it."""
+        begin = pulse.number - pulse.step[1] * self.rounds.width - pulse.step[2]
+        return any(v in self.rounds.pulses[number].chosen for number in range(begin, pulse.number + 1))

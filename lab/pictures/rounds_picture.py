@@ -68,11 +68,11 @@ def legend(svg, y, has_bars):
     svg.text(130, y + 4, "square: colour in the forest; 3, 4, 5 are dropped", 11.5, SOFT)
     svg.rect(452, y - 7.5, 15, 15, "#D6D6D6", round_by=2)
     svg.text(474, y + 4, "still a name", 11.5, SOFT)
-    alone_chip(svg, 574, y, COLUMN / 2 - 8)
-    svg.text(588, y + 4, "no edge in this forest", 11.5, SOFT)
+    alone_chip(svg, 574, y, COLUMN / 2 - 6, 1)
+    svg.text(588, y + 4, "no edge in this forest: its colour there", 11.5, SOFT)
     if has_bars:
-        bar_mark(svg, 752, y, BAR, 1, mark="legend")
-        svg.text(766, y + 4, "barred at the node", 11.5, SOFT)
+        bar_mark(svg, 852, y, BAR, 1, mark="legend")
+        svg.text(866, y + 4, "barred at the node", 11.5, SOFT)
     y += 22
     channel_circle(svg, 28, y, 8, 1, mark="legend")
     svg.text(42, y + 4, "circle: the node chooses this channel", 11.5, SOFT)
@@ -89,6 +89,7 @@ class Strip:
     def __init__(self, svg, rounds, forest, top, steps, column):
         self.svg, self.rounds, self.forest, self.top = svg, rounds, forest, top
         self.steps, self.column, self.nodes = steps, column, rounds.network.nodes
+        self.right = MERGES + len(steps) * column + 44 + bars_room(rounds.network)
 
     def row(self, v):
         """The middle of v's row."""
@@ -108,7 +109,7 @@ class Strip:
         for v in self.rounds.network.vertices:
             y, parent = self.row(v), self.rounds.parents.get((v, self.forest))
             if v % 2 == 1:
-                svg.rect(16, y - ROW / 2, svg.width - 32, ROW, "#FAF8F2")
+                svg.rect(16, y - ROW / 2, self.right - 16, ROW, "#FAF8F2")
             svg.text(46, y + 4.5, v, 12, INK, "end", bold=True)
             svg.text(54, y + 4.5, f"→ {parent}" if parent else "root", 10, SOFT)
         with svg.group("colours", f"forest {self.forest}"):
@@ -121,7 +122,7 @@ class Strip:
             colour = self.rounds.pulses[number].colours[v, self.forest]
             x, y = LEFT + (number - 1.5) * COLUMN, self.row(v)
             if number > 2 and is_alone:
-                alone_chip(self.svg, x, y, COLUMN / 2 - 8)
+                alone_chip(self.svg, x, y, COLUMN / 2 - 6, colour)
             elif number > 2 and colour < len(FOREST_COLOURS):
                 colour_square(self.svg, x, y, COLUMN / 2 - 2.5, colour)
             else:

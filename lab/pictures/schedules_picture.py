@@ -3,12 +3,14 @@ and what goes wrong is red."""
 from lab.pictures.palette import BAND, BORDER, INK, PAPER, PULSE, SOFT, WIRES, WRONG
 from lab.pictures.schedules_space import fault_words, left_out_words, title_of
 from lab.pictures.svg import Svg, text_width
-from lab.schedules.explore import rounded
+from lab.schedules.explore import events_words, rounded
 from lab.wrong import Wrong
 
 COLUMNS, MOST_COLUMNS, STEPS, MOST_STEPS = 36, 108, 6_000, 12_000
 LEFT, HIGH, WIDE, LEAST_WIDTH = 44, 560, 1150, 780
 SWEEPS = 6
+# A lattice of few columns has them farther apart, so that it fills its width.
+FEW_COLUMNS, SHORT = 6, 690
 APART = [BAND, "#CFE3F1", "#8FBBDD", "#56B4E9"]
 
 
@@ -19,7 +21,8 @@ def draw(network, space, window, run_text):
     low, high = window or first_window(space, last)
     if not 0 <= low <= high <= last:
         raise Wrong(
-            f"{network.name} has states after 0 to {last} events: --events takes two of these numbers, the lower one first"
+            f"{network.name} has states after 0 to {last} events: --events takes two of these numbers, the lower one "
+            "first"
         )
     steps = steps_between(space)[low:high]
     if high - low > MOST_COLUMNS:
@@ -153,9 +156,11 @@ class Lattice:
                 column.sort(key=lambda s: (self.lead(s), mean[s], self.row[s]))
                 self.spread(column)
         self.widest = max(map(len, self.columns))
-        self.gap = min(40, max(4, HIGH / self.widest))
-        self.step = min(64, max(10, WIDE / max(1, len(self.columns) - 1)))
-        self.radius = min(11, 0.42 * self.gap, 0.36 * self.step)
+        is_short = len(self.columns) <= FEW_COLUMNS
+        room = (SHORT if is_short else WIDE) / max(1, len(self.columns) - 1)
+        self.gap = min(60 if is_short else 40, max(4, HIGH / self.widest))
+        self.step = min(320 if is_short else 64, max(10, room))
+        self.radius = min(18 if is_short else 11, 0.42 * self.gap, 0.36 * self.step)
 
     def lead(self, s):
         """Of two nodes, above: node 1 is ahead; below: node 2 is."""
@@ -183,7 +188,8 @@ class Lattice:
         )
 
     def drawn(self):
-        width = max(LEAST_WIDTH, LEFT + (len(self.columns) - 1) * self.step + 44)
+        said = 40 + text_width(self.fact(), 17) * 1.1
+        width = max(LEAST_WIDTH, LEFT + (len(self.columns) - 1) * self.step + 44, said)
         lines = self.lines(width)
         top = 48 + 16 * len(lines)
         self.middle = top + self.radius + self.gap * (self.widest - 1) / 2
@@ -195,7 +201,7 @@ class Lattice:
         svg.text(
             20,
             bottom + 16,
-            "events so far: takes and pulses; a put is made as soon as it can be, and isn’t counted",
+            "takes and pulses so far; a put is made as soon as it can be, and has no column",
             11.5,
             SOFT,
         )
@@ -210,8 +216,8 @@ class Lattice:
     def fact(self):
         space, title = self.space, title_of(self.network, self.space)
         if space.faults:
-            s, e = next(iter(space.faults))
-            return f"{title}: {space.depth[s] + (e is not None)} events are enough to go wrong"
+            listed = space.with_puts(space.path_to_fault())
+            return f"{title}: {events_words(listed)} {'is' if len(listed) == 1 else 'are'} enough to go wrong"
         return f"{title}: every schedule ends in " + (
             "one state" if len(space.ends) == 1 else f"one of {len(space.ends)} states"
         )
@@ -240,7 +246,7 @@ class Lattice:
     def number_size(self):
         """How large the pulses inside a mark are: all as large as the longest ones may be."""
         longest = max(len(self.pulses_words(s)) for s in self.columns[-1])
-        return min(8, self.radius * 3.1 / longest)
+        return min(12, 0.75 * self.radius, self.radius * 3.1 / longest)
 
     def pulses_words(self, s):
         return ",".join(str(node.pulse) for node in self.space.nodes(s[0] if isinstance(s, tuple) else s).values())

@@ -2,6 +2,7 @@
 from lab.wrong import Wrong, at_most
 
 NODES = {
+    "map": (400, "matrix"),
     "plan": (400, "matrix"),
     "matrix": (2000, "`forestplan check`, which says whether the plan is proper"),
     "forests": (400, "matrix"),

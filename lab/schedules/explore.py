@@ -29,8 +29,8 @@ MORE_HELP = f"""\
 Rules of the synchroniser and of its links, and then of the rounds:
 {table()}
 NETWORK is a file in the DIMACS format, or - for standard input. A state takes some
-{BYTES_A_STATE} bytes of memory, so {LIMIT:,} states some {LIMIT * BYTES_A_STATE // 10 ** 6} MB; most networks of four nodes
-have fewer.
+{BYTES_A_STATE} bytes of memory, so {LIMIT:,} states some {LIMIT * BYTES_A_STATE // 10 ** 6} MB; most networks of four
+nodes have fewer.
 
 This is Python over slow definitions, written from the project's pages. It is tested,
 and not proved.
@@ -186,7 +186,8 @@ def whole_text(given, name, space):
             "each pulse had the round's inbox, and something was possible until all was done",
             f"neighbours at most {space.farthest} pulse{'s' * (space.farthest != 1)} apart, "
             f"at most {space.most_wires} wires of a link under way",
-            f"{'one end' if len(channels) == 1 else f'{len(channels)} ends'}: channels {' or '.join(dict.fromkeys(channels))}",
+            f"{'one end' if len(channels) == 1 else f'{len(channels)} ends'}: "
+            f"channels {' or '.join(dict.fromkeys(channels))}",
         ]
     ) + refused_words(given.without)
 
@@ -203,7 +204,18 @@ def rounded(number):
 def broken_text(given, space):
     what = space.faults[space.first_fault()]
     listed = space.with_puts(space.path_to_fault())
-    return "".join([f"broken after {len(listed)} events: {what}\n", *event_lines(listed), refused_words(given.without)])
+    first = f"broken after {events_words(listed)}: {what}\n"
+    return "".join([first, *event_lines(listed), refused_words(given.without)])
+
+
+def events_words(listed):
+    """How many events a list has, puts among them: `8 events (5 takes and pulses)`."""
+    rest = sum(event.kind != "put" for event in listed)
+    return f"{counted(len(listed), 'event')} ({counted(rest, 'take or pulse', 'takes and pulses')})"
+
+
+def counted(count, one, more=None):
+    return f"{count} {one if count == 1 else more or one + 's'}"
 
 
 def event_lines(listed):

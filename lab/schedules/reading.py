@@ -24,4 +24,4 @@ def network_at(path):
     except OSError as why:
         raise Wrong(f"{path}: {why.strerror}") from None
     read = read_network(text.decode("utf-8", "replace"), path)
-    return read.name, network_of(read)
+    return "this network" if path == "-" else read.name, network_of(read)
