@@ -52,13 +52,13 @@ def about(space):
         reach = (
             ""
             if space.expanded == space.count
-            else f" The table goes as far as {space.depth[space.expanded - 1]} events."
+            else f" The table goes as far as {space.depth[space.expanded - 1]} takes and pulses."
         )
         return f"{left_out_words(space.without)} Choose what comes next, and try to make something go wrong.{reach}"
     plan = ", ".join(str(space.rounds.colours[v] + 1) for v in space.vertices)
     return (
-        f"Choose what comes next: every order of events is in this page. Whatever you choose, after {space.depth[space.ends[0]]} "
-        f"events all have halted, with channels {plan}."
+        "Choose what comes next: every order of events is in this page. Whatever you choose, after "
+        f"{space.depth[space.ends[0]]} takes and pulses all have halted, with channels {plan}. (Puts make themselves.)"
     )
 
 
@@ -66,8 +66,8 @@ def play_words(network, space):
     words = f"Store the list as list.events, and type (cat {network.name}.col; cat list.events) | bin/forestplay events"
     if space.without:
         return (
-            f"{words}. It keeps all rules, so it names the line of the first event that can happen here alone; up to there it shows "
-            "the same as this page:"
+            f"{words}. It keeps all rules, so it names the line of the first event that can happen here alone; "
+            "up to there it shows the same as this page:"
         )
     return f"{words}. It accepts the list, and shows:"
 

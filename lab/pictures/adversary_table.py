@@ -1,12 +1,11 @@
 """The table that the adversary's page follows: every state and step of a space as numbers, with the words of each
 number.
 
-  phases    what a node does at each pulse, from 0 nodes     for each node, ascending: `values`, a row each of [pulse,
-  words, channel or 0, 1 if it made a pulse with a wrong
-            inbox], and `column`, which of them it has in each state
+  phases    what a node does at each pulse, from 0
+  nodes     for each node, ascending: `values`, a row each of [pulse, words, channel or 0, 1 if it made a pulse with a
+            wrong inbox, what it holds in words], and `column`, which of them it has in each state
   links     for each link: `from`, `to`, `put` and `take`, the ports of the two, `contents`, lists of numbers of
-  `wires`, the
-            one that comes next first, and `column`, which of them it holds in each state
+            `wires`, the one that comes next first, and `column`, which of them it holds in each state
   wires     the wires in words
   events    [kind, node, port, wires overtaken]: 0 is a pulse, 1 a take
   counts    how many steps each state has; `chosen` and `targets` their events and where they lead, state by state
@@ -57,13 +56,27 @@ def node_words(node):
     }.get(node.stage, "waits for nothing")
 
 
-def node_row(node, last):
-    return [node.pulse, node_words(node), node.colour + 1 if node.pulse == last else 0, int(node.wrong)]
+def node_row(node, last, holds):
+    return [node.pulse, node_words(node), node.colour + 1 if node.pulse == last else 0, int(node.wrong), holds]
+
+
+def held_words(value, neighbours):
+    """What a node has taken: for its next pulse, and for the one after it, which it keeps apart."""
+    def listed(slots, safes):
+        said = [f"{slot[0].lower()} {slot[1]} of {w}" for slot, w in zip(slots, neighbours) if slot]
+        return ", ".join(said + [f"safe of {w}" for safe, w in zip(safes, neighbours) if safe])
+    ports = value.ports
+    now = listed([port.present for port in ports], [port.safe for port in ports])
+    early = listed([port.early for port in ports], [port.early_safe for port in ports])
+    return "; ".join(filter(None, [now and f"has {now}", early and f"early: {early}"]))
 
 
 def nodes_of(space):
     for a, v in enumerate(space.vertices):
-        rows, row_of = numbered([tuple(node_row(space.node_words(v, value), space.last)) for value in space.locals[a]])
+        rows, row_of = numbered([
+            tuple(node_row(space.node_words(v, value), space.last, held_words(value, space.ports[v])))
+            for value in space.locals[a]
+        ])
         yield {"values": rows, "column": column(row_of[state[a]] for state in space.states)}
 
 

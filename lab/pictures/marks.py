@@ -82,7 +82,7 @@ def alone_chip(svg, x, y, half, colour=None):
         return
     fill = FOREST_COLOURS[colour]
     svg.rect(x - half, y - half, 2 * half, 2 * half, fill, PAPER, 1, 2, mark="alone", fill_opacity="0.3")
-    svg.text(x, y + half * 0.45, colour, round(half * 1.3, 1), INK, "middle", mark="alone-colour")
+    svg.text(x, y + half * 0.45, colour, round(half * 1.3, 1), INK, "middle", bold=True, mark="alone-colour")
 
 
 def draw_edge(svg, places, bend, a, b, colour, width, head=0, distance=0, dash=None, mark="edge"):

@@ -71,8 +71,8 @@ def legend(svg, y, has_bars):
     alone_chip(svg, 574, y, COLUMN / 2 - 6, 1)
     svg.text(588, y + 4, "no edge in this forest: its colour there", 11.5, SOFT)
     if has_bars:
-        bar_mark(svg, 852, y, BAR, 1, mark="legend")
-        svg.text(866, y + 4, "barred at the node", 11.5, SOFT)
+        bar_mark(svg, 838, y, BAR, 1, mark="legend")
+        svg.text(852, y + 4, "barred at the node", 11.5, SOFT)
     y += 22
     channel_circle(svg, 28, y, 8, 1, mark="legend")
     svg.text(42, y + 4, "circle: the node chooses this channel", 11.5, SOFT)

@@ -66,7 +66,7 @@ def colour_table(net, f):
 
 def strip_mark(column, colour, is_in_forest):
     if column and not is_in_forest:
-        return "alone", ALONE, None
+        return ("alone", COLOURS[colour], str(colour)) if colour < 6 else ("alone", ALONE, None)
     if column and colour < 6:
         return "colour", COLOURS[colour], str(colour)
     digits = max(1, colour.bit_length())
