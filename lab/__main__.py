@@ -11,6 +11,7 @@ COMMANDS = {
     "explore": "lab.schedules.explore",
     "network": "lab.networks.network",
     "picture": "lab.pictures.picture",
+    "sheet": "lab.pictures.sheet",
     "simulate": "lab.schedules.simulate",
 }
 # What scripts ask for besides.

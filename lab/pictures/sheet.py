@@ -1,0 +1,241 @@
+"""The door: `bin/sheet [options]`. Question sheets to print, each with a network of its own and all equally hard, or
+the same sheets with their answers, as one HTML page.
+
+Every answer is worked out by the slow definitions (lab/definitions) and from nothing else."""
+import argparse
+import random
+import sys
+
+from lab.definitions.colours import Network, colours, first_colours, merge, three
+from lab.definitions.nodes import NetState, last_pulse
+from lab.definitions.rounds import Facts
+from lab.networks.network_text import Network as Drawn
+from lab.pictures.map_picture import draw_map
+from lab.pictures.svg import Svg, escaped
+
+LESSONS = (1, 2, 3, 4, 5)
+MOST_SHEETS = 200
+# Each sheet's network: connected, no node with more neighbours than three and some with three, and two forests. So
+# each has the same last pulse, 12 + 3·2·4 = 36.
+NODES, EDGES, NEIGHBOURS, FORESTS = 8, 9, 3, 2
+MAP = 400, 270
+
+HELP = f"""\
+Writes question sheets for lessons 1 to 5 as one HTML page that prints, a sheet a
+student, each with a network of its own. All are equally hard: {NODES} nodes, {EDGES} edges, at
+most {NEIGHBOURS} neighbours, {FORESTS} forests.
+"""
+MORE_HELP = """\
+The same seed gives the same sheets on every machine, and --answers the answers to
+them: print these for yourself. The answers are worked out by the slow definitions,
+which are tested, and not proved.
+
+Status: 0 done, 2 the command line is refused.
+
+Example:
+  bin/sheet --seed 7 --sheets 30 > sheets.html
+  bin/sheet --seed 7 --sheets 30 --answers > answers.html
+"""
+PAGE = """<!doctype html>
+<html lang="en"><head><meta charset="utf-8"><meta name="viewport" content="width=device-width,initial-scale=1">
+<meta name="color-scheme" content="only light"><title>{title}</title>
+<style>
+:root{{color-scheme:only light;background:#FFFFFF}}
+body{{font:14px/1.45 DejaVu Sans,Verdana,Arial,sans-serif;color:#1B1B1B;max-width:760px;margin:0 auto;
+  padding:10px 14px}}
+h1{{font-size:17px;margin:0;display:flex;justify-content:space-between}}h2{{font-size:14px;margin:14px 0 2px}}
+h1 small{{font-weight:normal;font-size:13px}}p{{margin:4px 0}}svg{{display:block;margin:4px auto}}
+table{{border-collapse:collapse;margin:4px 0}}
+td,th{{border:1px solid #6B6B6B;padding:2px 0;text-align:center;min-width:46px;height:24px}}
+th{{font-weight:normal;background:#F3EFE4;padding:2px 7px;text-align:left}}
+b.answer{{color:#0072B2}}.blank{{display:inline-block;min-width:90px;border-bottom:1px solid #6B6B6B}}
+.question{{break-inside:avoid}}section{{break-after:page}}section:last-child{{break-after:auto}}
+pre{{font-size:11px;color:#6B6B6B;columns:3}}
+</style></head><body>
+{sheets}
+</body></html>
+"""
+
+
+class Sheet:
+    """One network, and its questions. `answers` says whether they are filled in."""
+
+    def __init__(self, name, answers):
+        self.name, self.answers = name, answers
+        self.source = random.Random(name)
+        self.net = network_by(self.source)
+        self.facts, self.vertices = Facts(self.net), sorted(self.net.neighbours)
+        self.edges = sorted(tuple(sorted(edge)) for edge in self.net.number)
+
+    def any_of(self, things):
+        return things[int(self.source.random() * len(things))]
+
+    # How an answer, or room for one, is written.
+
+    def filled(self, answer):
+        return f'<b class="answer">{escaped(answer)}</b>' if self.answers else '<span class="blank">&nbsp;</span>'
+
+    def table(self, head, rows):
+        """A row of vertices, and rows of (name, entries, whether they are given)."""
+        lines = [f"<tr><th>{escaped(head)}</th>" + "".join(f"<td>{v}</td>" for v in self.vertices) + "</tr>"]
+        for name, entries, is_given in rows:
+            cells = [f"<td>{entry}</td>" if is_given else
+                     f'<td>{f"<b class=answer>{entry}</b>" if self.answers else ""}</td>' for entry in entries]
+            lines.append(f"<tr><th>{escaped(name)}</th>{''.join(cells)}</tr>")
+        return f"<table>{''.join(lines)}</table>"
+
+    # The questions, by lesson. Each draws its choices from the sheet's own source, and all are drawn in any case, so
+    # that a sheet of one lesson asks what the sheet of all lessons asks.
+
+    def lesson_1(self, _):
+        plan = {v: c + 1 for v, c in colours(self.net).items()}
+        v, w = self.any_of(self.edges)
+        wrong = plan | {v: plan[w]}
+        pairs = [f"{a} and {b}" for a, b in self.edges if wrong[a] == wrong[b]]
+        yield (f"<p>The promise is: at most one channel more than the greatest number of neighbours. How many is that "
+               f"here? {self.filled(self.net.greatest_degree + 1)}</p>")
+        yield ("<p>Somebody has made this plan. Which neighbours have the same channel?</p>"
+               + self.table("node", [("channel", [wrong[v] for v in self.vertices], True)])
+               + f"<p>{self.filled('; '.join(pairs))}</p>")
+
+    def lesson_2(self, _):
+        rows = [(f"parent in forest {f}", [self.net.parent(f, v) or "-" for v in self.vertices], False)
+                for f in range(FORESTS)]
+        yield ("<p>Cut the network into forests. Who is whose parent? (A root has a -.)</p>" + self.table("node", rows))
+
+    def lesson_3(self, _):
+        table = self.facts.colours[0]
+        children = [v for v in self.vertices if self.net.parent(0, v) and not self.net.parent(0, self.net.parent(0, v))]
+        v = self.any_of(children)
+        w = self.net.parent(0, v)
+        for name, node in ((f"node {v}", v), (f"its parent {w}", w)):
+            said = ", ".join(str(table[p][node]) for p in range(2, 7))
+            ask = "Bit steps in forest 0: the colours of" if node == v else "And of"
+            yield f"<p>{ask} {name} after the pulses 2 to 6? {self.filled(said)}</p>"
+        rows = [("pulse 6", [table[6][v] for v in self.vertices], True)]
+        words = {7: "shift", 8: "drop 5", 9: "shift", 10: "drop 4", 11: "shift", 12: "drop 3"}
+        rows += [(f"pulse {p}: {words[p]}", [table[p][v] for v in self.vertices], False) for p in range(7, 13)]
+        yield "<p>Shift and drop in forest 0, from these colours after pulse 6:</p>" + self.table("node", rows)
+
+    def lesson_4(self, lessons):
+        rows, old = [], first_colours(self.net)
+        for f in range(FORESTS):
+            # What lesson 3 asks for on the same sheet isn't given away here.
+            is_given = f > 0 or 3 not in lessons
+            rows.append((f"colour in forest {f}", [three(self.net, f)[v] for v in self.vertices], is_given))
+            before, old = old, merge(self.net, f, old)
+            rows.append(("after its merge", [old[v] for v in self.vertices], False))
+        yield "<p>Merge the two forests; all begin with colour 0.</p>" + self.table("node", rows)
+        v = self.any_of(self.vertices)
+        f, width = FORESTS - 1, self.net.span + 1
+        pulse = 13 + f * 3 * width + three(self.net, f)[v] * width + before[v]
+        yield (f"<p>At which pulse does node {v} choose in the merge of forest {f}? {self.filled(pulse)} "
+               f"Which pulse is the last? {self.filled(last_pulse(self.net))}</p>")
+
+    def lesson_5(self, _):
+        payloads = sum(1 for p in range(last_pulse(self.net) + 1) for v in self.vertices
+                       for _ in self.facts.sent(p, v))
+        wires = 2 * payloads + 2 * len(self.edges) * (last_pulse(self.net) + 1)
+        yield (f"<p>A whole run without a clock has {payloads} payloads. How many wires? {self.filled(wires)}</p>")
+        edge = self.any_of(self.edges)
+        rows = [("pulse", list(farthest(self.net, edge).values()), False)]
+        yield (f"<p>Nothing goes over the edge {edge[0]}–{edge[1]}, in either direction, and all else goes on as far "
+               "as it can. Which pulse does each node come to?</p>" + self.table("node", rows))
+
+    def text(self, lessons):
+        title = f"Sheet {escaped(self.name)}" + (", answers" if self.answers else "")
+        parts = [f"<section><h1>{title}<small>{'' if self.answers else 'Name: ' + '_' * 28}</small></h1>", self.map()]
+        for lesson in LESSONS:
+            questions = list(getattr(self, f"lesson_{lesson}")(lessons))
+            if lesson in lessons:
+                parts.append(f'<h2>Lesson {lesson}</h2>')
+                parts += [f'<div class="question">{question}</div>' for question in questions]
+        if self.answers:
+            parts.append(f"<p>The network, for the programs:</p>\n<pre>{self.network_text()}</pre>")
+        return "\n".join([*parts, "</section>"])
+
+    def network_text(self):
+        return "\n".join([f"p edge {NODES} {EDGES}"] + [f"e {v} {w}" for v, w in self.edges])
+
+    def map(self):
+        svg = Svg(*MAP, f"network of sheet {self.name}")
+        draw_map(svg, Drawn(f"sheet {self.name}", NODES, self.edges, {}), *MAP, 0, top=0)
+        return f'<svg width="{MAP[0]}" height="{MAP[1]}" role="img" aria-label="the network">\n{svg.inner()}\n</svg>'
+
+
+def farthest(net, edge):
+    """The pulse that each node comes to if nothing goes over an edge. (Whatever the order, it is the same: what a node
+    can do stays possible until it does it.)"""
+    state = NetState(net)
+
+    def is_free(kind, v, port):
+        return kind == "Pulse" or {v, state.neighbours[v][port]} != set(edge)
+    while event := next((event for event in state.possible() if is_free(*event)), None):
+        state.step(*event)
+    return {v: state.nodes[v].pulse_number for v in sorted(state.nodes)}
+
+
+def network_by(source):
+    """A connected network of the sheets' sizes, by chance."""
+    while True:
+        edges = edges_by(source)
+        net = Network({v: v for v in range(1, NODES + 1)}, edges)
+        if len(edges) == EDGES and net.greatest_degree == NEIGHBOURS and net.forest_count == FORESTS:
+            return net
+
+
+def edges_by(source):
+    """A tree of all nodes, and then further edges, nobody having too many neighbours."""
+    order, degree, edges = list(range(1, NODES + 1)), dict.fromkeys(range(1, NODES + 1), 0), set()
+    for at in range(NODES - 1, 0, -1):
+        other = int(source.random() * (at + 1))
+        order[at], order[other] = order[other], order[at]
+    pairs = [(order[int(source.random() * at)], order[at]) for at in range(1, NODES)]
+    pairs += [(1 + int(source.random() * NODES), 1 + int(source.random() * NODES)) for _ in range(4 * EDGES)]
+    for v, w in pairs:
+        edge = min(v, w), max(v, w)
+        if v != w and edge not in edges and len(edges) < EDGES and max(degree[v], degree[w]) < NEIGHBOURS:
+            edges.add(edge)
+            degree[v], degree[w] = degree[v] + 1, degree[w] + 1
+        elif len(edges) < NODES - 1 and edge not in edges:
+            return set()  # The tree itself has no room for this edge.
+    return edges
+
+
+def draw(seed, count, answers, lessons):
+    names = [seed] if count == 1 else [f"{seed}-{number}" for number in range(1, count + 1)]
+    sheets = "\n".join(Sheet(name, answers).text(lessons) for name in names)
+    return PAGE.format(title=f"{'Answers to sheets' if answers else 'Sheets'} {escaped(seed)}", sheets=sheets)
+
+
+def lesson(text):
+    if text not in map(str, LESSONS):
+        raise argparse.ArgumentTypeError("a lesson from 1 to 5")
+    return int(text)
+
+
+def how_many(text):
+    if not text.isascii() or not text.isdigit() or not 1 <= int(text) <= MOST_SHEETS:
+        raise argparse.ArgumentTypeError(f"a number from 1 to {MOST_SHEETS}")
+    return int(text)
+
+
+def command_line():
+    words = argparse.ArgumentParser(prog="sheet", usage="sheet [options]", description=HELP, epilog=MORE_HELP,
+                                    formatter_class=argparse.RawDescriptionHelpFormatter)
+    words.add_argument("--seed", default="1", metavar="N", help="any word or number; 1 if none is given")
+    words.add_argument("--sheets", type=how_many, default=1, metavar="COUNT", help="so many sheets, N-1, N-2 and so on")
+    words.add_argument("--lesson", type=lesson, action="append", metavar="N",
+                       help="the questions of this lesson alone; may be given again")
+    words.add_argument("--answers", action="store_true", help="with the answers")
+    return words
+
+
+def main(words):
+    given = command_line().parse_args(words)
+    sys.stdout.buffer.write(draw(given.seed, given.sheets, given.answers, given.lesson or LESSONS).encode())
+    return 0
+
+
+if __name__ == "__main__":
+    sys.exit(main(sys.argv[1:]))

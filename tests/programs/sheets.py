@@ -1,0 +1,173 @@
+#!/usr/bin/env python3
+"""Tests of `bin/sheet`. The last line is 'N passed, M failed'.
+
+  python3 -m tests.programs.sheets
+
+Each sheet's network is read from its answers, and each answer worked out once more here: from nodes that hear and send
+(lab/definitions/nodes.py), from counts, and by hand for one network."""
+import os
+import re
+import subprocess
+import sys
+import unittest
+
+from lab.definitions.colours import network_of
+from lab.definitions.nodes import Colouring, last_pulse, ports_of
+from lab.pictures.sheet import farthest
+from tests import TOP
+
+LIMIT = 120
+
+
+def sheet(*words):
+    done = subprocess.run([os.path.join(TOP, "bin", "sheet"), *words], capture_output=True, timeout=LIMIT)
+    return done.returncode, done.stdout.decode(), done.stderr.decode()
+
+
+def sections_of(page):
+    return re.findall(r"<section>(.*?)</section>", page, re.S)
+
+
+def tables_of(section):
+    """Rows by their names, of each table."""
+    for table in re.findall(r"<table>(.*?)</table>", section, re.S):
+        rows = re.findall(r"<tr><th>(.*?)</th>(.*?)</tr>", table)
+        yield [(name, [re.sub(r"<.*?>", "", cell) for cell in re.findall(r"<td>(.*?)</td>", cells)])
+               for name, cells in rows]
+
+
+def blanks_of(section):
+    return [re.sub(r"<.*?>", "", answer) for answer in re.findall(r'<b class="answer">(.*?)</b>', section)]
+
+
+class Played:
+    """The rounds of a network, from nodes that hear and send."""
+
+    def __init__(self, net):
+        self.colours, self.payloads, self.merged = {}, 0, {}
+        nodes = {v: Colouring(net, v) for v in net.neighbours}
+        sent = {v: nodes[v].greet() for v in nodes}
+        self.count(sent)
+        for p in range(1, last_pulse(net) + 1):
+            inboxes = {v: [sent[w][ports_of(net, w).index(v)] for w in ports_of(net, v)] for v in nodes}
+            sent = {v: nodes[v].next(p, inboxes[v]) for v in nodes}
+            self.count(sent)
+            for v, node in nodes.items():
+                self.colours[p, v] = list(node.colours)
+                self.merged[p, v] = node.merged
+
+    def count(self, sent):
+        self.payloads += sum(payload is not None for payloads in sent.values() for payload in payloads)
+
+
+class Answers(unittest.TestCase):
+    def check(self, section):
+        text = re.search(r"<pre>(.*?)</pre>", section, re.S).group(1).encode()
+        net = network_of(text)
+        vertices = sorted(net.neighbours)
+        self.assertEqual((len(vertices), len(net.number), net.greatest_degree, net.forest_count), (8, 9, 3, 2))
+        reached = {1}
+        while more := {w for v in reached for w in net.neighbours[v]} - reached:
+            reached |= more
+        self.assertEqual(len(reached), 8)
+        played = Played(net)
+        plan, parents, drops, merges, slow = tables_of(section)
+        blanks = blanks_of(section)
+        # Lesson 1.
+        self.assertEqual(blanks[0], "4")
+        channel = dict(zip(vertices, plan[1][1]))
+        clashes = [f"{v} and {w}" for v in vertices for w in sorted(net.neighbours[v]) if v < w
+                   and channel[v] == channel[w]]
+        self.assertEqual(blanks[1], "; ".join(clashes))
+        self.assertTrue(clashes)
+        # Lesson 2: the higher neighbours, the lowest first.
+        for f, (_, row) in enumerate(parents[1:]):
+            for v, parent in zip(vertices, row):
+                higher = sorted(w for w in net.neighbours[v] if w > v)
+                self.assertEqual(parent, str(higher[f]) if f < len(higher) else "-")
+        # Lesson 3.
+        child, parent = map(int, re.search(r"the colours of node (\d+) .*?its parent (\d+) ", section, re.S).groups())
+        for v, answer in ((child, blanks[2]), (parent, blanks[3])):
+            self.assertEqual(answer, ", ".join([str(v)] + [str(played.colours[p, v][0]) for p in range(3, 7)]))
+        for p, (_, row) in enumerate(drops[1:], 6):
+            self.assertEqual(row, [str(played.colours[p, v][0]) for v in vertices])
+        # Lesson 4.
+        for f in (0, 1):
+            self.assertEqual(merges[1 + 2 * f][1], [str(played.colours[12, v][f]) for v in vertices])
+            self.assertEqual(merges[2 + 2 * f][1], [str(played.merged[24 + 12 * f, v]) for v in vertices])
+        node = int(re.search(r"does node (\d+) choose in the merge of forest 1", section).group(1))
+        pair = played.colours[12, node][1], played.merged[24, node]
+        self.assertEqual(blanks[4:6], [str(25 + 4 * pair[0] + pair[1]), "36"])
+        # Lesson 5: two wires for each payload, and 36 safes and a close on each of the 18 links.
+        self.assertIn(f"has {played.payloads} payloads", section)
+        self.assertEqual(blanks[6], str(2 * played.payloads + 18 * 37))
+        ends = set(map(int, re.search(r"over the edge (\d)–(\d)", section).groups()))
+        self.assertEqual(slow[1][1], [str(max(0, distance(net, ends, v) - 1)) for v in vertices])
+
+    def test_answers(self):
+        status, page, fault = sheet("--seed", "7", "--sheets", "12", "--answers")
+        self.assertEqual((status, fault), (0, ""))
+        sections = sections_of(page)
+        self.assertEqual(len(sections), 12)
+        for number, section in enumerate(sections, 1):
+            with self.subTest(number):
+                self.assertIn(f"Sheet 7-{number}, answers", section)
+                self.check(section)
+        self.assertEqual(len({re.search(r"<pre>.*?</pre>", section, re.S).group() for section in sections}), 12)
+
+    def test_a_stopped_edge_by_hand(self):
+        """Six in a row, and nothing goes between 2 and 3: as in tests/programs/simulate.py."""
+        row = network_of(b"p edge 6 5\ne 1 2\ne 2 3\ne 3 4\ne 4 5\ne 5 6\n")
+        self.assertEqual(farthest(row, (2, 3)), {1: 0, 2: 0, 3: 0, 4: 0, 5: 1, 6: 2})
+
+
+def distance(net, ends, v):
+    """How many edges lie between v and the nearer one of the ends, whatever goes over the edge between these. So far
+    from an edge that stands still a node gets, less one: its neighbours at that edge stay at pulse 0."""
+    far, reached = 0, set(ends)
+    while v not in reached:
+        reached |= {w for u in reached for w in net.neighbours[u]}
+        far += 1
+    return far
+
+
+class Sheets(unittest.TestCase):
+    def test_a_sheet_is_its_answers_without_them(self):
+        sheets, answers = sheet("--seed", "x")[1], sheet("--seed", "x", "--answers")[1]
+        self.assertNotIn('class="answer"', sheets)
+        self.assertNotIn("<b class=answer>", sheets)
+        self.assertNotIn("p edge", sheets)
+        cut = re.sub(r"<p>The network, for the programs:</p>\n<pre>.*?</pre>\n", "", answers, flags=re.S)
+        cut = re.sub(r'<b class="answer">.*?</b>', '<span class="blank">&nbsp;</span>', cut)
+        cut = re.sub(r"<b class=answer>.*?</b>", "", cut)
+        cut = cut.replace("Sheet x, answers<small></small>", f"Sheet x<small>Name: {'_' * 28}</small>")
+        self.assertEqual(cut.replace("Answers to sheets x", "Sheets x"), sheets)
+
+    def test_lessons(self):
+        whole, one = sheet("--seed", "x", "--answers")[1], sheet("--seed", "x", "--answers", "--lesson", "5")[1]
+        self.assertEqual(re.findall(r"<h2>(.*?)</h2>", one), ["Lesson 5"])
+        last = whole[whole.index("<h2>Lesson 5</h2>"):]
+        self.assertTrue(one.endswith(last))
+
+    def test_same_seed_same_sheets(self):
+        self.assertEqual(sheet("--seed", "3", "--sheets", "2"), sheet("--seed", "3", "--sheets", "2"))
+        self.assertNotEqual(sheet("--seed", "3")[1], sheet("--seed", "4")[1])
+
+    def test_refusals(self):
+        for words in (["--lesson", "6"], ["--sheets", "0"], ["--sheets", "x"], ["x"]):
+            with self.subTest(words):
+                status, page, fault = sheet(*words)
+                self.assertEqual((status, page), (2, ""))
+                self.assertIn("sheet: error: ", fault)
+
+
+def main():
+    loaded = unittest.defaultTestLoader.loadTestsFromModule(sys.modules[__name__])
+    done = unittest.TextTestRunner(stream=sys.stdout, verbosity=0).run(loaded)
+    failed = len(done.failures) + len(done.errors)
+    print(f"{max(0, done.testsRun - failed)} passed, {failed} failed")
+    return 1 if failed else 0
+
+
+if __name__ == "__main__":
+    sys.exit(main())
