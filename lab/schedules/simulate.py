@@ -149,7 +149,8 @@ def command_line():
                                     epilog=MORE_HELP, formatter_class=argparse.RawDescriptionHelpFormatter)
     words.add_argument("network", metavar="NETWORK", help="the network's file, or - for standard input")
     words.add_argument("--seed", default="1", metavar="N", help="any word or number; 1 if none is given")
-    words.add_argument("--policy", choices=POLICIES, default="random", metavar="NAME", help="one of those below (random)")
+    words.add_argument("--policy", choices=POLICIES, default="random", metavar="NAME",
+                       help="one of those below (random)")
     words.add_argument("--slow", type=edge, action="append", default=[], metavar="V-W",
                        help="what goes over this edge waits, whatever the policy is; may be given again")
     words.add_argument("--lazy", type=int, action="append", default=[], metavar="V",

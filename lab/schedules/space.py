@@ -9,29 +9,33 @@ own. `without` has rules of rules.OF_SCHEDULES. With a rule left out the search 
 which a shortest list of events leads to; `beyond=True` goes on, from wherever the program doesn't refuse. More than
 `limit` states raise `TooMany`.
 
-    space.vertices        [1, 2, 3]; space.ports[v] are v's neighbours, ascending (port 0 first) space.links
-    [(v, w), ..]: what v puts for w space.last            the last pulse of each node space.count           how many
-    states there are; they are numbered from 0, the start, by width space.depth[s]        the least number of events
-    that lead to state s space.steps(s)        [(event, target)], the events possible in state s; target is None if the
-    event is refused space.event(e)        an Event: kind (take, pulse, put), v, port, w (the neighbour there), wire (in
-    words), place (how
-                          many wires of the link it overtakes); str(event) is its line for `forestplay events`
+With `reduce`, a safe or a close that comes next on its link is taken at once and alone, which leaves most states out
+(see `cut`). What each pulse finds, what is refused, and the ends stay; the number of schedules, shortest lists, how far
+neighbours are apart and how much a link holds don't.
+
+    space.vertices        [1, 2, 3]; space.ports[v] are v's neighbours, ascending (port 0 first)
+    space.links           [(v, w), ..]: what v puts for w
+    space.last            the last pulse of each node
+    space.count           how many states there are; they are numbered from 0, the start, by width
+    space.depth[s]        the least number of events that lead to state s
+    space.steps(s)        [(event, target)], the events possible in state s; target is None if the event is refused
+    space.event(e)        an Event: kind (take, pulse, put), v, port, w (the neighbour there), wire (in words), place
+                          (how many wires of the link it overtakes); str(event) is its line for `forestplay events`
     space.nodes(s)        {v: Node}: pulse, stage (asks, safe, ready, last, whole), waits (what it waits for, as (wire,
-    w)),
-                          wrong (it has made a pulse with another inbox than the round's), colour (merged so far), phase
-    space.wires(s)        {(v, w): [wire, ..]}, what each link holds, in words, the one that comes next first space.ends
-    the states in which nothing is possible space.faults          {(s, e): what goes wrong in words}, e being the
-    event's number in steps(s); and {(s, None): words} for
-                          a state in which nothing is possible though some node waits
-    space.first_fault()   the key of a fault that the fewest events lead to space.path(s)         a shortest list of
-    events from the start to state s; space.path_to_fault() one that ends with the
-                          event of the first fault
+                          w)), wrong (it has made a pulse with another inbox than the round's), colour (merged so far),
+                          phase
+    space.wires(s)        {(v, w): [wire, ..]}, what each link holds, in words, the one that comes next first
+    space.ends            the states in which nothing is possible
+    space.faults          {(s, e): what goes wrong in words}, e being the event's number in steps(s); and {(s, None):
+                          words} for a state in which nothing is possible though some node waits
+    space.first_fault()   the key of a fault that the fewest events lead to
+    space.path(s)         a shortest list of events from the start to state s; space.path_to_fault() one that ends with
+                          the event of the first fault
     space.lines(events, eager)
                           the events as lines for `forestplay events`, with puts: as soon as they can be made (eager),
                           so that the state is s, or only those that are needed
     space.schedules       how many lists of events lead from the start to an end; None if events are possible in
-    different
-                          numbers, which they are not if no rule is left out
+                          different numbers, which they are not if no rule is left out
     space.farthest        the most pulses that two neighbours are apart in any state
     space.most_wires      the most wires that any link holds in any state
 """
@@ -53,13 +57,18 @@ class Event(namedtuple("Event", "kind v port w wire place")):
         return f"pulse {self.v}" if self.kind == "pulse" else f"{self.kind} {self.v} {self.port}"
 
 
+class Alone(list):
+    """The one event that is looked at in a state, though others are possible too."""
+
+
 class TooMany(Exception):
     """There are more states than the limit allows."""
 
 
 class Space:
-    def __init__(self, net, without=(), limit=1_000_000, puts=False, beyond=False, progress=None):
+    def __init__(self, net, without=(), limit=1_000_000, puts=False, beyond=False, progress=None, reduce=False):
         self.net, self.without, self.limit, self.puts, self.beyond = net, tuple(without), limit, puts, beyond
+        self.reduce = reduce
         self.rounds = Rounds(net)
         self.vertices, self.ports, self.last = sorted(net.neighbours), self.rounds.ports, self.rounds.last
         self.links = [(v, w) for v in self.vertices for w in self.ports[v]]
@@ -167,6 +176,20 @@ class Space:
         e = self.number_of_event("put", v, p, w, wire_words(wire), 0)
         return e, self.local(a, node), None, 0, ((self.slot[v, w], (wire,)),), None
 
+    def cut(self, moves):
+        """With `reduce`, the take of a safe or a close that comes next on its link, alone, if the node has one.
+
+        Such a take sends nothing. It stays possible, with the same effect, whatever else happens first: others only add
+        to the end of the link, and at its node a pulse, a put, or a take from another link neither needs what it
+        changes to be as it was nor makes it impossible. So each list of events can be changed into one in which it
+        comes first, by exchanging neighbours that don't depend on each other, and what each pulse finds and whatever
+        is refused stays as it is. Without `safes` or `fifo` that isn't so. (A take that is refused isn't cut to.)"""
+        for move in moves:
+            event = self.events[move[0]]
+            if event.kind == "take" and event.wire.split()[0] in ("safe", "close") and move[1] is not None:
+                return Alone([move])
+        return moves
+
     # The search.
 
     def start(self):
@@ -195,12 +218,18 @@ class Space:
 
     def expand(self, s, arrive):
         """Notes the steps of a state, and the new states that they lead to."""
-        state, some = self.states[s], False
+        state, some, possible = self.states[s], False, []
         for a, slots in enumerate(arrive):
             key = (state[a], *[state[k] for k in slots])
             moves = self.moves[a].get(key)
             if moves is None:
-                moves = self.moves[a][key] = self.moves_of(a, key[0], key[1:])
+                moves = self.moves_of(a, key[0], key[1:])
+                moves = self.moves[a][key] = self.cut(moves) if self.reduce else moves
+            if isinstance(moves, Alone):
+                possible = [(a, moves)]
+                break
+            possible.append((a, moves))
+        for a, moves in possible:
             for e, j, link, rest, gone, fault in moves:
                 some = True
                 if fault:

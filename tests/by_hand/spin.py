@@ -1,0 +1,115 @@
+#!/usr/bin/env python3
+"""Searches a model in Promela (bench/spin/alpha.pml) with Spin, and compares its counts with those of bin/explore. The
+last line is 'N passed, M failed'.
+
+  python3 -m tests.by_hand.spin [--all]
+      --all   also four nodes in a row, and four that are all neighbours, which takes minutes
+
+The model was written apart from lab/schedules: other states, another language, another search. It asserts in every
+state that a pulse has the round's inbox, that no wire comes which a node refuses, that no link finds its two places
+full, and at the end that the plan is right and all links are empty. Spin's process that starts the nodes adds three
+states and four steps. It needs spin and gcc (Debian: `apt-get install spin gcc`), and so is no part of ./test."""
+import os
+import re
+import subprocess
+import sys
+import tempfile
+
+from lab.definitions.colours import colours, network_of
+from lab.definitions.nodes import Colouring, last_pulse, ports_of
+from lab.schedules.space import Space
+from tests import TOP
+
+MODEL = os.path.join(TOP, "bench", "spin", "alpha.pml")
+NETWORKS = {
+    "two": b"p edge 2 1\ne 1 2\n",
+    "path": b"p edge 3 2\ne 1 2\ne 2 3\n",
+    "triangle": b"p edge 3 3\ne 1 2\ne 1 3\ne 2 3\n",
+    "star of four": b"p edge 4 3\ne 1 4\ne 2 4\ne 3 4\n",
+    "ring of four": b"p edge 4 4\ne 1 2\ne 2 3\ne 3 4\ne 1 4\n",
+}
+LARGE = {
+    "path of four": b"p edge 4 3\ne 1 2\ne 2 3\ne 3 4\n",
+    "all of four": b"p edge 4 6\ne 1 2\ne 1 3\ne 1 4\ne 2 3\ne 2 4\ne 3 4\n",
+}
+# (network, rules left out, whether puts are events).
+CASES = [("two", "", False), ("two", "", True), ("path", "", False), ("path", "", True), ("triangle", "", False),
+         ("triangle", "", True), ("star of four", "", False), ("ring of four", "", False), ("two", "acks", False),
+         ("two", "acks", True), ("path", "acks", False), ("triangle", "acks", False)]
+ALL = [("path of four", "", False), ("all of four", "", False)]
+MOST = 4_000_000
+
+
+def chain(items, other="0"):
+    """The value of the first test that is true, as an expression of Promela."""
+    for test, value in reversed(items):
+        other = f"(({test}) -> {value} : {other})"
+    return other
+
+
+def due_of(net):
+    """{(v, p, w): number that w sends v at pulse p - 1}, and the colours at the end, by nodes that hear and send."""
+    nodes, due = {v: Colouring(net, v) for v in net.neighbours}, {}
+    sent = {v: nodes[v].greet() for v in nodes}
+    for p in range(1, last_pulse(net) + 1):
+        inbox = {v: [sent[w][ports_of(net, w).index(v)] for w in ports_of(net, v)] for v in nodes}
+        for v in nodes:
+            due |= {(v, p, w): slot[1] for w, slot in zip(ports_of(net, v), inbox[v]) if slot}
+        sent = {v: nodes[v].next(p, inbox[v]) for v in nodes}
+    return due, {v: node.merged for v, node in nodes.items()}
+
+
+def header_of(net):
+    vertices, (due, end) = sorted(net.neighbours), due_of(net)
+    assert end == colours(net)
+    joined = [f"(v == {v - 1} && w == {w - 1})" for v in vertices for w in sorted(net.neighbours[v])]
+    by_pulse = {}
+    for (v, p, w), number in due.items():
+        by_pulse.setdefault(p, []).append((f"v == {v - 1} && w == {w - 1}", number + 1))
+    return "".join(f"#define {line}\n" for line in [
+        f"N {len(vertices)}",
+        f"DELTA {net.greatest_degree}",
+        f"U {net.forest_count}",
+        f"R {last_pulse(net)}",
+        f"ADJ(v,w) ({' || '.join(joined)})",
+        f"DEGREE(v) {chain([(f'v == {v - 1}', len(net.neighbours[v])) for v in vertices])}",
+        f"CHANNEL(v) {chain([(f'v == {v - 1}', end[v]) for v in vertices])}",
+        f"DUE(v,p,w) {chain([(f'p == {p}', chain(items)) for p, items in sorted(by_pulse.items())])}",
+    ])
+
+
+def searched(net, without, puts):
+    """(states, steps, errors) by Spin."""
+    options = ["-DPUTS"] * puts + (["-DWITHOUT_ACKS", "-DCAP=8"] if without == "acks" else [])
+    with tempfile.TemporaryDirectory() as folder:
+        def run(*words):
+            return subprocess.run(words, cwd=folder, check=True, capture_output=True, text=True).stdout
+        with open(os.path.join(folder, "net.h"), "w", encoding="ascii") as file:
+            file.write(header_of(net))
+        with open(os.path.join(folder, "model.pml"), "w", encoding="ascii") as file:
+            file.write(run("cpp", "-P", "-I", folder, '-DNET="net.h"', *options, MODEL))
+        run("spin", "-o3", "-a", "model.pml")
+        run("gcc", "-O2", "-DSAFETY", "-DNOREDUCE", "-DCOLLAPSE", "-w", "-o", "pan", "pan.c")
+        said = run("./pan", "-m1000000", "-w22")
+    states, steps = (int(re.search(rf"(\d+) {what}", said).group(1)) for what in ("states, stored", "transitions"))
+    return states, steps, int(re.search(r"errors: (\d+)", said).group(1))
+
+
+def main():
+    tally = {True: 0, False: 0}
+    for name, without, puts in CASES + ALL * (sys.argv[1:] == ["--all"]):
+        net = network_of((NETWORKS | LARGE)[name])
+        space = Space(net, [without] if without else [], MOST, puts)
+        wanted = space.count + 3, len(space.target) + 4, 0
+        got = searched(net, without, puts)
+        good = got == wanted and not space.faults
+        tally[good] += 1
+        what = f"{name}{f' without {without}' if without else ''}{', puts apart' if puts else ''}"
+        print(f"{'' if good else 'FAILED '}{what}: {space.count:,} states and {len(space.target):,} steps"
+              + ("" if good else f", and Spin has {got}"))
+    print(f"{tally[True]} passed, {tally[False]} failed")
+    return 0 if not tally[False] else 1
+
+
+if __name__ == "__main__":
+    sys.exit(main())
