@@ -13,6 +13,7 @@ COMMANDS = {
     "picture": "lab.pictures.picture",
     "sheet": "lab.pictures.sheet",
     "simulate": "lab.schedules.simulate",
+    "transcript-to": "lab.transcripts.to",
 }
 # What scripts ask for besides.
 INNER = {"watch": "lab.watch"}

@@ -1,0 +1,115 @@
+"""The door: `bin/transcript-to FORM [TRANSCRIPT]`. Writes a transcript of edition 2 in the form of another tool, or one
+line on standard error."""
+import argparse
+import json
+import sys
+from collections import deque
+
+from lab.definitions.nodes import wire_words
+from lab.transcripts.reading import Wrong, read
+
+HELP = """\
+Writes a transcript of edition 2 for other tools.
+
+  json    a JSON object a line: the first with the number of nodes, then one for each
+          entry, {"stamp", "node", "kind", "neighbour", "wire", "pulse", ..}; a take has
+          the number of the line of its put as "put"
+  shiviz  a log for ShiViz (bestchai.bitbucket.io/shiviz), with vector clocks
+"""
+MORE_HELP = """\
+Without TRANSCRIPT it is read from standard input. Only a take without a put before it
+and lines that are none of a transcript are refused: bin/check-transcript judges a run.
+
+In ShiViz, give this as the parser of the log:
+  (?<host>\\S*) (?<clock>{.*})\\n(?<event>.*)
+
+Status: 0 done, 1 not read (one line on standard error says why), 2 the command line is
+refused.
+
+Example:
+  bin/simulate examples/triangle.col | bin/transcript-to shiviz > triangle.log
+"""
+
+
+def entries_of(text):
+    """The number of nodes; and (entry, the entry of its put if it is a take), in the order of the text."""
+    head, entries = read(text)
+    if head.edition != 2:
+        raise Wrong(head.line, "X1", "edition 1 has no order of all entries: only edition 2 is written in other forms")
+    links, found = {}, []
+    for entry in entries:
+        put = None
+        if entry.kind == "Put":
+            links.setdefault((entry.vertex, entry.neighbour), deque()).append(entry)
+        elif entry.kind == "Take":
+            link = links.get((entry.neighbour, entry.vertex))
+            if not link:
+                raise Wrong(entry.line, "LinkEmpty", f"node {entry.vertex} takes what {entry.neighbour} hasn't put")
+            put = link.popleft()
+        found.append((entry, put))
+    return head.nodes, found
+
+
+def as_json(nodes, entries):
+    yield json.dumps({"edition": 2, "nodes": nodes})
+    for entry, put in entries:
+        row = {"line": entry.line, "stamp": entry.stamp, "node": entry.vertex, "kind": entry.kind.lower()}
+        if entry.kind == "Pulse":
+            row["pulse"] = entry.what
+        else:
+            kind, *more = entry.what
+            row |= {"neighbour": entry.neighbour, "wire": kind.lower()}
+            row |= {"pulse": more[0]} if more else {}
+            row |= {"word": more[1][0].lower(), "number": more[1][1]} if kind == "Payload" else {}
+        if put:
+            row["put"] = put.line
+        yield json.dumps(row)
+
+
+def as_shiviz(_, entries):
+    """Two lines an entry: the node with its vector clock, and what it did."""
+    clocks, carried = {}, {}
+    for entry, put in entries:
+        own = clocks.setdefault(entry.vertex, {})
+        own[entry.vertex] = own.get(entry.vertex, 0) + 1
+        if put:
+            for v, count in carried.pop(put.line).items():
+                own[v] = max(own.get(v, 0), count)
+        if entry.kind == "Put":
+            carried[entry.line] = dict(own)
+        yield f"node{entry.vertex} " + json.dumps({f"node{v}": count for v, count in sorted(own.items())})
+        if entry.kind == "Pulse":
+            yield f"pulse {entry.what}"
+        else:
+            way = "to" if entry.kind == "Put" else "from"
+            yield f"{entry.kind.lower()} {wire_words(entry.what)} {way} {entry.neighbour}"
+
+
+FORMS = {"json": as_json, "shiviz": as_shiviz}
+
+
+def main(words):
+    line = argparse.ArgumentParser(prog="transcript-to", usage="transcript-to FORM [TRANSCRIPT]", description=HELP,
+                                   epilog=MORE_HELP, formatter_class=argparse.RawDescriptionHelpFormatter)
+    line.add_argument("form", choices=FORMS, metavar="FORM", help="json or shiviz")
+    line.add_argument("transcript", metavar="TRANSCRIPT", nargs="?", default="-", help="a stored transcript")
+    given = line.parse_args(words)
+    try:
+        if given.transcript == "-":
+            text = sys.stdin.buffer.read()
+        else:
+            with open(given.transcript, "rb") as file:
+                text = file.read()
+        rows = list(FORMS[given.form](*entries_of(text)))
+    except OSError as why:
+        print(f"transcript-to: {given.transcript}: {why.strerror}", file=sys.stderr)
+        return 1
+    except Wrong as why:
+        print(f"transcript-to: {why}", file=sys.stderr)
+        return 1
+    sys.stdout.write("".join(row + "\n" for row in rows))
+    return 0
+
+
+if __name__ == "__main__":
+    sys.exit(main(sys.argv[1:]))

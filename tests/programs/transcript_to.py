@@ -1,0 +1,113 @@
+#!/usr/bin/env python3
+"""Tests of `bin/transcript-to`. The last line is 'N passed, M failed'.
+
+A vector clock is worked out here in another way: as the sets of entries that happened before an entry."""
+import json
+import os
+import random
+import subprocess
+import sys
+import unittest
+
+from lab.definitions.colours import network_of
+from tests import TOP
+from tests.programs.made_transcripts import made_transcript, merged_text, transcript_text
+
+
+def call(*words, data=b""):
+    done = subprocess.run([os.path.join(TOP, "bin", "transcript-to"), *words], input=data, capture_output=True,
+                          timeout=60)
+    return done.returncode, done.stdout.decode(), done.stderr.decode()
+
+
+def made(name):
+    with open(os.path.join(TOP, "examples", f"{name}.col"), "rb") as file:
+        net = network_of(file.read())
+    lines = made_transcript(random.Random(f"to {name}"), net, 3)
+    return len(net.neighbours), lines
+
+
+class Forms(unittest.TestCase):
+    def test_json(self):
+        """Each row, put together again, is its line; and a take names a put of the same wire to its node."""
+        for name in ("two", "triangle", "star"):
+            with self.subTest(name):
+                nodes, lines = made(name)
+                text = merged_text(nodes, lines)
+                status, said, fault = call("json", data=text)
+                self.assertEqual((status, fault), (0, ""))
+                first, *rows = map(json.loads, said.splitlines())
+                self.assertEqual(first, {"edition": 2, "nodes": nodes})
+                wanted = text.decode().splitlines()
+                by_line = {row["line"]: row for row in rows}
+                self.assertEqual([self.line_of(row) for row in rows], wanted[1:])
+                taken = [row["put"] for row in rows if row["kind"] == "take"]
+                self.assertEqual(len(taken), len(set(taken)))
+                for row in rows:
+                    if row["kind"] == "take":
+                        put = by_line[row["put"]]
+                        self.assertEqual((put["kind"], put["node"], put["neighbour"]),
+                                         ("put", row["neighbour"], row["node"]))
+                        self.assertLess(put["stamp"], row["stamp"])
+
+    def line_of(self, row):
+        words = [row["stamp"], row["node"], row["kind"]]
+        if row["kind"] == "pulse":
+            return " ".join(map(str, [*words, row["pulse"]]))
+        words += [row["neighbour"], row["wire"]] + [row[key] for key in ("pulse", "word", "number") if key in row]
+        return " ".join(map(str, words))
+
+    def test_shiviz(self):
+        for name in ("two", "triangle"):
+            with self.subTest(name):
+                nodes, lines = made(name)
+                text = merged_text(nodes, lines)
+                status, said, fault = call("shiviz", data=text)
+                self.assertEqual((status, fault), (0, ""))
+                heads, events = said.splitlines()[::2], said.splitlines()[1::2]
+                rows = [line.split(" ") for line in text.decode().splitlines()[1:]]
+                self.assertEqual([event.split(" ")[0] for event in events], [row[2] for row in rows])
+                past, last, links = [], {}, {}
+                for at, (row, head) in enumerate(zip(rows, heads)):
+                    before = set(past[last[row[1]]]) if row[1] in last else set()
+                    if row[2] == "take":
+                        before |= past[links[row[3], row[1]].pop(0)]
+                    elif row[2] == "put":
+                        links.setdefault((row[1], row[3]), []).append(at)
+                    past.append(before | {at})
+                    last[row[1]] = at
+                    host, clock = head.split(" ", 1)
+                    self.assertEqual(host, f"node{row[1]}")
+                    counts = {}
+                    for k in past[at]:
+                        counts[f"node{rows[k][1]}"] = counts.get(f"node{rows[k][1]}", 0) + 1
+                    self.assertEqual(json.loads(clock), counts)
+
+    def test_refusals(self):
+        nodes, lines = made("two")
+        good = merged_text(nodes, lines)
+        takes = b"".join(line for line in good.splitlines(keepends=True) if b" put " not in line)
+        cases = [
+            (["json", "nowhere"], b"", 1, "transcript-to: nowhere: No such file or directory\n"),
+            (["json"], transcript_text(nodes, lines), 1, "edition 1 has no order of all entries"),
+            (["shiviz"], takes, 1, "LinkEmpty"),
+            (["json"], b"plan\n1 1\n", 1, "X1"),
+            (["xml"], good, 2, "invalid choice"),
+        ]
+        for words, data, wanted, end in cases:
+            with self.subTest(words):
+                status, said, fault = call(*words, data=data)
+                self.assertEqual((status, said), (wanted, ""))
+                self.assertIn(end, fault)
+
+
+def main():
+    loaded = unittest.defaultTestLoader.loadTestsFromModule(sys.modules[__name__])
+    done = unittest.TextTestRunner(stream=sys.stdout, verbosity=0).run(loaded)
+    failed = len(done.failures) + len(done.errors)
+    print(f"{max(0, done.testsRun - failed)} passed, {failed} failed")
+    return 1 if failed else 0
+
+
+if __name__ == "__main__":
+    sys.exit(main())
