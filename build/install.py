@@ -14,7 +14,8 @@ TOP = os.path.dirname(os.path.dirname(os.path.realpath(__file__)))
 
 # What is copied, each at the path that it has here.
 PROGRAMS = ("forestplan", "forestplay")
-SCRIPTS = ("picture", "network", "channels", "explore", "check-transcript", "replay")
+SCRIPTS = ("picture", "network", "channels", "explore", "check-transcript", "replay", "simulate", "sheet",
+           "transcript-to")
 # Those whose issues may still be open are copied if they are there.
 LATER = ("workshop",)
 FOLDERS = ("examples", "docs", "lab")
@@ -25,9 +26,9 @@ Copies forestplan and what belongs to it into a folder, so that it runs there
 without the toolchain and without this tree.
 
 The folder gets the layout of this tree: in bin/ the two programs and the scripts
-picture, network, channels, explore, check-transcript and replay, and besides their
-modules, the examples, README, the pages and lessons, the licences, and a manual page
-for each command. So the lessons' commands work in it as they do here; with its bin/
+picture, network, channels, explore, check-transcript, replay, simulate, sheet and
+transcript-to, and besides their modules, the examples, README, the pages and lessons,
+the licences, and a manual page for each command. So the lessons' commands work in it as they do here; with its bin/
 on the PATH they work anywhere without the bin/ before them. VERSION says what it was
 made from, and SHA256SUMS has a sum of each file: sha256sum -c SHA256SUMS. The programs
 need the C library alone, the scripts bash and Python 3. One such folder serves every
