@@ -11,7 +11,7 @@ from lab.networks.plan_text import read_plan
 from lab.pictures import (
     adversary_page, automaton_picture, bits_picture, broken_picture, forests_picture, map_picture, matrix_picture,
     overview_picture, plan_picture, player_page, rounds_picture, run_picture, schedules_picture, schedules_space,
-    tally_picture, timing_picture, watch_page,
+    tally_picture, timing_picture, watch_page, why_picture,
 )
 from lab.pictures.places import note
 from lab.pictures.rounds import read_rounds
@@ -30,6 +30,7 @@ draw what `bin/explore` searches.
   forests    the forests with their colours, and the plan after each merge
   rounds     the colours and choices of each node, pulse by pulse
   bits       one node above its parent, digit by digit
+  why        the messages that gave one node its channel, on the rounds or in words
   run        space and time of a run without a clock, above its rounds
   overview   the pulses of such a run from beginning to end
   node       the synchroniser as an automaton; with --vertex its timing
@@ -89,6 +90,15 @@ KINDS = {
         "Without --vertex, the least one that has a parent. A vertex without a line `i V NUMBER`\n"
         "has its own number as its name, of few digits.",
         "bin/picture bits examples/petersen.col --vertex 6 > petersen-bits.svg",
+    ),
+    "why": (
+        "Which messages decided the channel of --vertex, back to identifiers; all others are faded.",
+        "At most 400 rows, a row for each node of each forest that mattered. With --text the same in\n"
+        "words, of any network: each choice, who had taken the lower channels, and the colours that gave\n"
+        "the turns. What wasn't heard is left out: that a channel is free, and, of the greetings, who is\n"
+        "whose parent.",
+        "bin/picture why examples/triangle.col --vertex 2 > triangle-why.svg\n"
+        "  bin/picture why examples/petersen.col --vertex 6 --text",
     ),
     "run": (
         "Above, what each node put, took and did; below, the same payloads as rounds.",
@@ -161,7 +171,7 @@ KINDS = {
 OF_SPACE = ("schedules", "adversary")
 OF_PLAN, OF_ROUNDS, OF_RUN = (
     ("plan", "matrix"),
-    ("forests", "rounds", "bits", "player"),
+    ("forests", "rounds", "bits", "why", "player"),
     ("run", "overview", "node", "tally"),
 )
 
@@ -242,8 +252,10 @@ def add_options(kind, name):
         kind.add_argument("--forest", dest="forests", type=one, metavar="F", help="this forest alone")
     if name == "bits":
         kind.add_argument("--forest", type=int, metavar="F", help="one forest, counted from 0")
-    if name in ("bits", "node"):
-        kind.add_argument("--vertex", type=int, metavar="V", help="a vertex, counted from 1")
+    if name in ("bits", "node", "why"):
+        kind.add_argument("--vertex", type=int, required=name == "why", metavar="V", help="a vertex, counted from 1")
+    if name == "why":
+        kind.add_argument("--text", action="store_true", dest="in_words", help="in words, not as a picture")
     if name == "tally":
         kind.add_argument("--rounds", metavar="FILE", help="a stored rounds text to count by, in place of a run")
     if name == "run":
@@ -401,6 +413,9 @@ def drawn_rounds(given, rounds):
         return forests_picture.draw(rounds, given.forests)
     if given.kind == "rounds":
         return rounds_picture.draw(rounds, given.forests)
+    if given.kind == "why":
+        cone = why_picture.Cone(rounds, given.vertex)
+        return why_picture.text(cone) if given.in_words else why_picture.draw(cone)
     if given.kind == "bits":
         return bits_picture.draw(rounds, given.forest or 0, given.vertex)
     return player_page.draw(rounds) if given.frame is None else player_page.draw_frame(rounds, given.frame)

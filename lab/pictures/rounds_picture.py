@@ -21,21 +21,26 @@ def draw(rounds, asked=None):
     network, asked = rounds.network, rounds.asked_forests(asked)
     forests = list(asked or range(min(rounds.forests, max(1, USUAL_ROWS // network.nodes))))
     at_most("rounds", len(forests) * network.nodes, "rows", MOST_ROWS, "rounds --forest F, one forest at a time")
+    title = f"{network.name}: six colours at pulse 6, three at pulse 12, the plan at pulse {rounds.last}"
+    return draw_strips(rounds, forests, title, left_out_of(rounds, forests))
+
+
+def draw_strips(rounds, forests, title, lines, cone=None):
+    """Forests under a title and lines; of a `cone` (why_picture.py), what isn't in it is faded."""
+    network = rounds.network
     steps = columns_of(rounds, forests)
     is_full = all(len(steps[f]) == 3 * rounds.width for f in forests)
     most = max(map(len, steps.values()))
     column = 21 if is_full or most > 12 else COLUMN
     width = max(MERGES + most * column + 90 + bars_room(network), 980)
     block = network.nodes * ROW + HEAD + FOOT
-    left_out = left_out_of(rounds, forests)
-    top = TOP + 18 * len(left_out)
+    top = TOP + 18 * len(lines)
     svg = Svg(width, top + len(forests) * block - FOOT + 18, f"Rounds of {network.name}")
-    svg.heading(
-        f"{network.name}: six colours at pulse 6, three at pulse 12, the plan at pulse {rounds.last}", *left_out
-    )
-    legend(svg, 50 + 18 * len(left_out), network.bars)
+    svg.heading(title, *lines)
+    legend(svg, 50 + 18 * len(lines), network.bars)
     for number, forest in enumerate(forests):
         strip = Strip(svg, rounds, forest, top + number * block, steps[forest], column)
+        strip.cone = cone
         strip.colours()
         strip.merge(is_full)
     return svg.document()
@@ -84,7 +89,8 @@ def legend(svg, y, has_bars):
 
 
 class Strip:
-    """The block of one forest, with its upper edge at `top`."""
+    """The block of one forest, with its upper edge at `top`; what isn't in the `cone` is faded, if there is one."""
+    cone = None
 
     def __init__(self, svg, rounds, forest, top, steps, column):
         self.svg, self.rounds, self.forest, self.top = svg, rounds, forest, top
@@ -127,6 +133,11 @@ class Strip:
                 colour_square(self.svg, x, y, COLUMN / 2 - 2.5, colour)
             else:
                 number_square(self.svg, x, y, COLUMN / 2 - 2.5, colour)
+            if self.cone and not self.cone.has_colour(v, self.forest, number):
+                self.fade(x, y, COLUMN)
+
+    def fade(self, x, y, side):
+        self.svg.rect(x - side / 2, y - ROW / 2, side, ROW, "#FFFFFF", fill_opacity="0.82", mark="faded")
 
     def merge(self, is_full):
         """Right: who chooses at which step, with a pale line of the channel that each node has before and after."""
@@ -173,5 +184,7 @@ class Strip:
         svg.line(x0, y, end + 12, y, channel_hue(channel + 1), 3, opacity="0.35")
         for x, pulse in chosen:
             channel_circle(svg, x, y, min(self.column, ROW) / 2 - 1, pulse.chosen[v] + 1, mark="choice")
+            if self.cone and not self.cone.has_choice(v, self.forest):
+                self.fade(x, y, self.column)
         channel_circle(svg, end + 24, y, 11, channel + 1, mark="after")
         bar_row(svg, end + 44, y, self.rounds.network.barred(v), BAR)

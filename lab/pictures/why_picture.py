@@ -1,0 +1,179 @@
+"""Why a node has its channel: the messages that decided it, back to identifiers, as text and on the rounds.
+
+A fact is what a node is at some point of the rounds: ("identifier", v), ("colour", v, f, p), v's colour in forest f
+after pulse p, or ("merged", v, f), the colour that v chose in the merge of forest f. `Cone` goes back from the last
+choice of a node to all facts that its value was worked out from. What a node didn't hear is no fact: that a channel is
+free follows from nobody's having taken it before; and who is whose parent follows from the greetings."""
+from lab.pictures.colouring import DROPPED, LAST_COLOUR, SEED
+from lab.pictures.rounds_picture import MOST_ROWS, draw_strips
+from lab.wrong import Wrong, at_most
+
+
+NOT_FOLLOWED = ("not followed: that nobody had taken the channel that it has; and the greetings, which say who is whose "
+                "parent")
+
+
+class Cone:
+    """The facts on which the channel of `vertex` depends, and the messages that carried them."""
+
+    def __init__(self, rounds, vertex):
+        self.rounds, self.network, self.vertex = rounds, rounds.network, vertex
+        if vertex not in self.network.vertices:
+            raise Wrong(f"{self.network.name} has no vertex {vertex}")
+        self.choices = {}
+        for pulse in rounds.pulses:
+            for v, colour in pulse.chosen.items():
+                self.choices[v, pulse.step[0]] = pulse.number, colour
+        self.facts, self.messages, self.taken = [], set(), {}
+        self.follow([("merged", vertex, rounds.forests - 1)] if rounds.forests else [])
+        self.known = set(self.facts)
+
+    def follow(self, left):
+        seen = set(left)
+        while left:
+            fact = left.pop(0)
+            self.facts.append(fact)
+            for cause in self.causes(fact):
+                if cause not in seen:
+                    seen.add(cause)
+                    left.append(cause)
+
+    def causes(self, fact):
+        if fact[0] == "merged":
+            yield from self.causes_of_choice(*fact[1:])
+        elif fact[0] == "colour":
+            yield from self.causes_of_colour(*fact[1:])
+
+    def causes_of_choice(self, v, f):
+        """Its pair, which is its turn; and, for each lower colour, who had taken it first, if it isn't barred."""
+        pulse, colour = self.choices[v, f]
+        yield "colour", v, f, LAST_COLOUR
+        if f:
+            yield "merged", v, f - 1
+        self.taken[v, f] = []
+        for lower in range(colour):
+            if lower not in self.rounds.allowed[v]:
+                self.taken[v, f].append((lower, None, None))
+                continue
+            when, w = min((self.choices[w, f][0], w) for w in self.network.neighbours[v]
+                          if self.rounds.forest_of[v, w] <= f and self.choices[w, f][1] == lower
+                          and self.choices[w, f][0] < pulse)
+            self.taken[v, f].append((lower, w, when))
+            self.messages.add((when, w, v, f"chosen {lower}"))
+            yield "merged", w, f
+
+    def causes_of_colour(self, v, f, p):
+        if p == SEED:
+            yield "identifier", v
+            return
+        parent, pulses = self.rounds.parents.get((v, f)), self.rounds.pulses
+        phase, before = pulses[p].phase, pulses[p - 1].colours
+        if phase == "shift":
+            yield from [self.told(v, parent, f, p)] if parent else [("colour", v, f, p - 1)]
+            return
+        yield "colour", v, f, p - 1
+        if phase == "drop" and before[v, f] == DROPPED[p]:
+            yield "colour", v, f, p - 2
+        if parent and (phase == "step" or before[v, f] == DROPPED[p]):
+            yield self.told(v, parent, f, p)
+
+    def told(self, v, parent, f, p):
+        """The parent's colour before pulse p, which it told v in the pulse before."""
+        self.messages.add((p - 1, parent, v, f"colour {self.rounds.pulses[p - 1].colours[parent, f]}"))
+        return "colour", parent, f, p - 1
+
+    # What is read off.
+
+    def identifiers(self):
+        return sorted(fact[1] for fact in self.facts if fact[0] == "identifier")
+
+    def distances(self):
+        """How many edges away each vertex is."""
+        far, layer = {self.vertex: 0}, [self.vertex]
+        while layer:
+            layer = sorted({w for v in layer for w in self.network.neighbours[v]} - set(far))
+            far.update(dict.fromkeys(layer, max(far.values()) + 1))
+        return far
+
+    def farthest(self):
+        """(how many edges away the farthest identifier is that mattered, the vertices that are so far)."""
+        far = self.distances()
+        most = max((far[v] for v in self.identifiers()), default=0)
+        return most, [v for v in self.identifiers() if far[v] == most]
+
+    def all_messages(self):
+        return sum(len(pulse.puts) for pulse in self.rounds.pulses)
+
+    def forests(self):
+        return sorted({fact[2] for fact in self.facts if fact[0] != "identifier"})
+
+    def has_colour(self, v, f, p):
+        return ("colour", v, f, p) in self.known
+
+    def has_choice(self, v, f):
+        return ("merged", v, f) in self.known
+
+
+def listed(things):
+    """`2`, `2 and 3`, `2, 3 and 5`."""
+    words = [str(thing) for thing in things]
+    return " and ".join(filter(None, [", ".join(words[:-1]), words[-1]]))
+
+
+def summary(cone):
+    most, who = cone.farthest()
+    names = cone.identifiers()
+    if not names:
+        return "it has no neighbour that is heard: the least channel that isn't barred"
+    return (f"{len(cone.messages)} of {cone.all_messages()} messages decided it, and the identifiers of "
+            f"{len(names)} of {cone.network.nodes} nodes; the farthest, of {listed(who)}, {most} "
+            f"edge{'s' * (most != 1)} away")
+
+
+def channel_of(cone):
+    rounds = cone.rounds
+    if not rounds.forests:
+        return rounds.first[cone.vertex] + 1
+    return cone.choices[cone.vertex, rounds.forests - 1][1] + 1
+
+
+def text(cone):
+    """In words: each choice that mattered, the last one first, and the colours that gave the turns."""
+    lines = [f"why node {cone.vertex} of {cone.network.name} has channel {channel_of(cone)}", summary(cone)]
+    choices = sorted((fact for fact in cone.facts if fact[0] == "merged"),
+                     key=lambda fact: (-cone.choices[fact[1:]][0], fact[1]))
+    lines += [line for _, v, f in choices for line in choice_lines(cone, v, f)]
+    lines += [colour_line(cone, v, f) for f in cone.forests() for v in cone.network.vertices
+              if any(cone.has_colour(v, f, p) for p in range(SEED, LAST_COLOUR + 1))]
+    lines.append(NOT_FOLLOWED)
+    return "".join(line + "\n" for line in lines)
+
+
+def choice_lines(cone, v, f):
+    pulse, colour = cone.choices[v, f]
+    _, three, old = cone.rounds.pulses[pulse].step
+    yield (f"pulse {pulse}, merge of forest {f}: the turn of node {v}, with colour {three} in the forest and {old} so "
+           f"far; it chooses colour {colour}, channel {colour + 1}")
+    for lower, w, when in cone.taken[v, f]:
+        yield (f"  channel {lower + 1} is barred at it" if w is None else
+               f"  channel {lower + 1} is taken: node {w} told it so in pulse {when}")
+
+
+def colour_line(cone, v, f):
+    """The colours of a node in a forest that mattered, by pulse; a point stands for one that didn't."""
+    parent = cone.rounds.parents.get((v, f))
+    said = " ".join(str(cone.rounds.pulses[p].colours[v, f]) if cone.has_colour(v, f, p) else "."
+                    for p in range(SEED, LAST_COLOUR + 1))
+    return f"forest {f}, node {v}, {f'parent {parent}' if parent else 'a root'}, pulses 2 to 12: {said}"
+
+
+def draw(cone):
+    """The rounds, with all that didn't matter faded."""
+    rounds, network = cone.rounds, cone.network
+    forests = cone.forests()
+    if not forests:
+        raise Wrong(f"node {cone.vertex} of {network.name} is in no forest: {summary(cone)}")
+    at_most("why", len(forests) * network.nodes, "rows", MOST_ROWS, "--text, which has no limit")
+    title = f"{network.name}: why node {cone.vertex} has channel {channel_of(cone)}"
+    said = summary(cone)
+    return draw_strips(rounds, forests, title, [said[0].upper() + said[1:] + "."], cone)

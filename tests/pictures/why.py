@@ -1,0 +1,156 @@
+#!/usr/bin/env python3
+"""Tests of `bin/picture why`. The last line is 'N passed, M failed'.
+
+The channel of the triangle's node 2 is worked by hand, as in docs/learn/TUTORIAL.md. Of other networks: each message
+that is named is one of the rounds by the definitions; and a colour stays the same if identifiers on which it is said
+not to depend change."""
+import os
+import random
+import re
+import subprocess
+import sys
+import unittest
+import xml.etree.ElementTree as ElementTree
+
+from lab.definitions.colours import Network, colours, network_of, three
+from lab.definitions.rounds import rounds_text
+from lab.networks.network_text import Network as Read, read_network
+from lab.pictures.colouring import Rounds
+from lab.pictures.why_picture import Cone
+from tests import TOP
+
+HAND = [
+    "why node 2 of triangle has channel 3",
+    "8 of 49 messages decided it, and the identifiers of 2 of 3 nodes; the farthest, of 3, 1 edge away",
+    "pulse 26, merge of forest 1: the turn of node 2, with colour 1 in the forest and 1 so far; it chooses colour 2, "
+    "channel 3",
+    "  channel 1 is taken: node 3 told it so in pulse 22",
+    "  channel 2 is taken: node 1 told it so in pulse 25",
+]
+
+
+def example(name):
+    with open(os.path.join(TOP, "examples", f"{name}.col"), "rb") as file:
+        return file.read()
+
+
+def why(name, vertex, *words):
+    """By the rounds of the definitions, which are the program's too."""
+    done = subprocess.run(
+        [os.path.join(TOP, "bin", "picture"), "why", os.path.join(TOP, "examples", f"{name}.col"), "--vertex",
+         str(vertex), "--rounds", "-", *words], input=rounds_text(network_of(example(name))), capture_output=True,
+        timeout=100)
+    return done.returncode, done.stdout.decode(), done.stderr.decode()
+
+
+def cone_of(name, vertex):
+    network = read_network(example(name).decode(), f"{name}.col")
+    return Cone(Rounds(network, network.identifiers), vertex)
+
+
+class ByHand(unittest.TestCase):
+    def test_triangle(self):
+        status, said, fault = why("triangle", 2, "--text")
+        self.assertEqual((status, fault), (0, ""))
+        self.assertEqual(said.splitlines()[:len(HAND)], HAND)
+        # Node 2 is a root in forest 1: no parent told it a colour, and its own identifier is one of the two.
+        self.assertIn("forest 1, node 2, a root, pulses 2 to 12: 2 0 0 0 0 1 1 0 0 1 1\n", said)
+
+    def test_a_bar(self):
+        said = why("barred", 1, "--text")[1]
+        self.assertIn("  channel 1 is barred at it\n", said)
+
+    def test_row(self):
+        """In 1 - 2 - 3 node 3 chooses first: its colour is 0 and nobody has taken anything."""
+        said = why("path", 3, "--text")[1]
+        self.assertIn("chooses colour 0, channel 1\n", said)
+        self.assertNotIn("is taken", said)
+
+
+class Messages(unittest.TestCase):
+    def test_each_is_of_the_rounds(self):
+        for name in ("path", "triangle", "four_cycle", "barred", "petersen", "drops", "long_names"):
+            text = set(rounds_text(network_of(example(name))).decode().splitlines())
+            plan = colours(network_of(example(name)))
+            for vertex in sorted(plan):
+                with self.subTest(name, vertex=vertex):
+                    cone = cone_of(name, vertex)
+                    for pulse, v, w, said in cone.messages:
+                        self.assertIn(f"{v} put {w} payload {pulse} {said}", text)
+                    for (v, f), lower in cone.taken.items():
+                        self.assertEqual([c for c, _, _ in lower], list(range(cone.choices[v, f][1])))
+                    most, who = cone.farthest()
+                    self.assertTrue(all(cone.distances()[v] == most for v in who))
+
+
+class Independence(unittest.TestCase):
+    """A colour of three in a forest doesn't change if the identifiers change on which it isn't said to depend, as long
+    as their order stays."""
+
+    def test_other_identifiers(self):
+        source, tried = random.Random("why"), 0
+        for case in range(60):
+            nodes = source.randrange(2, 9)
+            vertices = range(1, nodes + 1)
+            edges = [(v, w) for v in vertices for w in vertices if v < w and source.random() < 0.4]
+            names = sorted(source.sample(range(0, 4000, 2), nodes))
+            source.shuffle(names)
+            identifiers = dict(zip(vertices, names))
+            net = Network(identifiers, edges)
+            rounds = Rounds(Read("case", nodes, edges, {}, None, identifiers), identifiers)
+            for v in vertices:
+                for f in range(net.forest_count):
+                    cone = Cone(rounds, v)
+                    cone.facts = []
+                    cone.follow([("colour", v, f, 12)])
+                    others = [w for w in vertices if w not in cone.identifiers()]
+                    # One more is free, since all are even: so the order stays.
+                    changed = identifiers | {w: identifiers[w] + 1 for w in others}
+                    tried += bool(others)
+                    with self.subTest(case=case, v=v, f=f):
+                        self.assertEqual(three(Network(changed, edges), f)[v], three(net, f)[v])
+        self.assertGreater(tried, 100)
+
+
+class Picture(unittest.TestCase):
+    def test_faded(self):
+        """As many squares and circles are faded as aren't in the cone."""
+        for name, vertex in (("triangle", 2), ("petersen", 6)):
+            with self.subTest(name):
+                status, picture, fault = why(name, vertex)
+                self.assertEqual((status, fault), (0, ""))
+                root = ElementTree.fromstring(picture)
+                faded = sum(element.get("class") == "faded" for element in root.iter())
+                cone = cone_of(name, vertex)
+                nodes, forests = cone.network.nodes, len(cone.forests())
+                kept = sum(fact[0] != "identifier" for fact in cone.facts)
+                self.assertEqual(faded, nodes * forests * (11 + 1) - kept)
+                words = " ".join(element.text or "" for element in root.iter())
+                self.assertIn(f"why node {vertex} has channel", words)
+
+    def test_refusals(self):
+        cases = [(("triangle", 4), 1, "triangle has no vertex 4"), (("drops", 5), 0, ""),
+                 (("triangle", "x"), 2, "invalid int value")]
+        for words, wanted, end in cases:
+            with self.subTest(words):
+                status, said, fault = why(*words)
+                self.assertEqual((status, bool(said)), (wanted, not wanted))
+                self.assertIn(end, fault)
+
+    def test_no_forest(self):
+        done = subprocess.run([os.path.join(TOP, "bin", "picture"), "why", "/dev/stdin", "--vertex", "1", "--rounds",
+                               "/dev/null"], input=b"p edge 1 0\n", capture_output=True, timeout=60)
+        self.assertEqual(done.returncode, 1)
+        self.assertTrue(re.match(rb"picture: [^\n]*\n$", done.stderr), done.stderr)
+
+
+def main():
+    loaded = unittest.defaultTestLoader.loadTestsFromModule(sys.modules[__name__])
+    done = unittest.TextTestRunner(stream=sys.stdout, verbosity=0).run(loaded)
+    failed = len(done.failures) + len(done.errors)
+    print(f"{max(0, done.testsRun - failed)} passed, {failed} failed")
+    return 1 if failed else 0
+
+
+if __name__ == "__main__":
+    sys.exit(main())
