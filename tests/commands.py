@@ -95,8 +95,8 @@ ENDED = "transcript 1 2|" + "".join(f"{v} pulse {p}|" for v in (1, 2) for p in P
 SCRIPTS = (
     Script(
         "picture", ("plan", "FILE", "--plan", "-"), "plan|1 1|2 1|", r"<svg [^\0]*</svg>\n",
-        commands=("plan", "matrix", "forests", "rounds", "bits", "run", "overview", "node", "tally", "player",
-                  "schedules", "adversary", "broken"),
+        commands=("map", "plan", "matrix", "forests", "rounds", "bits", "why", "run", "overview", "node", "tally",
+                  "player", "watch", "schedules", "adversary", "broken"),
     ),
     Script(
         "network", ("path", "3"), "", r"(c [^\n]*\n)*p edge 3 2\n(c [^\n]*\n)*e 1 2\ne 2 3\n(c [^\n]*\n)*",
@@ -108,6 +108,10 @@ SCRIPTS = (
     Script("explore", ("FILE",), "", r"every schedule of net: 169 states, [^\0]*\none end: channels 1 1\n"),
     Script("check-transcript", ("FILE",), ENDED, r"whole run of 2 nodes, 24 entries, 0 payloads, 0 wires\n"),
     Script("replay", ("FILE",), ENDED, r"node 1 pulse 12 channel 1\nnode 2 pulse 12 channel 1\n"),
+    Script("simulate", ("FILE", "--policy", "oldest"), "", r"transcript 2 2\n(\d+ [12] pulse \d+\n){24}"),
+    Script("sheet", ("--seed", "7", "--lesson", "2"), "", r"<!doctype html>[^\0]*</html>\n"),
+    Script("transcript-to", ("json",), "transcript 2 1|1 1 pulse 1|",
+           r'{"edition": 2, "nodes": 1}\n{"line": 2, "stamp": 1, "node": 1, "kind": "pulse", "pulse": 1}\n'),
     Script("install", ("--help",), "", r"usage: install DIR\n[^\0]*", is_installed=False),
     Script("pack", ("--help",), "", r"usage: pack FOLDER [^\0]*", is_installed=False),
     Script("vendor", ("--help",), "", r"usage: vendor DIR CRATE [^\0]*", is_installed=False),

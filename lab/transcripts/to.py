@@ -11,10 +11,10 @@ from lab.transcripts.reading import Wrong, read
 HELP = """\
 Writes a transcript of edition 2 for other tools.
 
-  json    a JSON object a line: the first with the number of nodes, then one for each
+  json:   a JSON object a line: the first with the number of nodes, then one for each
           entry, {"stamp", "node", "kind", "neighbour", "wire", "pulse", ..}; a take has
           the number of the line of its put as "put"
-  shiviz  a log for ShiViz (bestchai.bitbucket.io/shiviz), with vector clocks
+  shiviz: a log for ShiViz (bestchai.bitbucket.io/shiviz), with vector clocks
 """
 MORE_HELP = """\
 Without TRANSCRIPT it is read from standard input. Only a take without a put before it

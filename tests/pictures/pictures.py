@@ -195,7 +195,7 @@ class Pictures(PictureCase):
         for words in (
             [],
             ["plan"],
-            ["map", "x"],
+            ["maps", "x"],
             ["plan", "x", "y"],
             ["run", "x", "--pulses", "3"],
             ["overview", "x", "--pulses", "3,5"],
@@ -206,13 +206,13 @@ class Pictures(PictureCase):
             ["broken", "x", "--without", "safes"],
         ):
             status, picture, fault = self.draw.painter(words)
-            prog = b"picture " + words[0].encode() if words and words[0] != "map" else b"picture"
+            prog = b"picture " + words[0].encode() if words and words[0] != "maps" else b"picture"
             self.note(f"the words {words}",
                       (status, picture) == (2, b"") and fault.split(b"\n")[-2].startswith(prog + b": error: "), fault)
         status, told, fault = call(["--help"])
         kinds = re.findall(r"^  ([a-z]+) {2,}", told.decode().split("positional")[0], re.M)
         self.note("help names standard input", b"bin/picture plan - <" in told)
-        self.note("help", (status, fault, len(kinds)) == (0, b"", 13), kinds)
+        self.note("help", (status, fault, len(kinds)) == (0, b"", 16), kinds)
         for kind in kinds:
             status, told, fault = self.draw.painter([kind, "--help"])
             self.note(f"help of {kind}",
@@ -228,7 +228,7 @@ class Pictures(PictureCase):
             self.note(f"{kind}: the same bytes twice", once == again and once[0] == 0)
         status, picture, fault = call(["plan", "-", "--plan", self.draw.file("text", plan_text(network))], network)
         self.note("a network on standard input",
-                  (status, fault) == (0, b"") and b"Channel plan of standard input" in picture, fault)
+                  (status, fault) == (0, b"") and b"Channel plan of this network" in picture, fault)
         self.refused("two texts on standard input", call(["plan", "-", "--plan", "-"], network),
                      b"standard input has one text")
         queen = example("queen5_5.col")
@@ -264,7 +264,7 @@ class Pictures(PictureCase):
     def stored_text(self, words):
         """The option and the text that stand for the program's; nothing if the command needs none, or names a stored
         one."""
-        if words[0] in ("schedules", "adversary", "broken") or any(
+        if words[0] in ("schedules", "adversary", "broken", "watch") or any(
             word in ("--plan", "--rounds", "--transcript") for word in words
         ):
             return [], b""

@@ -285,7 +285,7 @@ class Schedules(PictureCase):
                 apart = {s: max(abs(pulses[s][v - 1] - pulses[s][w - 1]) for v, w in dare["pairs"]) for s in depth}
                 can = [depth[s] for s in depth if apart[s] >= dare["least"]]
                 self.note(f"dares of {name}: {dare['words']}", dare["answer"].startswith("No") == (not can)
-                     and (not can or f"with {min(can)} event" in dare["answer"]), dare)
+                     and (not can or f"with {min(can)} take" in dare["answer"]), dare)
 
     def lattice_rows(self, name, network, table, low, high, *options):
         """The picture of a whole space: its columns, its steps, and a bold run from column to column."""
@@ -337,7 +337,9 @@ class Schedules(PictureCase):
             len(marks(root, "bold")),
         )
         words = " ".join(texts(root))
-        good = f"{last} events are enough to go wrong" in words and plain(said) in plain(words)
+        found = re.search(r"(\d+) events \((\d+) takes and pulses\) are enough to go wrong", words)
+        listed = len(space.with_puts(space.path_to_fault()))
+        good = found and found.groups() == (str(listed), str(last)) and plain(said) in plain(words)
         self.note(f"{name} without {without}: its words", good, words[:400])
 
     def beyond_rows(self, network, without, low, high):

@@ -1,7 +1,4 @@
-#!/usr/bin/env python3
-"""Tests of `bin/picture watch`. The last line is 'N passed, M failed'.
-
-  python3 -m tests.pictures.watch
+"""Tests of `bin/picture watch`.
 
 What is read here is the page's table. It is compared with the transcript's own lines, counted: a node waits for the
 acknowledgements of the payloads that it put and hasn't had, and so on. Nothing comes from lab/pictures."""
@@ -10,13 +7,12 @@ import os
 import random
 import re
 import subprocess
-import sys
 import tempfile
-import unittest
 
 from lab.definitions.colours import colours, network_of
 from lab.definitions.nodes import last_pulse
 from tests import TOP
+from tests.cases import Case
 from tests.programs.made_transcripts import made_transcript, merged_text, transcript_text
 
 LIMIT = 120
@@ -65,7 +61,9 @@ class Counted:
         return [w for w in self.near if (w, "close", "") in self.taken]
 
 
-class Page(unittest.TestCase):
+class Page(Case):
+    needs_programs = False
+
     def setUp(self):
         self.folder = tempfile.TemporaryDirectory()
         self.addCleanup(self.folder.cleanup)
@@ -231,15 +229,3 @@ class Refusals(Page):
                 self.assertEqual((status, page), (1, ""))
                 self.assertIn(end, fault)
                 self.assertEqual(fault.count("\n"), 1)
-
-
-def main():
-    loaded = unittest.defaultTestLoader.loadTestsFromModule(sys.modules[__name__])
-    done = unittest.TextTestRunner(stream=sys.stdout, verbosity=0).run(loaded)
-    failed = len(done.failures) + len(done.errors)
-    print(f"{max(0, done.testsRun - failed)} passed, {failed} failed")
-    return 1 if failed else 0
-
-
-if __name__ == "__main__":
-    sys.exit(main())

@@ -1,5 +1,4 @@
-#!/usr/bin/env python3
-"""Tests of `bin/picture why`. The last line is 'N passed, M failed'.
+"""Tests of `bin/picture why`.
 
 The channel of the triangle's node 2 is worked by hand, as in docs/learn/TUTORIAL.md. Of other networks: each message
 that is named is one of the rounds by the definitions; and a colour stays the same if identifiers on which it is said
@@ -8,8 +7,6 @@ import os
 import random
 import re
 import subprocess
-import sys
-import unittest
 import xml.etree.ElementTree as ElementTree
 
 from lab.definitions.colours import Network, colours, network_of, three
@@ -18,6 +15,7 @@ from lab.networks.network_text import Network as Read, read_network
 from lab.pictures.colouring import Rounds
 from lab.pictures.why_picture import Cone
 from tests import TOP
+from tests.cases import Case
 
 HAND = [
     "why node 2 of triangle has channel 3",
@@ -48,7 +46,9 @@ def cone_of(name, vertex):
     return Cone(Rounds(network, network.identifiers), vertex)
 
 
-class ByHand(unittest.TestCase):
+class ByHand(Case):
+    needs_programs = False
+
     def test_triangle(self):
         status, said, fault = why("triangle", 2, "--text")
         self.assertEqual((status, fault), (0, ""))
@@ -67,7 +67,9 @@ class ByHand(unittest.TestCase):
         self.assertNotIn("is taken", said)
 
 
-class Messages(unittest.TestCase):
+class Messages(Case):
+    needs_programs = False
+
     def test_each_is_of_the_rounds(self):
         for name in ("path", "triangle", "four_cycle", "barred", "petersen", "drops", "long_names"):
             text = set(rounds_text(network_of(example(name))).decode().splitlines())
@@ -83,9 +85,11 @@ class Messages(unittest.TestCase):
                     self.assertTrue(all(cone.distances()[v] == most for v in who))
 
 
-class Independence(unittest.TestCase):
+class Independence(Case):
     """A colour of three in a forest doesn't change if the identifiers change on which it isn't said to depend, as long
     as their order stays."""
+
+    needs_programs = False
 
     def test_other_identifiers(self):
         source, tried = random.Random("why"), 0
@@ -112,7 +116,9 @@ class Independence(unittest.TestCase):
         self.assertGreater(tried, 100)
 
 
-class Picture(unittest.TestCase):
+class Picture(Case):
+    needs_programs = False
+
     def test_faded(self):
         """As many squares and circles are faded as aren't in the cone."""
         for name, vertex in (("triangle", 2), ("petersen", 6)):
@@ -142,15 +148,3 @@ class Picture(unittest.TestCase):
                                "/dev/null"], input=b"p edge 1 0\n", capture_output=True, timeout=60)
         self.assertEqual(done.returncode, 1)
         self.assertTrue(re.match(rb"picture: [^\n]*\n$", done.stderr), done.stderr)
-
-
-def main():
-    loaded = unittest.defaultTestLoader.loadTestsFromModule(sys.modules[__name__])
-    done = unittest.TextTestRunner(stream=sys.stdout, verbosity=0).run(loaded)
-    failed = len(done.failures) + len(done.errors)
-    print(f"{max(0, done.testsRun - failed)} passed, {failed} failed")
-    return 1 if failed else 0
-
-
-if __name__ == "__main__":
-    sys.exit(main())

@@ -1,17 +1,15 @@
-#!/usr/bin/env python3
-"""Tests of `bin/explore --reduce`, beside the search of all states. The last line is 'N passed, M failed'.
+"""Tests of `bin/explore --reduce`, beside the search of all states.
 
 On each connected network of up to three nodes, in each numbering, and on two of four nodes: what goes wrong is the
 same, the ends are the same states, and every state of the reduced search is one of the whole search."""
 import itertools
 import os
 import subprocess
-import sys
-import unittest
 
 from lab.definitions.colours import Network
 from lab.schedules.space import Space
 from tests import TOP
+from tests.cases import Case
 
 MOST = 200_000
 
@@ -22,7 +20,8 @@ def networks():
     yield "two", Network({1: 1, 2: 2}, [(1, 2)])
     yield "triangle", Network({v: v for v in (1, 2, 3)}, [(1, 2), (1, 3), (2, 3)])
     for middle in (1, 2, 3):
-        yield f"row around {middle}", Network({v: v for v in (1, 2, 3)}, [(v, middle) for v in (1, 2, 3) if v != middle])
+        edges = [(v, middle) for v in (1, 2, 3) if v != middle]
+        yield f"row around {middle}", Network({v: v for v in (1, 2, 3)}, edges)
     yield "names and a bar", Network({1: 9, 2: 200, 3: 5}, [(1, 2), (2, 3)], {2: [0]})
     yield "row of four", Network({v: v for v in range(1, 5)}, [(1, 2), (2, 3), (3, 4)])
 
@@ -37,7 +36,9 @@ def keys_of(space, states):
     return found
 
 
-class Reduced(unittest.TestCase):
+class Reduced(Case):
+    needs_programs = False
+
     def compared(self, name, net, without, puts):
         whole = Space(net, without, MOST, puts, beyond=bool(without))
         less = Space(net, without, MOST, puts, beyond=bool(without), reduce=True)
@@ -70,7 +71,9 @@ class Reduced(unittest.TestCase):
         self.assertTrue(Space(net, ("early",), MOST, reduce=True).faults)
 
 
-class Command(unittest.TestCase):
+class Command(Case):
+    needs_programs = False
+
     def call(self, *words):
         done = subprocess.run([os.path.join(TOP, "bin", "explore"), *words], capture_output=True, timeout=120)
         return done.returncode, done.stdout.decode(), done.stderr.decode()
@@ -94,15 +97,3 @@ class Command(unittest.TestCase):
                 status, said, fault = self.call(*words)
                 self.assertEqual((status, said), (2, ""))
                 self.assertIn("explore: error: ", fault)
-
-
-def main():
-    loaded = unittest.defaultTestLoader.loadTestsFromModule(sys.modules[__name__])
-    done = unittest.TextTestRunner(stream=sys.stdout, verbosity=0).run(loaded)
-    failed = len(done.failures) + len(done.errors)
-    print(f"{max(0, done.testsRun - failed)} passed, {failed} failed")
-    return 1 if failed else 0
-
-
-if __name__ == "__main__":
-    sys.exit(main())

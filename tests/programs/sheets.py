@@ -1,20 +1,16 @@
-#!/usr/bin/env python3
-"""Tests of `bin/sheet`. The last line is 'N passed, M failed'.
-
-  python3 -m tests.programs.sheets
+"""Tests of `bin/sheet`.
 
 Each sheet's network is read from its answers, and each answer worked out once more here: from nodes that hear and send
 (lab/definitions/nodes.py), from counts, and by hand for one network."""
 import os
 import re
 import subprocess
-import sys
-import unittest
 
 from lab.definitions.colours import network_of
 from lab.definitions.nodes import Colouring, last_pulse, ports_of
 from lab.pictures.sheet import farthest
 from tests import TOP
+from tests.cases import Case
 
 LIMIT = 120
 
@@ -60,7 +56,9 @@ class Played:
         self.payloads += sum(payload is not None for payloads in sent.values() for payload in payloads)
 
 
-class Answers(unittest.TestCase):
+class Answers(Case):
+    needs_programs = False
+
     def check(self, section):
         text = re.search(r"<pre>(.*?)</pre>", section, re.S).group(1).encode()
         net = network_of(text)
@@ -131,7 +129,9 @@ def distance(net, ends, v):
     return far
 
 
-class Sheets(unittest.TestCase):
+class Sheets(Case):
+    needs_programs = False
+
     def test_a_sheet_is_its_answers_without_them(self):
         sheets, answers = sheet("--seed", "x")[1], sheet("--seed", "x", "--answers")[1]
         self.assertNotIn('class="answer"', sheets)
@@ -159,15 +159,3 @@ class Sheets(unittest.TestCase):
                 status, page, fault = sheet(*words)
                 self.assertEqual((status, page), (2, ""))
                 self.assertIn("sheet: error: ", fault)
-
-
-def main():
-    loaded = unittest.defaultTestLoader.loadTestsFromModule(sys.modules[__name__])
-    done = unittest.TextTestRunner(stream=sys.stdout, verbosity=0).run(loaded)
-    failed = len(done.failures) + len(done.errors)
-    print(f"{max(0, done.testsRun - failed)} passed, {failed} failed")
-    return 1 if failed else 0
-
-
-if __name__ == "__main__":
-    sys.exit(main())

@@ -1,17 +1,11 @@
-#!/usr/bin/env python3
-"""Tests of `bin/simulate`. The last line is 'N passed, M failed'.
-
-  python3 -m tests.programs.simulate [--play PROGRAM]
-      PROGRAM   forestplay, which has to accept each run; without it that isn't tried
+"""Tests of `bin/simulate`.
 
 Each run is played again here on lab/definitions/nodes.py, entry by entry, and its order beside what is possible then:
 nothing is compared with what simulate itself wrote before."""
 import os
 import re
 import subprocess
-import sys
 import tempfile
-import unittest
 
 from lab.definitions.colours import colours, network_of
 from lab.definitions.nodes import NetState
@@ -20,9 +14,10 @@ from lab.schedules.simulate import HABITS, played
 from lab.transcripts.reading import read
 from lab.transcripts.stamps import check_stamped
 from tests import TOP
+from tests.cases import Case
+from tests.settings import PLAY
 
 LIMIT = 120
-PLAY = None
 NETWORKS = ("two", "triangle", "chain6", "barred", "petersen")
 
 
@@ -68,8 +63,10 @@ def what_of(event):
     return event.v, None if event.w is None else tuple(sorted((event.v, event.w))), event.wire
 
 
-class Waits(unittest.TestCase):
+class Waits(Case):
     """What waits comes only if nothing else is possible."""
+
+    needs_programs = False
 
     def check(self, net, rows, waits):
         state, waited = NetState(net), 0
@@ -110,7 +107,7 @@ class Waits(unittest.TestCase):
         self.assertEqual([node.pulse_number for node in state.nodes.values()], [0, 0, 0, 0, 1, 2])
 
 
-class Runs(unittest.TestCase):
+class Runs(Case):
     def test_whole_runs(self):
         """Each policy gives a whole run with right stamps, and ends with the plan."""
         for name in NETWORKS:
@@ -122,11 +119,10 @@ class Runs(unittest.TestCase):
                     head, entries = read(text)
                     self.assertEqual((head.edition, head.nodes), (2, len(net.neighbours)))
                     check_stamped(net, head, entries)
-                    if PLAY:
-                        status, state, fault = call(PLAY, "replay", data=contents(name) + b"\n" + text)
-                        self.assertEqual((status, fault), (0, b""))
-                        found = {int(v): int(c) - 1 for v, c in re.findall(rb"^node (\d+) .* channel (\d+)$", state, re.M)}
-                        self.assertEqual(found, colours(net))
+                    status, state, fault = call(PLAY, "replay", data=contents(name) + b"\n" + text)
+                    self.assertEqual((status, fault), (0, b""))
+                    found = {int(v): int(c) - 1 for v, c in re.findall(rb"^node (\d+) .* channel (\d+)$", state, re.M)}
+                    self.assertEqual(found, colours(net))
 
     def test_repeatable(self):
         """Two calls give the same bytes, and seeds differ."""
@@ -142,7 +138,9 @@ class Runs(unittest.TestCase):
         self.assertEqual(sorted(HABITS), sorted(POLICIES))
 
 
-class Refusals(unittest.TestCase):
+class Refusals(Case):
+    needs_programs = False
+
     def test_refusals(self):
         with tempfile.TemporaryDirectory() as folder:
             bad = os.path.join(folder, "bad.col")
@@ -162,18 +160,3 @@ class Refusals(unittest.TestCase):
                     status, text, fault = simulate(*words)
                     self.assertEqual((status, text), (wanted, b""))
                     self.assertTrue(fault.endswith(end), fault)
-
-
-def main():
-    global PLAY
-    if sys.argv[1:2] == ["--play"]:
-        PLAY = os.path.abspath(sys.argv[2])
-    loaded = unittest.defaultTestLoader.loadTestsFromModule(sys.modules[__name__])
-    done = unittest.TextTestRunner(stream=sys.stdout, verbosity=0).run(loaded)
-    failed = len(done.failures) + len(done.errors)
-    print(f"{max(0, done.testsRun - failed)} passed, {failed} failed")
-    return 1 if failed else 0
-
-
-if __name__ == "__main__":
-    sys.exit(main())

@@ -1,16 +1,14 @@
-#!/usr/bin/env python3
-"""Tests of `bin/transcript-to`. The last line is 'N passed, M failed'.
+"""Tests of `bin/transcript-to`.
 
 A vector clock is worked out here in another way: as the sets of entries that happened before an entry."""
 import json
 import os
 import random
 import subprocess
-import sys
-import unittest
 
 from lab.definitions.colours import network_of
 from tests import TOP
+from tests.cases import Case
 from tests.programs.made_transcripts import made_transcript, merged_text, transcript_text
 
 
@@ -27,7 +25,9 @@ def made(name):
     return len(net.neighbours), lines
 
 
-class Forms(unittest.TestCase):
+class Forms(Case):
+    needs_programs = False
+
     def test_json(self):
         """Each row, put together again, is its line; and a take names a put of the same wire to its node."""
         for name in ("two", "triangle", "star"):
@@ -99,15 +99,3 @@ class Forms(unittest.TestCase):
                 status, said, fault = call(*words, data=data)
                 self.assertEqual((status, said), (wanted, ""))
                 self.assertIn(end, fault)
-
-
-def main():
-    loaded = unittest.defaultTestLoader.loadTestsFromModule(sys.modules[__name__])
-    done = unittest.TextTestRunner(stream=sys.stdout, verbosity=0).run(loaded)
-    failed = len(done.failures) + len(done.errors)
-    print(f"{max(0, done.testsRun - failed)} passed, {failed} failed")
-    return 1 if failed else 0
-
-
-if __name__ == "__main__":
-    sys.exit(main())
