@@ -30,11 +30,13 @@ def draw(rounds, forest=0, vertex=None):
     lengths = ", ".join(str(max(map(digits, pair))) for pair in pairs)
     is_short = all(rounds.identifiers[v] == v for v in network.vertices)
     said = (
-        "The names are the vertices’ own numbers, so they are short; of 128 digits, four steps leave six colours just so."
+        "The names are the vertices’ own numbers, so they are short; of 128 digits, four steps leave six colours "
+        "just so."
         if is_short
         else "Names of up to 128 digits, and four steps leave six colours."
     )
-    rule = "It looks for the least place i in which its digits differ from its parent’s; with its own digit d there, it becomes 2·i + d."
+    rule = ("It looks for the least place i in which its digits differ from its parent’s; with its own digit d there, "
+            "it becomes 2·i + d.")
     width = max(LEFT + most * cell + 350, 40 + text_width(rule, 11.5) * 0.95)
     svg = Svg(width, TOP + 5 * STEP - 12, f"Bit steps of {network.name}")
     svg.heading(

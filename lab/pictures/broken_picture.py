@@ -66,7 +66,8 @@ def told(rounds, without, network, smaller):
     if network is None:
         joined = {v for edge in edges for v in edge}
         others = [str(v) for v in rounds.net.neighbours if v not in joined]
-        apart = f" ({' and '.join([', '.join(others[:-1])] * bool(others[1:]) + others[-1:])} {'has' if len(others) == 1 else 'have'} none)"
+        named = " and ".join([", ".join(others[:-1])] * bool(others[1:]) + others[-1:])
+        apart = f" ({named} {'has' if len(others) == 1 else 'have'} none)"
         said.append(f"A smallest network that goes wrong: {counted(nodes, 'node')} with the edges "
                     f"{', '.join(f'{v}-{w}' for v, w in edges)}{apart * bool(others)}"
                     + (f"; {smaller} smaller ones go right." if smaller else "."))
@@ -213,7 +214,8 @@ class OfMerge:
 
     def legend(self):
         return (
-            "Circle: the channel so far; square: the colour in this forest, with arrows to the parents. Nodes choose in the order of their "
+            "Circle: the channel so far; square: the colour in this forest, with arrows to the parents. Nodes choose in "
+            "the order of their "
             "turns: the colour in this forest, and with all rules the colour so far, too, which is the channel less 1."
         )
 

@@ -140,9 +140,8 @@ class Rounds:
         if asked is None:
             return None
         if not 0 <= asked[0] <= asked[1] < self.forests:
-            raise Wrong(
-                f"{self.network.name} has {'forest 0 alone' if self.forests == 1 else f'forests 0 to {self.forests - 1}'}"
-            )
+            there = "forest 0 alone" if self.forests == 1 else f"forests 0 to {self.forests - 1}"
+            raise Wrong(f"{self.network.name} has {there}")
         return range(asked[0], asked[1] + 1)
 
     def in_forest(self, v, f):

@@ -35,7 +35,8 @@ def draw(rounds, asked=None):
         raise Wrong(f"{network.name} has no edge, so no forest: use plan")
     columns, width = columns_of(rounds.asked_forests(asked), rounds.forests)
     sheet = Sheet(rounds)
-    said = f"{network.name}: {counted(len(network.edges), 'edge')} in {counted(count, 'forest')}; merged, they are the plan"
+    parted = f"{counted(len(network.edges), 'edge')} in {counted(count, 'forest')}"
+    said = f"{network.name}: {parted}; merged, they are the plan"
     svg = Svg(
         max(width, LEGEND, 60 + text_width(said, 17) * 1.1), TOP + 2 * sheet.height + 76, f"Forests of {network.name}"
     )

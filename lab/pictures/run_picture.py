@@ -100,10 +100,13 @@ def time_words(run, behind=""):
     """What the place of an event from left to right is; `behind` ends the sentence."""
     if run.edition == 2:
         return (
-            "Time is the transcript's stamps, by Lamport's clock: one more than the node's last, and of a take also than the put's"
-            f"{behind}. It is not real time."
+            "Time is the transcript's stamps, by Lamport's clock: one more than the node's last, and of a take also than "
+            f"the put's{behind}. It is not real time."
         )
-    return f"No clock was kept. An event stands as far right as the longest chain of events that lead to it (found by replaying){behind}."
+    return (
+        "No clock was kept. An event stands as far right as the longest chain of events that lead to it (found by "
+        f"replaying){behind}."
+    )
 
 
 def name_below(svg, network, v, y):

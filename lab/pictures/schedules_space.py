@@ -63,8 +63,8 @@ def broken_rounds(network, without):
         rounds = RuledRounds(network_of(network), without)
         if rounds.clash is None:
             raise Wrong(
-                f"not broken: the rounds of {network.name} go right without {said}; without NETWORK, broken draws a smallest one "
-                "that goes wrong"
+                f"not broken: the rounds of {network.name} go right without {said}; without NETWORK, broken draws a "
+                "smallest one that goes wrong"
             )
         return rounds, 0
     most, what = (MOST_ROW, "rows") if set(without) <= set(OF_FORESTS) else (MOST_MERGED, "networks")

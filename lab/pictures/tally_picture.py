@@ -42,7 +42,8 @@ def draw(network, name, counts, pulses=None, by_rounds=False):
     width = max(LEFT + bar * len(shown) + 30, 900)
     svg = Svg(width, TOP + HEIGHT + 76, f"Wires of {name}")
     svg.heading(
-        f"{sum(totals.values())} wires = 2 · {counted(totals['payload'], 'payload')} + 2 · {counted(edges, 'edge')} · ({last} + 1)",
+        f"{sum(totals.values())} wires = 2 · {counted(totals['payload'], 'payload')} "
+        f"+ 2 · {counted(edges, 'edge')} · ({last} + 1)",
         f"{name}: in every whole run of a network, wires = 2 · payloads + 2 · edges · (R + 1), R being the last pulse"
         + ("; counted by the rounds" if by_rounds else ""),
     )

@@ -27,7 +27,8 @@ def draw(run, vertex, pulses=None):
     at_most("node", len(moments), "entries side by side", MOST_ENTRIES, "fewer pulses: --pulses A..B")
     step = max(7, min(15, 1080 / len(moments)))
     said = (
-        "One step to the right is one entry of this node. A lane rises by half with a payload taken, to the next line with a safe; "
+        "One step to the right is one entry of this node. A lane rises by half with a payload taken, to the next line "
+        "with a safe; "
         "each pulse lowers all by one."
     )
     width = max(LEFT + len(moments) * step + 24, 40 + text_width(said, 11.5) * 0.95)

@@ -9,8 +9,8 @@ from lab.pictures.rounds_picture import MOST_ROWS, draw_strips
 from lab.wrong import Wrong, at_most
 
 
-NOT_FOLLOWED = ("not followed: that nobody had taken the channel that it has; and the greetings, which say who is whose "
-                "parent")
+NOT_FOLLOWED = ("not followed: that nobody had taken the channel that it has; and the greetings, which say who is "
+                "whose parent")
 
 
 class Cone:
