@@ -214,8 +214,8 @@ class OfMerge:
 
     def legend(self):
         return (
-            "Circle: the channel so far; square: the colour in this forest, with arrows to the parents. Nodes choose in "
-            "the order of their "
+            "Circle: the channel so far; square: the colour in this forest, with arrows to the parents. Nodes "
+            "choose in the order of their "
             "turns: the colour in this forest, and with all rules the colour so far, too, which is the channel less 1."
         )
 

@@ -100,8 +100,8 @@ def time_words(run, behind=""):
     """What the place of an event from left to right is; `behind` ends the sentence."""
     if run.edition == 2:
         return (
-            "Time is the transcript's stamps, by Lamport's clock: one more than the node's last, and of a take also than "
-            f"the put's{behind}. It is not real time."
+            "Time is the transcript's stamps, by Lamport's clock: one more than the node's last, and of a take also "
+            f"than the put's{behind}. It is not real time."
         )
     return (
         "No clock was kept. An event stands as far right as the longest chain of events that lead to it (found by "

@@ -56,8 +56,8 @@ def draw(network, name, counts, pulses=None, by_rounds=False):
         alone = f"; bars of the first {USUAL} pulses of {last + 1} (others with --pulses A..B), numbers above of all"
     svg.text(LEFT, TOP + HEIGHT + 36, f"pulse that the wire speaks of (close stands at R){alone}", 11, SOFT)
     said = (
-        f"The rounds need {counted(totals['payload'], 'payload')}. Without a clock each is acknowledged, and each node says "
-        "safe to each neighbour at each pulse before R, and close at R."
+        f"The rounds need {counted(totals['payload'], 'payload')}. Without a clock each is acknowledged, and each node "
+        "says safe to each neighbour at each pulse before R, and close at R."
     )
     svg.text(20, TOP + HEIGHT + 60, said if edges else "No node has a neighbour, so no wire is put.", 11.5, SOFT)
     return svg.document()
