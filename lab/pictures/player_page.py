@@ -34,7 +34,8 @@ display:grid;grid-template-columns:minmax(0,1fr) 330px}}
 #stage{{height:100vh;padding:8px;box-sizing:border-box}}figure{{margin:0;height:100%}}
 figure svg{{width:100%;height:100%}}
 figcaption{{display:none}}aside{{padding:10px 14px 0 0}}h1{{font-size:19px;margin:0 0 8px}}
-input{{width:100%;margin:0 0 8px}}button,select{{font:inherit;padding:3px 9px;margin-right:4px;color:#1b1b1b}}
+aside>svg{{max-width:100%;height:auto}}input{{width:100%;margin:0 0 8px}}
+button,select{{font:inherit;padding:3px 9px;margin-right:4px;color:#1b1b1b}}
 #said{{min-height:112px}}.panel[data-forest]{{cursor:pointer}}
 small{{display:block;color:#6b6b6b}}[hidden]{{display:none}}
 @media(max-width:760px) and (orientation:portrait){{body{{display:block}}#stage{{height:60vh}}aside{{padding:0 14px}}}}
@@ -190,7 +191,8 @@ def legend():
     svg.line(24, 117, 36, 117, MINE, 1.8)
     svg.head(42, 117, 1, 0, 8, MINE)
     turn_mark(svg, 16, 143, 8, 1, 0, "legend")
-    return f'<svg width="{svg.width}" height="{svg.height}" role="img" aria-label="legend">\n{svg.inner()}\n</svg>'
+    size = f'viewBox="0 0 {svg.width} {svg.height}" width="{svg.width}" height="{svg.height}"'
+    return f'<svg {size} role="img" aria-label="legend">\n{svg.inner()}\n</svg>'
 
 
 def turn_mark(svg, x, y, half, colour, old, mark="turn"):

@@ -294,7 +294,7 @@ def draw_rounds(svg, run, first, last, top, row_height):
             20,
             height + 56,
             f"{counted(len(puts), 'payload')}, all that {'is' if len(puts) == 1 else 'are'} put in these pulses. Draw "
-            "another run, with other workers: the upper half changes, this half does not.",
+            "another run of this network: the upper half changes, this half does not.",
             11.5,
             SOFT,
         )
