@@ -38,10 +38,10 @@ nodes have fewer.
 With --reduce a safe or a close that comes next on its link is taken at once, and
 nothing else is tried in that state: such a take sends nothing, and neither helps nor
 hinders what could come before it. Three nodes that are all neighbours then have 4,620
-states in place of 16,473, and of four such nodes it is a tenth. It still finds each
-pulse with a wrong inbox, each refusal, each standstill and all ends. It doesn't keep
-the shortest lists, the number of schedules, how far neighbours are apart, and how many
-wires a link holds; and it is refused with the rules safes or fifo left out.
+states in place of 16,473. It still finds each pulse with a wrong inbox, each refusal,
+each standstill and all ends. It doesn't keep the shortest lists, the number of
+schedules, how far neighbours are apart, and how many wires a link holds; and it is
+refused with the rules safes or fifo left out.
 
 This is Python over slow definitions, written from the project's pages. It is tested,
 and not proved.
