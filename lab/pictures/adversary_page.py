@@ -58,7 +58,7 @@ def about(space):
     plan = ", ".join(str(space.rounds.colours[v] + 1) for v in space.vertices)
     return (
         "Choose what comes next: every order of events is in this page. Whatever you choose, after "
-        f"{space.depth[space.ends[0]]} takes and pulses all have halted, with channels {plan}. (Puts make themselves.)"
+        f"{space.depth[space.ends[0]]} takes and pulses all have halted, with channels {plan}."
     )
 
 

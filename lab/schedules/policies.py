@@ -133,7 +133,7 @@ class Newest(Policy):
 
 
 class Oldest(Policy):
-    """The step that has been possible for longest: wires come in the order in which they were sent. The friendliest order."""
+    """The step that has been possible for longest: wires come in the order in which they were sent."""
 
     def choose(self, steps):
         return min(steps, key=lambda step: step.since)
