@@ -1,17 +1,19 @@
 #!/usr/bin/env python3
 """Checks a transcript of nodes without a common clock. It is written from the pages in docs/ alone.
 
-A transcript of edition 1 has the entries of each node in that node's own order, and says nothing of the order between
-nodes. This program looks for an order of all entries that is a run, and demands that the run is whole. One of edition 2
-has an order and stamps: stamps.py checks it. `--help` says how to call it."""
+A transcript of edition 1 has the entries of each node in that node's own order, and says nothing of the order
+between nodes. This program looks for an order of all entries that is a run, and demands that the run is whole. One
+of edition 2 has an order and stamps: stamps.py checks it. `--help` says how to call it."""
 import argparse
 import gc
 import sys
 from collections import namedtuple
 
 from lab.definitions.colours import fields_of, network_of
+from lab.definitions.nodes import named, wire_words
 from lab.networks.network_text import read_network
-from lab.transcripts.reading import Wrong, read, words
+from lab.transcripts.reading import Wrong, read_to_fault, words
+from lab.transcripts.rules import Standing, rule_of, stuck_words
 from lab.transcripts.search import Search
 from lab.transcripts.stamps import check_stamped, stamped_as_it_stands
 from lab.wrong import Wrong as WrongNetwork
@@ -96,7 +98,25 @@ def first_refused(found):
 
 def refusal_of(found, entry):
     code = found.refusals[entry.vertex]
-    return Wrong(entry.line, code, words(entry) + ", " + WHY[code](found, entry))
+    return Wrong(entry.line, code, words(entry) + ", " + WHY[code](found, entry) + rule_broken(found, entry, code))
+
+
+def rule_broken(found, entry, code):
+    """The rule of a pulse or a put that isn't possible."""
+    if code == "NoSuch" or entry.kind == "Take":
+        return ""
+    what = f"pulse {entry.what}" if entry.kind == "Pulse" else f"put {entry.neighbour} {wire_words(entry.what)}"
+    return f"; {rule_of(standing(found.nodes[entry.vertex]), what, says_lacks=False)}"
+
+
+def standing(node):
+    """Where a node is, for the words on its next entry."""
+    lacks = [("ack", [port.neighbour for port in node.all_ports if port.waits]),
+             ("safe", [port.neighbour for port in node.all_ports if port.known == node.pulse])]
+    lacked = "; ".join(f"{word} {node.pulse} of {named(names)}" for word, names in lacks if names)
+    can_pulse = node.pulse < node.last and node.can_pulse()
+    puts = {port.neighbour: port.out[0].decode() for port in node.all_ports if port.out}
+    return Standing(node.pulse, node.last, can_pulse, lacked if node.pulse < node.last else "", puts, "for {}")
 
 
 def why_no_such(found, entry):
@@ -127,7 +147,8 @@ def why_link_empty(found, entry):
     if not node.own:
         return f"which never puts it; {without_entries(found.nodes)} (is the text cut?)"
     if node.pulse < node.last:
-        return f"which never puts it; the entries of node {node.vertex} end at pulse {node.pulse} of {node.last} (is the text cut?)"
+        ends = f"the entries of node {node.vertex} end at pulse {node.pulse} of {node.last}"
+        return f"which never puts it; {ends} (is the text cut?)"
     return "which never puts it"
 
 
@@ -188,8 +209,8 @@ def whole_run(net, text):
 
 
 def run_as_it_stands(net, text):
-    """The same for most transcripts of runs: lines are compared with what the nodes do, as they stand in the text. None
-    if they aren't a whole run so; then they have to be read with care."""
+    """The same for most transcripts of runs: lines are compared with what the nodes do, as they stand in the text.
+    None if they aren't a whole run so; then they have to be read with care."""
     head, *lines = text.split(b"\n")
     if lines[-1:] != [b""]:
         return None
@@ -218,18 +239,36 @@ def run_as_it_stands(net, text):
 
 
 def run_read_with_care(net, text):
-    head, entries = read(text)
+    head, entries, fault = read_to_fault(text)
     check_nodes(net, head.line, head.nodes)
     if head.edition == 2:
-        check_stamped(net, head, entries)
+        check_stamped(net, head, entries, fault)
     found = find_order(net, entries)
+    if fault:
+        raise first_fault(found, fault)
     if found.left:
         raise refusal_of(found, first_refused(found))
     for v, what in unfinished(found.nodes):
-        last_line = max((entry.line for entry in entries if entry.vertex == v), default=head.line)
-        raise Wrong(last_line, "NotWhole", f"after its last entry {what}{why_not_whole(found.nodes, found.nodes[v])}")
+        raise not_whole(head, entries, found.nodes, v, what)
     made = entries if head.edition == 2 else found.made
     return [entry.line for entry in made], verdict(found.nodes)
+
+
+def first_fault(found, fault):
+    """Of a text with a line that isn't an entry: an entry before it that isn't possible whatever comes later, or
+    that line."""
+    refused = first_refused(found) if found.left else None
+    return fault if refused is None or found.refusals[refused.vertex] == "LinkEmpty" else refusal_of(found, refused)
+
+
+def not_whole(head, entries, nodes, v, what):
+    """What node v hasn't done; or, if nothing is on its way and each node has entries, who owes what."""
+    last_line = max((entry.line for entry in entries if entry.vertex == v), default=head.line)
+    is_on_its_way = any(port.link for node in nodes.values() for port in node.all_ports)
+    if is_on_its_way or not all(node.own for node in nodes.values()):
+        return Wrong(last_line, "NotWhole", f"after its last entry {what}{why_not_whole(nodes, nodes[v])}")
+    owing = [(u, standing(node)) for u, node in nodes.items()]
+    return Wrong(last_line, "NotWhole", f"after the last entry {stuck_words(owing)}")
 
 
 def verdict(nodes):
@@ -273,7 +312,8 @@ def words_of_command():
     words.add_argument(
         "--order",
         action="store_true",
-        help="instead of that line print the transcript in the order found, in which it is a run line by line; of edition 2 as it is",
+        help="instead of that line print the transcript in the order found, in which it is a run line by line; of "
+             "edition 2 as it is",
     )
     words.add_argument("network", metavar="NETWORK.col", help="a network that `forestplan` reads without a fault")
     words.add_argument("transcript", nargs="?", metavar="TRANSCRIPT", help="a file, or - for standard input; default: -")

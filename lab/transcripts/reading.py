@@ -4,9 +4,7 @@ from collections import namedtuple
 
 from lab.definitions.colours import fields_of
 from lab.definitions.nodes import wire_words
-
-# The word of each payload of the colouring, and the bound of its number.
-PAYLOADS = {b"hello": 2**128, b"label": 2**16, b"colour": 2**128, b"chosen": 2**16}
+from lab.transcripts.fields import PAYLOADS, number, why_no_entry
 
 # `kind` is Pulse, Put or Take; `what` is the number of the pulse, or the wire, as lab/definitions/nodes.py has it. A
 # pulse has no neighbour. `text` is the line as the search takes it, without the stamp; `stamp` is that of edition 2.
@@ -22,14 +20,6 @@ class Wrong(Exception):
     def __str__(self):
         line, code, what = self.args
         return f"line {line}: {code}: {what}"
-
-
-@functools.lru_cache(maxsize=2**16)
-def number(field, bound=2**32):
-    digits = field.lstrip(b"0") or field[-1:]
-    if not digits.isdigit() or len(digits) > len(str(bound)) or int(digits) >= bound:
-        raise ValueError
-    return int(digits)
 
 
 @functools.lru_cache(maxsize=2**16)
@@ -71,6 +61,14 @@ READERS = {1: entry_of, 2: stamped_entry_of}
 
 def read(text):
     """The first line, and the entries in the order of the text."""
+    head, entries, fault = read_to_fault(text)
+    if fault:
+        raise fault
+    return head, entries
+
+
+def read_to_fault(text):
+    """The first line, the entries before the first line that isn't one, and that line's fault, or None."""
     lines, entries = text.split(b"\n"), []
     head = head_of(lines)
     for line, raw in enumerate(lines[head.line:], head.line + 1):
@@ -78,11 +76,9 @@ def read(text):
             if fields := fields_of(raw):
                 entries.append(READERS[head.edition](line, fields))
         except ValueError:
-            is_cut = line == len(lines)
-            raise Wrong(
-                line, "X1", "not an entry" + (", and no line feed behind it (is the text cut?)" if is_cut else "")
-            ) from None
-    return head, entries
+            cut = ", and no line feed behind it (is the text cut?)" if line == len(lines) else ""
+            return head, entries, Wrong(line, "X1", f"not an entry: {why_no_entry(fields, head.edition)}{cut}")
+    return head, entries, None
 
 
 def head_of(lines):

@@ -1,9 +1,10 @@
-"""Transcripts of edition 2: their lines are a run in the order in which they stand, with the stamps of Lamport's clock.
-It is written from the pages in docs/ alone."""
+"""Transcripts of edition 2: their lines are a run in the order in which they stand, with the stamps of Lamport's
+clock. It is written from the pages in docs/ alone."""
 from collections import deque
 
-from lab.definitions.nodes import NetState, Refused, entry_words, make, wire_words
+from lab.definitions.nodes import NetState, Refused, entry_words, make, missing_words, wire_words
 from lab.transcripts.reading import Wrong, words
+from lab.transcripts.rules import Standing, rule_of, stuck_words
 from lab.transcripts.search import Search
 
 
@@ -14,7 +15,8 @@ class Clock:
         self.counters, self.links = dict.fromkeys(vertices, 0), {}
 
     def next(self, kind, v, neighbour):
-        """The stamp of the next entry of v: one more than the counter, and of a take also than the stamp of the put."""
+        """The stamp of the next entry of v: one more than the counter, and of a take also than the stamp of the
+        put."""
         stamp = self.counters[v]
         if kind == "Take":
             stamp = max(stamp, self.links[neighbour, v].popleft())
@@ -24,16 +26,17 @@ class Clock:
         return stamp + 1
 
 
-def check_stamped(net, head, entries):
+def check_stamped(net, head, entries, fault=None):
     """Makes the entries one by one as they stand; raises the first fault. Each entry has to be possible with what it
-    says, its stamp has to be the one that the clock gives, and it has to be behind the entry before it by stamp and
-    then by vertex. At the end every node has to be through, and every link empty."""
+    says, its stamp has to be the one that the clock gives, and it has to come after the entry before it by stamp and
+    then by vertex. At the end every node has to be through, and every link empty. With `fault` the entries end there,
+    at a line that isn't an entry."""
     state, clock, last = NetState(net), Clock(net.neighbours), None
     for entry in entries:
         try:
             make(state, entry)
         except Refused as refused:
-            raise Wrong(entry.line, str(refused), words(entry) + entry_words(state, entry, refused)) from None
+            raise Wrong(entry.line, str(refused), why_refused(state, entry, refused, entries)) from None
         due = clock.next(entry.kind, entry.vertex, entry.neighbour)
         if entry.stamp != due:
             raise Wrong(
@@ -41,10 +44,49 @@ def check_stamped(net, head, entries):
             )
         if last and (last.stamp, last.vertex) > (entry.stamp, entry.vertex):
             before = f"line {last.line}, which has stamp {last.stamp} of node {last.vertex}"
-            raise Wrong(entry.line, "WrongStamp", f"{words(entry)} with stamp {entry.stamp}, but comes behind {before}")
+            raise Wrong(entry.line, "WrongStamp", f"{words(entry)} with stamp {entry.stamp}, but comes after {before}")
         last = entry
+    if fault:
+        raise fault
     for what in unfinished(state):
-        raise Wrong((last or head).line, "NotWhole", f"after the last entry {what} (is the text cut?)")
+        raise Wrong((last or head).line, "NotWhole", f"after the last entry {what_is_left(state, what)}")
+
+
+def standing(state, v):
+    """Where a node is, for the words on its next entry."""
+    node = state.nodes[v]
+    puts = {w: wire_words(port.out[0]) for w, port in zip(state.neighbours[v], node.ports) if port.out}
+    lacks = "" if node.can_pulse() or node.pulse_number == node.last else missing_words(state, "Pulse", v)[2:]
+    return Standing(node.pulse_number, node.last, node.can_pulse(), lacks, puts, "for {}")
+
+
+def why_refused(state, entry, refused, entries):
+    """An entry that isn't possible, what the machine says of it, and the rule that it breaks."""
+    said = words(entry) + entry_words(state, entry, refused)
+    if str(refused) == "NoSuch":
+        return said
+    if entry.kind != "Take":
+        what = f"pulse {entry.what}" if entry.kind == "Pulse" else f"put {entry.neighbour} {wire_words(entry.what)}"
+        return f"{said}; {rule_of(standing(state, entry.vertex), what, says_lacks=False)}"
+    return said + (why_link_empty(entry, entries) if str(refused) == "LinkEmpty" else "")
+
+
+def why_link_empty(entry, entries):
+    """Of a wire that isn't there: whether it is put later in the text."""
+    link = entry.neighbour, entry.vertex
+    taken = sum(1 for e in entries if e.kind == "Take" and (e.neighbour, e.vertex) == link and e.line < entry.line)
+    puts = [e for e in entries if e.kind == "Put" and (e.vertex, e.neighbour) == link]
+    if len(puts) <= taken:
+        return f", and {entry.neighbour} never puts it"
+    put = puts[taken]
+    return f"; it is put in line {put.line}, with stamp {put.stamp}: a take has a greater stamp than its put"
+
+
+def what_is_left(state, what):
+    """Of a run that isn't whole: what isn't done yet, or who owes what if nothing is on its way."""
+    if any(state.link.values()):
+        return f"{what} (is the text cut?)"
+    return stuck_words([(v, standing(state, v)) for v in state.nodes])
 
 
 def unfinished(state):
@@ -63,8 +105,8 @@ KINDS = {b"pulse": "Pulse", b"put": "Put", b"take": "Take"}
 
 
 def stamped_as_it_stands(net, lines):
-    """The nodes after the lines of a whole run with right stamps; None if they aren't one as they stand, byte for byte;
-    then they have to be read with care.
+    """The nodes after the lines of a whole run with right stamps; None if they aren't one as they stand, byte for
+    byte; then they have to be read with care.
 
     The entries of each node are led to the end by a search, in some order. What a node does follows from how many of
     its entries were made, and a take needs nothing but that its wire was put. In the order of these lines it was: the

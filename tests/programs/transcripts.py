@@ -133,7 +133,8 @@ def said_of(net, data):
     try:
         return whole_run(net, data)[1], ""
     except Wrong as wrong:
-        return str(wrong).rsplit(": ", 1)
+        line, code, words = wrong.args
+        return f"line {line}: {code}", words
 
 
 def networks():

@@ -1,0 +1,62 @@
+"""The fields of an entry of a transcript, and which of them is wrong if a line is none."""
+import functools
+
+# The word of each payload of the colouring, and the bound of its number.
+PAYLOADS = {b"hello": 2**128, b"label": 2**16, b"colour": 2**128, b"chosen": 2**16}
+KINDS = (b"pulse", b"put", b"take")
+WIRES = {b"payload": 4, b"ack": 2, b"safe": 2, b"close": 1}
+
+
+@functools.lru_cache(maxsize=2**16)
+def number(field, bound=2**32):
+    digits = field.lstrip(b"0") or field[-1:]
+    if not digits.isdigit() or len(digits) > len(str(bound)) or int(digits) >= bound:
+        raise ValueError
+    return int(digits)
+
+
+def shown(field):
+    text = field[:40].decode("utf-8", "replace")
+    return f"`{''.join(letter if letter.isprintable() else '?' for letter in text)}{'..' if len(field) > 40 else ''}`"
+
+
+def no_number(field, what, bound=2**32):
+    """Of a field that is no number, or one that is too great; None if all is well."""
+    try:
+        number(field, bound)
+    except ValueError:
+        return f"{shown(field)} is no number of a {what}, which is below 2^{bound.bit_length() - 1}"
+    return None
+
+
+def why_no_entry(fields, edition):
+    """Of the fields of a line that is no entry."""
+    if edition == 2:
+        wrong = no_number(fields[0], "stamp", 2**64)
+        if wrong or len(fields) == 1:
+            return wrong or "there is a stamp alone"
+        fields = fields[1:]
+    wrong = no_number(fields[0], "node")
+    if wrong or len(fields) == 1:
+        return wrong or "a node's number isn't followed by what it did"
+    if fields[1] not in KINDS:
+        return f"{shown(fields[1])} is none of pulse, put and take"
+    if fields[1] == b"pulse":
+        return no_number(fields[2], "pulse") if len(fields) == 3 else "`pulse` is followed by one number"
+    if len(fields) < 4:
+        return f"{shown(fields[1])} is followed by a neighbour and a wire"
+    return no_number(fields[2], "neighbour") or why_no_wire(fields[3:])
+
+
+def why_no_wire(fields):
+    """Of the fields of a wire."""
+    if fields[0] not in WIRES:
+        return f"{shown(fields[0])} is no wire, which are {', '.join(wire.decode() for wire in WIRES)}"
+    if len(fields) != WIRES[fields[0]]:
+        return f"{shown(b' '.join(fields))} isn't a wire of {WIRES[fields[0]]} words, as every {fields[0].decode()} is"
+    wrong = no_number(fields[1], "pulse") if len(fields) > 1 else None
+    if wrong or fields[0] != b"payload":
+        return wrong
+    if fields[2] not in PAYLOADS:
+        return f"{shown(fields[2])} is no payload, which are {', '.join(word.decode() for word in PAYLOADS)}"
+    return no_number(fields[3], fields[2].decode(), PAYLOADS[fields[2]])

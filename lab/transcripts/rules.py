@@ -1,0 +1,99 @@
+"""The rules of the four wires in words: why an entry isn't possible where it is. The workshop and check-transcript
+say the same; they differ in how they name a link, by the port or by the neighbour."""
+from dataclasses import dataclass
+
+# So many nodes are named that a run which is stuck waits for.
+MOST_OWING = 3
+
+
+@dataclass
+class Standing:
+    """Where a node is before an entry: its pulse, and its last one; `can_pulse`, whether it can make its next
+    pulse, and `lacks`, what it waits for otherwise, as `ack 0 of 2; safe 0 of 2 and 3`; `puts`, the wire that it
+    has to put now, by link; `link`, how a link is named, as `by port {}`."""
+    pulse: int
+    last: int
+    can_pulse: bool
+    lacks: str
+    puts: dict[int, str]
+    link: str
+
+    def dues(self) -> list[str]:
+        """What it can do."""
+        return [f"put {link} {wire}" for link, wire in self.puts.items()] + \
+            ([f"pulse {self.pulse + 1}"] if self.can_pulse else [])
+
+    def named(self, wire: str, link: int) -> str:
+        return f"{wire} {self.link.format(link)}"
+
+    def why_payload(self, link: int) -> str:
+        """Why a payload is due there, or none."""
+        right = self.puts.get(link, "")
+        return f"the rounds have {right} there" if right.startswith("payload") else "the rounds have no payload there"
+
+    def owes(self, payloads: str) -> str:
+        return f"in pulse {self.pulse} it has to send {payloads} first"
+
+
+def rule_of(at: Standing, words: str, says_lacks: bool = True) -> str:
+    """The rule that an entry breaks: `pulse P`, or `put LINK WIRE`; and what a pulse lacks, if that wasn't said yet."""
+    what, first, *wire = words.split()
+    if what != "pulse":
+        return rule_of_put(at, int(first), wire)
+    if at.can_pulse:
+        return f"pulses are made one by one, and its next is {at.pulse + 1}"
+    if at.pulse == at.last:
+        return f"pulse {at.last} is the last"
+    rule = "a node makes its next pulse once it has said safe and has the safes of all its neighbours"
+    if not at.lacks:
+        return f"{rule}; it has too many wires that it hasn't put yet"
+    return f"{rule}; it lacks {at.lacks}" if says_lacks else rule
+
+
+def rule_of_put(at: Standing, link: int, wire: list[str]) -> str:
+    """Of a wire that isn't the one that is due on its link."""
+    kind, right = wire[0], at.puts.get(link, "")
+    if right.startswith("ack"):
+        return "a payload is acknowledged with its own pulse as soon as it is taken, before anything else is put " \
+               "on that link"
+    if kind == "payload":
+        return rule_of_payload(at, link, int(wire[1]))
+    if right.startswith("payload"):
+        return at.owes(at.named(right, link))
+    if kind == "ack":
+        return "each payload is acknowledged once, with the payload's own pulse"
+    return rule_of_end(at, wire, right)
+
+
+def rule_of_payload(at: Standing, link: int, pulse: int) -> str:
+    """Of a payload of another pulse than the node's, or of another one than the right one."""
+    if pulse != at.pulse:
+        return f"the node is at pulse {at.pulse}, and a payload of pulse P is put after pulse P is made"
+    return at.why_payload(link)
+
+
+def rule_of_end(at: Standing, wire: list[str], right: str) -> str:
+    """Of a safe or a close."""
+    if wire[0] == "close" and at.pulse != at.last:
+        return f"close is the last wire of a link, put as the node makes its last pulse, {at.last}; " \
+               f"it is at pulse {at.pulse}"
+    if wire[0] == "safe" and int(wire[1]) != at.pulse:
+        return f"the node is at pulse {at.pulse}, and safe P is said in pulse P"
+    owed = [at.named(due, link) for link, due in at.puts.items() if due.startswith("payload")]
+    if owed:
+        return at.owes(" and ".join(owed))
+    if right.startswith("safe"):
+        return f"this link has to get {right} before: safe P is said as soon as all payloads of P are acknowledged, " \
+               "and at once if none was sent"
+    if wire[0] == "close":
+        return "close is put once on each link"
+    lacked = [part for part in at.lacks.split("; ") if part.startswith("ack")]
+    return "safe P is said once in each pulse P but the last, to each neighbour, once each payload that it sent in P " \
+           "is acknowledged" + (f"; it lacks {lacked[0]}" if lacked else "")
+
+
+def stuck_words(owing: list[tuple[int, Standing]]) -> str:
+    """Of a run in which no wire is on its way: who could do something, and doesn't."""
+    words = [f"node {v} at pulse {at.pulse} doesn't {' and '.join(at.dues())}" for v, at in owing if at.dues()]
+    more = "; .." if len(words) > MOST_OWING else ""
+    return "nothing is on its way, and not all is done: " + "; ".join(words[:MOST_OWING]) + more
