@@ -14,6 +14,7 @@ COMMANDS = {
     "sheet": "lab.pictures.sheet",
     "simulate": "lab.schedules.simulate",
     "transcript-to": "lab.transcripts.to",
+    "workshop": "lab.workshop.workshop",
 }
 # What scripts ask for besides.
 INNER = {"watch": "lab.watch"}

@@ -1,0 +1,81 @@
+"""The verdict on a run without a clock, in words: the first wrong entry, a program that gave no answer, or a run
+that is stuck."""
+from lab.transcripts.rules import rule_of
+from lab.workshop.alpha_run import AlphaRun
+from lab.workshop.findings import Finding
+from lab.workshop.judge import Entry, Verdict, verdict_on
+from lab.workshop.why_alpha import at_node, hints, right_words, with_port
+from lab.workshop.why_rounds import Why
+
+MOST_STUCK, MOST_WAITING = 4, 6
+
+
+def finding_of(run: AlphaRun) -> Finding | None:
+    """What isn't right in a run that was played, or None. What comes first in the run counts: a program that ends
+    because of a wrong step before is told of the step."""
+    entries = run.in_order()
+    verdict = verdict_on(run.network, entries)
+    if verdict.is_about_an_entry:
+        return wrong_entry(run, entries, verdict)
+    if run.stop:
+        return no_answer(run, entries)
+    if verdict.name == "NotWhole":
+        return stuck(run, entries, verdict)
+    return wrong_channel(run)
+
+
+def wrong_entry(run: AlphaRun, entries: list[Entry], verdict: Verdict) -> Finding:
+    stamp, v, words = entries[verdict.at]
+    at = at_node(run.rounds, entries[:verdict.at], v)
+    where = f"node {v} at pulse {at.pulse}, entry {verdict.at + 1} of the run, stamp {stamp}"
+    why = rule_of(at, with_port(run.rounds, v, words))
+    lines = [("where", where), ("wrong", with_port(run.rounds, v, words, True)), ("right", right_words(at)),
+             ("why", why), *hints(at, " payload " in words), ("judge", verdict.line)]
+    return Finding(verdict.name, v, at.pulse, lines, verdict.at)
+
+
+def no_answer(run: AlphaRun, entries: list[Entry]) -> Finding:
+    v, fault, asked = run.stop
+    at = at_node(run.rounds, entries, v)
+    inbox = f"; pulse {at.pulse + 1} has {run.rounds.inbox(v, at.pulse + 1)}" if at.can_pulse else ""
+    lines = [("where", f"node {v} at pulse {at.pulse}, told `{asked}`"), ("wrong", fault.words),
+             ("right", right_words(at) + inbox), *hints(at, False), ("judge", "all that was done before is right")]
+    return Finding(fault.kind, v, at.pulse, lines)
+
+
+def stuck(run: AlphaRun, entries: list[Entry], verdict: Verdict) -> Finding:
+    """Nothing is on its way, and not all is done: who could do something, and who waits for what."""
+    lines, first, waiting = [], None, []
+    for v in run.network.vertices:
+        at = at_node(run.rounds, entries, v)
+        if at.dues():
+            lines.append(("wrong", f"node {v} at pulse {at.pulse} doesn't {' and '.join(at.dues())}{though(at)}"))
+            if first is None:
+                first = at
+                lines += hints(at, True)
+        elif at.pulse < at.last:
+            waiting.append(f"node {v} for {at.lacks}")
+    where = f"nothing is on its way after {len(entries)} of {run.rounds.events} entries, and not all is done"
+    more = " | .." if len(waiting) > MOST_WAITING else ""
+    waits = [("waits", " | ".join(waiting[:MOST_WAITING]) + more)] if waiting else []
+    shown = lines[:MOST_STUCK + len(hints(first, True))]
+    return Finding("stuck", first.v, first.pulse, [("where", where), *shown, *waits, ("judge", verdict.line)])
+
+
+def though(at) -> str:
+    if not at.can_pulse:
+        return ""
+    if not at.rounds.ports[at.v]:
+        return ": it has no neighbours, so it waits for nobody"
+    return ", though it has said safe and has the safes of all its neighbours"
+
+
+def wrong_channel(run: AlphaRun) -> Finding | None:
+    """Of a run that is right and whole: the first node that said another channel."""
+    for v, channel in run.rounds.channels.items():
+        if run.channels.get(v) != channel:
+            said = f"it said channel {run.channels[v]}" if v in run.channels else "it never said `channel C`"
+            lines = [("where", f"node {v}, at its end"), ("wrong", said), ("right", f"channel {channel}"),
+                     ("why", Why(run.rounds, v).of_channel())]
+            return Finding("result", v, run.rounds.last, lines)
+    return None

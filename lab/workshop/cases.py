@@ -1,0 +1,118 @@
+"""The runs of an assignment: which network, identifiers, bars and policy each has, by seed."""
+import os
+import re
+from dataclasses import dataclass, field
+from typing import Any, Iterator
+
+from lab.networks import kinds
+from lab.networks.network_text import Network, read_network
+from lab.programs import TOP
+from lab.schedules.policies import POLICIES
+from lab.workshop.chance import Chance
+from lab.workshop.findings import Finding
+from lab.workshop.open_run import League
+from lab.wrong import Wrong
+
+# Each mistake of the colouring that can be caught shows on most4 or rest3, and each of the synchroniser on alone4.
+NETWORKS = "path1,two,path3,triangle,rest3,alone4,most4,star4,ring5,complete4,random6,drops"
+EXAMPLES = [os.path.join(TOP, "examples", "workshop"), os.path.join(TOP, "examples")]
+KINDS = {"path": kinds.path, "ring": kinds.ring, "star": kinds.star, "complete": kinds.complete}
+
+
+@dataclass
+class Case:
+    """One run. `number` counts the runs of a seed; `finding` is None if it was right; `run` is what was played, and
+    `league` what a right run of an own algorithm took."""
+    number: int
+    network: Network
+    policy: str
+    seed: str
+    finding: Finding | None = None
+    run: Any = field(default=None, repr=False)
+    league: League | None = None
+
+    def size(self) -> tuple[int, int, int, int]:
+        """What makes a case that isn't right small."""
+        found, bars = self.finding, sum(map(len, self.network.bars.values()))
+        place = found.pulse if found.entry is None else found.entry
+        return self.network.nodes, len(self.network.edges), bars, place
+
+
+def network_of(name: str, chance: Chance) -> Network:
+    """The network of a name: a file, an example, or a kind with its number of nodes."""
+    for path in (name, *(os.path.join(folder, f"{name}.col") for folder in EXAMPLES)):
+        if os.path.isfile(path):
+            return network_in(path)
+    found = re.fullmatch(r"([a-z]+)([0-9]{1,3})", name)
+    if found and found[1] == "random" and int(found[2]):
+        return random_network(name, int(found[2]), chance)
+    if found and found[1] in KINDS:
+        made = KINDS[found[1]](int(found[2]))
+        return Network(name, made.nodes, made.edges, {})
+    made = ", ".join(f"{kind}N" for kind in [*KINDS, "random"])
+    raise Wrong(f"{name}: there is no such file or example, and no network of this name is made, as {made} are")
+
+
+def network_in(path: str) -> Network:
+    try:
+        with open(path, encoding="utf-8") as text:
+            return read_network(text.read(), path)
+    except (OSError, UnicodeDecodeError) as why:
+        raise Wrong(f"{path}: {why}") from None
+
+
+def random_network(name: str, nodes: int, chance: Chance) -> Network:
+    """About one or two edges a node."""
+    pairs = [(v, w) for v in range(1, nodes + 1) for w in range(v + 1, nodes + 1)]
+    return Network(name, nodes, chance.some_of(pairs, min(len(pairs), nodes - 1 + chance.below(nodes + 2))), {})
+
+
+def varied(network: Network, chance: Chance) -> Network:
+    """The same edges with other identifiers, and sometimes with other bars."""
+    vertices, how = list(network.vertices), chance.one_of(["own", "mixed", "sparse", "long"])
+    names = {"own": lambda: [network.identifiers[v] for v in vertices],
+             "mixed": lambda: chance.some_of(vertices, len(vertices)),
+             "sparse": lambda: chance.some_of(range(max(100, 4 * len(vertices))), len(vertices)),
+             "long": lambda: [chance.long_number() for _ in vertices]}[how]()
+    bars = network.bars
+    if network.degree and chance.happens(0.4):
+        channels = range(1, network.degree + 2)
+        bars = {v: chance.some_of(channels, 1 + chance.below(2)) for v in vertices if chance.happens(0.3)}
+    return Network(network.name, network.nodes, network.edges, {}, {}, dict(zip(vertices, names)), bars)
+
+
+def cases_of(networks: list[str], policies: list[str], runs: int, seed: str, only: int | None = None) -> list[Case]:
+    """All runs, or number `only` of them. Each network has its own identifiers in the first run, and varied ones
+    later; smaller networks come first."""
+    for policy in policies:
+        if policy not in POLICIES and policy != "":
+            raise Wrong(f"there is no policy {policy}, which are {', '.join(POLICIES)}")
+    cases = []
+    for number in range(runs) if only is None else [only]:
+        own_seed = f"{seed} {number}"
+        chance, at = Chance(own_seed), number % len(networks)
+        network = network_of(networks[at], chance)
+        if number >= len(networks):
+            network = varied(network, chance)
+        cases.append(Case(number, network, policies[number // len(networks) % len(policies)], own_seed))
+    return sorted(cases, key=lambda case: (case.network.nodes, len(case.network.edges), case.number))
+
+
+def smaller(network: Network) -> Iterator[Network]:
+    """The networks without one of the nodes, without one of the edges, or without the bars of one node; and that with
+    small identifiers in the same order."""
+    for gone in network.vertices:
+        left = [v for v in network.vertices if v != gone]
+        new = {v: k for k, v in enumerate(left, 1)}
+        edges = [(new[v], new[w]) for v, w in network.edges if gone not in (v, w)]
+        yield Network(network.name, len(left), edges, {}, {}, {new[v]: network.identifiers[v] for v in left},
+                      {new[v]: network.barred(v) for v in left})
+    for edge in network.edges:
+        edges = [other for other in network.edges if other != edge]
+        yield Network(network.name, network.nodes, edges, {}, {}, network.identifiers, network.bars)
+    for gone in network.bars:
+        bars = {v: channels for v, channels in network.bars.items() if v != gone}
+        yield Network(network.name, network.nodes, network.edges, {}, {}, network.identifiers, bars)
+    small = {v: k for k, v in enumerate(sorted(network.vertices, key=network.identifiers.get), 1)}
+    if small != network.identifiers:
+        yield Network(network.name, network.nodes, network.edges, {}, {}, small, network.bars)

@@ -1,0 +1,43 @@
+"""What `bin/install --class DIR` copies: what students may see. The slow definitions, and all that is written with
+them, are solutions of the assignment; so are the right nodes."""
+import os
+from typing import Iterator
+
+# Files and whole folders, each at the path that it has here; a folder stands for all files below it.
+COPIED = (
+    "bin/network", "bin/workshop",
+    "docs/learn/TUTORIAL.md", "docs/learn/GALLERY.md", "docs/learn/OWN_NETWORK.md", "docs/learn/PROTOCOL.md",
+    "docs/learn/WORKSHOP.md", "docs/pictures",
+    "examples", "lab/__init__.py", "lab/__main__.py", "lab/programs.py", "lab/wrong.py", "lab/networks", "lab/workshop",
+    "lab/schedules/__init__.py", "lab/schedules/policies.py", "lab/transcripts/__init__.py", "lab/transcripts/rules.py",
+)
+# Of these folders, what stays with the teacher.
+LEFT_OUT = (
+    "examples/workshop/python", "examples/workshop/c", "examples/workshop/java", "examples/workshop/mistakes.py",
+    "examples/workshop/points.py",
+)
+# Commands of which nothing is copied but a line that says so.
+WITHOUT = ("picture", "explore", "check-transcript", "replay")
+STUB = """\
+#!/usr/bin/env bash
+# {name} is written with definitions that solve the assignment, so it isn't in the folder of a class.
+echo "{name}: this is the folder of a class, which has no {name}: docs/pictures has the lessons' pictures" >&2
+exit 2
+"""
+
+
+def class_files(top: str) -> Iterator[str]:
+    """The paths of all files that are copied; the programs themselves come besides."""
+    for path in COPIED:
+        if os.path.isfile(os.path.join(top, path)):
+            yield path
+        for folder, _, names in sorted(os.walk(os.path.join(top, path))):
+            for name in sorted(names):
+                found = os.path.relpath(os.path.join(folder, name), top)
+                if not found.startswith(LEFT_OUT) and not found.endswith(".pyc"):
+                    yield found
+
+
+def stubs() -> dict[str, str]:
+    """{path: text} of the commands that are left out."""
+    return {f"bin/{name}": STUB.format(name=name) for name in WITHOUT}

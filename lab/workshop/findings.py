@@ -1,0 +1,40 @@
+"""What the workshop finds: a run that isn't right, a program that doesn't answer, or that nobody can say."""
+from dataclasses import dataclass, field
+
+
+class Fault(Exception):
+    """A program gave no answer. `kind` is silent, ended, garbage, flood or start."""
+
+    def __init__(self, kind: str, words: str):
+        super().__init__(words)
+        self.kind, self.words = kind, words
+
+
+class NoVerdict(Exception):
+    """The judge, or a command, can't be run: nothing is said of any node."""
+
+
+@dataclass
+class Finding:
+    """The first thing in a run that isn't right.
+
+    `kind` is a word of docs/learn/PROTOCOL.md, "What is wrong"; `node` and `pulse` say whose it is and when,
+    `lines` explain it, each with a label. `entry` is the index of the wrong entry of a run without a clock."""
+    kind: str
+    node: int
+    pulse: int
+    lines: list[tuple[str, str]] = field(default_factory=list)
+    entry: int | None = None
+
+    def text(self) -> list[str]:
+        return [f"{label:6} {words}" for label, words in self.lines]
+
+
+def listed(what: str, numbers) -> str:
+    """`no port`, `port 1`, `ports 1 and 2`, `ports 0, 1 and 2`."""
+    numbers = [str(number) for number in numbers]
+    if not numbers:
+        return f"no {what}"
+    if len(numbers) == 1:
+        return f"{what} {numbers[0]}"
+    return f"{what}s {', '.join(numbers[:-1])} and {numbers[-1]}"

@@ -1,0 +1,114 @@
+"""The judge: what `forestplay replay` says of a run, and what it says a node has to do next. Nothing here decides by
+itself what is right."""
+import functools
+import os
+import re
+import subprocess
+from dataclasses import dataclass
+from typing import NamedTuple
+
+from lab.networks.network_text import Network
+from lab.networks.texts import Made, text_of
+from lab.programs import TOP
+from lab.workshop.findings import NoVerdict
+
+# No run has such a pulse, so an entry that names it is refused, and the judge says what would be possible.
+IMPOSSIBLE = (1 << 32) - 1
+
+
+class Entry(NamedTuple):
+    """What a node did: `words` as a transcript has them, with the neighbour's vertex; `stamp` is Lamport's."""
+    stamp: int
+    vertex: int
+    words: str
+
+
+@dataclass
+class Verdict:
+    """`name` is None if the run is right and whole; otherwise that of the refusal. `at` is the index of the entry
+    that is refused, `words` what the judge says of it, `line` the judge's own line."""
+    name: str | None = None
+    at: int | None = None
+    words: str = ""
+    line: str = ""
+
+    @property
+    def is_about_an_entry(self) -> bool:
+        return self.name not in (None, "NotWhole")
+
+
+@dataclass
+class Due:
+    """What a node can do next: `pulse` is the entry of the pulse that it can make, or None; `lacks`, what it waits
+    for before that pulse, as `ack 0 of 2; safe 0 of 2 and 3`; `puts`, for each neighbour the wire that it has to
+    put now, or None."""
+    pulse: str | None
+    lacks: str
+    puts: dict[int, str | None]
+
+
+# Of each program, a command that does next to nothing with a network without nodes.
+FIRST = {"forestplan": "plain", "forestplay": "rounds"}
+NO_NODES = "p edge 0 0\n"
+
+
+@functools.cache
+def program(name: str) -> str:
+    """A proved program. In the repository its script is called once, which builds it if need be, and says so meanwhile."""
+    door = os.path.join(TOP, "bin", name)
+    try:
+        done = subprocess.run([door, FIRST[name]], input=NO_NODES, stdout=subprocess.DEVNULL, text=True)
+    except OSError as why:
+        raise NoVerdict(f"{name} can't be run: {why.strerror}") from None
+    if done.returncode:
+        raise NoVerdict(f"{name} can't be run")
+    built = os.path.join(TOP, "crates", name, "out", name)
+    return built if os.access(built, os.X_OK) else door
+
+
+def ask(name: str, command: str, text: str) -> tuple[int, str, str]:
+    """(status, standard output, standard error) of a proved program on a text."""
+    done = subprocess.run([program(name), command], input=text, capture_output=True, text=True)
+    return done.returncode, done.stdout, done.stderr.strip()
+
+
+def network_text(network: Network) -> str:
+    """The network without comments: what the judge reads, and what --keep writes."""
+    return text_of(Made(network.nodes, network.edges, identifiers=network.said, bars=network.bars))
+
+
+def transcript_text(nodes: int, entries: list[Entry]) -> str:
+    lines = [f"transcript 2 {nodes}", *(f"{stamp} {v} {words}" for stamp, v, words in entries)]
+    return "".join(line + "\n" for line in lines)
+
+
+def verdict_on(network: Network, entries: list[Entry]) -> Verdict:
+    """The judge's verdict on entries in the order in which they stand."""
+    return verdict_of(network_text(network), transcript_text(network.nodes, entries))
+
+
+def verdict_of(network: str, transcript: str) -> Verdict:
+    status, _, line = ask("forestplay", "replay", network + transcript)
+    if status == 0:
+        return Verdict()
+    found = re.fullmatch(r"forestplay: (\w+) line (\d+)(?:: (.*))?", line)
+    if status != 1 or not found:
+        raise NoVerdict(f"forestplay replay ends with status {status}: {line}")
+    return Verdict(found[1], int(found[2]) - network.count("\n") - 2, found[3] or "", line)
+
+
+def due_at(network: Network, entries: list[Entry], v: int) -> Due:
+    """What node v can do after these entries. The machine is asked by entries that can't be right: it refuses each,
+    and says what would be possible there."""
+    before = "".join([f"transcript 1 {network.nodes}\n", *(f"{u} {words}\n" for _, u, words in entries)])
+
+    def refusal_of(words):
+        return verdict_of(network_text(network), f"{before}{v} {words}\n")
+
+    pulse = refusal_of(f"pulse {IMPOSSIBLE}")
+    can = pulse.words.removeprefix("expected ") if pulse.name == "WrongWire" else None
+    puts = {}
+    for w in network.neighbours[v]:
+        put = refusal_of(f"put {w} ack {IMPOSSIBLE}")
+        puts[w] = put.words.removeprefix("expected ") if put.name == "WrongWire" else None
+    return Due(can, "" if can else pulse.words, puts)

@@ -1,0 +1,110 @@
+"""The command line of the workshop."""
+import argparse
+
+from lab.schedules.policies import POLICIES
+from lab.workshop.cases import NETWORKS
+from lab.workshop.open_run import MOST_PULSES
+
+HELP = """\
+Runs programs that students write as the nodes of a network, and has the proved
+judge say whether what they do is right.
+
+  `rounds`  with a clock: compared with `forestplay rounds`, pulse by pulse
+  `alpha`   without one: the workshop delivers, `forestplay replay` judges the run
+  `open`    an algorithm of one's own, with a clock: `forestplan check` judges the
+            plan, and pulses, payloads and channels are counted
+
+COMMAND is started once for each node. It reads what its node is told on standard
+input and answers on standard output; docs/learn/PROTOCOL.md is the page for
+students. Several commands are dealt to the nodes in turn.
+
+NETWORK is a file, the name of an example, or a kind with its number of nodes: pathN,
+ringN, starN, completeN or randomN. Without one there are 100 runs: on the networks of
+--networks, with varied identifiers and bars, under the ten policies.
+"""
+
+MORE_HELP = """\
+Nothing here decides what is right: that is what the proved programs say. The same
+seed gives the same run, whatever the language of the nodes and however fast they are.
+
+Status: 0 all runs are right, 1 one isn't, 2 the command line is refused, or a
+network, 3 there is no verdict (the judge or a command can't be run).
+
+Examples:
+  bin/workshop rounds triangle -- python3 my_node.py
+  bin/workshop alpha --runs 200 --seed 7 -- ./my_node
+  bin/workshop alpha petersen --policies newest --keep DIR -- ./anna -- python3 ben.py
+"""
+
+
+def command_line() -> argparse.ArgumentParser:
+    words = argparse.ArgumentParser(
+        prog="workshop", usage="workshop {rounds,alpha,open} [NETWORK ..] [options] -- COMMAND .. [-- COMMAND ..]",
+        description=HELP, epilog=MORE_HELP, formatter_class=argparse.RawDescriptionHelpFormatter)
+    words.add_argument("assignment", choices=["rounds", "alpha", "open"],
+                       help="with a clock, without one, or one's own")
+    words.add_argument("networks", nargs="*", metavar="NETWORK", help=f"default: {NETWORKS.replace(',', ' ')}")
+    words.add_argument("--runs", type=count, metavar="N", help="so many runs; default: 1 for each NETWORK, or 100")
+    words.add_argument("--seed", default="1", help="whatever is by chance comes from it; default: 1")
+    words.add_argument("--policies", metavar="LIST",
+                       help=f"of alpha, with commas: {', '.join(POLICIES)}; default: all, in turn")
+    words.add_argument("--case", type=int, metavar="K", help="run number K of these alone")
+    words.add_argument("--first", action="store_true", help="end with the first run that isn't right")
+    words.add_argument("--timeout", type=seconds, default=10.0, metavar="S",
+                       help="seconds that an answer may take; default: 10")
+    words.add_argument("--memory", type=count, default=2048, metavar="MB",
+                       help="megabytes that a program may use; default: 2048")
+    words.add_argument("--most-pulses", type=count, default=MOST_PULSES, metavar="N",
+                       help=f"of open: no run may take more; default: {MOST_PULSES}")
+    words.add_argument("--one-process", action="store_true",
+                       help="one process for all nodes of a command: each message begins with `to K`; not for grading")
+    words.add_argument("--json", action="store_true", help="print the result for a program")
+    words.add_argument("--keep", metavar="DIR", help="write network, run and verdict of the case that is shown")
+    words.add_argument("--picture", metavar="FILE", help="of alpha: draw the run that is shown, up to what is wrong")
+    return words
+
+
+def count(text: str) -> int:
+    if not (text.isascii() and text.isdecimal() and 1 <= len(text) <= 9 and int(text)):
+        raise argparse.ArgumentTypeError(f"{text} is no number from 1 on")
+    return int(text)
+
+
+def seconds(text: str) -> float:
+    try:
+        found = float(text)
+    except ValueError:
+        found = 0.0
+    if not 0 < found < 1e6:
+        raise argparse.ArgumentTypeError(f"{text} is no number of seconds")
+    return found
+
+
+def parsed(words: list[str]) -> argparse.Namespace:
+    """The options, with `commands`, `policies` and `runs` as the runs need them."""
+    at = words.index("--") if "--" in words else len(words)
+    line = command_line()
+    options = line.parse_intermixed_args(words[:at])
+    options.commands = split(words[at + 1:])
+    if not options.commands:
+        line.error("there is no command after `--`")
+    if options.assignment != "alpha" and (options.policies or options.picture):
+        line.error("--policies and --picture are of alpha alone")
+    options.policies = (options.policies or ",".join(POLICIES)).split(",") if options.assignment == "alpha" else [""]
+    if options.runs is None:
+        options.runs = len(options.networks) or 100
+    options.networks = options.networks or NETWORKS.split(",")
+    if options.case is not None and options.case < 0:
+        line.error("--case is a number from 0 on")
+    return options
+
+
+def split(words: list[str]) -> list[list[str]]:
+    """The commands, each after a `--`."""
+    commands = [[]]
+    for word in words:
+        if word == "--":
+            commands.append([])
+        else:
+            commands[-1].append(word)
+    return [command for command in commands if command]

@@ -1,0 +1,101 @@
+"""What the workshop prints: a table of right runs, a league, the case that isn't right; or all of it for a program."""
+import sys
+import time
+
+from lab.workshop.cases import Case
+
+EDITION = 1
+MOST_NAMES, MOST_EDGES = 6, 80
+PROGRESS_SECONDS = 10
+
+
+class Progress:
+    """Says on standard error how far the runs are: at a terminal in one line, otherwise now and then."""
+
+    def __init__(self, stream=sys.stderr):
+        self.stream, self.said = stream, time.monotonic()
+
+    def __call__(self, count: int, of: int) -> None:
+        if of == 1:
+            return
+        if self.stream.isatty():
+            print(f"\rrun {count} of {of}", end="\n" if count == of else "", file=self.stream, flush=True)
+        elif time.monotonic() - self.said > PROGRESS_SECONDS:
+            self.said = time.monotonic()
+            print(f"workshop: run {count} of {of}", file=self.stream, flush=True)
+
+
+def table(cases: list[Case]) -> list[str]:
+    """Right runs of all, by policy and network."""
+    names = list(dict.fromkeys(case.network.name for case in cases))
+    rows = [["", *names]]
+    for policy in dict.fromkeys(case.policy for case in cases):
+        row = [policy or "right"]
+        for name in names:
+            some = [case for case in cases if (case.policy, case.network.name) == (policy, name)]
+            row.append(f"{sum(case.finding is None for case in some)}/{len(some)}" if some else "")
+        rows.append(row)
+    return aligned(rows)
+
+
+def league(cases: list[Case]) -> list[str]:
+    """Of right runs of own algorithms: the most that one took on each network."""
+    rows = [["", "pulses", "payloads", "channels"]]
+    for name in dict.fromkeys(case.network.name for case in cases):
+        some = [case.league for case in cases if case.network.name == name and case.league]
+        if some:
+            rows.append([name, *(str(max(column)) for column in zip(*some))])
+    return aligned(rows) if len(rows) > 1 else []
+
+
+def aligned(rows: list[list[str]]) -> list[str]:
+    """The first column to the left, the others to the right."""
+    widths = [max(len(row[k]) for row in rows) for k in range(len(rows[0]))]
+    return ["  ".join([row[0].ljust(widths[0]), *(cell.rjust(w) for cell, w in zip(row[1:], widths[1:]))]).rstrip()
+            for row in rows]
+
+
+def described(case: Case) -> list[str]:
+    """A case that isn't right: its network, and what was found."""
+    network = case.network
+    edges = ", ".join(f"{v}-{w}" for v, w in network.edges)
+    edges = f"{len(network.edges)} edges" if len(edges) > MOST_EDGES else f"edges {edges}" if edges else "no edges"
+    policy = f", {case.policy}" if case.policy else ""
+    lines = [f"case   {case.number}: {network.name}{policy}; {network.nodes} node{'s' * (network.nodes != 1)}, {edges}"]
+    names = [f"node {v} is {network.identifiers[v]}" for v in network.vertices if network.identifiers[v] != v]
+    if names:
+        lines.append(f"names  {', '.join(names[:MOST_NAMES])}{' ..' if len(names) > MOST_NAMES else ''}")
+    if network.bars:
+        bars = [f"{' and '.join(map(str, channels))} at node {v}" for v, channels in network.bars.items()]
+        lines.append(f"bars   {', '.join(bars[:MOST_NAMES])}{' ..' if len(bars) > MOST_NAMES else ''}")
+    return lines + case.finding.text()
+
+
+def report(cases: list[Case], shown: Case | None, seconds: float) -> list[str]:
+    """For people."""
+    right = sum(case.finding is None for case in cases)
+    lines = [*(table(cases) if len(cases) > 1 else []), f"{right} of {len(cases)} runs right, {seconds:.1f} seconds"]
+    rows = league(cases)
+    lines += ["", *rows] if rows else []
+    if shown:
+        what = "smallest case that is wrong" if len(cases) > 1 else "wrong"
+        lines += ["", f"{what}: {shown.finding.kind}", *described(shown)]
+    return lines
+
+
+def as_json(assignment: str, commands: list[list[str]], seed: str, cases: list[Case], shown: Case | None,
+            seconds: float) -> dict:
+    """For an autograder. `workshop` is the edition of this form."""
+    def one(case):
+        found, row = case.finding, {"case": case.number, "network": case.network.name, "nodes": case.network.nodes}
+        if case.policy:
+            row["policy"] = case.policy
+        row["verdict"] = found.kind if found else "right"
+        if found:
+            row |= {"node": found.node, "pulse": found.pulse}
+        elif case.league:
+            row |= case.league._asdict()
+        return row
+    return {"workshop": EDITION, "assignment": assignment, "commands": commands, "seed": seed, "runs": len(cases),
+            "right": sum(case.finding is None for case in cases), "seconds": round(seconds, 2),
+            "cases": [one(case) for case in cases], "shown": described(shown) if shown else None}

@@ -1,0 +1,90 @@
+"""What a node knew before an entry, and what it can do there, which is asked of the machine."""
+import re
+from dataclasses import dataclass
+
+from lab.transcripts.rules import Standing
+from lab.workshop.findings import listed
+from lab.workshop.judge import Entry, due_at
+from lab.workshop.right_rounds import RightRounds
+from lab.workshop.why_rounds import Why
+
+SO_FAR = 8
+MOST_EARLY = 2
+
+
+@dataclass
+class At(Standing):
+    """Node `v` after the entries `before`; links are named by their ports."""
+    rounds: RightRounds
+    before: list[Entry]
+    v: int
+
+    def why_payload(self, link: int) -> str:
+        return Why(self.rounds, self.v).of_port(self.pulse, self.rounds.network.neighbours[self.v][link])
+
+    def owes(self, payloads: str) -> str:
+        inbox = self.rounds.inbox(self.v, self.pulse)
+        return f"in pulse {self.pulse}, whose inbox has {inbox}, it has to send {payloads} first"
+
+
+def at_node(rounds: RightRounds, before: list[Entry], v: int) -> At:
+    """Asks the machine what v can do after these entries, all of which are right."""
+    due = due_at(rounds.network, before, v)
+    pulse = sum(1 for _, u, words in before if u == v and words.startswith("pulse"))
+    puts = {rounds.ports[v][w]: wire for w, wire in due.puts.items() if wire}
+    lacks = by_ports(rounds, v, due.lacks)
+    return At(pulse, rounds.last, due.pulse is not None, lacks, puts, "by port {}", rounds, before, v)
+
+
+def by_ports(rounds: RightRounds, v: int, lacks: str) -> str:
+    """`ack 0 of 2 and 3` with the ports to 2 and 3."""
+    def ports(found):
+        return " by " + listed("port", [rounds.ports[v][int(w)] for w in re.findall("[0-9]+", found[1])])
+    return re.sub(r" of ([0-9]+(?:(?:, | and )[0-9]+)*)", ports, lacks)
+
+
+def right_words(at: At) -> str:
+    """What a right node could do there."""
+    dues = at.dues()
+    if dues:
+        return dues[0] if len(dues) == 1 else "one of: " + "; ".join(dues)
+    if at.pulse == at.last:
+        return "nothing more: it has made its last pulse and put all that it has to; what still comes it answers " \
+               "with `end` alone"
+    return f"nothing yet: before its next pulse it waits for {at.lacks}"
+
+
+def hints(at: At, about_payload: bool) -> list[tuple[str, str]]:
+    """What the node had got: the inbox of its pulse, what came early, and what it did last."""
+    inbox = [("inbox", f"pulse {at.pulse} has {at.rounds.inbox(at.v, at.pulse)}")] if at.pulse and about_payload else []
+    own = [with_port(at.rounds, at.v, words) for _, u, words in at.before if u == at.v]
+    so_far = (".. " if len(own) > SO_FAR else "") + "; ".join(own[-SO_FAR:]) if own else "nothing"
+    return [*inbox, *(("early", words) for words in early(at)[-MOST_EARLY:]), ("so far", so_far)]
+
+
+def early(at: At) -> list[str]:
+    """What came a pulse early and matters now."""
+    found, pulse = [], 0
+    for _, u, words in at.before:
+        if u != at.v:
+            continue
+        match words.split():
+            case ["pulse", _]:
+                pulse += 1
+            case ["take", _, "payload", of, *_] if int(of) == pulse + 1 >= at.pulse:
+                use = f"for the inbox of pulse {pulse + 2}"
+                found.append(f"`{with_port(at.rounds, at.v, words)}` came at pulse {pulse}, and is {use}")
+            case ["take", _, "safe", of] if int(of) == pulse + 1 >= at.pulse:
+                use = f"to be kept until pulse {pulse + 1} is made"
+                found.append(f"`{with_port(at.rounds, at.v, words)}` came at pulse {pulse}, and is {use}")
+    return found
+
+
+def with_port(rounds: RightRounds, v: int, words: str, names_neighbour: bool = False) -> str:
+    """An entry as its node says it, with a port in place of the neighbour."""
+    what, *fields = words.split()
+    if what == "pulse":
+        return words
+    way = "to" if what == "put" else "from"
+    neighbour = f" ({way} node {fields[0]})" if names_neighbour else ""
+    return f"{what} {rounds.ports[v][int(fields[0])]} {' '.join(fields[1:])}{neighbour}"

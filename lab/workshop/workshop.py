@@ -1,0 +1,64 @@
+"""The command `workshop`: plays the runs, and reports."""
+import json
+import os
+import sys
+import time
+import traceback
+
+from lab.workshop.cases import Case, cases_of
+from lab.workshop.findings import NoVerdict
+from lab.workshop.interrupts import INTERRUPTS
+from lab.workshop.keeping import draw, keep
+from lab.workshop.options import parsed
+from lab.workshop.playing import Player
+from lab.workshop.report import Progress, as_json, report
+from lab.wrong import Wrong
+
+REFUSED, NO_VERDICT = 2, 3
+
+
+def main(words: list[str]) -> int:
+    options = parsed(words)
+    INTERRUPTS.install()
+    try:
+        return run(options)
+    except Wrong as why:
+        return failed(why, REFUSED)
+    except (NoVerdict, OSError) as why:
+        return failed(why, NO_VERDICT)
+    except Exception as why:        # a mistake of the workshop's own is no verdict on anybody
+        place = traceback.extract_tb(why.__traceback__)[-1]
+        where = f"{os.path.basename(place.filename)} line {place.lineno}"
+        return failed(f"a mistake of the workshop itself: {type(why).__name__}: {why} ({where})", NO_VERDICT)
+
+
+def failed(why, status: int) -> int:
+    print(f"workshop: {why}", file=sys.stderr)
+    return status
+
+
+def run(options) -> int:
+    start = time.monotonic()
+    player = Player(options.assignment, options.commands, options.timeout, options.memory, options.one_process,
+                    options.most_pulses)
+    cases = cases_of(options.networks, options.policies, options.runs, options.seed, options.case)
+    cases = player.play_all(cases, options.first, Progress())
+    shown = min((case for case in cases if case.finding), key=Case.size, default=None)
+    if shown and len(cases) > 1:
+        shown = player.shrunk(shown)
+    seconds = time.monotonic() - start
+    if options.keep:
+        keep(shown or cases[-1], options.keep)
+    write(json.dumps(as_json(options.assignment, options.commands, options.seed, cases, shown, seconds))
+          if options.json else "\n".join(report(cases, shown, seconds)))
+    if options.picture and (why := draw(shown or cases[-1], options.picture)):
+        print(f"workshop: there is no picture: {why}", file=sys.stderr)
+    return 1 if shown else 0
+
+
+def write(text: str) -> None:
+    """A reader that has gone away changes no status."""
+    try:
+        print(text, flush=True)
+    except BrokenPipeError:
+        os.dup2(os.open(os.devnull, os.O_WRONLY), 1)
