@@ -11,7 +11,7 @@ from lab.networks.plan_text import read_plan
 from lab.pictures import (
     adversary_page, automaton_picture, bits_picture, broken_picture, forests_picture, map_picture, matrix_picture,
     overview_picture, plan_picture, player_page, rounds_picture, run_picture, schedules_picture, schedules_space,
-    tally_picture, timing_picture, watch_page, why_picture,
+    tally_picture, timing_picture, watch_page, why_picture, wrong_run,
 )
 from lab.pictures.places import note
 from lab.pictures.rounds import read_rounds
@@ -103,7 +103,8 @@ KINDS = {
     "run": (
         "Above, what each node put, took and did; below, the same payloads as rounds.",
         "At most 12 nodes; above 6, payloads alone unless --only says more. Without a\n"
-        "stored text two calls differ, as the runs do, but for --workers 1.",
+        "stored text two calls differ, as the runs do, but for --workers 1. With --wrong, a text\n"
+        "that is refused, up to what is wrong.",
         "bin/picture run examples/chain6.col --pulses 3..5 --transcript \\\n"
         "    examples/chain6_slow.transcript > chain6_slow-spacetime.svg",
     ),
@@ -260,6 +261,11 @@ def add_options(kind, name):
         kind.add_argument("--rounds", metavar="FILE", help="a stored rounds text to count by, in place of a run")
     if name == "run":
         kind.add_argument("--only", type=wires, metavar="KINDS", help="some of payload,ack,safe,close")
+        kind.add_argument(
+            "--wrong",
+            action="store_true",
+            help="draw a text of edition 2 up to its first entry that isn't possible, and that one in red",
+        )
     if name == "player":
         kind.add_argument("--frame", type=int, metavar="N", help="frame N alone, counted from 0")
 
@@ -352,9 +358,12 @@ def drawn(given):
     if tallies_rounds(given, network):
         counts = tally_picture.counts_by(read_rounds(text, name, network))
         return tally_picture.draw(network, network.name, counts, given.pulses, by_rounds=True)
-    run = read_transcript(text, name, network, until_of(given, network))
+    wrong = None
+    if given.kind == "run" and given.wrong:
+        text, wrong = wrong_run.cut(text, name, network)
+    run = read_transcript(text, name, network, None if wrong else until_of(given, network))
     run.name = stem(given.text) if given.text and given.text != "-" and not given.title else network.name
-    return drawn_run(given, run)
+    return drawn_run(given, run, wrong)
 
 
 def until_of(given, network):
@@ -421,9 +430,9 @@ def drawn_rounds(given, rounds):
     return player_page.draw(rounds) if given.frame is None else player_page.draw_frame(rounds, given.frame)
 
 
-def drawn_run(given, run):
+def drawn_run(given, run, wrong=None):
     if given.kind == "run":
-        return run_picture.draw(run, given.pulses, given.only)
+        return run_picture.draw(run, given.pulses, given.only, wrong)
     if given.kind == "overview":
         return overview_picture.draw(run, given.pulses)
     if given.kind == "tally":

@@ -6,8 +6,9 @@ A pale bar goes from where a payload is taken to the tick at which it is read, a
 from math import sqrt
 
 from lab.pictures.marks import dash_of, short_name, wire_arrow
-from lab.pictures.palette import BAND, BORDER, INK, PAPER, PULSE, SOFT, WIRES
+from lab.pictures.palette import BAND, BORDER, INK, PAPER, PULSE, SOFT, WIRES, WRONG
 from lab.pictures.svg import Svg, counted, text_width
+from lab.pictures.wrong_run import draw_untaken, draw_wrong, pulses_around, set_in_time
 from lab.wrong import at_most
 
 LEFT, TOP, WIDTH = 64, 136, 1214
@@ -56,7 +57,11 @@ def usual(network, last):
     return 0 if network.nodes <= 3 else 1, min(3, last)
 
 
-def draw(run, pulses=None, kinds=None):
+def draw(run, pulses=None, kinds=None, wrong=None):
+    """The picture; with `wrong`, of a run up to an entry that isn't possible."""
+    if wrong and wrong.entry:
+        set_in_time(run, wrong)
+        pulses = pulses or pulses_around(wrong, run.last)
     kinds = kinds or (KINDS if run.network.nodes <= MOST_NODES_OF_ALL_KINDS else ("payload",))
     first, last = run.window(pulses, usual(run.network, run.last))
     window = Window(run, first, last)
@@ -91,7 +96,14 @@ def draw(run, pulses=None, kinds=None):
     with svg.group("upper", clip_path="url(#window)"):
         draw_wires(svg, window, kinds)
         draw_ticks(svg, window)
-    svg.text(20, TOP + upper + extra(window, nodes) + 20, early_words(window, kinds), 11.5, SOFT)
+        if wrong:
+            draw_untaken(svg, window, kinds)
+        if wrong and wrong.entry:
+            draw_wrong(svg, window, wrong.entry)
+    words_y = TOP + upper + extra(window, nodes) + 20
+    svg.text(20, words_y, early_words(window, kinds), 11.5, SOFT)
+    if wrong:
+        svg.text(20, words_y + 18, wrong.words, 12.5, WRONG, bold=True)
     draw_rounds(svg, run, first, last, lower_top, lower_row)
     return svg.document()
 
@@ -290,14 +302,17 @@ def draw_rounds(svg, run, first, last, top, row_height):
         for v in nodes:
             for pulse in range(first, last + 2):
                 svg.line(x_of(pulse), y_of(v) - 8, x_of(pulse), y_of(v) + 8, INK, 3, mark="slot")
-        svg.text(
-            20,
-            height + 56,
-            f"{counted(len(puts), 'payload')}, all that {'is' if len(puts) == 1 else 'are'} put in these pulses. Draw "
-            "another run of this network: the upper half changes, this half does not.",
-            11.5,
-            SOFT,
-        )
+        svg.text(20, height + 56, rounds_words(run, last, len(puts)), 11.5, SOFT)
+
+
+def rounds_words(run, last, count):
+    """What the lower half has: all payloads of its pulses, if each node has come to the end of them."""
+    if not all(last + 1 in run.ticks(v) or run.whole for v in run.network.vertices):
+        return f"{counted(count, 'payload')}: those that are put in these pulses as far as this text goes."
+    return (
+        f"{counted(count, 'payload')}, all that {'is' if count == 1 else 'are'} put in these pulses. Draw "
+        "another run of this network: the upper half changes, this half does not."
+    )
 
 
 def round_arrow(svg, x1, y1, x2, y2):

@@ -6,7 +6,7 @@ replayed one by one (a node's entries decide what it may do next), and a take ma
 can come next can always come later too, so going on wherever one can finds an order if there is one.
 
 A text of edition 2 has its order, and a stamp with each entry, which is its place in time. It is read only if each
-stamp is the one that Lamport's clock gives; nothing is replayed."""
+stamp is the one that Lamport's clock gives, and each node can make its entries: they are replayed node by node, too."""
 from functools import lru_cache
 
 from lab.networks.network_text import fields_of, whole
@@ -300,10 +300,24 @@ def run_of(text, name, network, stop=None):
     match(entries, name, run.last, run.read_to is not None)
     if edition == 2:
         check_stamps(run)
+        check_entries(run)
         run.whole = is_whole(run)
     else:
         replay(run)
     return run
+
+
+def check_entries(run):
+    """Has each node make its entries, whose places in time are their stamps. The first that can't be made is refused."""
+    faults = []
+    for v, node in nodes_of(run).items():
+        try:
+            for entry in run.entries[v]:
+                make(node, entry, run.name)
+        except Wrong as why:
+            faults.append((entry.line, why))
+    if faults:
+        raise min(faults, key=lambda fault: fault[0])[1]
 
 
 def replay(run):

@@ -1,0 +1,94 @@
+"""The run of a transcript up to its first entry that isn't possible, that entry in red, with what the judge says of
+it."""
+from dataclasses import dataclass
+
+from lab.pictures.palette import WIRES, WRONG
+from lab.pictures.transcripts import READERS, Entry
+from lab.networks.network_text import fields_of
+from lab.workshop.judge import Verdict, network_text, verdict_of
+from lab.wrong import Wrong
+
+# How long the arrow of a wire that nobody took is: a part of the way to the neighbour's row, and steps of time.
+PART_OF_ROW, STEPS = 0.55, 2.2
+
+
+@dataclass
+class WrongEntry:
+    """`words` says which line is wrong and why; `entry` is None if each entry is possible and the run isn't whole."""
+    words: str
+    entry: Entry | None = None
+
+    @property
+    def vertex(self) -> int:
+        return self.entry.vertex
+
+
+def cut(text: str, name: str, network) -> tuple[str, WrongEntry | None]:
+    """The text before its first wrong entry, and that entry; the whole text and None if the judge finds nothing
+    wrong."""
+    if [field for field in fields_of(text.lstrip().split("\n", 1)[0]) if field][:2] != ["transcript", "2"]:
+        raise Wrong(f"{name}: --wrong needs a transcript of edition 2, whose lines have an order")
+    verdict = verdict_of(network_text(network), text)
+    if verdict.name is None:
+        return text, None
+    if verdict.name == "NotWhole":
+        return text, WrongEntry("Each entry is possible, but the run doesn't reach its end (NotWhole).")
+    lines, line = text.split("\n"), verdict.at + 2
+    fields = [field for field in fields_of(lines[line - 1]) if field]
+    if verdict.name in ("X1", "NoSuch"):
+        raise Wrong(f"{name} line {line}: `{' '.join(fields)[:60]}` is no entry of a run of {network.name} "
+                    f"({verdict.name})")
+    entry = READERS["2"](name, line, fields, network)
+    return "\n".join(lines[:line - 1]) + "\n", WrongEntry(words_on(line, fields, verdict), entry)
+
+
+def words_on(line: int, fields: list[str], verdict: Verdict) -> str:
+    why = f": {verdict.words}" if verdict.words else ""
+    return f"Red: line {line}, `{' '.join(fields[1:])}`, isn't possible there. The judge: {verdict.name}{why}."
+
+
+def set_in_time(run, wrong: WrongEntry) -> None:
+    """Gives the wrong entry the place after all that its node did before; a stamp may be what is wrong with it."""
+    own = run.entries[wrong.vertex]
+    wrong.entry.x = (own[-1].x if own else 0) + 1
+    wrong.entry.during = own[-1].during if own else 0
+
+
+def pulses_around(wrong: WrongEntry | None, last: int) -> tuple[int, int] | None:
+    """The pulse of the wrong entry, and the one before."""
+    if wrong is None or wrong.entry is None:
+        return None
+    pulse = min(wrong.entry.during, last)
+    return max(0, pulse - 1), pulse
+
+
+def draw_untaken(svg, window, kinds) -> None:
+    """A short arrow for each wire that was put and that nobody took."""
+    for kind in kinds:
+        for put in window.run.puts(kind):
+            if put.mate is None and window.start <= put.x <= window.stop:
+                with svg.group("untaken", f"{put.title()}, not taken"):
+                    draw_stub(svg, window, put, WIRES[kind], "2 3")
+
+
+def draw_wrong(svg, window, entry: Entry) -> None:
+    """The wrong entry, in red: a tick, or the beginning or the end of an arrow."""
+    x, y = window.x(entry.x), window.y(entry.vertex)
+    with svg.group("wrong", f"line {entry.line}, not possible"):
+        if entry.kind == "pulse":
+            svg.line(x, y - 14, x, y + 14, WRONG, 5)
+        elif entry.kind == "put":
+            draw_stub(svg, window, entry, WRONG, None, 2.4)
+        else:
+            before = window.y(entry.neighbour)
+            svg.line(x - STEPS * window.scale, y + (before - y) * PART_OF_ROW, x, y, WRONG, 2.4)
+            svg.head(x, y, STEPS * window.scale, (y - before) * PART_OF_ROW, 9, WRONG)
+        svg.circle(x, y, 4, WRONG)
+
+
+def draw_stub(svg, window, put: Entry, colour: str, dash: str | None, width: float = 1.4) -> None:
+    x, y = window.x(put.x), window.y(put.vertex)
+    way = 1 if put.neighbour > put.vertex else -1
+    dx, dy = STEPS * window.scale, way * window.row_height * PART_OF_ROW
+    svg.line(x, y, x + dx, y + dy, colour, width, dash)
+    svg.head(x + dx, y + dy, dx, dy, 7, colour, hollow=True)
