@@ -1,0 +1,37 @@
+"""A node with a clock: the talking is done, the algorithm is yours. docs/learn/PROTOCOL.md says what the words
+mean."""
+import sys
+
+
+class Node:
+    def __init__(self, own):
+        """`own` has identifier, degree, nodes, delta, bars, forests and last, and the list of the barred channels."""
+        self.own = own
+
+    def pulse(self, p, inbox):
+        """What the node does in pulse p, as lines; `inbox` is {port: (word, number)}, and empty in pulse 0."""
+        if p == 0:
+            return [f"put {port} hello {self.own['identifier']}" for port in range(self.own["degree"])]
+        return []           # yours: `put PORT WORD NUMBER`, and in the last pulse `channel C`
+
+
+def main():
+    node, message = None, []
+    for line in sys.stdin:
+        words = line.split()
+        if words != ["end"]:
+            message.append(words)
+            continue
+        if message[0][0] == "workshop":
+            own = {name: int(value) for name, value, *_ in message[1:]}
+            own["barred"] = [int(channel) for channel in message[-1][2:]]
+            node = Node(own)
+            answer = node.pulse(0, {})
+        else:
+            inbox = {int(port): (word, int(number)) for _, port, word, number in message[1:]}
+            answer = node.pulse(int(message[0][1]), inbox)
+        print("\n".join([*answer, "end"]), flush=True)
+        message = []
+
+
+main()
