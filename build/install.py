@@ -9,15 +9,16 @@ import tempfile
 
 from build import kit, manuals, sums
 from lab import version
+from lab.workshop.class_files import class_files, stubs
 
 TOP = os.path.dirname(os.path.dirname(os.path.realpath(__file__)))
 
 # What is copied, each at the path that it has here.
 PROGRAMS = ("forestplan", "forestplay")
-SCRIPTS = ("picture", "network", "channels", "explore", "check-transcript", "replay", "simulate", "sheet",
-           "transcript-to")
-# Those whose issues may still be open are copied if they are there.
-LATER = ("workshop",)
+SCRIPTS = (
+    "picture", "network", "channels", "explore", "check-transcript", "replay", "simulate", "sheet", "transcript-to",
+    "workshop",
+)
 FOLDERS = ("examples", "docs", "lab")
 FILES = ("README.md", "CHANGELOG.md", "LICENSE-MIT", "LICENSE-APACHE")
 
@@ -26,13 +27,17 @@ Copies forestplan and what belongs to it into a folder, so that it runs there
 without the toolchain and without this tree.
 
 The folder gets the layout of this tree: in bin/ the two programs and the scripts
-picture, network, channels, explore, check-transcript, replay, simulate, sheet and
-transcript-to, and besides their modules, the examples, README, the pages and lessons,
-the licences, and a manual page for each command. So the lessons' commands work in it as they do here; with its bin/
-on the PATH they work anywhere without the bin/ before them. VERSION says what it was
-made from, and SHA256SUMS has a sum of each file: sha256sum -c SHA256SUMS. The programs
-need the C library alone, the scripts bash and Python 3. One such folder serves every
-machine of the same kind: copy it with cp -r, or bin/pack makes one archive of it.
+picture, network, channels, explore, check-transcript, replay, simulate, sheet,
+transcript-to and workshop, and their modules, the examples, README, the pages and
+lessons, the licences, and a manual page for each command. So the lessons' commands
+work in it as they do here; with its bin/ on the PATH they work anywhere without the
+bin/ before them. VERSION says what it was made from, and SHA256SUMS has a sum of each
+file: sha256sum -c SHA256SUMS. The programs need the C library alone, the scripts bash
+and Python 3. One such folder serves every machine of the same kind: copy it with
+cp -r, or bin/pack makes one archive of it.
+
+With --class it is the folder of a class that writes the nodes itself: without the right
+nodes, the definitions and the commands that are written with them, and the answers.
 
 Programs that aren't built from these sources are proved and built first. That takes
 the minutes that README.md says, and needs the toolchain's command rt.
@@ -71,11 +76,13 @@ def build_programs():
     return 0
 
 
-def files_to_copy():
+def files_to_copy(is_class):
     """(source, path in the folder) of each file."""
     yield from ((built(name), os.path.join("bin", name)) for name in PROGRAMS)
-    scripts = [*SCRIPTS, *(name for name in LATER if os.path.exists(os.path.join(TOP, "bin", name)))]
-    yield from ((os.path.join(TOP, "bin", name), os.path.join("bin", name)) for name in scripts)
+    if is_class:
+        yield from ((os.path.join(TOP, path), path) for path in class_files(TOP))
+        return
+    yield from ((os.path.join(TOP, "bin", name), os.path.join("bin", name)) for name in SCRIPTS)
     yield from ((os.path.join(TOP, name), name) for name in FILES)
     for folder in FOLDERS:
         for at, below, names in os.walk(os.path.join(TOP, folder)):
@@ -99,14 +106,17 @@ def write(path, text):
         file.write(text)
 
 
-def make(room):
+def make(room, is_class=False):
     """Makes all that is installed in an empty folder."""
-    for source, path in files_to_copy():
+    for source, path in files_to_copy(is_class):
         os.makedirs(os.path.dirname(os.path.join(room, path)), exist_ok=True)
         shutil.copy(source, os.path.join(room, path))
     for path in sorted(os.listdir(os.path.join(room, "bin"))):
         page = os.path.join(room, "share", "man", "man1", f"{path}.1")
         write(page, manuals.page_of(path, os.path.join(room, "bin", path)))
+    for path, text in stubs().items() if is_class else ():
+        write(os.path.join(room, path), text)
+        os.chmod(os.path.join(room, path), 0o755)
     write(os.path.join(room, "VERSION"), version_text())
     write(os.path.join(room, sums.NAME), sums.text_of(room))
 
@@ -123,12 +133,12 @@ def put(room, folder):
             os.remove(os.path.join(folder, path))
 
 
-def install(folder):
+def install(folder, is_class=False):
     is_new = not os.path.isdir(folder)
     os.makedirs(folder, exist_ok=True)
     try:
         with tempfile.TemporaryDirectory(prefix=".install-", dir=folder) as room:
-            make(room)
+            make(room, is_class)
             put(room, folder)
     except BaseException:
         if is_new:
@@ -137,17 +147,19 @@ def install(folder):
 
 
 def main():
-    words = argparse.ArgumentParser(prog="install", usage="install DIR", description=HELP, epilog=MORE_HELP,
+    words = argparse.ArgumentParser(prog="install", usage="install [--class] DIR", description=HELP, epilog=MORE_HELP,
                                     formatter_class=argparse.RawDescriptionHelpFormatter)
     words.add_argument("dir", metavar="DIR", help="a folder; it is made if it isn't there")
-    folder = os.path.abspath(words.parse_args().dir)
+    words.add_argument("--class", dest="is_class", action="store_true", help="what students may see, and nothing else")
+    given = words.parse_args()
+    folder = os.path.abspath(given.dir)
     if os.path.realpath(folder) == os.path.realpath(TOP):
         words.error("the folder has to be another one than this tree")
     status = build_programs()
     if status:
         return status
     try:
-        install(folder)
+        install(folder, given.is_class)
     except (OSError, shutil.Error, subprocess.CalledProcessError) as failed:
         say(f"{failed}; {folder} is as it was")
         return 1

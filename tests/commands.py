@@ -113,7 +113,7 @@ SCRIPTS = (
     Script("transcript-to", ("json",), "transcript 2 1|1 1 pulse 1|",
            r'{"edition": 2, "nodes": 1}\n{"line": 2, "stamp": 1, "node": 1, "kind": "pulse", "pulse": 1}\n'),
     Script("workshop", ("--help",), "", r"usage: workshop [^\0]*"),
-    Script("install", ("--help",), "", r"usage: install DIR\n[^\0]*", is_installed=False),
+    Script("install", ("--help",), "", r"usage: install [^\0]*", is_installed=False),
     Script("pack", ("--help",), "", r"usage: pack FOLDER [^\0]*", is_installed=False),
     Script("vendor", ("--help",), "", r"usage: vendor DIR CRATE [^\0]*", is_installed=False),
     Script("wrong-bodies", ("--help",), "", r"usage: wrong-bodies [^\0]*", is_installed=False),
