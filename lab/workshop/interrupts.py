@@ -16,7 +16,8 @@ class Interrupts:
 
     def install(self) -> None:
         for number in ENDING:
-            signal.signal(number, self.came)
+            if signal.getsignal(number) != signal.SIG_IGN:      # as `nohup` has it
+                signal.signal(number, self.came)
 
     def came(self, number: int, _) -> None:
         if self.depth:

@@ -1,0 +1,71 @@
+"""What the tests of the workshop share."""
+import functools
+import os
+import shutil
+import subprocess
+import sys
+import tempfile
+
+from lab.networks.network_text import Network
+from lab.workshop.cases import Case, network_of
+from lab.workshop.chance import Chance
+from lab.workshop.playing import Player
+from tests import TOP
+
+DOOR = os.path.join(TOP, "bin", "workshop")
+EXAMPLES = os.path.join(TOP, "examples", "workshop")
+LIMIT = 120                     # seconds; a busy machine is slow
+
+
+def python(*path: str) -> list[str]:
+    """The command of a node in Python, by its path in the examples."""
+    return [sys.executable, "-S", os.path.join(EXAMPLES, *path)]
+
+
+ROUNDS, ALPHA, GREEDY = (python("python", f"{name}_node.py") for name in ("rounds", "alpha", "greedy"))
+
+
+def network(name: str) -> Network:
+    return network_of(name, Chance("1"))
+
+
+def played(assignment: str, name: str | Network, *commands: list[str], policy: str = "random", seed: str = "1",
+           timeout: float = 20.0, is_shared: bool = False, most_pulses: int = 1000) -> Case:
+    """One run, in this process."""
+    player = Player(assignment, list(commands), timeout, 2048, is_shared, most_pulses)
+    case = Case(0, network(name) if isinstance(name, str) else name, policy, seed)
+    player.play(case)
+    return case
+
+
+def call(*words: str, **more) -> subprocess.CompletedProcess:
+    return subprocess.run([DOOR, *words], capture_output=True, text=True, timeout=LIMIT, **more)
+
+
+@functools.cache
+def folder() -> str:
+    """A folder for what is made, until the tests end."""
+    kept.append(tempfile.TemporaryDirectory())
+    return kept[-1].name
+
+
+kept: list[tempfile.TemporaryDirectory] = []
+
+
+@functools.cache
+def in_c() -> list[str]:
+    """The command of the node in C."""
+    to = os.path.join(folder(), "rounds_node")
+    source = os.path.join(EXAMPLES, "c", "rounds_node.c")
+    subprocess.run(["cc", "-O2", "-Wall", "-Werror", "-o", to, source], check=True)
+    return [to]
+
+
+@functools.cache
+def in_java() -> list[str] | None:
+    """The command of the node in Java; None on a machine without Java."""
+    if not shutil.which("javac"):
+        return None
+    source = os.path.join(EXAMPLES, "java", "AlphaNode.java")
+    subprocess.run(["javac", "-J-XX:+UseSerialGC", "-d", folder(), source], check=True)
+    return ["java", "-Xmx64m", "-XX:+UseSerialGC", "-XX:TieredStopAtLevel=1", "-cp", folder(), "AlphaNode"]

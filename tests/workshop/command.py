@@ -1,0 +1,163 @@
+"""The command itself: statuses, the result for a program, what is kept, how a case is shrunk; and that the record
+is what the programs really read and wrote."""
+import json
+import os
+import subprocess
+import sys
+import tempfile
+import unittest
+
+from tests import TOP
+from tests.workshop.base import ALPHA, EXAMPLES, GREEDY, ROUNDS, call
+from tests.workshop.mistakes import MISTAKES
+
+WAITS = [sys.executable, "-S", "-c", "import time; time.sleep(100)"]
+# A program between two ends that writes down what goes in and out of it.
+TEE = """\
+import subprocess, sys, threading
+name = sys.argv[1] + '/' + str(__import__('os').getpid())
+node = subprocess.Popen(sys.argv[2:], stdin=subprocess.PIPE, stdout=subprocess.PIPE)
+def pass_on(source, target, kept):
+    with open(name, 'ab', 0) as log:
+        for line in iter(source.readline, b''):
+            log.write(kept + line)
+            target.write(line)
+            target.flush()
+    target.close()
+thread = threading.Thread(target=pass_on, args=(sys.stdin.buffer, node.stdin, b'> '))
+thread.start()
+pass_on(node.stdout, sys.stdout.buffer, b'< ')
+thread.join()
+"""
+
+
+class Command(unittest.TestCase):
+    def setUp(self):
+        self.holder = tempfile.TemporaryDirectory()
+        self.folder = self.holder.name
+
+    def tearDown(self):
+        self.holder.cleanup()
+
+    def path(self, *names):
+        return os.path.join(self.folder, *names)
+
+    def wrong(self, name, kind):
+        MISTAKES.write(self.folder, [name])
+        return [sys.executable, "-S", self.path(name, f"{kind}_node.py")]
+
+    def test_statuses(self):
+        for words, status, said in (
+            (["rounds", "two", "--", *ROUNDS], 0, ""),
+            (["rounds", "two", "--timeout", "0.1", "--", *WAITS], 1, ""),
+            (["rounds", "two"], 2, "there is no command after `--`"),
+            (["rounds", "--"], 2, "there is no command after `--`"),
+            (["nothing", "two", "--", *ROUNDS], 2, "invalid choice"),
+            (["rounds", "nothing5", "--", *ROUNDS], 2, "nothing5: there is no such file or example"),
+            (["rounds", "ring2", "--", *ROUNDS], 2, "NODES is 2, and has to be at least 3"),
+            (["rounds", "two", "--policies", "oldest", "--", *ROUNDS], 2, "of alpha alone"),
+            (["alpha", "two", "--policies", "odd", "--", *ALPHA], 2, "there is no policy odd"),
+            (["rounds", "two", "--runs", "0", "--", *ROUNDS], 2, "0 is no number from 1 on"),
+            (["rounds", "two", "--", "/nonexistent/node"], 3, "can't be started: No such file"),
+        ):
+            with self.subTest(words[:4]):
+                done = call(*words)
+                self.assertEqual(done.returncode, status, done.stdout + done.stderr)
+                self.assertIn(said, done.stderr)
+                self.assertNotIn("Traceback", done.stderr)
+                self.assertEqual(done.stdout == "", status > 1)
+
+    def test_the_result_for_a_program(self):
+        done = call("alpha", "alone4", "path1", "--policies", "newest", "--runs", "3", "--json", "--one-process", "--",
+                    *self.wrong("close_never", "alpha"))
+        got = json.loads(done.stdout)
+        self.assertEqual(done.returncode, 1)
+        self.assertEqual({name: got[name] for name in ("workshop", "assignment", "seed", "runs", "right")},
+                         {"workshop": 1, "assignment": "alpha", "seed": "1", "runs": 3, "right": 1})
+        self.assertEqual(got["cases"][0],
+                         {"case": 1, "network": "path1", "nodes": 1, "policy": "newest", "verdict": "right"})
+        self.assertEqual([row["verdict"] for row in got["cases"]], ["right", "stuck", "stuck"])
+        stuck = {"case": 0, "network": "alone4", "nodes": 4, "policy": "newest", "verdict": "stuck", "node": 1,
+                 "pulse": 30}
+        self.assertEqual(got["cases"][1], stuck)
+
+    def test_the_smallest_case_has_no_node_too_many(self):
+        """A close that is never put shows on two nodes, and on no fewer."""
+        done = call("alpha", "alone4", "star4", "--policies", "oldest", "--one-process", "--",
+                    *self.wrong("close_never", "alpha"))
+        self.assertIn("smallest case that is wrong: stuck", done.stdout)
+        self.assertRegex(done.stdout, r"\ncase   \d: \w+, oldest; 2 nodes, edges 1-2\n")
+
+    def test_a_case_by_its_number(self):
+        all_of = json.loads(call("rounds", "random6", "--runs", "4", "--json", "--one-process", "--", *ROUNDS).stdout)
+        one = json.loads(call("rounds", "random6", "--case", "2", "--json", "--one-process", "--", *ROUNDS).stdout)
+        self.assertEqual(one["cases"], [row for row in all_of["cases"] if row["case"] == 2])
+
+    def test_anybody_can_repeat_the_verdict(self):
+        """The commands in verdict.txt are run as they stand."""
+        rows = (("alpha", self.wrong("safes_none", "alpha"), ["forestplay: NotReady line", "NotReady"]),
+                ("rounds", self.wrong("bit_root", "rounds"), ["", "payload 3 colour"]),
+                ("open", [sys.executable, "-S", "-c", ALL_ONE], ["forestplan: C4 vertices 1 2"]))
+        for kind, command, expected in rows:
+            with self.subTest(kind):
+                kept = self.path(f"kept of {kind}")
+                self.assertEqual(call(kind, "path3", "--keep", kept, "--", *command).returncode, 1)
+                with open(os.path.join(kept, "verdict.txt"), encoding="utf-8") as text:
+                    lines = text.read().partition("The same without the workshop:\n")[2].splitlines()
+                self.assertEqual(len(lines), len(expected))
+                for line, words in zip(lines, expected):
+                    done = subprocess.run(["bash", "-c", line], cwd=TOP, capture_output=True, text=True)
+                    self.assertIn(words, done.stdout + done.stderr)
+
+    def test_the_record_is_what_the_programs_read_and_wrote(self):
+        logs = self.path("logs")
+        os.mkdir(logs)
+        done = call("alpha", "path3", "--keep", self.path("kept"), "--", sys.executable, "-S", "-c", TEE, logs, *ALPHA)
+        self.assertEqual(done.returncode, 0, done.stdout)
+        with open(self.path("kept", "run.transcript"), encoding="ascii") as text:
+            rows = [line.split(" ", 2)[1:] for line in text.read().splitlines()[1:]]
+        seen = 0
+        for name in os.listdir(logs):
+            with open(os.path.join(logs, name), encoding="ascii") as text:
+                lines = [line[2:] for line in text.read().splitlines()]
+            v = next(int(line.split()[1]) for line in lines if line.startswith("identifier"))
+            neighbours = {1: [2], 2: [1, 3], 3: [2]}[v]
+            did = [line.split(" ") for line in lines if line.startswith(("take ", "put ", "pulse "))]
+            did = [" ".join([what, str(neighbours[int(at)]), *rest]) if what != "pulse" else f"pulse {at}"
+                   for what, at, *rest in did]
+            self.assertEqual(did, [words for u, words in rows if u == str(v)])
+            seen += len(did)
+        self.assertEqual(seen, len(rows))
+
+    def test_the_skeletons_talk(self):
+        """They greet in pulse 0, so what is wrong is what comes after it."""
+        c, java = self.path("node"), self.path("java")
+        source = os.path.join(EXAMPLES, "skeletons", "rounds_node.c")
+        subprocess.run(["cc", "-Wall", "-Werror", "-o", c, source], check=True)
+        rows = [("rounds", [sys.executable, os.path.join(EXAMPLES, "skeletons", "rounds_node.py")], "node 1, pulse 1 "
+                                                                                                    "(orient)"),
+                ("rounds", [c], "node 1, pulse 1 (orient)"),
+                ("alpha", [sys.executable, os.path.join(EXAMPLES, "skeletons", "alpha_node.py")], "doesn't put 0 ack "
+                                                                                                  "0")]
+        if subprocess.run(["which", "javac"], capture_output=True).returncode == 0:
+            subprocess.run(["javac", "-d", java, os.path.join(EXAMPLES, "skeletons", "AlphaNode.java")], check=True)
+            rows.append(("alpha", ["java", "-Xmx64m", "-cp", java, "AlphaNode"], "doesn't put 0 ack 0"))
+        for kind, command, words in rows:
+            with self.subTest(command[-1]):
+                self.assertIn(words, call(kind, "two", "--", *command).stdout)
+
+    def test_the_league_counts(self):
+        done = call("open", "path5", "--", *GREEDY)
+        self.assertEqual(done.stdout.splitlines()[-1].split(), ["path5", "6", "16", "2"])
+        endless = [sys.executable, "-S", "-c", "import sys\nfor line in sys.stdin:\n    if line == 'end\\n': "
+                                               "print('end', flush=True)"]
+        done = call("open", "two", "--most-pulses", "5", "--", *endless)
+        self.assertIn("after 5 pulses nodes 1 and 2 said no channel", done.stdout)
+
+
+ALL_ONE = """\
+import sys
+for line in sys.stdin:
+    if line == 'end\\n':
+        print('channel 1\\nend', flush=True)
+"""

@@ -1,0 +1,120 @@
+"""Programs that misbehave are named, and none is left running: not at the end of a run, and not when the workshop
+itself is interrupted or terminated."""
+import os
+import signal
+import subprocess
+import sys
+import tempfile
+import time
+import unittest
+
+from tests import TOP
+from tests.workshop.base import ALPHA, DOOR, LIMIT, played
+
+# A number of seconds that no other process sleeps: so a child that is left can be found.
+MARK = str(100_000 + os.getpid())
+# How it misbehaves, the verdict, and words of it; None if all is right.
+ROWS = (
+    ("unflushed", "silent", "does it flush standard output"),
+    ("deaf", "silent", "wrote nothing"),
+    ("gone", "ended", "status 0"),
+    ("hangs", "silent", "it wrote nothing within 2 seconds"),
+    ("loops", "silent", "it wrote nothing within 2 seconds"),
+    ("half", "silent", "`put 0 colour`, and no line `end`"),
+    ("crashes", "ended", "ValueError: inbox is empty"),
+    ("leaves", "ended", "it ended with status 0"),
+    ("prints", "garbage", "`my colours: [3, 1]` is no line of an answer"),
+    ("floods", "flood", "more than 1048576 bytes"),
+    ("floods_in_form", "flood", "30000 lines"),
+    ("twice", "garbage", "after the line `end`"),
+    ("bytes", "garbage", "is no line of an answer"),
+    ("closes", "ended", "goes on running"),
+    ("port", "garbage", "there is no port 7; the node has port 0 alone"),
+    ("child", "silent", "it wrote nothing within 2 seconds"),
+    ("eats", "ended", "MemoryError"),
+    ("file", "ended", "SIGXFSZ (it wrote too much"),
+    ("errors", None, ""),
+    ("crlf", None, ""),
+    ("stays", None, ""),
+)
+
+
+# These never answer at all, so they needn't be waited for.
+SHORT = ("unflushed", "deaf")
+PATIENCE = 10
+
+
+def left() -> list[str]:
+    """Command lines of processes of these tests that are still there."""
+    found = []
+    for pid in filter(str.isdecimal, os.listdir("/proc")):
+        try:
+            with open(f"/proc/{pid}/cmdline", "rb") as text:
+                words = text.read().decode("utf-8", "replace").split("\0")
+        except OSError:
+            continue
+        if MARK in words:
+            found.append(" ".join(words))
+    return found
+
+
+def left_at_last() -> list[str]:
+    """The same after a while: whoever is killed dies when the system comes to it."""
+    until = time.monotonic() + PATIENCE
+    while left() and time.monotonic() < until:
+        time.sleep(0.02)
+    return left()
+
+
+def command(how: str, file: str = MARK) -> list[str]:
+    code = f"import sys; sys.path[:0] = [{TOP!r}]; sys.argv[1:1] = {[how, file]!r}; from tests.workshop import broken_node"
+    return [sys.executable, "-S", "-c", code, MARK]
+
+
+class Misbehaving(unittest.TestCase):
+    def tearDown(self):
+        self.assertEqual(left_at_last(), [])
+
+    def test_each_is_named(self):
+        with tempfile.TemporaryDirectory() as folder:
+            for how, kind, words in ROWS:
+                with self.subTest(how):
+                    network = "path1" if how == "loops" else "two"
+                    node = command(how, os.path.join(folder, "big") if how == "file" else MARK)
+                    found = played("rounds", network, node, timeout=0.3 if how in SHORT else 2).finding
+                    self.assertEqual(found and found.kind, kind, found and found.text())
+                    if kind:
+                        self.assertIn(words, dict(found.lines)["wrong"])
+                    self.assertEqual(left_at_last(), [])
+
+    def test_a_late_answer_to_a_wrong_step_isn_t_waited_for(self):
+        """Node 2 hangs in pulse 1, but before that it acknowledges nothing: that is what it is told."""
+        code = ("import sys, time\nsys.path[:0] = [%r]\nimport talk\nfrom alpha_node import AlphaNode\n"
+                "class Node(AlphaNode):\n    def put(self, at, wire):\n        super().put(at, 'ack 7' if wire[:3] "
+                "== 'ack' else wire)\n"
+                "    def take_safe(self, port, pulse):\n        time.sleep(1000)\n"
+                "talk.serve(Node)\n") % os.path.join(TOP, "examples", "workshop", "python")
+        start = time.monotonic()
+        found = played("alpha", "two", ALPHA, [sys.executable, "-S", "-c", code, MARK], timeout=60).finding
+        self.assertEqual((found.kind, found.node), ("WrongWire", 2))
+        self.assertLess(time.monotonic() - start, 30)
+
+    def test_ending_the_workshop_ends_the_programs(self):
+        rows = (("loops", signal.SIGTERM, 143), ("child", signal.SIGINT, 130), ("hangs", signal.SIGHUP, 129))
+        for how, number, status in rows:
+            with self.subTest(number.name):
+                words = [DOOR, "rounds", "path3", "--timeout", "500", "--", *command(how)]
+                pipe = subprocess.PIPE
+                # Whatever started the tests may ignore signals, and then what they start does so too.
+                before = signal.signal(number, lambda *_: None)
+                workshop = subprocess.Popen(words, stdout=pipe, stderr=pipe, start_new_session=True)
+                signal.signal(number, before)
+                until = time.monotonic() + LIMIT
+                while len(left()) < 4 and time.monotonic() < until:     # the workshop's own words have the mark, too
+                    time.sleep(0.02)
+                time.sleep(0.3)
+                workshop.send_signal(number)
+                self.assertEqual((workshop.wait(LIMIT), workshop.stdout.read()), (status, b""))
+                workshop.stdout.close()
+                workshop.stderr.close()
+                self.assertEqual(left_at_last(), [])

@@ -1,0 +1,76 @@
+"""Each typical mistake has its verdict, node and pulse. Those of the colouring show on most4 or rest3 with a clock,
+those of the synchroniser on alone4 without one, under `newest`."""
+import importlib.util
+import os
+import sys
+import tempfile
+import unittest
+
+from tests.workshop.base import ALPHA, EXAMPLES, played
+
+specification = importlib.util.spec_from_file_location("mistakes_of_nodes", os.path.join(EXAMPLES, "mistakes.py"))
+MISTAKES = importlib.util.module_from_spec(specification)
+sys.dont_write_bytecode, before = True, sys.dont_write_bytecode
+specification.loader.exec_module(MISTAKES)
+sys.dont_write_bytecode = before
+
+# By mistake, what is found on most4 and on rest3: (node, pulse) of a difference, or None where all is right.
+COLOURING = {
+    "shift_root": ((1, 7), (2, 7)), "no_shift": ((3, 7), (1, 7)), "drop_parent": ((3, 8), None),
+    "drop_children": ((3, 8), None), "drop_all": (None, (1, 8)), "bit_highest": ((3, 3), (3, 3)),
+    "bit_root": ((1, 3), (2, 3)), "bit_parent": ((3, 3), (1, 3)), "label_ports": ((3, 1), None),
+    "label_falling": ((3, 1), None), "names_64": ((1, 0), None), "names_float": ((3, 3), None),
+    "merge_this": ((1, 31), None), "merge_all": ((1, 13), None), "merge_old": ((2, 38), (3, 19)),
+    "merge_keep": ((3, 55), None), "bars_forgotten": ((4, 19), (1, 13)), "bars_channels": ((4, 19), (1, 13)),
+    "bars_first": ((4, 19), (1, 13)), "bars_width": ((4, 19), (3, 16)),
+    # Nobody ever chooses in the last pulse of a merge, and nothing is sent in it.
+    "merge_last": (None, None), "merge_first_heard": (None, None),
+}
+# By mistake, the verdict on alone4, the node and its pulse.
+ALPHA_MISTAKES = {
+    "acks_unwaited": ("NothingToPut", 1, 0), "acks_own_pulse": ("WrongWire", 2, 2),
+    "acks_first": ("NothingToPut", 2, 0), "early_present": ("WrongWire", 2, 23), "early_lost": ("WrongWire", 2, 23),
+    "early_safe_lost": ("stuck", 2, 1), "early_safe_now": ("stuck", 2, 29), "safes_any": ("NotReady", 2, 0),
+    "safes_none": ("NotReady", 3, 0), "safes_counted": ("NotReady", 2, 0), "safe_unsaid": ("NotReady", 2, 1),
+    "safe_twice": ("NothingToPut", 3, 0), "safe_with_ack": ("WrongWire", 1, 1), "said_kept": ("NotReady", 2, 1),
+    "close_early": ("NothingToPut", 1, 29), "close_safe": ("WrongWire", 1, 30), "close_never": ("stuck", 1, 30),
+    "one_pulse": ("stuck", 4, 1), "leaves": ("ended", 2, 29), "no_channel": ("result", 1, 30),
+    # A payload completes nothing, so nothing else is in the answer to it.
+    "acks_after": None,
+}
+
+
+class Mistakes(unittest.TestCase):
+    @classmethod
+    def setUpClass(cls):
+        cls.folder = tempfile.TemporaryDirectory()
+        MISTAKES.write(cls.folder.name)
+
+    @classmethod
+    def tearDownClass(cls):
+        cls.folder.cleanup()
+
+    def node(self, name, kind):
+        return [sys.executable, "-S", os.path.join(self.folder.name, name, f"{kind}_node.py")]
+
+    def test_each_has_a_row(self):
+        self.assertEqual((set(COLOURING), set(ALPHA_MISTAKES)), (set(MISTAKES.COLOURING), set(MISTAKES.ALPHA)))
+
+    def test_of_the_colouring(self):
+        for name, rights in COLOURING.items():
+            for network, right in zip(("most4", "rest3"), rights):
+                with self.subTest(mistake=name, network=network):
+                    found = played("rounds", network, self.node(name, "rounds"), is_shared=True).finding
+                    self.assertEqual(found and (found.kind, found.node, found.pulse), right and ("differs", *right))
+
+    def test_of_the_synchroniser(self):
+        for name, right in ALPHA_MISTAKES.items():
+            with self.subTest(mistake=name):
+                command, is_shared = self.node(name, "alpha"), name != "leaves"
+                found = played("alpha", "alone4", command, policy="newest", is_shared=is_shared).finding
+                self.assertEqual(found and (found.kind, found.node, found.pulse), right)
+
+    def test_blame_is_of_the_node_whose_mistake_it_is(self):
+        """Two right nodes, and one at the end of the row that makes pulses without its neighbours' safes."""
+        found = played("alpha", "path3", ALPHA, ALPHA, self.node("safes_none", "alpha")).finding
+        self.assertEqual((found.kind, found.node, found.pulse), ("NotReady", 3, 0))

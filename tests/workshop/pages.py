@@ -1,0 +1,103 @@
+"""The pages of the workshop: PROTOCOL is short enough, what they print is printed, and their numbers are those of
+the code. And what the folder of a class has, and what it hasn't."""
+import os
+import re
+import subprocess
+import tempfile
+import unittest
+
+from build.install import install
+from lab.schedules.policies import POLICIES
+from lab.workshop import answers, cases, class_files, limits, options, wires
+from tests import TOP
+from tests.workshop.base import LIMIT, call, python
+from tests.workshop.mistakes import MISTAKES
+
+
+def page(name: str) -> str:
+    with open(os.path.join(TOP, "docs", "learn", name), encoding="utf-8") as text:
+        return text.read()
+
+
+class Pages(unittest.TestCase):
+    def test_the_protocol_is_read_in_ten_minutes(self):
+        words = [word for word in page("PROTOCOL.md").split() if re.search(r"\w", word)]
+        self.assertLessEqual(len(words), 1100)
+
+    def test_the_protocol_has_every_verdict(self):
+        """All words that a finding is called by in the code."""
+        said = set()
+        for folder in ("workshop",):
+            for name in os.listdir(os.path.join(TOP, "lab", folder)):
+                if name.endswith(".py"):
+                    with open(os.path.join(TOP, "lab", folder, name), encoding="utf-8") as text:
+                        said |= set(re.findall(r'(?:Finding|Fault)\("(\w+)"', text.read()))
+        self.assertGreater(len(said), 6)
+        table = page("PROTOCOL.md").partition("## What is wrong")[2]
+        for word in said - {"start"}:
+            with self.subTest(word):
+                self.assertIn(f"`{word}`", table)
+
+    def test_the_first_failure_of_the_skeleton_is_as_the_page_has_it(self):
+        block = page("WORKSHOP.md").partition("It answers what your node has to do next:\n\n")[2].partition("\n\n")[0]
+        lines = [line.strip() for line in block.splitlines()]
+        got = call("rounds", "two", "--", *python("skeletons", "rounds_node.py")).stdout.splitlines()[2:]
+        self.assertEqual(len(got), len(lines))
+        for line, wanted in zip(got, lines):
+            self.assertTrue(line.startswith(wanted.removesuffix("..")), (line, wanted))
+
+    def test_numbers(self):
+        workshop, protocol, teaching = page("WORKSHOP.md"), page("PROTOCOL.md"), page("TEACHING.md")
+        defaults = options.parsed(["rounds", "two", "--", "x"])
+        for text, number, words in (
+            (workshop, defaults.timeout, r"An answer may take ([\d,]+) seconds"),
+            (protocol, defaults.timeout, r"no answer within ([\d,]+) seconds"),
+            (workshop, defaults.memory, r"([\d,]+) megabytes of\s+memory"),
+            (workshop, limits.PROCESSOR_SECONDS, r"([\d,]+) seconds of processor time"),
+            (workshop, limits.limits_of(1, 1, 16).written >> 20, r"may have ([\d,]+) megabytes"),
+            (workshop, limits.OPEN_FILES, r"It may open ([\d,]+) files"),
+            (protocol, answers.MOST_LETTERS, r"up to ([\d,]+) letters a line"),
+            (teaching, len(MISTAKES.MISTAKES), r"writes ([\d,]+) wrong nodes"),
+            (teaching, 10 * len(cases.NETWORKS.split(",")), r"workshop alpha --runs ([\d,]+) --seed S"),
+            (teaching, len(POLICIES), r"each of the (ten) policies"),
+        ):
+            with self.subTest(words):
+                found = re.search(words, text)[1].replace("ten", "10")
+                self.assertEqual(found.replace(",", ""), f"{number:.0f}")
+        self.assertEqual(limits.limits_of(1, 1, 17).written < limits.limits_of(1, 1, 16).written, True)
+
+    def test_the_page_has_each_policy_and_each_payload(self):
+        for name in POLICIES:
+            with self.subTest(name):
+                self.assertIn(f"`{name}`", page("WORKSHOP.md"))
+        for name in wires.NUMBERS:
+            with self.subTest(name):
+                self.assertIn(f"`{name}`", page("PROTOCOL.md"))
+
+
+class ClassFolder(unittest.TestCase):
+    def test_it_has_no_solution_and_works(self):
+        with tempfile.TemporaryDirectory() as folder:
+            install(folder, is_class=True)
+            found = {os.path.relpath(os.path.join(at, name), folder)
+                     for at, _, names in os.walk(folder) for name in names}
+            for path in ("lab/definitions", "lab/pictures", "lab/transcripts/check.py", "lab/schedules/ruled_node.py",
+                         "examples/workshop/python", "examples/workshop/c", "examples/workshop/mistakes.py", "tests",
+                         "docs/learn/WORKSHOP_ANSWERS.md", "docs/learn/TEACHING.md"):
+                with self.subTest(path):
+                    self.assertTrue(os.path.exists(os.path.join(TOP, path)), "it isn't here either")
+                    self.assertFalse([name for name in found if name.startswith(path)])
+            for name in found:
+                if name.endswith(".py"):
+                    with open(os.path.join(folder, name), encoding="utf-8") as text:
+                        self.assertNotRegex(text.read(), r"def (bit_step|merge|recolour|settle)\(self, t|def bit_step")
+            environment = {"PATH": os.environ["PATH"], "HOME": folder}
+            node = ["python3", "examples/workshop/skeletons/rounds_node.py"]
+            for words, status in ((["workshop", "rounds", "two", "--", *node], 1),
+                                  (["network", "tell", "examples/petersen.col"], 0),
+                                  *(([name, "examples/two.col"], 2) for name in class_files.WITHOUT)):
+                with self.subTest(words[0]):
+                    done = subprocess.run([os.path.join(folder, "bin", words[0]), *words[1:]], cwd=folder,
+                                          env=environment, capture_output=True, text=True, timeout=LIMIT)
+                    self.assertEqual(done.returncode, status, done.stderr)
+                    self.assertNotIn("Traceback", done.stderr)

@@ -1,0 +1,55 @@
+"""Each policy on steps of which it is plain by its rule which one it chooses."""
+import unittest
+
+from lab.schedules.policies import POLICIES, Step, policy_of
+
+VERTICES, EDGES = [1, 2, 3], [(1, 2), (2, 3)]
+# Links 2-1, 1-2 and 2-3 hold wires, and node 3 can make a pulse: put first is the safe, last the second wire of 2-1.
+STEPS = [Step("take", 1, 2, "ack", 3, 9), Step("take", 2, 1, "safe", 1, 1), Step("take", 3, 2, "payload", 4, 4),
+         Step("pulse", 3, 0, "", 2, 2)]
+
+
+def chosen(name, seed="1", count=60, steps=STEPS):
+    policy = policy_of(name, VERTICES, EDGES, seed)
+    return policy, [steps.index(policy.choose(steps)) for _ in range(count)]
+
+
+class Policies(unittest.TestCase):
+    def test_by_their_rules(self):
+        for name, right in (("random", {0, 1, 2, 3}), ("newest", {0}), ("oldest", {1}), ("late-acks", {1, 2, 3}),
+                            ("late-safes", {0, 2, 3})):
+            with self.subTest(name):
+                self.assertEqual(set(chosen(name)[1]), right)
+
+    def test_a_slow_link_a_slow_node_and_a_fast_one(self):
+        for seed in map(str, range(6)):
+            with self.subTest(seed=seed):
+                policy, steps = chosen("slow-link", seed)
+                self.assertEqual(set(steps), {2, 3} if policy.slow == (1, 2) else {0, 1, 3})
+                policy, steps = chosen("slow-node", seed)
+                self.assertEqual({STEPS[step].node for step in steps}, {1, 2, 3} - {policy.slow})
+                policy, steps = chosen("fast-node", seed)
+                self.assertEqual({STEPS[step].node for step in steps}, {policy.fast})
+
+    def test_what_waits_comes_if_nothing_else_can(self):
+        for name in POLICIES:
+            with self.subTest(name):
+                self.assertEqual(set(chosen(name, steps=STEPS[:1])[1]), {0})
+
+    def test_bursts_stay_on_a_link_and_turns_go_round(self):
+        policy = policy_of("bursts", VERTICES, EDGES, "1")
+        first = policy.choose(STEPS)
+        self.assertTrue(all(policy.choose(STEPS) is first for _ in range(20)))
+        self.assertIsNot(policy.choose([step for step in STEPS if step is not first]), first)
+        # By link: 1-2, 2-1, 2-3, and node 3 by itself.
+        self.assertEqual(chosen("in-turn", count=8)[1], [1, 0, 2, 3, 1, 0, 2, 3])
+
+    def test_the_same_seed_chooses_the_same(self):
+        for name in POLICIES:
+            with self.subTest(name):
+                self.assertEqual(chosen(name, "7")[1], chosen(name, "7")[1])
+        self.assertNotEqual(chosen("random", "7")[1], chosen("random", "8")[1])
+
+    def test_a_network_without_edges_has_no_slow_link(self):
+        policy = policy_of("slow-link", [1], [], "1")
+        self.assertEqual(policy.choose([Step("pulse", 1)]).node, 1)

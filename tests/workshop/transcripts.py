@@ -1,0 +1,120 @@
+"""What check-transcript says of a run that isn't right: whose entry, which rule, who owes what, which field."""
+import os
+import subprocess
+import tempfile
+import unittest
+
+from tests import TOP
+from tests.workshop.base import LIMIT
+
+TWO = os.path.join(TOP, "examples", "two.col")
+HELLO_1, HELLO_2 = "payload 0 hello 1", "payload 0 hello 2"
+# A pulse's worth of two nodes without the acknowledgements.
+GREETED = f"1 1 put 2 {HELLO_1}|1 2 put 1 {HELLO_2}|2 1 take 2 {HELLO_2}|2 2 take 1 {HELLO_1}|"
+ACKED = GREETED + "3 1 put 2 ack 0|3 2 put 1 ack 0|4 1 take 2 ack 0|4 2 take 1 ack 0|"
+SAFE = "safe P is said once in each pulse P but the last, to each neighbour, once each payload that it sent in P is " \
+       "acknowledged"
+PULSE = "a node makes its next pulse once it has said safe and has the safes of all its neighbours"
+# (the entries of edition 2, the line that is said)
+ROWS = (
+    (f"1 1 put 2 {HELLO_1}|2 1 put 2 safe 0|",
+     f"line 3: NothingToPut: node 1 puts safe 0 for 2: list of 1 for 2; {SAFE}; it lacks ack 0 of 2"),
+    (GREETED + "3 2 put 1 ack 1|",
+     "line 6: WrongWire: node 2 puts ack 1 for 1: expected ack 0; a payload is acknowledged with its own pulse as "
+     "soon as it "
+     "is taken, before anything else is put on that link"),
+    ("1 1 put 2 payload 0 hello 7|",
+     "line 2: WrongWire: node 1 puts payload 0 hello 7 for 2: expected payload 0 hello 1; the rounds have payload 0 "
+     "hello 1 there"),
+    ("1 1 put 2 safe 0|",
+     "line 2: WrongWire: node 1 puts safe 0 for 2: expected payload 0 hello 1; in pulse 0 it has to send payload 0 "
+     "hello 1 for 2 first"),
+    ("1 1 put 2 payload 1 label 0|",
+     "line 2: WrongWire: node 1 puts payload 1 label 0 for 2: expected payload 0 hello 1; the node is at pulse 0, "
+     "and a payload "
+     "of pulse P is put after pulse P is made"),
+    (f"1 1 put 2 {HELLO_1}|2 1 put 2 close|",
+     "line 3: NothingToPut: node 1 puts close for 2: list of 1 for 2; close is the last wire of a link, put as the "
+     "node makes "
+     "its last pulse, 18; it is at pulse 0"),
+    (f"1 1 put 2 {HELLO_1}|2 1 put 2 ack 0|",
+     "line 3: NothingToPut: node 1 puts ack 0 for 2: list of 1 for 2; each payload is acknowledged once, with the "
+     "payload's own pulse"),
+    (ACKED + "5 1 put 2 safe 0|6 1 put 2 safe 1|",
+     "line 11: NothingToPut: node 1 puts safe 1 for 2: list of 1 for 2; the node is at pulse 0, and safe P is said "
+     "in pulse P"),
+    ("1 1 pulse 1|", f"line 2: NotReady: node 1 makes pulse 1: ack 0 of 2; safe 0 of 2; {PULSE}"),
+    (f"1 1 take 2 {HELLO_2}|1 2 put 1 {HELLO_2}|",
+     "line 2: LinkEmpty: node 1 takes payload 0 hello 2 from 2: link from 2 to 1; it is put in line 3, with stamp 1: "
+     "a take has "
+     "a greater stamp than its put"),
+    (f"1 1 take 2 {HELLO_2}|",
+     "line 2: LinkEmpty: node 1 takes payload 0 hello 2 from 2: link from 2 to 1, and 2 never puts it"),
+    # Nothing is on its way: it isn't asked whether the text is cut.
+    (GREETED, "line 5: NotWhole: after the last entry nothing is on its way, and not all is done: node 1 at pulse 0 "
+              "doesn't "
+              "put 2 ack 0; node 2 at pulse 0 doesn't put 1 ack 0"),
+    # Something is.
+    (f"1 1 put 2 {HELLO_1}|", "line 2: NotWhole: after the last entry node 1 is at pulse 0 of 18 (is the text cut?)"),
+    # An entry before a line that is none comes first.
+    ("1 1 pulse 1|1 1 put 2 payload 0 colour -2|", f"line 2: NotReady: node 1 makes pulse 1: ack 0 of 2; safe 0 of "
+                                                   f"2; {PULSE}"),
+    (f"1 1 put 2 {HELLO_1}|1 1 put 2 payload 0 colour -2|", "line 3: X1: not an entry: `-2` is no number of a "
+                                                            "colour, which is below 2^128"),
+    ("x 1 pulse 1|", "line 2: X1: not an entry: `x` is no number of a stamp, which is below 2^64"),
+    ("1|", "line 2: X1: not an entry: there is a stamp alone"),
+    ("1 1|", "line 2: X1: not an entry: a node's number isn't followed by what it did"),
+    ("1 1 puts 2 close|", "line 2: X1: not an entry: `puts` is none of pulse, put and take"),
+    ("1 1 put 2|", "line 2: X1: not an entry: `put` is followed by a neighbour and a wire"),
+    ("1 1 pulse|", "line 2: X1: not an entry: `pulse` is followed by one number"),
+    ("1 1 put 2 nack 0|", "line 2: X1: not an entry: `nack` is no wire, which are payload, ack, safe, close"),
+    ("1 1 put 2 ack|", "line 2: X1: not an entry: `ack` isn't a wire of 2 words, as every ack is"),
+    ("1 1 put 2 payload 0 best 1|", "line 2: X1: not an entry: `best` is no payload, which are hello, label, colour, "
+                                    "chosen"),
+    ("1 1 put 2 payload 1 label 65536|", "line 2: X1: not an entry: `65536` is no number of a label, which is below "
+                                         "2^16"),
+)
+
+
+def said(text: str) -> str:
+    done = subprocess.run([os.path.join(TOP, "bin", "check-transcript"), TWO], input=text.replace("|", "\n"),
+                          capture_output=True, text=True, timeout=LIMIT)
+    return done.stderr.rstrip("\n") if done.returncode == 1 else f"status {done.returncode}"
+
+
+class Transcripts(unittest.TestCase):
+    def test_of_edition_2(self):
+        for entries, line in ROWS:
+            with self.subTest(entries):
+                self.assertEqual(said("transcript 2 2|" + entries), line)
+
+    def test_of_edition_1(self):
+        for entries, line in (
+            (f"1 put 2 {HELLO_1}|1 put 2 safe 0|",
+             f"line 3: NothingToPut: node 1 puts safe 0 for 2, for which it has nothing; {SAFE}; it lacks ack 0 of 2"),
+            (f"1 put 2 {HELLO_1}|1 take 2 {HELLO_2}|2 put 1 {HELLO_2}|2 take 1 {HELLO_1}|",
+             "line 3: NotWhole: after the last entry nothing is on its way, and not all is done: node 1 at pulse 0 "
+             "doesn't put "
+             "2 ack 0; node 2 at pulse 0 doesn't put 1 ack 0"),
+            (f"1 put 2 {HELLO_1}|1 pulse 2|1 put 2 odd|",
+             f"line 3: NotReady: node 1 makes pulse 2, but it hasn't taken ack 0 from 2; {PULSE}"),
+            (f"1 put 2 {HELLO_1}|1 take 2 {HELLO_2}|2 put 1 odd|", "line 4: X1: not an entry: `odd` is no wire, "
+                                                                   "which are payload, ack, "
+                                                                   "safe, close"),
+        ):
+            with self.subTest(entries):
+                self.assertEqual(said("transcript 1 2|" + entries), line)
+
+    def test_a_text_that_ends_inside_a_line(self):
+        self.assertEqual(said("transcript 2 2|1 1 put 2 pay"),
+                         "line 2: X1: not an entry: `pay` is no wire, which are payload, ack, safe, close, and no "
+                         "line feed behind it "
+                         "(is the text cut?)")
+
+    def test_the_command_is_found_through_a_link(self):
+        with tempfile.TemporaryDirectory() as folder:
+            link = os.path.join(folder, "check")
+            os.symlink(os.path.join(TOP, "bin", "check-transcript"), link)
+            done = subprocess.run([link, TWO], input=b"transcript 2 2\n", capture_output=True, cwd=folder,
+                                  timeout=LIMIT)
+            self.assertEqual(done.returncode, 1)

@@ -1,0 +1,71 @@
+"""What the workshop says, against numbers that are worked by hand."""
+import unittest
+
+from lab.networks.network_text import Network
+from lab.workshop.right_rounds import RightRounds
+from lab.workshop.why_rounds import Why
+from tests.workshop.base import network
+
+# A row in which node 1 is in the middle, and node 3 is the root: identifiers 2 - 7 - 11. By hand: bit steps of 2, 7 and
+# 11 (0010, 0111, 1011) give 2*0+0, 2*2+1 and 2*0+1, so 0, 5 and 1, and the next three keep them. The shift gives node 2
+# the 5, node 1 the 1, and the root 0. Node 2 drops 5: it had 0, its parent has 1, so it takes 2.
+ROW = Network("row", 3, [(1, 2), (1, 3)], {}, {}, {1: 7, 2: 2, 3: 11})
+OF_ROW = (
+    (1, 1, 3, "its parents are the neighbours above its own identifier, 7, by ascending identifier: 11 (port 1) in "
+              "forest 0; "
+              "each gets the label of its forest"),
+    (3, 1, 1, "no neighbour has an identifier above its own, 11: it has no parent, and labels nobody"),
+)
+OF_COLOURS = (
+    (2, 2, "in each forest a node begins with its identifier, 2, and sends it to its children there: it has none"),
+    (1, 2, "in each forest a node begins with its identifier, 7, and sends it to its children there: port 0 in "
+           "forest 0"),
+    (2, 3, "bit step in forest 0: it had 2 (binary 10), and its parent, by port 0, sent 7 (binary 111); counted from "
+           "the right, "
+           "from 0, they differ first in digit 0, where its own is 0: 2*0 + 0 = 0; it has no child in forest 0, so "
+           "it sends 0 to nobody"),
+    (1, 3, "bit step in forest 0: it had 7 (binary 111), and its parent, by port 1, sent 11 (binary 1011); counted "
+           "from the right, "
+           "from 0, they differ first in digit 2, where its own is 1: 2*2 + 1 = 5; its children in forest 0 get it, "
+           "by port 0"),
+    (3, 3, "bit step in forest 0: it had 11 (binary 1011), and is a root, so digit 0 counts, which is 1: 2*0 + 1 = 1; "
+           "its children in forest 0 get it, by port 0"),
+    (2, 7, "shift in forest 0: it takes the colour that its parent sent, by port 0: 5; it has no child in forest 0, "
+           "so it sends 5 to nobody"),
+    (3, 7, "shift in forest 0: it is a root, and takes the least of 0, 1, 2 other than its own 1: 0; "
+           "its children in forest 0 get it, by port 0"),
+    (2, 8, "drop of 5 in forest 0: it has 5; its parent, by port 0, sent 1, and its children have 0, which it had "
+           "itself before "
+           "the shift; it takes the least of 0, 1, 2 that is neither: 2; it has no child in forest 0, so it sends 2 "
+           "to nobody"),
+    (1, 8, "drop of 5 in forest 0: it has 1, and keeps it: 1; its children in forest 0 get it, by port 0"),
+    (1, 12, "drop of 3 in forest 0: it has 1, and keeps it: 1; in pulse 12 nothing is sent"),
+)
+
+
+class Words(unittest.TestCase):
+    def test_of_a_row_of_three(self):
+        rounds = RightRounds(ROW)
+        for v, p, w, words in OF_ROW:
+            with self.subTest(node=v, pulse=p):
+                self.assertEqual(Why(rounds, v).of_port(p, w), words)
+        for v, p, words in OF_COLOURS:
+            with self.subTest(node=v, pulse=p):
+                self.assertEqual(Why(rounds, v).of_forest(p, 0), words)
+
+    def test_of_a_merge_of_two_nodes(self):
+        """By hand: their three-colours are 0 and 1, both have the merged colour 0, and there are 2 colours. So node
+        1 chooses in the first pulse, and node 2, which hears of it, in the third."""
+        rounds = RightRounds(network("two"))
+        turn = "pulse {} is the turn of the nodes with colour {} in forest 0 and merged colour 0 so far; " \
+               "this node has {} and 0: {}"
+        for v, p, colour, own, rest in (
+            (1, 13, 0, 0, "it is its turn. In this merge neighbours told it of no colour; the least that is left is 0; "
+                          "its neighbours in forest 0 get it, by port 0"),
+            (2, 13, 0, 1, "it isn't its turn, and it sends nothing"),
+            (2, 15, 1, 1, "it is its turn. In this merge neighbours told it of colour 0; the least that is left is 1; "
+                          "its neighbours in forest 0 get it, by port 0"),
+        ):
+            with self.subTest(node=v, pulse=p):
+                self.assertEqual(Why(rounds, v).of_choice(p), turn.format(p, colour, own, rest))
+        self.assertEqual(rounds.channels, {1: 1, 2: 2})
