@@ -10,13 +10,14 @@ from lab.networks import kinds
 from lab.networks.network_text import read_network
 from lab.networks.reading import counted
 from lab.networks.texts import Made, text_of
-from lab.pictures.colouring import LAST_COLOUR, Rounds
 from lab.programs import TOP
 from lab.wrong import Wrong
 
 # Up to so many nodes times pulses the rounds are worked out here, in less than a second; above them `forestplay rounds`
 # is asked, and if it isn't built they are worked out here up to so many, in some seconds.
 MOST_AT_ONCE, MOST_HERE = 300_000, 5_000_000
+# The last pulse before the merges.
+LAST_COLOUR = 12
 # Up to so many wires nobody waits for a run.
 AN_INSTANT = 100_000
 
@@ -71,11 +72,20 @@ def payload_bytes(v, w, pulse, words):
     return 2 * ends + 2 * len(f"payload {pulse} {words}") + 2 * len(f"ack {pulse}")
 
 
+def rounds_here(network):
+    """The rounds by their definition; None in the folder of a class, which doesn't have it."""
+    try:
+        from lab.pictures.colouring import Rounds
+    except ImportError:
+        return None
+    return Rounds(network, network.identifiers)
+
+
 def counted_payloads(run):
     """How many payloads a run has, the bytes of their entries, and who counted."""
     network, steps, program = run.network, run.network.nodes * run.last, built("forestplay")
-    if steps <= MOST_AT_ONCE or steps <= MOST_HERE and not program:
-        rounds = Rounds(network, network.identifiers)
+    is_small = steps <= MOST_AT_ONCE or steps <= MOST_HERE and not program
+    if is_small and (rounds := rounds_here(network)):
         puts = [
             payload_bytes(v, w, pulse.number, f"{word} {number}")
             for pulse in rounds.pulses

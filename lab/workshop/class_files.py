@@ -5,10 +5,11 @@ from typing import Iterator
 
 # Files and whole folders, each at the path that it has here; a folder stands for all files below it.
 COPIED = (
-    "bin/network", "bin/workshop",
+    "bin/network", "bin/channels", "bin/workshop",
     "docs/learn/TUTORIAL.md", "docs/learn/GALLERY.md", "docs/learn/OWN_NETWORK.md", "docs/learn/PROTOCOL.md",
     "docs/learn/WORKSHOP.md", "docs/pictures",
-    "examples", "lab/__init__.py", "lab/__main__.py", "lab/programs.py", "lab/wrong.py", "lab/networks", "lab/workshop",
+    "examples", "lab/__init__.py", "lab/__main__.py", "lab/door.py", "lab/programs.py", "lab/version.py",
+    "lab/watch.py", "lab/wrong.py", "lab/networks", "lab/workshop",
     "lab/schedules/__init__.py", "lab/schedules/policies.py", "lab/transcripts/__init__.py", "lab/transcripts/rules.py",
 )
 # Of these folders, what stays with the teacher.

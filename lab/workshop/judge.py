@@ -54,7 +54,7 @@ NO_NODES = "p edge 0 0\n"
 
 @functools.cache
 def program(name: str) -> str:
-    """A proved program. In the repository its script is called once, which builds it if need be, and says so meanwhile."""
+    """A proved program. In the repository its script is called once, which builds it if need be, and says so."""
     door = os.path.join(TOP, "bin", name)
     try:
         done = subprocess.run([door, FIRST[name]], input=NO_NODES, stdout=subprocess.DEVNULL, text=True)

@@ -53,7 +53,7 @@ class Index(Case):
 
     def test_readme_has_each_command(self):
         """Each script of bin/ that users call, and each command of the programs, is in a row of the table."""
-        rows = re.findall(r"^\| `([^`]*)`", text_of("README.md"), re.M)
+        rows = re.findall(r"^`([^`]*)` \| ", text_of("README.md"), re.M)
         scripts = set(os.listdir(os.path.join(TOP, "bin"))) - {"forestplan", "forestplay", "install", "wrong-bodies"}
         named = {name for row in rows for name in re.findall(r"bin/([\w-]+)", row)} - {"forestplay"}
         self.assertEqual(scripts - named, set(), "scripts of bin/ without a row")

@@ -67,7 +67,8 @@ def left_at_last() -> list[str]:
 
 
 def command(how: str, file: str = MARK) -> list[str]:
-    code = f"import sys; sys.path[:0] = [{TOP!r}]; sys.argv[1:1] = {[how, file]!r}; from tests.workshop import broken_node"
+    begin = f"import sys; sys.path[:0] = [{TOP!r}]; sys.argv[1:1] = {[how, file]!r}"
+    code = f"{begin}; from tests.workshop import broken_node"
     return [sys.executable, "-S", "-c", code, MARK]
 
 
