@@ -18,7 +18,7 @@ LEFT_OUT = (
     "examples/workshop/points.py",
 )
 # Commands of which nothing is copied but a line that says so.
-WITHOUT = ("picture", "explore", "check-transcript", "replay")
+WITHOUT = ("picture", "explore", "check-transcript", "replay", "simulate", "sheet", "transcript-to")
 STUB = """\
 #!/usr/bin/env bash
 # {name} is written with definitions that solve the assignment, so it isn't in the folder of a class.
