@@ -17,6 +17,8 @@ from tests import TOP
 from tests.cases import Case, text
 from tests.commands import APART, COMMANDS, PROGRAMS, commands_of
 from tests.commands import SCRIPTS as OF_BIN
+from tests.pages.pages import PAGES, lines_of, shown_commands
+from tests.shell import run_line
 
 # Seconds; a busy machine takes long for the many calls of help that the manual pages are made of.
 LIMIT = 300
@@ -58,6 +60,18 @@ class Install(Case):
     def test_installed(self):
         self.note("install", self.installed[:2] == (0, b"") and b"install: " in self.installed[2], self.installed)
         self.run_rows("installed", self.target)
+
+    def test_lessons(self):
+        """Each command of the lessons prints in the folder what the page shows, as it does at the top of this tree."""
+        pages, count = [page for page in PAGES if page.startswith("docs/learn/")], 0
+        for page in pages:
+            for number, command, shown in shown_commands(lines_of(page)):
+                count += 1
+                done = run_line(command, limit=LIMIT, cwd=self.target, env=ENVIRONMENT)
+                wanted = "".join(line + "\n" for line in shown).encode()
+                good = [(0, wanted, b"")] + [(status, b"", wanted) for status in (1, 3) if wanted]
+                self.note(f"{page}:{number} {command}", (done.returncode, done.stdout, done.stderr) in good, done)
+        self.note("commands of the lessons", len(pages) > 5 and count > 60, (pages, count))
 
     def test_copy(self):
         """A copy of the folder, called through links, where the folder itself is away."""
