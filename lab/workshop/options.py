@@ -19,8 +19,8 @@ input and answers on standard output; docs/learn/PROTOCOL.md is the page for
 students. Several commands are dealt to the nodes in turn.
 
 NETWORK is a file, the name of an example, or a kind with its number of nodes: pathN,
-ringN, starN, completeN or randomN. Without one there are 100 runs: on the networks of
---networks, with varied identifiers and bars, under the ten policies.
+ringN, starN, completeN or randomN. Without one there are 100 runs on twelve
+small networks, with varied identifiers and bars, under the ten policies.
 """
 
 MORE_HELP = """\

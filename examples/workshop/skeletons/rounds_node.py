@@ -2,6 +2,9 @@
 mean."""
 import sys
 
+# What a node is told; lines of a later edition are passed over.
+KNOWN = ("identifier", "degree", "nodes", "delta", "bars", "forests", "last", "barred")
+
 
 class Node:
     def __init__(self, own):
@@ -23,8 +26,8 @@ def main():
             message.append(words)
             continue
         if message[0][0] == "workshop":
-            own = {name: int(value) for name, value, *_ in message[1:]}
-            own["barred"] = [int(channel) for channel in message[-1][2:]]
+            told = {name: [int(value) for value in values] for name, *values in message[1:] if name in KNOWN}
+            own = {name: values[0] for name, values in told.items()} | {"barred": told["barred"][1:]}
             node = Node(own)
             answer = node.pulse(0, {})
         else:
@@ -34,4 +37,5 @@ def main():
         message = []
 
 
-main()
+if __name__ == "__main__":
+    main()
