@@ -34,7 +34,11 @@ def read(text: str, name: str, form: str | None, heading: bool | None) -> Listed
     form = form or ("multiline" if "{" in text and groups_of(rows) else None)
     if form == "multiline":
         return read_multiline(rows, name)
-    if form == "adjacency" or not form and separator is None and is_adjacency(rows):
+    if form == "adjacency":
+        return read_adjacency(rows)
+    if not form and separator is None and is_adjacency(rows):
+        if may_be_weighted(rows):
+            raise unsure(name, "these may be pairs with a weight, or nodes with two neighbours each", PAIRS, NEIGHBOURS)
         return read_adjacency(rows)
     return read_pairs(rows, name, separator, heading, is_sure=form == "pairs")
 
@@ -49,6 +53,15 @@ def is_adjacency(rows: Rows) -> bool:
         return False
     known = set(nodes)
     return len(known) == len(nodes) and all(other in known for ones in others for other in ones)
+
+
+def may_be_weighted(rows: Rows) -> bool:
+    """Whether lines that could be nodes with their neighbours could be pairs with a number, too: three fields in each,
+    the last one a number, and some line names a neighbour that doesn't name its node."""
+    if not all(len(fields) == 3 and fields[0][-1] != ":" and fields[2].isdecimal() for _, fields in rows):
+        return False
+    others = {fields[0]: set(fields[1:]) for _, fields in rows}
+    return not all(node in others[other] for node, ones in others.items() for other in ones)
 
 
 def unsure(name: str, why: str, *choices: str) -> Wrong:
@@ -109,7 +122,9 @@ def refuse_others(body: Rows, name: str, separator: str | None) -> None:
 def are_of_two_kinds(fields: list[list[str]]) -> bool:
     """Whether of the ends of some pairs one is always a number, and the other never."""
     pairs = [row for row in fields if len(row) > 1 and row[1]]
-    return len(pairs) > 1 and any(all(is_number(row[at]) and not is_number(row[1 - at]) for row in pairs) for at in (0, 1))
+    return len(pairs) > 1 and any(
+        all(is_number(row[at]) and not is_number(row[1 - at]) for row in pairs) for at in (0, 1)
+    )
 
 
 def read_adjacency(rows: Rows) -> Listed:

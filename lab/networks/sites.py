@@ -171,7 +171,7 @@ def with_sites(found: Listed, sites: Sites, name: str, reach: float | None) -> N
     strange = [(line, end) for line, *ends in found.edges + found.alone for end in map(clean, ends) if end not in known]
     if strange:
         lines = {line for line, _ in strange}
-        found.left_out.append(f"{counted(len(lines), 'line')} with a site that {name} hasn't left out, first line "
+        found.left_out.append(f"{counted(len(lines), 'line')} left out, with a site that isn't in {name}, first line "
                               f"{strange[0][0]}: {shown(strange[0][1])}")
         found.edges = [row for row in found.edges if row[0] not in lines]
         found.alone = [row for row in found.alone if row[0] not in lines]
@@ -218,7 +218,7 @@ def with_bars(found: Listed, data: bytes, name: str, licence: list[int] | None) 
                 found.bars.setdefault(one, set()).add(number)
         if len(found.bars.get(one, ())) > MAX_BARS:
             raise wrong_line(name, line, f"more than {MAX_BARS} channels are barred at {shown(one)}")
-    for lost, what in ((strange, "of a site that there isn't"), (outside, "of a channel outside the licence")):
+    for lost, what in ((strange, "of an unknown site"), (outside, "of a channel outside the licence")):
         if lost:
-            first = f"first at line {lost[0][0]}: {shown(lost[0][1])}"
+            first = f"first at line {lost[0][0]} of {name}: {shown(lost[0][1])}"
             found.left_out.append(f"{counted(len(lost), 'bar')} {what} left out, {first}")

@@ -5,6 +5,7 @@
 
 It needs a browser, and so it is no part of ./test. A script of its own presses the page's buttons and keys, and writes
 down what the page says; the transcript's own lines say what that has to be."""
+import argparse
 import html
 import os
 import re
@@ -63,7 +64,9 @@ def said(line):
 
 
 def main():
-    browser, tally = (sys.argv[1:] or ["chromium"])[0], {True: 0, False: 0}
+    words = argparse.ArgumentParser(description=__doc__, formatter_class=argparse.RawDescriptionHelpFormatter)
+    words.add_argument("browser", nargs="?", default="chromium")
+    browser, tally = words.parse_args().browser, {True: 0, False: 0}
     network = os.path.join(TOP, "examples", "triangle.col")
     with tempfile.TemporaryDirectory() as folder:
         paths = []

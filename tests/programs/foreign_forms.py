@@ -93,6 +93,8 @@ REFUSED = [
     ("prose", "The quick brown fox\njumps over the lazy\ndog and goes away\n", "--as pairs"),
     ("tuples of networkx", "(0, 0) 1\n(0, 1) {}\n(0, 1) 1\n(0, 0) {}\n", "convert_node_labels_to_integers"),
     ("nodes without neighbours, or pairs", "0 0\n1 0\n2 0\n", "--as pairs or --as multiline"),
+    ("a ring with weights, or five nodes that know two each", "1 2 3\n2 3 4\n3 4 5\n4 5 1\n5 1 2\n", "pairs with a weight"),
+    ("the same from 0", "0 1 2\n1 2 3\n2 3 4\n3 4 0\n4 0 1\n", "--as adjacency"),
     ("names and numbers", "site,channel\nUlm,1\nAue,6\n", "names beside numbers"),
     ("a table with a number of each line", "link,one,other,km\n1,Ulm,Aue,5\n2,Aue,Hof,6\n", "--as pairs"),
     ("neighbours without lines", "Ulm Aue Hof\nBonn Kiel Jena\n", "--as adjacency"),

@@ -238,7 +238,16 @@ class Install(Case):
             with open(os.path.join(folder, "src", "main.rt"), "w", encoding="utf-8") as file:
                 file.write("// as it was built\n")
             shutil.copy(os.path.join(self.target, "bin", program), os.path.join(folder, "out", program))
+        self.vouch(tree)
         return tree
+
+    def vouch(self, tree):
+        """Has the scripts note that the programs are made from the sources, as ./test does after the gate."""
+        for name in PROGRAMS:
+            script = os.path.join(tree, "bin", name)
+            texts = run([script], env=ENVIRONMENT | {"FORESTPLAN_SOURCES": "1"})[1].decode().strip()
+            done = run([script], env=ENVIRONMENT | {"FORESTPLAN_MADE_FROM": texts})
+            self.note(f"a note of {name}", done == (0, b"", b""), done)
 
     def test_changed(self):
         """A tree whose sources have changed since installs nothing old, and a full disk leaves nothing half."""
@@ -274,6 +283,9 @@ class Install(Case):
         out = os.path.join(tree, "crates", "forestplan", "out")
         os.remove(os.path.join(out, "forestplan.made-from"))
         shutil.copy(os.path.join(self.target, "bin", "forestplan"), out)
+        got = run([script, target], env=ENVIRONMENT)
+        self.note("a newer program that nobody vouches for", got[0] == 70 and b"forestplan: not built" in got[2], got)
+        self.vouch(tree)
         got = run([script, target], env=ENVIRONMENT)
         after = os.stat(os.path.join(target, "bin", "forestplan")).st_ino
         self.note("built again by another command", got[0] == 0 and after != before, got)

@@ -47,13 +47,13 @@ class Sites(Case):
         self.note("edges", edges_of(wrote) == {(1, 3), (2, 3)}, wrote)
         self.note("identifiers", network_of(wrote).identifiers == {1: 7, 2: 2, 3: 16, 4: 0x1b63_8445_e6}, wrote)
         self.note("a pair of a strange site is counted",
-                  b"1 line with a site that %s hasn't left out, first line 4: Prag" % sites.encode() in told, told)
+                  b"1 line left out, with a site that isn't in %s, first line 4: Prag" % sites.encode() in told, told)
         self.note("a loop is counted", b"1 edge from a node to itself left out, first at line 5: Aue" in told, told)
         places = {v: tuple(map(float, rest.split())) for v, rest in comments(wrote, "at").items()}
         self.note("north is on top, and east is right",
                   places[1][1] > places[3][1] > places[4][1] and places[4][0] < places[1][0] < places[2][0], places)
         self.note("the program reads it", run_program(PLAN, ["forests"], wrote).stdout.startswith(b"forests 4 1\n"))
-        self.refused("what is left out, if that is asked for", "--strict is asked for: 1 line with a site that", pairs,
+        self.refused("what is left out, if that is asked for", "--strict is asked for: 1 line left out, with a site", pairs,
                      "--sites", sites, "--strict")
 
     def test_spreadsheets(self):
@@ -102,8 +102,8 @@ class Sites(Case):
     def test_bars(self):
         pairs, bars = self.file("pairs.csv", "Ulm,Aue\n"), "site,channel\nUlm,6\nUlm,11 6\nAue,1\nHof,1\n"
         for words, wanted, left_out in (
-            ([], {1: [6, 11], 2: [1]}, b"1 bar of a site that there isn't left out, first at line 5: Hof"),
-            (["--licence", "1 6 11"], {1: [2, 3], 2: [1]}, b"first at line 5: Hof"),
+            ([], {1: [6, 11], 2: [1]}, b"1 bar of an unknown site left out, first at line 5 of "),
+            (["--licence", "1 6 11"], {1: [2, 3], 2: [1]}, b"bars.csv: Hof"),
             (["--licence", "6-11/5"], {1: [1, 2]}, b"1 bar of a channel outside the licence left out"),
         ):
             status, wrote, told = call("read", pairs, "--bars", self.file("bars.csv", bars), *words)
