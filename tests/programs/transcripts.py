@@ -425,7 +425,7 @@ class Transcripts(Case):
                           done[:2] == (2, b"") and re.match(b"replay: |check-transcript: ", done[2]), done)
             done = script(folder, ["./replay", "--help"], b"")
             self.note("bin/replay --help",
-                      done[0] == 0 and done[2] == b"" and b"  bin/forestplan transcript" in done[1], done)
+                      done[0] == 0 and done[2] == b"" and b"\n  bin/replay examples/" in done[1], done)
             done = script(folder, ["./replay", "edge.col"], whole[:100])
             self.note("bin/replay of a cut text", done[:2] == (1, b"") and b"cut" in done[2], done)
             if PLAY:
