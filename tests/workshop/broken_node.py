@@ -1,4 +1,5 @@
-"""A program that misbehaves: broken_node.py HOW. Until the fifth message it is the right node with a clock."""
+"""A program that misbehaves: its `main` takes HOW as the first word. Until the fifth message it is the right node with a
+clock."""
 import os
 import subprocess
 import sys
@@ -10,7 +11,7 @@ sys.path.insert(0, os.path.join(EXAMPLES, "python"))
 import talk                                             # noqa: E402
 from rounds_node import RoundsNode                      # noqa: E402
 
-how, asked, right_answer = sys.argv[1], 0, talk.answer
+how, asked, right_answer = "", 0, talk.answer
 LONG = 1000
 
 
@@ -87,11 +88,15 @@ MISBEHAVE = {
     "errors": much_to_standard_error, "file": much_to_a_file,
 }
 
-if how == "deaf":
-    time.sleep(LONG)
-if how == "gone":
-    sys.exit(0)
-talk.answer = answer
-talk.serve(RoundsNode)
-if how == "stays":
-    time.sleep(LONG)
+
+def main():
+    global how
+    how = sys.argv[1]
+    if how == "deaf":
+        time.sleep(LONG)
+    if how == "gone":
+        sys.exit(0)
+    talk.answer = answer
+    talk.serve(RoundsNode)
+    if how == "stays":
+        time.sleep(LONG)

@@ -68,7 +68,7 @@ def left_at_last() -> list[str]:
 
 def command(how: str, file: str = MARK) -> list[str]:
     begin = f"import sys; sys.path[:0] = [{TOP!r}]; sys.argv[1:1] = {[how, file]!r}"
-    code = f"{begin}; from tests.workshop import broken_node"
+    code = f"{begin}; from tests.workshop import broken_node; broken_node.main()"
     return [sys.executable, "-S", "-c", code, MARK]
 
 
