@@ -60,9 +60,17 @@ def rule_of_put(at: Standing, link: int, wire: list[str]) -> str:
         return rule_of_payload(at, link, int(wire[1]))
     if right.startswith("payload"):
         return at.owes(at.named(right, link))
+    if kind == "ack" and right.startswith("safe"):
+        return rule_of_safe(right)
     if kind == "ack":
         return "each payload is acknowledged once, with the payload's own pulse"
     return rule_of_end(at, wire, right)
+
+
+def rule_of_safe(right: str) -> str:
+    """Of a wire before a safe that is due on its link."""
+    return f"this link has to get {right} before: safe P is said as soon as all payloads of P are acknowledged, " \
+           "and at once if none was sent"
 
 
 def rule_of_payload(at: Standing, link: int, pulse: int) -> str:
@@ -83,8 +91,7 @@ def rule_of_end(at: Standing, wire: list[str], right: str) -> str:
     if owed:
         return at.owes(" and ".join(owed))
     if right.startswith("safe"):
-        return f"this link has to get {right} before: safe P is said as soon as all payloads of P are acknowledged, " \
-               "and at once if none was sent"
+        return rule_of_safe(right)
     if wire[0] == "close":
         return "close is put once on each link"
     lacked = [part for part in at.lacks.split("; ") if part.startswith("ack")]

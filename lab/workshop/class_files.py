@@ -22,7 +22,7 @@ WITHOUT = ("picture", "explore", "check-transcript", "replay", "simulate", "shee
 STUB = """\
 #!/usr/bin/env bash
 # {name} is written with definitions that solve the assignment, so it isn't in the folder of a class.
-echo "{name}: this is the folder of a class, which has no {name}: docs/pictures has the lessons' pictures" >&2
+echo "{name}: this is the folder of a class, which has no {name}; your teacher's folder has it, and docs/pictures the lessons' pictures" >&2
 exit 2
 """
 
