@@ -15,7 +15,7 @@ OF_SCHEDULES = {
     "early": Rule("a payload of the next pulse is kept apart", "it is put in the place of this pulse's payload",
                   "alpha_core", "take_payload_puts_an_early_one_among_the_present"),
     "fifo": Rule("a link hands wires over in the order in which they were put", "a wire may overtake those before it",
-                 "net_core", "next_gives_the_newest_wire"),
+                 "event_machine", "next_gives_the_newest_wire"),
 }
 
 # Of the rounds of the colouring: of a forest's colours, and of the merging.

@@ -10,8 +10,8 @@ from tests.settings import CRATE_TESTS, PLAN, PLAY
 
 HERE = os.path.dirname(os.path.abspath(__file__))
 # Tests of `checks`, which `rt ci` builds, or `rt test` in that crate, that try again what memory is refused to once.
-TRIED_AGAIN = ("net_core_checks::a_state_goes_on_after_a_refused_growth",
-               "net_core_checks::a_list_runs_again_after_a_refused_growth",
+TRIED_AGAIN = ("event_machine_checks::a_state_goes_on_after_a_refused_growth",
+               "event_machine_checks::a_list_runs_again_after_a_refused_growth",
                "link_queue_checks::a_link_meets_again_after_a_refused_growth")
 MOST = 5000
 

@@ -4,7 +4,7 @@ use Rattle.dimacs_col.specs.Lines.{Line, lines_of}
 use Rattle.dimacs_col.specs.Reading.{Graph, IsFault, IsGraph}
 use Rattle.dimacs_col.specs.declared.fault.ColFault.{ColFault}
 use Rattle.alpha_core.specs.interference.Net.{IsNetwork, Net}
-use Rattle.net_core.specs.Step.{run}
+use Rattle.event_machine.specs.Step.{run}
 use Rattle.channel_plan.proofs.Blank.{fault-of, graph-of}
 use Rattle.colour_program.specs.colour_rules.Program.{colouring}
 use Rattle.event_texts.specs.EventLines.{AreNetworkLines, event_words}

@@ -5,15 +5,15 @@ use Rattle.std.specs.declared.vec.Vec.{Vec}
 use Rattle.std.specs.declared.alloc.Global.{Global}
 use Rattle.dimacs_col.specs.Lines.{Line}
 use Rattle.alpha_core.specs.interference.Net.{IsNetwork, Net}
-use Rattle.net_core.specs.declared.refused.RunRefused.TheVariants as run
+use Rattle.event_machine.specs.declared.refused.RunRefused.TheVariants as run
 use Rattle.colour_program.specs.colour_rules.Payload.{Payload}
 use Rattle.colour_program.specs.colour_rules.Program.{colouring}
 use Rattle.colour_program.specs.colour_rules.Words.{payload_from}
-use Rattle.replay.specs.Replays.{IsReplay, Stops}
-use Rattle.replay.proofs.Decided.{by-index, decided}
+use Rattle.net_core.specs.Replays.{IsReplay, Stops}
+use Rattle.net_core.proofs.Decided.{by-index, decided}
 use Rattle.transcripts.specs.TranscriptText.{Row}
-use Rattle.replay.specs.declared.refused.ReplayRefused.{ReplayRefused}
-use Rattle.replay.specs.declared.refused.ReplayRefused.TheVariants as replay
+use Rattle.net_core.specs.declared.refused.ReplayRefused.{ReplayRefused}
+use Rattle.net_core.specs.declared.refused.ReplayRefused.TheVariants as replay
 use Rattle.transcripts.specs.Behind.{entry_lines, entry_on}
 use Rattle.transcripts.specs.Editions.{One}
 use Rattle.transcripts.specs.EntryLines.{row_of}

@@ -5,17 +5,17 @@ use Rattle.std.specs.declared.alloc.Global.{Global}
 use Rattle.std.proofs.lemmas.List.{length-map, map-append}
 use Rattle.dimacs_col.specs.Lines.{Line}
 use Rattle.alpha_core.specs.interference.Net.{IsNetwork, Net}
-use Rattle.net_core.specs.declared.refused.RunRefused.TheVariants as run
+use Rattle.event_machine.specs.declared.refused.RunRefused.TheVariants as run
 use Rattle.colour_program.specs.colour_rules.Payload.{Payload}
 use Rattle.colour_program.specs.colour_rules.Program.{colouring}
 use Rattle.colour_program.specs.colour_rules.Words.{payload_from}
-use Rattle.replay.specs.Replays.{Stops, at_entry}
-use Rattle.replay.specs.Whole.{StopsAtEntry, StopsAtStamp, WhyNotWhole}
-use Rattle.replay.specs.declared.refused.ReplayRefused.{ReplayRefused}
-use Rattle.replay.specs.declared.refused.ReplayRefused.TheVariants as replay
-use Rattle.replay.specs.declared.refused.WholeRefused.{WholeRefused}
-use Rattle.replay.specs.declared.refused.WholeRefused.TheVariants as whole
-use Rattle.replay.proofs.Decided.{by-index}
+use Rattle.net_core.specs.Replays.{Stops, at_entry}
+use Rattle.net_core.specs.Whole.{StopsAtEntry, StopsAtStamp, WhyNotWhole}
+use Rattle.net_core.specs.declared.refused.ReplayRefused.{ReplayRefused}
+use Rattle.net_core.specs.declared.refused.ReplayRefused.TheVariants as replay
+use Rattle.net_core.specs.declared.refused.WholeRefused.{WholeRefused}
+use Rattle.net_core.specs.declared.refused.WholeRefused.TheVariants as whole
+use Rattle.net_core.proofs.Decided.{by-index}
 use Rattle.transcripts.specs.Behind.{entry_lines, stamped_entry_on}
 use Rattle.transcripts.specs.Editions.{Two}
 use Rattle.transcripts.specs.Reading.{StampedTranscript}

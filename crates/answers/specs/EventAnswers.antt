@@ -4,7 +4,7 @@ use Rattle.dimacs_col.specs.Lines.{Line, lines_of}
 use Rattle.dimacs_col.specs.Reading.{IsFault}
 use Rattle.alpha_core.specs.interference.Net.{Net, IsNetwork}
 use Rattle.alpha_core.specs.interference.Making.{IsFaultOf}
-use Rattle.net_core.specs.Step.{run}
+use Rattle.event_machine.specs.Step.{run}
 use Rattle.colour_program.specs.colour_rules.Program.{colouring}
 use Rattle.event_texts.specs.EventLines.{network_lines}
 use Rattle.event_texts.specs.Played.{IsFaultOfRun, events_in}

@@ -14,4 +14,4 @@ pub mod colour_rules
 pub mod colour_laws
 pub mod transcripts
 pub mod pool
-pub mod replay
+pub mod net_core

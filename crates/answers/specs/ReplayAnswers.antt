@@ -7,19 +7,19 @@ use Rattle.dimacs_col.specs.Lines.{Line, lines_of}
 use Rattle.dimacs_col.specs.Reading.{IsFault}
 use Rattle.alpha_core.specs.interference.Net.{Net, IsNetwork}
 use Rattle.alpha_core.specs.interference.Making.{IsFaultOf}
-use Rattle.net_core.specs.declared.refused.RunRefused.TheVariants as run
+use Rattle.event_machine.specs.declared.refused.RunRefused.TheVariants as run
 use Rattle.colour_program.specs.colour_rules.Payload.{Payload}
 use Rattle.colour_program.specs.colour_rules.Program.{colouring}
 use Rattle.colour_program.specs.colour_rules.Words.{payload_from}
 use Rattle.event_texts.specs.Missing.{expected_text, missing_text}
 use Rattle.event_texts.specs.StateText.{ColourState, state_text}
-use Rattle.replay.specs.Replays.{IsReplay, Stops}
-use Rattle.replay.specs.Rows.{event_of}
-use Rattle.replay.specs.declared.refused.ReplayRefused.{ReplayRefused}
-use Rattle.replay.specs.declared.refused.ReplayRefused.TheVariants as replay
-use Rattle.replay.specs.declared.refused.WholeRefused.{WholeRefused}
-use Rattle.replay.specs.declared.refused.WholeRefused.TheVariants as whole
-use Rattle.replay.specs.Whole.{IsWholeReplay, StopsAtEntry, WhyNotWhole}
+use Rattle.net_core.specs.Replays.{IsReplay, Stops}
+use Rattle.net_core.specs.Rows.{event_of}
+use Rattle.net_core.specs.declared.refused.ReplayRefused.{ReplayRefused}
+use Rattle.net_core.specs.declared.refused.ReplayRefused.TheVariants as replay
+use Rattle.net_core.specs.declared.refused.WholeRefused.{WholeRefused}
+use Rattle.net_core.specs.declared.refused.WholeRefused.TheVariants as whole
+use Rattle.net_core.specs.Whole.{IsWholeReplay, StopsAtEntry, WhyNotWhole}
 use Rattle.transcripts.specs.Behind.{entry_lines, entry_on, network_lines, stamped_entry_on}
 use Rattle.transcripts.specs.Editions.{AnyTranscript, One, Two, any_reading_behind}
 use Rattle.transcripts.specs.Reading.{StampedTranscript, Transcript}

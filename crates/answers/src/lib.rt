@@ -38,8 +38,8 @@ pub use channel_plan::plan_text;
 pub use colour_program::{Colouring, Long, Payload, laws};
 pub use dimacs_col::ColFault;
 pub use event_texts::EventFault;
+pub use net_core::{ReplayRefused, WholeRefused, replay, replay_whole};
 pub use pool::PoolFault;
-pub use replay::{ReplayRefused, WholeRefused, replay, replay_whole};
 pub use transcripts::{
     TextFault, Transcript, push_entries, push_first_line, push_stamped_row, read_any,
     read_transcript, stamped_text, transcript_text,

@@ -3,8 +3,8 @@
 ghost use Rattle.std.specs.Prelude.{◌≡◌, ℕ, IfOk, IfErr, IfSome, Ok};
 ghost use Rattle.dimacs_col.specs.Lines.{lines_of};
 ghost use Rattle.colour_program.specs.colour_rules.Program.{colouring};
-ghost use Rattle.replay.specs.Replays.{IsReplay};
-ghost use Rattle.replay.specs.Whole.{IsWholeReplay};
+ghost use Rattle.net_core.specs.Replays.{IsReplay};
+ghost use Rattle.net_core.specs.Whole.{IsWholeReplay};
 ghost use Rattle.transcripts.specs.Editions.{One, Two};
 ghost use Rattle.answers.specs.ReplayAnswers.{IsFaultOfReplay, IsFaultOfTranscript, IsReplayAnswer, IsReplayed};
 ghost use Rattle.answers.specs.ReplayAnswers.{IsStampedTold, IsTold, bare_rows, fault_at, fault_of_text};
@@ -16,9 +16,9 @@ use alpha_core::Network;
 use channel_plan::text_start;
 use colour_program::{Colouring, Payload};
 use entries::Entry;
+use event_machine::{NetState, RunRefused};
 use event_texts::{expected_words, missing_words, text_of_state};
-use net_core::{NetState, RunRefused};
-use replay::{ReplayRefused, WholeRefused, event_of, replay, replay_whole};
+use net_core::{ReplayRefused, WholeRefused, event_of, replay, replay_whole};
 use std::alloc::{AllocError, Global};
 use transcripts::{TextFault, Transcript, entry_lines, network_text, read_any_behind_network};
 

@@ -17,7 +17,7 @@ use Rattle.dimacs_col.specs.declared.limits.TheConstants.{MAX_BARS, MAX_CHANNEL}
 use Rattle.alpha_laws.below.interference.specs.declared.limits.TheConstants.{MAX_DEGREE}
 use Rattle.alpha_laws.specs.node_api.Program.{Program, last_pulse_on}
 use Rattle.alpha_laws.specs.alpha_core.View.{is_drained}
-use Rattle.net_core.specs.State.{State, node_of, link_at}
+use Rattle.event_machine.specs.State.{State, node_of, link_at}
 use Rattle.progress_laws.specs.Ends.{IsWholeState}
 use Rattle.async_colour_laws.specs.Small.{edge}
 

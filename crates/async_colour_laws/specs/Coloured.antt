@@ -10,9 +10,9 @@ use Rattle.colour_laws.specs.colour_rules.Payload.{Payload}
 use Rattle.colour_laws.specs.colour_rules.Node as colour
 use Rattle.colour_laws.specs.colour_rules.Program.{colouring}
 use Rattle.colour_laws.specs.Colours.{colours}
-use Rattle.net_core.specs.declared.event.Event.{Event}
-use Rattle.net_core.specs.State.{State, node_of}
-use Rattle.net_core.specs.Step.{run}
+use Rattle.event_machine.specs.declared.event.Event.{Event}
+use Rattle.event_machine.specs.State.{State, node_of}
+use Rattle.event_machine.specs.Step.{run}
 use Rattle.progress_laws.specs.Ends.{IsTerminal}
 
 -- every node is at the last pulse

@@ -1,3 +1,3 @@
 pub mod Coloured
 pub mod Small
-pub mod net_core
+pub mod event_machine

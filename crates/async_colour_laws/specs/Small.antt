@@ -2,9 +2,9 @@
 -- program that spreads the greatest identifier, with last pulse 1.
 use Rattle.std.specs.Prelude.{◌≡◌, IfOk, List, [], ◌∷◌, ◌++◌, map}
 use Rattle.alpha_laws.specs.interference.Net.{Net}
-use Rattle.net_core.specs.declared.event.Event.{Event}
-use Rattle.net_core.specs.declared.event.Event.TheVariants.{Pulse, Put, Take}
-use Rattle.net_core.specs.Step.{run}
+use Rattle.event_machine.specs.declared.event.Event.{Event}
+use Rattle.event_machine.specs.declared.event.Event.TheVariants.{Pulse, Put, Take}
+use Rattle.event_machine.specs.Step.{run}
 use Rattle.sync_rounds.specs.Spread.{spread}
 use Rattle.progress_laws.specs.Ends.{IsWholeState}
 

@@ -6,10 +6,10 @@ use Rattle.answers.specs.colour_rules.Node as colour
 use Rattle.answers.specs.colour_rules.Program.{colouring}
 use Rattle.answers.specs.colour_rules.Words.{number_in, word_in}
 use Rattle.node_pool.specs.gather_laws.Outcome.{Gathered, Outcome, IsOutcome, is_whole, stamped_in}
-use Rattle.async_colour_laws.specs.net_core.State.{State}
+use Rattle.async_colour_laws.specs.event_machine.State.{State}
 use Rattle.answers.specs.transcripts.TranscriptText.{Row, stamped_transcript_of, transcript_of}
 use Rattle.answers.specs.Answers.{ReadsAs}
-use Rattle.answers.specs.replay.Whole.{IsWholeReplay}
+use Rattle.answers.specs.net_core.Whole.{IsWholeReplay}
 use Rattle.run_options.specs.declared.Edition.{Edition}
 use Rattle.run_options.specs.declared.Edition.TheVariants as edition
 use Rattle.stamps.specs.Merged.{IsMerge, StampedRow, list_of}

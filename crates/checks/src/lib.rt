@@ -19,6 +19,8 @@ mod deque_checks;
 #[cfg(test)]
 mod dimacs_col_checks;
 #[cfg(test)]
+mod event_machine_checks;
+#[cfg(test)]
 mod forest_merge_checks;
 #[cfg(test)]
 mod forests_checks;
@@ -30,8 +32,6 @@ mod link_alone;
 mod link_queue_checks;
 #[cfg(test)]
 mod link_threads;
-#[cfg(test)]
-mod net_core_checks;
 #[cfg(test)]
 mod networks;
 #[cfg(test)]

@@ -3,13 +3,13 @@ use Rattle.std.proofs.Common.{◌≡◌, ◌≢◌, ◌+◌, ◌<◌, ◌∙◌,
 use Rattle.std.proofs.lemmas.List.{map-append}
 use Rattle.alpha_core.specs.interference.Net.{Net}
 use Rattle.alpha_core.specs.node_api.Program.{Program}
-use Rattle.net_core.specs.declared.event.Event.{Event}
-use Rattle.net_core.specs.declared.refused.StepRefused.{StepRefused}
-use Rattle.net_core.specs.declared.refused.StepRefused.TheVariants as step_refused
-use Rattle.net_core.specs.State.{State}
-use Rattle.net_core.specs.Step.{run, step}
-use Rattle.net_core.proofs.Parts.{take-split}
-use Rattle.net_core.proofs.Reached.{run_push}
+use Rattle.event_machine.specs.declared.event.Event.{Event}
+use Rattle.event_machine.specs.declared.refused.StepRefused.{StepRefused}
+use Rattle.event_machine.specs.declared.refused.StepRefused.TheVariants as step_refused
+use Rattle.event_machine.specs.State.{State}
+use Rattle.event_machine.specs.Step.{run, step}
+use Rattle.event_machine.proofs.Parts.{take-split}
+use Rattle.event_machine.proofs.Reached.{run_push}
 use Rattle.event_texts.specs.Played.{IsFaultOfRun, IsFaultOfStep, IsRefusal, IsToldOfStep, events_in, fault_with}
 use Rattle.event_texts.specs.Reading.{Script}
 use Rattle.event_texts.specs.declared.fault.EventFault.{EventFault}

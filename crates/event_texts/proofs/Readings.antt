@@ -2,7 +2,7 @@
 use Rattle.std.proofs.Common.{◌≡◌, ◌+◌, ◌++◌, ◌∷◌, [], ◌∙◌, ℕ, Option, Some, None, Result, Ok, Err, List, true, false, append_assoc, ap, refl, sym}
 use Rattle.std.proofs.lemmas.List.{append-nil}
 use Rattle.dimacs_col.specs.Lines.{Line}
-use Rattle.net_core.specs.declared.event.Event.{Event}
+use Rattle.event_machine.specs.declared.event.Event.{Event}
 use Rattle.event_texts.specs.EventLines.{event_of}
 use Rattle.event_texts.specs.Reader.{IsFaultOfReading, IsLineFault}
 use Rattle.event_texts.specs.Reading.{Script, is_passed_word, known_after, read_from}

@@ -8,7 +8,7 @@ use Rattle.std.proofs.lemmas.List.{get_or_default}
 use Rattle.std.proofs.lemmas.List.Concat.{flat_map-append}
 use Rattle.alpha_core.specs.interference.Net.{Net}
 use Rattle.alpha_core.specs.View.{View, is_halted}
-use Rattle.net_core.proofs.Parts.{take-split}
+use Rattle.event_machine.proofs.Parts.{take-split}
 use Rattle.event_texts.specs.Missing.{lack_text, lacking, last_text, pulse_text, safe_words}
 use Rattle.event_texts.specs.declared.missing.Lack.TheVariants.{Ack, Safe}
 use Rattle.wire_texts.proofs.Ranges.{behind}

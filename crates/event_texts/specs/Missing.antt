@@ -5,10 +5,10 @@ use Rattle.std.specs.List.{range_with_len}
 use Rattle.alpha_core.specs.interference.Net.{Net, degree_of, neighbour_of}
 use Rattle.alpha_core.specs.node_api.Program.{Program, last_pulse_on}
 use Rattle.alpha_core.specs.View.{Port, View, is_halted, port_at}
-use Rattle.net_core.specs.declared.event.Event.{Event}
-use Rattle.net_core.specs.declared.event.Event.TheVariants.{Pulse, Put, Take}
-use Rattle.net_core.specs.State.{State, link_to, node_of}
-use Rattle.net_core.specs.Step.{has_port, is_vertex}
+use Rattle.event_machine.specs.declared.event.Event.{Event}
+use Rattle.event_machine.specs.declared.event.Event.TheVariants.{Pulse, Put, Take}
+use Rattle.event_machine.specs.State.{State, link_to, node_of}
+use Rattle.event_machine.specs.Step.{has_port, is_vertex}
 use Rattle.colour_program.specs.colour_rules.Program.{colouring}
 use Rattle.event_texts.specs.StateText.{ColourState, ColourWire, colour_wire_text}
 use Rattle.event_texts.specs.declared.missing.Lack.{Lack}

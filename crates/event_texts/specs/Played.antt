@@ -4,11 +4,11 @@ use Rattle.std.specs.declared.vec.Vec.{Vec}
 use Rattle.std.specs.declared.alloc.Global.{Global}
 use Rattle.alpha_core.specs.interference.Net.{Net}
 use Rattle.alpha_core.specs.node_api.Program.{Program}
-use Rattle.net_core.specs.declared.event.Event.{Event}
-use Rattle.net_core.specs.declared.refused.StepRefused.{StepRefused}
-use Rattle.net_core.specs.declared.refused.StepRefused.TheVariants as step_refused
-use Rattle.net_core.specs.State.{State}
-use Rattle.net_core.specs.Step.{run, step}
+use Rattle.event_machine.specs.declared.event.Event.{Event}
+use Rattle.event_machine.specs.declared.refused.StepRefused.{StepRefused}
+use Rattle.event_machine.specs.declared.refused.StepRefused.TheVariants as step_refused
+use Rattle.event_machine.specs.State.{State}
+use Rattle.event_machine.specs.Step.{run, step}
 use Rattle.event_texts.specs.Missing.{missing_text}
 use Rattle.event_texts.specs.Reading.{Script}
 use Rattle.event_texts.specs.declared.fault.EventFault.{EventFault}

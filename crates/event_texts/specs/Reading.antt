@@ -4,7 +4,7 @@ use Rattle.std.specs.Prelude.{Some, None, option_map, Result, Ok, Err}
 use Rattle.std.specs.Prelude.{List, [], ◌∷◌, ◌++◌, filter, map}
 use Rattle.dimacs_col.specs.Kinds.{is_comment}
 use Rattle.dimacs_col.specs.Lines.{Line}
-use Rattle.net_core.specs.declared.event.Event.{Event}
+use Rattle.event_machine.specs.declared.event.Event.{Event}
 use Rattle.event_texts.specs.EventLines.{begins_event, event_of, is_event_word}
 
 -- events, each behind the number of its line

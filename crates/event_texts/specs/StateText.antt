@@ -6,7 +6,7 @@ use Rattle.alpha_core.specs.node_api.Program.{last_pulse_on}
 use Rattle.alpha_core.specs.declared.wire.Wire.{Wire}
 use Rattle.alpha_core.specs.View.{is_halted}
 use Rattle.alpha_core.specs.View
-use Rattle.net_core.specs.State.{Link, State, link_at, node_of}
+use Rattle.event_machine.specs.State.{Link, State, link_at, node_of}
 use Rattle.colour_program.specs.colour_rules.Payload as payload
 use Rattle.colour_program.specs.colour_rules.Node
 use Rattle.colour_program.specs.colour_rules.Program.{colouring}

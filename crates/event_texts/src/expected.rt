@@ -6,7 +6,7 @@ ghost use Rattle.event_texts.specs.Missing.{expected_text, expected_wire};
 use crate::missing::{has_port, is_vertex};
 use alpha_core::Wire;
 use colour_program::{Colouring, Payload};
-use net_core::{Event, NetState};
+use event_machine::{Event, NetState};
 use std::alloc::{AllocError, Global};
 use wire_texts::{push_numbered, push_wire};
 

@@ -4,13 +4,13 @@ ghost use Rattle.std.specs.Prelude.{◌≡◌, ◌<◌, ◌++◌, IfOk, length};
 ghost use Rattle.alpha_core.specs.interference.Net.{IsVertex, degree_of};
 ghost use Rattle.alpha_core.specs.node_api.Program.{last_pulse_on};
 ghost use Rattle.alpha_core.specs.View.{port_at};
-ghost use Rattle.net_core.specs.State.{node_of};
-ghost use Rattle.net_core.specs.Step.{has_port, is_vertex};
+ghost use Rattle.event_machine.specs.State.{node_of};
+ghost use Rattle.event_machine.specs.Step.{has_port, is_vertex};
 ghost use Rattle.event_texts.specs.Missing.{before_name, lack_text, lacking, lacking_at, lacks, last_text};
 ghost use Rattle.event_texts.specs.Missing.{missing_text, name_text, names_text, pulse_text};
 
 use alpha_core::{AlphaNode, Network, NodeProgram};
-use net_core::{Event, NetState};
+use event_machine::{Event, NetState};
 use std::alloc::{AllocError, Global};
 use wire_texts::push_numbered;
 

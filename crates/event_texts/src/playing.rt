@@ -2,12 +2,12 @@
 
 ghost use Rattle.std.specs.Prelude.{◌≡◌, IfOk, IfErr, Ok};
 ghost use Rattle.event_texts.specs.Played.{IsFaultOfRun, IsToldOfStep, events_in};
-ghost use Rattle.net_core.specs.Step.{run};
+ghost use Rattle.event_machine.specs.Step.{run};
 
 use crate::fault::EventFault;
 use crate::missing::missing_words;
 use alpha_core::{Network, NodeProgram};
-use net_core::{Event, NetState, StepRefused};
+use event_machine::{Event, NetState, StepRefused};
 use std::alloc::Global;
 
 // The refusal of an event in a state, with its line and what it lacks.

@@ -8,7 +8,7 @@ ghost use Rattle.event_texts.specs.Reading.{is_passed_word, known_after, script_
 use crate::event_line::{event_with, is_event_word};
 use crate::fault::EventFault;
 use dimacs_col::{Fields, Lines};
-use net_core::Event;
+use event_machine::Event;
 use std::alloc::Global;
 
 #[derive(Drop)]

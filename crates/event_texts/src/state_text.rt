@@ -2,13 +2,13 @@
 
 ghost use Rattle.std.specs.Prelude.{◌≡◌, ◌++◌, ◌<◌, IfOk, flat_map};
 ghost use Rattle.alpha_core.specs.interference.Net.{IsVertex, degree_of, neighbour_of};
-ghost use Rattle.net_core.specs.State.{link_at, node_of};
+ghost use Rattle.event_machine.specs.State.{link_at, node_of};
 ghost use Rattle.colour_program.specs.colour_rules.Program.{colouring};
 ghost use Rattle.event_texts.specs.StateText.{colour_wire_text, link_text, links_text, node_text, state_text};
 
 use alpha_core::{Memory, Wire};
 use colour_program::{Colouring, Payload};
-use net_core::NetState;
+use event_machine::NetState;
 use std::alloc::{AllocError, Global};
 use wire_texts::{push_numbered, push_wire};
 

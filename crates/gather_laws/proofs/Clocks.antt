@@ -16,13 +16,13 @@ use Rattle.alpha_laws.specs.alpha_core.Program.{start_node}
 use Rattle.actor.specs.entries.Entry.{Entry}
 use Rattle.actor.specs.entries.Entry.TheVariants.{Pulse, Put, Take}
 use Rattle.actor.specs.Written.{Leads, takes_in}
-use Rattle.replay.specs.net_core.State.{State, node_of}
+use Rattle.net_core.specs.event_machine.State.{State, node_of}
 use Rattle.actor.specs.alpha_core.Stamped.{Stamped}
 use Rattle.actor.specs.alpha_core.StampedWires.{stamped, stamps_of, wires_of}
 use Rattle.actor.specs.stamps.Stamps.{StampedEntry, bare_of, counter_of, next_stamp, put_in, taken_in}
 use Rattle.actor.specs.stamps.Keeps.{came_to}
 use Rattle.actor.specs.stamps.Merged.{StampedRow, AreOrdered, AreStampedRows, IsMerge, Precedes, entries_at, puts_at, stamp_behind}
-use Rattle.replay.specs.Whole.{IsStampedReplay, IsWholeReplay}
+use Rattle.net_core.specs.Whole.{IsStampedReplay, IsWholeReplay}
 use Rattle.actor.proofs.stamps.Appends.{not_above, puts_append, rest_ordered}
 use Rattle.actor.proofs.stamps.Lists.{entry_here, puts_are}
 use Rattle.actor.proofs.stamps.Unique.{entries_append}

@@ -6,8 +6,8 @@ use Rattle.alpha_laws.specs.node_api.Program.{Program, last_pulse_on}
 use Rattle.actor.specs.alpha_core.Stamped.{Stamped}
 use Rattle.actor.specs.alpha_core.StampedWires.{wires_of}
 use Rattle.actor.specs.alpha_core.View.{is_drained}
-use Rattle.replay.specs.net_core.State.{State, node_of}
-use Rattle.replay.specs.Whole.{IsStampedReplay, IsWholeReplay}
+use Rattle.net_core.specs.event_machine.State.{State, node_of}
+use Rattle.net_core.specs.Whole.{IsStampedReplay, IsWholeReplay}
 use Rattle.actor.specs.stamps.Merged.{StampedRow, IsMerge}
 use Rattle.actor.specs.stamps.Stamps.{Carries, Rises, put_in, taken_in}
 use Rattle.gather_laws.specs.MergedRuns.{HaveMet, IsReplayTo}

@@ -12,9 +12,9 @@ use Rattle.alpha_laws.specs.alpha_core.View.{Node}
 use Rattle.alpha_laws.specs.alpha_core.Program.{start_node}
 use Rattle.alpha_laws.proofs.Across.{over}
 use Rattle.actor.specs.Written.{Leads, takes_in}
-use Rattle.replay.specs.net_core.State.{Link, State, link_at, no_link, start}
-use Rattle.replay.specs.net_core.Step.{go_on, run_from, step}
-use Rattle.replay.specs.Rows.{event_of, if_made, rows_from}
+use Rattle.net_core.specs.event_machine.State.{Link, State, link_at, no_link, start}
+use Rattle.net_core.specs.event_machine.Step.{go_on, run_from, step}
+use Rattle.net_core.specs.Rows.{event_of, if_made, rows_from}
 use Rattle.actor.specs.alpha_core.StampedWires.{wires_of}
 use Rattle.actor.specs.stamps.Stamps.{StampedEntry, Carries, bare_of, put_in, taken_in}
 use Rattle.actor.specs.stamps.Merged.{StampedRow, AreOrdered, IsMerge, entries_at, puts_at, rows_in, takes_at}

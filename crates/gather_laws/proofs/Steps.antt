@@ -16,13 +16,13 @@ use Rattle.alpha_laws.specs.alpha_core.Program.{start_node}
 use Rattle.actor.specs.entries.Entry.{Entry}
 use Rattle.actor.specs.entries.Entry.TheVariants.{Pulse, Put, Take}
 use Rattle.actor.specs.Written.{Leads}
-use Rattle.replay.specs.net_core.State.{Link, State, link_at, node_of, set_link, set_link_to, set_node}
-use Rattle.replay.specs.net_core.Step.{after_put, after_take, else_old, step}
-use Rattle.replay.proofs.net_core.LinkTable.{link_same, link_other, rows_kept, row_kept}
-use Rattle.replay.proofs.net_core.NetKept.{port_is, vertex_is}
-use Rattle.replay.proofs.net_core.Parts.{first-some}
-use Rattle.replay.specs.Rows.{Row, event_of, row_of}
-use Rattle.replay.proofs.Writes.{row-is}
+use Rattle.net_core.specs.event_machine.State.{Link, State, link_at, node_of, set_link, set_link_to, set_node}
+use Rattle.net_core.specs.event_machine.Step.{after_put, after_take, else_old, step}
+use Rattle.net_core.proofs.event_machine.LinkTable.{link_same, link_other, rows_kept, row_kept}
+use Rattle.net_core.proofs.event_machine.NetKept.{port_is, vertex_is}
+use Rattle.net_core.proofs.event_machine.Parts.{first-some}
+use Rattle.net_core.specs.Rows.{Row, event_of, row_of}
+use Rattle.net_core.proofs.Writes.{row-is}
 use Rattle.actor.specs.alpha_core.Stamped.{Stamped}
 use Rattle.actor.specs.alpha_core.StampedWires.{stamped, wires_of}
 use Rattle.actor.specs.stamps.Stamps.{Carries, bare_of}

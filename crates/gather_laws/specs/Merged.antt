@@ -2,8 +2,8 @@
 use Rattle.std.specs.Prelude.{◌≡◌, ℕ, true, List}
 use Rattle.alpha_laws.specs.interference.Net.{Net, IsVertex, count_of}
 use Rattle.alpha_laws.specs.node_api.Program.{Program}
-use Rattle.replay.specs.net_core.State.{State, node_of}
-use Rattle.replay.specs.Whole.{IsWholeReplay}
+use Rattle.net_core.specs.event_machine.State.{State, node_of}
+use Rattle.net_core.specs.Whole.{IsWholeReplay}
 use Rattle.actor.specs.stamps.Merged.{StampedRow, IsMerge}
 use Rattle.gather_laws.specs.Outcome.{Outcome, IsOutcome, is_whole, node_in, stamped_in}
 

@@ -5,9 +5,9 @@ use Rattle.alpha_laws.specs.node_api.Program.{Program, last_pulse_on}
 use Rattle.alpha_laws.specs.alpha_core.View.{Node, is_drained}
 use Rattle.actor.specs.alpha_core.Stamped.{Stamped}
 use Rattle.actor.specs.Written.{IsWritten}
-use Rattle.replay.specs.net_core.State.{Link, State, link_at, node_of, sent_of}
-use Rattle.replay.specs.Replays.{IsReplay}
-use Rattle.replay.specs.Whole.{IsStampedReplay, IsWholeReplay}
+use Rattle.net_core.specs.event_machine.State.{Link, State, link_at, node_of, sent_of}
+use Rattle.net_core.specs.Replays.{IsReplay}
+use Rattle.net_core.specs.Whole.{IsStampedReplay, IsWholeReplay}
 use Rattle.actor.specs.stamps.Keeps.{KeepsStamps}
 use Rattle.actor.specs.stamps.Merged.{StampedRow, IsMerge, rows_in}
 use Rattle.actor.specs.alpha_core.StampedWires.{wires_of}

@@ -13,8 +13,8 @@ use Rattle.actor.specs.entries.Entry.{Entry}
 use Rattle.actor.specs.Written.{IsTranscript}
 use Rattle.actor.specs.stamps.Merged.{StampedRow, IsMerge}
 use Rattle.actor.specs.stamps.Stamps.{Carries, StampedEntry, Rises, bare_of, put_in, taken_in}
-use Rattle.replay.specs.net_core.State.{Link}
-use Rattle.replay.specs.Whole.{IsStampedReplay}
+use Rattle.net_core.specs.event_machine.State.{Link}
+use Rattle.net_core.specs.Whole.{IsStampedReplay}
 use Rattle.gather_laws.specs.MergedRuns.{IsReplayTo}
 
 -- One direction of a link after the run: all that was put on it, what was taken from it, and what it still holds, each

@@ -54,8 +54,8 @@ pub fn whole_outcomes_have_ended<S, M, E>()
     ensures law { (program : Program S M E) → OnEveryNetwork program (WholeOutcomesHaveEnded program) }
 {}
 
-/// If an outcome is whole, `replay_whole` of `replay` accepts the entries of all nodes in the order of their stamps and
-/// then of their vertices: they are a whole replay, which leads to the nodes of the outcome.
+/// If an outcome is whole, `replay_whole` of `net_core` accepts the entries of all nodes in the order of their stamps
+/// and then of their vertices: they are a whole replay, which leads to the nodes of the outcome.
 pub fn whole_outcomes_replay<S, M, E>()
     ensures law { (program : Program S M E) (net : Net) → IsNetwork net → WholeOutcomesReplay program net }
 {}

@@ -12,7 +12,7 @@
 //! Once all ends have met, each take of a link has a greater stamp than its put (`met_nodes_are_written`), so the
 //! entries in the order of their stamps are a replay that leads to the nodes and links of the run
 //! (`merged_runs_replay`), and each has the stamp that the rows before it give it (`met_runs_replay`). If the run is
-//! whole, `replay_whole` accepts them (`whole_runs_replay`, with `whole_replays_are_exact` of `replay`).
+//! whole, `replay_whole` accepts them (`whole_runs_replay`, with `whole_replays_are_exact` of `net_core`).
 //! `specs/MergedRuns.antt` has what these laws say.
 //!
 //! ```text

@@ -1,23 +1,22 @@
--- The laws of every list of events, on a network.
-use Rattle.std.specs.Prelude.{◌≡◌, List, Ok}
+-- The laws of every list of entries, on a network.
+use Rattle.std.specs.Prelude.{◌≡◌, List, map}
 use Rattle.alpha_laws.specs.interference.Net.{Net}
 use Rattle.alpha_laws.specs.node_api.Program.{Program}
-use Rattle.net_core.specs.declared.event.Event.{Event}
-use Rattle.net_core.specs.State.{State}
-use Rattle.net_core.specs.Step.{run}
-use Rattle.net_core.specs.Events.{RunsExactly, StepsExactly}
-use Rattle.net_core.specs.Simulation.{IsReached, IsSimulation}
+use Rattle.event_machine.specs.State.{State}
+use Rattle.net_core.specs.declared.refused.ReplayRefused.{ReplayRefused}
+use Rattle.net_core.specs.Rows.{Row, event_of}
+use Rattle.net_core.specs.Replays.{IsReplay, Stops}
 
--- whatever events come, in the state that they reach the nodes simulate the synchronous run
-abbrev pub RunsSimulate : {S M E : Type 0} → Program S M E → Net → Type 0
-RunsSimulate {S} {M} program net =
-    (events : List Event) (state : State S M) → run program net events ≡ Ok state → IsSimulation program net state
-
--- every list of events is accepted or refused exactly
-abbrev pub RunsAreExact : {S M E : Type 0} → Program S M E → Net → Type 0
-RunsAreExact program net = (events : List Event) → RunsExactly program net events
-
--- in every state that is reached, each event is made or refused exactly
-abbrev pub StepsAreExact : {S M E : Type 0} → Program S M E → Net → Type 0
-StepsAreExact {S} {M} program net =
-    (state : State S M) → IsReached program net state → (event : Event) → StepsExactly program net state event
+pub record ReplaysAreExact {S M E : Type 0} (program : Program S M E) (net : Net) : Type 0 where
+  -- the events of a replay are those that its entries are of
+  pub events : (rows : List (Row M)) (last : State S M) → (is : IsReplay program net rows last)
+      → is.events ≡ map (λ row. event_of net row) rows
+  -- it leads to one state alone
+  pub one_state : (rows : List (Row M)) (last other : State S M) → IsReplay program net rows last
+      → IsReplay program net rows other → last ≡ other
+  -- entries that stop somewhere aren't a replay
+  pub not_both : (rows : List (Row M)) (last : State S M) (refused : ReplayRefused)
+      → IsReplay program net rows last → Stops program net rows refused → ⊥
+  -- and they stop in one place and for one reason alone
+  pub one_reason : (rows : List (Row M)) (refused other : ReplayRefused)
+      → Stops program net rows refused → Stops program net rows other → refused ≡ other

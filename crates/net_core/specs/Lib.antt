@@ -1,6 +1,6 @@
-pub mod State
-pub mod Refusals
-pub mod Step
-pub mod Events
-pub mod Simulation
+pub mod Runs
+pub mod Rows
+pub mod Replays
 pub mod Laws
+pub mod Whole
+pub mod event_machine

@@ -1,29 +1,40 @@
-//! Networks of nodes under synchroniser alpha (Awerbuch 1985), played event by event.
+//! Lists, played by the machine of `event_machine`: of events, and of entries, which nodes wrote down of their events.
+//! The machine itself (`NetState` with `start` and `step`), its events, and entries with their `order` are passed on, so
+//! that a caller needs no other crate.
 //!
-//! `step` makes an event, or says why it isn't one that can happen. Whatever events were made, the state that they
-//! reach simulates the synchronous run of the program: that is a clause of `start` and `step`, and a law of `laws`.
-//! `replay` has `run`, which makes a list of events.
+//! `run` accepts a list of events, or says at which event, and why, it isn't one that can happen.
 //!
-//! `specs/State.antt` has the state of a network. `specs/Step.antt` has its events as functions, and
-//! `specs/Events.antt` has them, and runs, as relations.
+//! `replay` takes entries, each with the vertex of its node, in the order of the events. It accepts exactly what the
+//! events of some list write down, and else names the first entry that can't be one, and why. So nothing is taken on
+//! trust: each pulse and each wire of an entry is compared with that of its event. `transcripts` reads such entries
+//! from a text.
+//!
+//! `specs/Runs.antt` has what `run` returns, `specs/Rows.antt` what an event writes down, `specs/Replays.antt` what a
+//! replay is and where it stops.
 //!
 //! ```text
-//! let mut state = NetState::<Colouring>::start(alloc, &network)?;
-//! state.step(Event::Put(1, 0))?;
-//! state.step(Event::Take(2, 0))?;
+//! let entries = [(1, Entry::Put(2, Wire::Close)), (2, Entry::Take(1, Wire::Close))];
+//! let state = replay::<Greatest<0>>(alloc, &network, &entries)?;
 //! ```
 //!
 //! Limits: those of `interference`.
 #![tactic(auto)]
 
-mod event;
-mod events;
+mod entry_event;
 pub mod laws;
-mod links;
 mod refused;
-mod state;
-mod wires;
+mod replaying;
+mod running;
+mod same_wire;
+mod whole;
+mod whole_state;
 
-pub use event::Event;
-pub use refused::{RunRefused, StepRefused};
-pub use state::NetState;
+pub use entry_event::event_of;
+pub use refused::{ReplayRefused, WholeRefused};
+pub use replaying::replay;
+pub use running::run;
+pub use whole::replay_whole;
+
+// What crates above name of lower ones.
+pub use event_machine::{Event, NetState, RunRefused, StepRefused};
+pub use stamps::{Entry, order};

@@ -8,12 +8,12 @@ use Rattle.alpha_laws.specs.node_api.Program.{Program}
 use Rattle.alpha_laws.specs.alpha_core.Wire.{Wire}
 use Rattle.alpha_laws.specs.alpha_core.View.{Node, port_at}
 use Rattle.alpha_laws.specs.alpha_core.Program.{start_node}
-use Rattle.net_core.specs.declared.event.Event.{Event}
-use Rattle.net_core.specs.declared.event.Event.TheVariants.{Pulse, Put, Take}
-use Rattle.net_core.specs.State.{Link, State, HasLink, node_of, link_at, link_to, set_link, take_one}
-use Rattle.net_core.specs.Events.{Exists, Steps}
-use Rattle.net_core.proofs.LinkTable.{link_same, link_other}
-use Rattle.net_core.proofs.NetKept.{NetKept}
+use Rattle.event_machine.specs.declared.event.Event.{Event}
+use Rattle.event_machine.specs.declared.event.Event.TheVariants.{Pulse, Put, Take}
+use Rattle.event_machine.specs.State.{Link, State, HasLink, node_of, link_at, link_to, set_link, take_one}
+use Rattle.event_machine.specs.Events.{Exists, Steps}
+use Rattle.event_machine.proofs.LinkTable.{link_same, link_other}
+use Rattle.event_machine.proofs.NetKept.{NetKept}
 use Rattle.progress_laws.specs.Commute.{vertex_of}
 use Rattle.progress_laws.proofs.Fires.{Fires, change, fires, leads_to, put_first, steps}
 use Rattle.progress_laws.proofs.Tables.{links-both}

@@ -2,11 +2,11 @@
 use Rattle.std.specs.Prelude.{◌≡◌, ℕ}
 use Rattle.alpha_laws.specs.interference.Net.{Net}
 use Rattle.alpha_laws.specs.node_api.Program.{Program}
-use Rattle.net_core.specs.declared.event.Event.{Event}
-use Rattle.net_core.specs.declared.event.Event.TheVariants.{Pulse, Put, Take}
-use Rattle.net_core.specs.State.{State}
-use Rattle.net_core.specs.Simulation.{IsReached}
-use Rattle.net_core.specs.Events.{Steps}
+use Rattle.event_machine.specs.declared.event.Event.{Event}
+use Rattle.event_machine.specs.declared.event.Event.TheVariants.{Pulse, Put, Take}
+use Rattle.event_machine.specs.State.{State}
+use Rattle.event_machine.specs.Simulation.{IsReached}
+use Rattle.event_machine.specs.Events.{Steps}
 
 -- whose event it is
 abbrev pub vertex_of : Event → ℕ

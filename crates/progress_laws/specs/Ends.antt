@@ -3,10 +3,10 @@ use Rattle.std.specs.Prelude.{◌≡◌, ℕ, ◌<◌, List, [], ◌∷◌, leng
 use Rattle.alpha_laws.specs.interference.Net.{Net}
 use Rattle.alpha_laws.specs.node_api.Program.{Program}
 use Rattle.alpha_laws.specs.Progress.{IsWhole}
-use Rattle.net_core.specs.declared.event.Event.{Event}
-use Rattle.net_core.specs.declared.event.Event.TheVariants.{Pulse, Put, Take}
-use Rattle.net_core.specs.State.{State, node_of, link_at}
-use Rattle.net_core.specs.Events.{Possible, Steps}
+use Rattle.event_machine.specs.declared.event.Event.{Event}
+use Rattle.event_machine.specs.declared.event.Event.TheVariants.{Pulse, Put, Take}
+use Rattle.event_machine.specs.State.{State, node_of, link_at}
+use Rattle.event_machine.specs.Events.{Possible, Steps}
 
 -- A state is whole: every node is drained, and no link holds a wire.
 abbrev pub IsWholeState : {S M E : Type 0} → Program S M E → Net → State S M → Type 0

@@ -4,10 +4,10 @@ use Rattle.alpha_laws.specs.interference.Net.{Net, IsVertex}
 use Rattle.alpha_laws.specs.node_api.Program.{Program}
 use Rattle.alpha_laws.specs.Counts.{events_made, events_of_run}
 use Rattle.alpha_laws.specs.Progress.{HasEnded}
-use Rattle.net_core.specs.declared.event.Event.{Event}
-use Rattle.net_core.specs.State.{State, node_of, link_at, link_to, sent_of}
-use Rattle.net_core.specs.Step.{run}
-use Rattle.net_core.specs.Simulation.{IsReached}
+use Rattle.event_machine.specs.declared.event.Event.{Event}
+use Rattle.event_machine.specs.State.{State, node_of, link_at, link_to, sent_of}
+use Rattle.event_machine.specs.Step.{run}
+use Rattle.event_machine.specs.Simulation.{IsReached}
 use Rattle.progress_laws.specs.Ends.{IsRunWithin, IsTerminal, IsWholeState, PossibleWithin}
 
 -- In every state that is reached an event is possible, or the state is whole; over links of any capacity but none.

@@ -6,7 +6,7 @@ ghost use Rattle.byte_functions.specs.interference.Net.{count_of};
 
 use crate::runs::pair;
 use byte_functions::{Entry, Network, ReplayRefused, Wire, read_transcript, replay};
-use net_core::{NetState, RunRefused};
+use event_machine::{NetState, RunRefused};
 use std::alloc::Global;
 use sync_rounds::{Best, Greatest};
 

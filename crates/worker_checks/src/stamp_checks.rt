@@ -7,7 +7,7 @@ use byte_functions::{
     Counter, Entries, Entry, Network, OpenGate, Options, Outcome, ReplayRefused, StampFull,
     WholeRefused, Wire, order, replay_whole, rising, run_workers, stamped_text,
 };
-use net_core::RunRefused;
+use event_machine::RunRefused;
 use std::alloc::Global;
 use std::sync::Wait;
 use std::thread::Threads;

@@ -2,8 +2,8 @@ use Rattle.std.proofs.Common.{◌≡◌, ◌∙◌, Ok, ap, subst}
 use Rattle.std.proofs.lemmas.Result.{IfOk-weaker}
 use Rattle.dimacs_col.specs.Lines.{lines_of}
 use Rattle.colour_program.specs.colour_rules.Program.{colouring}
-use Rattle.replay.specs.Replays.{IsReplay}
-use Rattle.replay.specs.Whole.{IsWholeReplay}
+use Rattle.net_core.specs.Replays.{IsReplay}
+use Rattle.net_core.specs.Whole.{IsWholeReplay}
 use Rattle.transcripts.specs.Editions.{One, Two, said_by}
 use Rattle.answers.specs.ReplayAnswers.{transcript_in}
 use Rattle.answers.proofs.replaying.replayed.Goals as goal

@@ -1,8 +1,8 @@
 use Rattle.alpha_laws.proofs.Runs.{runs}
 use Rattle.colour_laws.specs.colour_rules.Program.{colouring}
 use Rattle.colour_laws.proofs.Rounds.{rounds_are_program}
-use Rattle.net_core.proofs.KeptRuns.{reached_simulates}
-use Rattle.net_core.proofs.Exactly.{runs-exactly}
+use Rattle.event_machine.proofs.KeptRuns.{reached_simulates}
+use Rattle.event_machine.proofs.Exactly.{runs-exactly}
 use Rattle.async_colour_laws.proofs.laws.runs_of_the_colouring.Goals as goal
 
 pub returns : goal.returns

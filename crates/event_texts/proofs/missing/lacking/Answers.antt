@@ -1,5 +1,5 @@
 use Rattle.std.proofs.Common.{◌≡◌, ◌+◌, [], arith}
-use Rattle.net_core.specs.State.{node_of}
+use Rattle.event_machine.specs.State.{node_of}
 use Rattle.event_texts.specs.Missing.{lacking_at}
 use Rattle.wire_texts.proofs.Ranges.{texts-more}
 use Rattle.std.proofs.Common.{◌∙◌, ap}

@@ -3,7 +3,7 @@ use Rattle.std.proofs.Common.{◌≡◌, ◌∙◌, ◌++◌, ap, ap₂, codes, 
 use Rattle.std.proofs.lemmas.Result.{IfOk-equal}
 use Rattle.alpha_core.specs.node_api.Program.{last_pulse_on}
 use Rattle.alpha_core.specs.View.{is_halted}
-use Rattle.net_core.specs.State.{node_of}
+use Rattle.event_machine.specs.State.{node_of}
 use Rattle.event_texts.specs.Missing.{lack_text}
 use Rattle.event_texts.proofs.Told.{err_says, lacks_told, last_told, words_none, words_some}
 use Rattle.event_texts.proofs.missing.push_pulse.Goals as goal

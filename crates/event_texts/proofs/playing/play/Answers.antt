@@ -1,7 +1,7 @@
 use Rattle.std.proofs.Common.{◌∙◌, ap, get_or, subst, sym}
 use Rattle.std.proofs.lemmas.List.{get_or_default}
-use Rattle.net_core.specs.declared.event.Event.TheVariants.{Pulse}
-use Rattle.net_core.specs.Step.{step}
+use Rattle.event_machine.specs.declared.event.Event.TheVariants.{Pulse}
+use Rattle.event_machine.specs.Step.{step}
 use Rattle.event_texts.specs.Played.{IsToldOfStep}
 use Rattle.event_texts.proofs.Plays.{fault-told, play-next}
 use Rattle.event_texts.proofs.Told.{err_says}

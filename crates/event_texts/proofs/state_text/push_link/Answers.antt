@@ -1,7 +1,7 @@
 use Rattle.std.proofs.Common.{◌≡◌, ◌∙◌, ◌++◌, ap, codes, length, rules}
 use Rattle.std.specs.List.{flat_map}
 use Rattle.alpha_core.specs.interference.Net.{neighbour_of}
-use Rattle.net_core.specs.State.{link_at}
+use Rattle.event_machine.specs.State.{link_at}
 use Rattle.wire_texts.specs.WireText.{numbered}
 use Rattle.event_texts.specs.StateText.{colour_wire_text}
 use Rattle.wire_texts.proofs.Ranges.{behind}

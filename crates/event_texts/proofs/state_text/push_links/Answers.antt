@@ -1,6 +1,6 @@
 use Rattle.std.proofs.Common.{◌≡◌, ◌+◌, arith}
 use Rattle.alpha_core.specs.interference.Net.{neighbour_of}
-use Rattle.net_core.specs.State.{link_at}
+use Rattle.event_machine.specs.State.{link_at}
 use Rattle.event_texts.specs.StateText.{link_text}
 use Rattle.wire_texts.proofs.Ranges.{texts-more}
 use Rattle.std.proofs.Common.{◌∙◌, ◌++◌, ap, append-nil, sym}

@@ -1,5 +1,5 @@
 use Rattle.std.proofs.Common.{◌≡◌, ◌+◌, ◌++◌, [], arith}
-use Rattle.net_core.specs.State.{node_of}
+use Rattle.event_machine.specs.State.{node_of}
 use Rattle.colour_program.specs.colour_rules.Program.{colouring}
 use Rattle.event_texts.specs.StateText.{links_text, node_text}
 use Rattle.wire_texts.proofs.Ranges.{behind, texts-more}

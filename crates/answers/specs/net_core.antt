@@ -1,0 +1,2 @@
+-- What crates above name of `net_core`.
+pub use Rattle.net_core.specs.Whole

@@ -1,2 +1,0 @@
--- What crates above name of `replay`.
-pub use Rattle.replay.specs.Whole

@@ -1,0 +1,2 @@
+-- What crates above name of `event_machine`.
+pub use Rattle.event_machine.specs.State

@@ -1,6 +1,0 @@
-use Rattle.std.proofs.Common.{◌≡◌}
-use Rattle.alpha_core.specs.interference.Net.{count_of, degree_of}
-use Rattle.checks.proofs.net_core_checks.make_all.Given as goal
-
-abbrev pub invariant-loop-event : goal.invariant-loop-event
-invariant-loop-event l = (count_of l.state.net ≡ 2) × (degree_of l.state.net 1 ≡ 1) × (degree_of l.state.net 2 ≡ 1)

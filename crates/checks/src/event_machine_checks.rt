@@ -1,0 +1,212 @@
+//! A network that is played to its end though memory is refused once: tests/faults/refused_memory.py runs this test
+//! with each allocation refused in turn. What memory was refused to is tried again, as is every call here that isn't
+//! refused.
+
+ghost use Rattle.std.specs.Prelude.{◌≡◌, IfOk};
+ghost use Rattle.alpha_core.specs.interference.Net.{count_of, degree_of};
+
+use crate::networks::{edge, network};
+use alpha_core::{Memory, Network};
+use event_machine::{Event, NetState, RunRefused, StepRefused};
+use net_core::run;
+use std::alloc::Global;
+use sync_rounds::Greatest;
+
+// Two nodes with an edge, whose last pulse is 1: payloads, acknowledgements and safes of pulse 0, the pulses, and what
+// closes the links.
+static EVENTS: [Event; 18] = [
+    Event::Put(1, 0),
+    Event::Put(2, 0),
+    Event::Take(1, 0),
+    Event::Take(2, 0),
+    Event::Put(1, 0),
+    Event::Put(2, 0),
+    Event::Take(1, 0),
+    Event::Take(2, 0),
+    Event::Put(1, 0),
+    Event::Put(2, 0),
+    Event::Take(1, 0),
+    Event::Take(2, 0),
+    Event::Pulse(1),
+    Event::Pulse(2),
+    Event::Put(1, 0),
+    Event::Put(2, 0),
+    Event::Take(1, 0),
+    Event::Take(2, 0),
+];
+
+type Pair = NetState<Greatest<1>>;
+
+fn edge_again(alloc: Global) -> Result<Box<Network>, Memory> {
+    match edge(alloc) {
+        Ok(net) => Ok(net),
+        Err(_) => edge(alloc),
+    }
+}
+
+// The pulses, and how many wires each link holds.
+fn seen(state: &Pair) -> (u32, u32, usize, usize)
+    requires pair { (count_of state.now.net ≡ 2) × (degree_of state.now.net 1 ≡ 1) × (degree_of state.now.net 2 ≡ 1) }
+{
+    (
+        state.pulse_of(1),
+        state.pulse_of(2),
+        state.waiting(1, 0),
+        state.waiting(2, 0),
+    )
+}
+
+// The greatest identifier that each node knows, if it is drained.
+fn bests(state: &Pair) -> (Option<u128>, Option<u128>)
+    requires pair { count_of state.now.net ≡ 2 }
+{
+    let (one, two) = (state.node(1), state.node(2));
+    (
+        one.drained().then_some(one.program().best()),
+        two.drained().then_some(two.program().best()),
+    )
+}
+
+// Makes an event; once more if memory was refused to it, which left the state as it was. Whether it was made.
+fn make(state: &mut Pair, event: Event) -> bool
+    requires pair { (count_of state.old.net ≡ 2) × (degree_of state.old.net 1 ≡ 1) × (degree_of state.old.net 2 ≡ 1) }
+    ensures pair { (count_of state.new.net ≡ 2) × (degree_of state.new.net 1 ≡ 1) × (degree_of state.new.net 2 ≡ 1) }
+{
+    let before = seen(state);
+    match state.step(event) {
+        Ok(()) => true,
+        Err(StepRefused::Memory) => seen(state) == before && state.step(event).is_ok(),
+        Err(_) => false,
+    }
+}
+
+// Makes some events; whether all were made.
+fn make_all(state: &mut Pair, events: &[Event]) -> bool
+    requires pair { (count_of state.old.net ≡ 2) × (degree_of state.old.net 1 ≡ 1) × (degree_of state.old.net 2 ≡ 1) }
+    ensures pair { (count_of state.new.net ≡ 2) × (degree_of state.new.net 1 ≡ 1) × (degree_of state.new.net 2 ≡ 1) }
+{
+    for event in events {
+        if !make(state, *event) {
+            return false;
+        }
+    }
+    true
+}
+
+// Whether all events are made, and the nodes end as they should.
+fn plays(state: &mut Pair) -> bool
+    requires pair { (count_of state.old.net ≡ 2) × (degree_of state.old.net 1 ≡ 1) × (degree_of state.old.net 2 ≡ 1) }
+{
+    make_all(state, &EVENTS) && seen(state) == (1, 1, 0, 0) && bests(state) == (Some(2), Some(2))
+}
+
+// The same of a new state; nothing if memory was refused to it.
+fn plays_anew(alloc: Global, net: &Network) -> Option<bool>
+    requires pair { (count_of net.now ≡ 2) × (degree_of net.now 1 ≡ 1) × (degree_of net.now 2 ≡ 1) }
+{
+    match NetState::start(alloc, net) {
+        Ok(mut state) => Some(plays(&mut state)),
+        Err(_) => None,
+    }
+}
+
+#[test]
+fn a_state_goes_on_after_a_refused_growth(rt: HostRuntime) {
+    let net = edge_again(rt.alloc()).expect(&rt, "network");
+    assert!(rt; net.nodes() == 2 && net.degree(1) == 1 && net.degree(2) == 1);
+    let played = plays_anew(rt.alloc(), &net);
+    assert!(rt;
+        played == Some(true) || played.is_none() && plays_anew(rt.alloc(), &net) == Some(true)
+    );
+}
+
+// Runs the events.
+fn run_all(alloc: Global, net: &Network, events: &[Event]) -> Result<Pair, RunRefused>
+    requires two { count_of net.now ≡ 2 }
+    ensures two { IfOk result (λ view. count_of view.net ≡ 2) }
+{
+    run(alloc, net, events)
+}
+
+// Whether the nodes end as they should; nothing if memory was refused.
+fn runs(alloc: Global, net: &Network) -> Option<bool>
+    requires two { count_of net.now ≡ 2 }
+{
+    match run_all(alloc, net, &EVENTS) {
+        Ok(state) => Some(bests(&state) == (Some(2), Some(2))),
+        Err(RunRefused::Memory) => None,
+        Err(_) => Some(false),
+    }
+}
+
+#[test]
+fn a_list_runs_again_after_a_refused_growth(rt: HostRuntime) {
+    let net = edge_again(rt.alloc()).expect(&rt, "network");
+    assert!(rt; net.nodes() == 2);
+    let ran = runs(rt.alloc(), &net);
+    assert!(rt; ran == Some(true) || ran.is_none() && runs(rt.alloc(), &net) == Some(true));
+}
+
+// On the triangle: all greetings, acknowledgements and safes are put, and node 1 has taken one safe of two.
+static ONE_SAFE_OF_TWO: [Event; 32] = [
+    Event::Put(1, 0),
+    Event::Put(1, 1),
+    Event::Put(2, 0),
+    Event::Put(2, 1),
+    Event::Put(3, 0),
+    Event::Put(3, 1),
+    Event::Take(1, 0),
+    Event::Take(1, 1),
+    Event::Take(2, 0),
+    Event::Take(2, 1),
+    Event::Take(3, 0),
+    Event::Take(3, 1),
+    Event::Put(1, 0),
+    Event::Put(1, 1),
+    Event::Put(2, 0),
+    Event::Put(2, 1),
+    Event::Put(3, 0),
+    Event::Put(3, 1),
+    Event::Take(1, 0),
+    Event::Take(1, 1),
+    Event::Take(2, 0),
+    Event::Take(2, 1),
+    Event::Take(3, 0),
+    Event::Take(3, 1),
+    Event::Put(1, 0),
+    Event::Put(1, 1),
+    Event::Put(2, 0),
+    Event::Put(2, 1),
+    Event::Put(3, 0),
+    Event::Put(3, 1),
+    Event::Take(1, 0),
+    Event::Pulse(1),
+];
+
+fn is_refused(alloc: Global, net: &Network, events: &[Event], refused: RunRefused) -> bool {
+    match run::<Greatest<1>>(alloc, net, events) {
+        Ok(_) => false,
+        Err(why) => why == refused,
+    }
+}
+
+#[test]
+fn run_names_the_first_event_that_is_not_possible(rt: HostRuntime) {
+    let alloc: Global = rt.alloc();
+    let triangle = network(alloc, &[1, 2, 3], &[(1, 2), (1, 3), (2, 3)]).expect(&rt, "network");
+    let waits = [Event::Put(1, 0), Event::Pulse(1)];
+    assert!(rt;
+        is_refused(
+            alloc,
+            &triangle,
+            &[Event::Take(1, 0)],
+            RunRefused::LinkEmpty(0)
+        )
+    );
+    assert!(rt; is_refused(alloc, &triangle, &waits, RunRefused::NotReady(1)));
+    assert!(rt; is_refused(alloc, &triangle, &[Event::Pulse(4)], RunRefused::NoSuch(0)));
+    assert!(rt; is_refused(alloc, &triangle, &ONE_SAFE_OF_TWO, RunRefused::NotReady(31)));
+    let pair = edge(alloc).expect(&rt, "network");
+    let twice = [Event::Put(1, 0), Event::Put(1, 0)];
+    assert!(rt; is_refused(alloc, &pair, &twice, RunRefused::NothingToPut(1)));
+}

@@ -1,0 +1,11 @@
+pub mod Parts
+pub mod Refusing
+pub mod LinkTable
+pub mod NetKept
+pub mod KeptSteps
+pub mod KeptRuns
+pub mod Reached
+pub mod Stepping
+pub mod Exactly
+pub mod Held
+pub mod Started

@@ -1,0 +1,14 @@
+use Rattle.std.proofs.Common.{subst}
+use Rattle.event_machine.specs.Simulation.{IsReached, IsSimulation}
+use Rattle.event_machine.proofs.Held.{simulation}
+use Rattle.event_machine.proofs.state.NetState.is_simulation.Goals as goal
+
+pub returns : goal.returns
+returns g c =
+    let m = g.P.NodeProgram in
+    let a = c.self.inside in
+    record {
+      reached = subst (λ s. IsReached m.program s.net s.state) c.self.view_is c.self.invariant.0;
+      simulates = subst (λ s. IsSimulation m.program s.net s.state) c.self.view_is
+          (simulation m.program m.laws a.net c.is_network.ensures a.nodes.items a.links c.self.invariant);
+    }

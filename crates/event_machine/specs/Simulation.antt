@@ -1,0 +1,24 @@
+-- What holds of every state that a list of events reaches.
+use Rattle.std.specs.Prelude.{◌≡◌, List, All, Ok}
+use Rattle.alpha_laws.specs.interference.Net.{Net}
+use Rattle.alpha_laws.specs.node_api.Program.{Program, last_pulse_on}
+use Rattle.alpha_laws.specs.alpha_core.View.{Alpha}
+use Rattle.alpha_laws.specs.Simulates.{Simulates}
+use Rattle.event_machine.specs.declared.event.Event.{Event}
+use Rattle.event_machine.specs.State.{Link, State, node_of, link_at, link_to, sent_of, state_in}
+use Rattle.event_machine.specs.Step.{run}
+
+-- the nodes of a state, with the lists put on their links and taken from them, simulate the synchronous run
+abbrev pub IsSimulation : {S M E : Type 0} → Program S M E → Net → State S M → Type 0
+IsSimulation program net state =
+    Simulates program net (node_of program net state)
+    (λ v i. sent_of (link_at state.links v i)) (λ v i. (link_to net state.links v i).taken)
+
+-- a state that some list of events reaches
+abbrev pub IsReached : {S M E : Type 0} → Program S M E → Net → State S M → Type 0
+IsReached program net state = (events : List Event) × (run program net events ≡ Ok state)
+
+-- what a `NetState` keeps: some list of events reaches its state, and each of its nodes knows the last pulse
+abbrev pub IsNetState : {S M E : Type 0} → Program S M E → Net → List (Alpha S M) → List (List (Link M)) → Type 0
+IsNetState {S} {M} program net nodes links =
+    IsReached program net (state_in nodes links) × All (λ (n : Alpha S M). n.last ≡ last_pulse_on program net) nodes

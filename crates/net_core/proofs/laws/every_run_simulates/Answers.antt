@@ -1,6 +1,0 @@
-use Rattle.alpha_laws.proofs.Runs.{runs}
-use Rattle.net_core.proofs.KeptRuns.{reached_simulates}
-use Rattle.net_core.proofs.laws.every_run_simulates.Goals as goal
-
-pub returns : goal.returns
-returns g c = record { law = λ program laws net ok events state is. reached_simulates ok (runs program laws net ok) state (events, is) }

@@ -1,0 +1,16 @@
+-- What a call of `run` returns.
+use Rattle.std.specs.Prelude.{◌≡◌, ◌≢◌, List, Result, Ok, Err, MatchResult}
+use Rattle.alpha_laws.specs.interference.Net.{Net}
+use Rattle.alpha_laws.specs.node_api.Program.{Program}
+use Rattle.event_machine.specs.declared.event.Event.{Event}
+use Rattle.event_machine.specs.declared.refused.RunRefused.{RunRefused}
+use Rattle.event_machine.specs.declared.refused.RunRefused.TheVariants.{Memory}
+use Rattle.event_machine.specs.State.{NetView}
+use Rattle.event_machine.specs.Step.{run}
+
+-- A call of `run` does what the function says: it returns its state, or refuses as it says. Of memory the function says
+-- nothing.
+abbrev pub RunMatches : {S M E : Type 0} → Program S M E → Net → List Event → Result (NetView S M) RunRefused → Type 0
+RunMatches program net events result = MatchResult result
+    (λ view. (view.net ≡ net) × (run program net events ≡ Ok view.state))
+    (λ refused. refused ≢ Memory → run program net events ≡ Err refused)

@@ -1,0 +1,42 @@
+//! Lists of entries.
+
+ghost use Rattle.std.specs.Prelude.{◌≡◌, ◌≢◌, IfErr, IfOk};
+ghost use Rattle.event_machine.specs.declared.refused.RunRefused.TheVariants.{Memory};
+ghost use Rattle.event_machine.specs.Simulation.{IsSimulation};
+ghost use Rattle.net_core.specs.declared.refused.ReplayRefused.TheVariants.{Run};
+ghost use Rattle.net_core.specs.Replays.{IsReplay, Stops};
+
+use crate::entry_event::make_entry;
+use crate::refused::ReplayRefused;
+use alpha_laws::{Network, NodeProgram};
+use event_machine::NetState;
+use stamps::Entry;
+use std::alloc::Global;
+
+/// Plays entries, each behind the vertex of its node, from the start, and returns the state that they lead to.
+///
+/// # Errors
+///
+/// `Run` with the first entry whose event isn't possible where it stands, and why: first of all `NoSuch`, if there is
+/// no such vertex or the neighbour is none. `WrongWire` with that entry if its event is possible, but its pulse or wire
+/// is another. `Run` of `Memory` if memory is refused.
+pub fn replay<P: NodeProgram>(
+    alloc: Global,
+    net: &Network,
+    entries: &[(u32, Entry<P::Payload>)],
+) -> Result<NetState<P>, ReplayRefused>
+    ensures net { IfOk result (λ view. view.net ≡ net.now) }
+    ensures accepts { IfOk result (λ view. IsReplay P.program net.now entries.now view.state) }
+    ensures refuses { IfErr result (λ refused. refused ≢ Run Memory → Stops P.program net.now entries.now refused) }
+    ensures simulates { IfOk result (λ view. IsSimulation P.program view.net view.state) }
+{
+    let mut state = NetState::start(alloc, net)?;
+    for (index, row) in entries.iter().enumerate() {
+        match make_entry(&mut state, row) {
+            Ok(()) => {}
+            Err(refused) => return Err(refused.at(index)),
+        }
+    }
+    state.is_simulation();
+    Ok(state)
+}

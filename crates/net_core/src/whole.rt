@@ -1,0 +1,95 @@
+//! Lists of stamped entries.
+
+ghost use Rattle.std.specs.Prelude.{◌≡◌, ◌≢◌, ◌<◌, ◌+◌, IfErr, IfOk, length, take};
+ghost use Rattle.event_machine.specs.declared.refused.RunRefused.TheVariants.{Memory};
+ghost use Rattle.event_machine.specs.Simulation.{IsSimulation};
+ghost use Rattle.event_machine.specs.State.{start};
+ghost use Rattle.net_core.specs.declared.refused.ReplayRefused.TheVariants.{Run};
+ghost use Rattle.net_core.specs.declared.refused.WholeRefused.TheVariants.{Replay};
+ghost use Rattle.net_core.specs.Whole.{IsStampedReplay, IsWholeReplay, WhyNotWhole};
+ghost use Rattle.stamps.specs.Table.{IsTableOf};
+
+use crate::entry_event::make_entry;
+use crate::refused::WholeRefused;
+use crate::whole_state::is_whole;
+use alpha_laws::{Network, NodeProgram};
+use event_machine::NetState;
+use stamps::{Entry, StampTable};
+use std::alloc::Global;
+
+// Plays the row of an index. Those before it led to the state, and the table is theirs.
+fn replay_row<P: NodeProgram>(
+    alloc: Global,
+    state: &mut NetState<P>,
+    table: &mut StampTable,
+    rows: &[(u64, u32, Entry<P::Payload>)],
+    index: usize,
+) -> Result<(), WholeRefused>
+    requires row { index < length rows.now }
+    requires replay { IsStampedReplay P.program state.now.net (take index rows.now) state.now.state }
+    requires table { IsTableOf (take index rows.now) table.now }
+    ensures net { IfOk result (λ _. state.new.net ≡ state.old.net) }
+    ensures replay { IfOk result
+        (λ _. IsStampedReplay P.program state.old.net (take (index + 1) rows.now) state.new.state) }
+    ensures table { IfOk result (λ _. IsTableOf (take (index + 1) rows.now) table.new) }
+    ensures refuses { IfErr result
+        (λ refused. refused ≢ Replay (Run Memory) → WhyNotWhole P.program state.old.net rows.now refused) }
+{
+    let row = &rows[index];
+    match make_entry(state, &(row.1, row.2)) {
+        Ok(()) => {}
+        Err(refused) => return Err(WholeRefused::Replay(refused.at(index))),
+    }
+    if !table.is_in_place(row) {
+        return Err(WholeRefused::WrongStamp(index));
+    }
+    table.add(alloc, row)?;
+    Ok(())
+}
+
+// Plays all rows, from the start.
+fn replay_rows<P: NodeProgram>(
+    alloc: Global,
+    state: &mut NetState<P>,
+    rows: &[(u64, u32, Entry<P::Payload>)],
+) -> Result<(), WholeRefused>
+    requires start { state.now.state ≡ start P.program state.now.net }
+    ensures net { IfOk result (λ _. state.new.net ≡ state.old.net) }
+    ensures replay { IfOk result (λ _. IsStampedReplay P.program state.old.net rows.now state.new.state) }
+    ensures refuses { IfErr result
+        (λ refused. refused ≢ Replay (Run Memory) → WhyNotWhole P.program state.old.net rows.now refused) }
+{
+    let mut table = StampTable::new(alloc);
+    for index in 0..rows.len() {
+        replay_row(alloc, state, &mut table, rows, index)?;
+    }
+    Ok(())
+}
+
+/// Plays stamped entries, each behind the vertex of its node, from the start, and returns the state that they lead to.
+/// They have to end whole: every node drained, and every link empty.
+///
+/// # Errors
+///
+/// As `replay`; then, of the same entry, `WrongStamp` if its stamp isn't that of its node's counter, or if it comes too
+/// late in the order of the stamps, and of the vertices if the stamps are equal. At the end `NotWhole` if a node isn't
+/// drained, or a link isn't empty. `Replay` of out of memory if memory is refused.
+pub fn replay_whole<P: NodeProgram>(
+    alloc: Global,
+    net: &Network,
+    rows: &[(u64, u32, Entry<P::Payload>)],
+) -> Result<NetState<P>, WholeRefused>
+    ensures net { IfOk result (λ view. view.net ≡ net.now) }
+    ensures accepts { IfOk result (λ view. IsWholeReplay P.program net.now rows.now view.state) }
+    ensures refuses { IfErr result
+        (λ refused. refused ≢ Replay (Run Memory) → WhyNotWhole P.program net.now rows.now refused) }
+    ensures simulates { IfOk result (λ view. IsSimulation P.program view.net view.state) }
+{
+    let mut state = NetState::start(alloc, net)?;
+    replay_rows(alloc, &mut state, rows)?;
+    if !is_whole(&state) {
+        return Err(WholeRefused::NotWhole);
+    }
+    state.is_simulation();
+    Ok(state)
+}

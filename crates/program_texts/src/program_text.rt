@@ -1,0 +1,63 @@
+//! Programs have texts.
+
+ghost use Rattle.std.specs.Prelude.{◌≡◌, ◌++◌, IfOk};
+ghost use Rattle.program_texts.specs.node_api.Net.{IsVertex};
+ghost use Rattle.program_texts.specs.node_api.Run.{state_at};
+ghost use Rattle.program_texts.specs.Texts.{HasName, ProgramTexts};
+
+use node_api::{Network, NodeProgram};
+use std::alloc::AllocError;
+
+/// A program of nodes that has texts. Each call appends to `text`; if a growth is refused, `text` may end in a
+/// beginning of what was to be appended.
+pub trait ProgramText: NodeProgram {
+    /// All texts of the program.
+    ghost texts: { ProgramTexts Self };
+
+    /// The name is one or more small ASCII letters.
+    ghost named: { HasName texts };
+
+    /// The program's name, a word of the command line and of the first line of the rounds.
+    fn name() -> &'static str
+        ensures name { result.now ≡ texts.name };
+
+    /// Appends the first line of the rounds on a network, its end included.
+    ///
+    /// # Errors
+    ///
+    /// If a growth is refused.
+    fn push_head(text: &mut Vec<u8>, net: &Network) -> Result<(), AllocError>
+        ensures { IfOk result (λ _. text.new.items ≡ text.old.items ++ texts.head net.now) };
+
+    /// Appends the words for what nodes do at a pulse, with a space before each. There may be none.
+    ///
+    /// # Errors
+    ///
+    /// If a growth is refused.
+    fn push_phase(text: &mut Vec<u8>, net: &Network, pulse: u32) -> Result<(), AllocError>
+        ensures { IfOk result (λ _. text.new.items ≡ text.old.items ++ texts.phase net.now pulse) };
+
+    /// Appends what is said of a vertex's node after a pulse of the synchronous run: whole lines. There may be none.
+    ///
+    /// # Errors
+    ///
+    /// If a growth is refused.
+    fn push_lines(
+        &self,
+        text: &mut Vec<u8>,
+        net: &Network,
+        pulse: u32,
+        v: u32,
+    ) -> Result<(), AllocError>
+        requires vertex { IsVertex net.now v }
+        requires run { self.now ≡ state_at Self.program net.now pulse v }
+        ensures { IfOk result (λ _. text.new.items ≡ text.old.items ++ texts.lines net.now pulse v self.now) };
+
+    /// Appends the words for the result of a node that has made its last pulse, with a space before each.
+    ///
+    /// # Errors
+    ///
+    /// If a growth is refused.
+    fn push_result(&self, text: &mut Vec<u8>) -> Result<(), AllocError>
+        ensures { IfOk result (λ _. text.new.items ≡ text.old.items ++ texts.result self.now) };
+}

@@ -1,8 +1,0 @@
-pub mod Ports
-pub mod Missing
-pub mod Writes
-pub mod Replayed
-pub mod WholeReplays
-pub mod Decided
-pub mod Ones
-pub mod net_core

@@ -1,5 +1,0 @@
-use Rattle.replay.proofs.Decided.{decided}
-use Rattle.replay.proofs.laws.replays_are_exact.Goals as goal
-
-pub returns : goal.returns
-returns g c = record { law = λ program laws net ok. decided program net ok }

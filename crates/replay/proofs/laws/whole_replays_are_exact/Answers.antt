@@ -1,5 +1,0 @@
-use Rattle.replay.proofs.WholeReplays.{exact}
-use Rattle.replay.proofs.laws.whole_replays_are_exact.Goals as goal
-
-pub returns : goal.returns
-returns g c = record { law = λ program laws net ok. exact program net ok }
