@@ -155,10 +155,18 @@ class Port:
     early: Slot = None
     out: list[Wire] = field(default_factory=list)
 
+    def safes(self) -> int:
+        """How many safes came, of this pulse and of the next: 0 to 2."""
+        return self.safe + self.early_safe
+
+    def paid(self) -> bool:
+        """Whether the payload came that the next safe comes after."""
+        return self.safes() < 2 and (self.present, self.early)[self.safes()] is not None
+
 
 class AlphaNode:
-    """A node of the colouring under synchroniser alpha: `pulse_number` is 0 to `last`, and `said` means that it has
-    said safe for this pulse."""
+    """A node under synchroniser alpha, of the colouring or of another program with `greet` and `next`: `pulse_number`
+    is 0 to `last`, and `said` means that it has said safe for this pulse."""
 
     program: Colouring
     last: int
@@ -166,8 +174,8 @@ class AlphaNode:
     pulse_number: int
     said: bool
 
-    def __init__(self, net: Network, v: int):
-        self.program, self.last = Colouring(net, v), last_pulse(net)
+    def __init__(self, net: Network, v: int, program=None):
+        self.program, self.last = program or Colouring(net, v), last_pulse(net)
         self.ports = [Port() for _ in net.neighbours[v]]
         self.pulse_number, self.said = 0, False
         self.enter(self.program.greet())
@@ -218,12 +226,11 @@ class AlphaNode:
         """It takes a wire by a port. The 36 cells, as one condition for each kind of wire; which
         refusal it is isn't said."""
         port, p = self.ports[at], self.pulse_number
-        expected = p + port.safe + port.early_safe
-        paid = port.present is not None and expected == p or port.early is not None and expected == p + 1
+        expected = p + port.safes()
         horizon = p + 1 if self.said and p < self.last else p
         kind, q = wire[0], wire[1] if len(wire) > 1 else self.last
         is_due = {
-            "Payload": q == expected and q <= horizon and q < self.last and not paid,
+            "Payload": q == expected and q <= horizon and q < self.last and not port.paid(),
             "Ack": q == p and port.waits,
             "Safe": q == expected and q <= horizon and q < self.last,
             "Close": expected == self.last and (p == self.last or p == self.last - 1 and self.said),

@@ -87,6 +87,11 @@ class Facts:
         f, three, old = merge_step(self.net, p)
         return (self.colours[f][12][v], self.merged[f][v]) == (three, old)
 
+    def turn(self, f: int, v: int) -> int:
+        """The one pulse of the merge of forest f at which v chooses."""
+        three, old, width = self.colours[f][12][v], self.merged[f][v], self.net.span + 1
+        return FIRST_MERGE + (3 * f + three) * width + old
+
     def choice(self, p: int, v: int) -> int:
         """The colour that v has after the merge of pulse p's forest."""
         return self.merged[merge_step(self.net, p)[0] + 1][v]
@@ -100,6 +105,8 @@ class Facts:
     def sent(self, p: int, v: int) -> Iterator[tuple[int, str, int]]:
         """(neighbour, word, number): all hear the identifier; parents the forest; children the colour; and who is a
         neighbour in the forests merged so far the choice, but at the last step of a forest."""
+        chooses = self.chooses(p, v) and not self.is_last_step(p)
+        merging = merge_step(self.net, p)[0] if chooses else None
         for w in sorted(self.net.neighbours[v]):
             f, is_parent = self.net.number[frozenset((v, w))], self.net.identifiers[w] > self.net.identifiers[v]
             if p == 0:
@@ -108,7 +115,7 @@ class Facts:
                 yield w, "label", f
             elif 2 <= p < 12 and not is_parent:
                 yield w, "colour", self.colours[f][p][v]
-            elif self.chooses(p, v) and f <= merge_step(self.net, p)[0] and not self.is_last_step(p):
+            elif chooses and f <= merging:
                 yield w, "chosen", self.choice(p, v)
 
     def is_last_step(self, p: int) -> bool:

@@ -1,5 +1,5 @@
 """The bit lens: one node above its parent, digit by digit, over the four bit steps."""
-from lab.pictures.colouring import bit_step, place_of_bit
+from lab.definitions.nodes import bit_step
 from lab.pictures.marks import colour_square
 from lab.pictures.palette import INK, PAPER, SOFT, digits
 from lab.pictures.svg import Svg, text_width
@@ -52,7 +52,7 @@ def draw_pair(svg, top, pulse, child, parent, most, cell):
     """The two numbers after a pulse, and what the child makes of them in the next."""
     (vertex, own), (_, above) = child, parent
     is_last = pulse == LAST
-    place = None if is_last else place_of_bit(own, above)
+    place = None if is_last else bit_step(own, above) // 2
     length = max(digits(own), digits(above))
     svg.text(20, top + 13, f"pulse {pulse}", 12, INK, bold=True)
     for row, (words, (node, number)) in enumerate((("node", child), ("parent", parent))):

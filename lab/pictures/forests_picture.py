@@ -139,7 +139,7 @@ def merged_panel(svg, left, sheet, forest):
     is_last = forest == rounds.forests - 1
     title(svg, left, top, "all merged: the plan" if is_last else
           "merged: forest 0" if forest == 0 else f"merged: forests 0 to {forest}")
-    places, merged = moved(sheet.places, left, top), rounds.merged_after(forest)
+    places, merged = moved(sheet.places, left, top), rounds.merged[forest + 1]
     later, before, now = [], [], []
     for e in sheet.network.edges:
         f = rounds.forest_of[e]

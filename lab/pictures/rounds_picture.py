@@ -151,7 +151,7 @@ class Strip:
         svg.text(end + 24, top + 63, "after", 9, SOFT, "middle")
         if self.rounds.network.bars:
             svg.text(end + 44, top + 63, "barred", 9, SOFT)
-        before = self.rounds.merged_after(self.forest - 1)
+        before = self.rounds.merged[self.forest] if self.forest else {}
         with svg.group("choices", f"forest {self.forest}"):
             for v in self.rounds.network.vertices:
                 self.choices_of(v, before.get(v), end)

@@ -11,15 +11,15 @@ def steps_of(run, first, last):
     for v, listed in run.entries.items():
         node = states[v]
         for entry in listed:
-            stage, levels = node.stage(), {w: node.level(w) for w in node.ports}
+            stage, levels = node.stage(), {w: node.level(w) for w in node.port_to}
             make(node, entry, run.name)
-            if not first <= node.pulse <= last:
+            if not first <= node.pulse_number <= last:
                 continue
             cause = "pulse" if entry.kind == "pulse" else entry.wire[0]
             if entry.kind == "pulse" or entry.kind == "take" and node.stage() != stage:
                 nodes[stage, cause, node.stage()] += 1
             if entry.kind == "pulse":
-                ports.update((levels[w], cause, node.level(w)) for w in node.ports)
+                ports.update((levels[w], cause, node.level(w)) for w in node.port_to)
             elif entry.kind == "take" and cause != "ack":
                 ports[levels[entry.neighbour], cause, node.level(entry.neighbour)] += 1
     return nodes, ports
@@ -30,9 +30,10 @@ class Moment:
     the height of each port's lane: its safes above the node's pulse, and a half for a payload."""
 
     def __init__(self, node, entry):
-        self.entry, self.pulse, self.said = entry, node.pulse, node.said
-        self.awaits = sum(port.waits for port in node.ports.values())
-        self.heights = {w: port.known - node.pulse + (0.5 if port.paid else 0) for w, port in node.ports.items()}
+        self.entry, self.pulse, self.said = entry, node.pulse_number, node.said
+        self.awaits = sum(port.waits for port in node.ports)
+        levels = {w: node.level(w) for w in node.port_to}
+        self.heights = {w: safes + (0.5 if paid else 0) for w, (safes, paid) in levels.items()}
 
 
 def moments_of(run, v):

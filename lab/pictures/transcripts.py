@@ -9,9 +9,10 @@ A text of edition 2 has its order, and a stamp with each entry, which is its pla
 stamp is the one that Lamport's clock gives, and each node can make its entries: they are replayed node by node, too."""
 from functools import lru_cache
 
+from lab.definitions.nodes import Refused, wire_words
 from lab.networks.network_text import fields_of, whole
-from lab.pictures.alpha import Impossible, Node, words_of
 from lab.pictures.colouring import Rounds
+from lab.pictures.led_node import LedNode, defined
 from lab.wrong import Wrong, wrong_line
 
 # Texts of more lines are read only as far as the pulses that are drawn depend on them: so many pulses further at first,
@@ -194,27 +195,27 @@ def identifiers_of(network, entries):
     return found
 
 
+def words_of(wire):
+    """The transcript's words of a wire."""
+    return wire_words(defined(wire))
+
+
 def sends_of(rounds):
     """{vertex: {pulse: {neighbour: payload}}} of the rounds."""
     sends = {v: {} for v in rounds.network.vertices}
     for pulse in rounds.pulses:
         for v, w, word, number in pulse.puts:
-            sends[v].setdefault(pulse.number, {})[w] = word, number
+            sends[v].setdefault(pulse.number, {})[w] = word.title(), number
     return sends
 
 
 def make(node, entry, name):
     """One entry at its node."""
     try:
-        if entry.kind == "pulse":
-            node.make_pulse(entry.pulse)
-        elif entry.kind == "put":
-            node.put(entry.neighbour, entry.wire)
-        else:
-            node.take(entry.neighbour, entry.wire)
-    except Impossible as why:
+        node.make(entry)
+    except Refused as why:
         raise wrong_line(name, entry.line, f"node {entry.vertex}: {why}") from None
-    entry.during = node.pulse
+    entry.during = node.pulse_number
 
 
 def set_in_time(run):
@@ -272,8 +273,8 @@ def is_whole(run):
 
 def nodes_of(run):
     """A fresh node for each vertex, to be replayed."""
-    sends = sends_of(run.rounds)
-    return {v: Node(run.network.neighbours[v], run.last, sends[v]) for v in run.network.vertices}
+    sends, net = sends_of(run.rounds), run.rounds.net
+    return {v: LedNode(net, v, run.network.neighbours[v], sends[v]) for v in run.network.vertices}
 
 
 def read_transcript(text, name, network, until=None):
@@ -327,4 +328,4 @@ def replay(run):
         for entry in listed:
             make(nodes[v], entry, run.name)
     set_in_time(run)
-    run.whole = all(node.is_through() for node in nodes.values())
+    run.whole = all(node.drained() for node in nodes.values())

@@ -1,0 +1,79 @@
+"""A node of the definitions (lab/definitions/nodes.py) that makes the entries of a transcript one after another,
+without its neighbours: what it sends is what the rounds have. How far its ports are is what the automaton and the
+timing show."""
+from functools import lru_cache
+
+from lab.definitions.nodes import AlphaNode, Refused, wire_words
+
+
+class Sends:
+    """A program that sends what the rounds have, whatever it gets: `sends[pulse][neighbour]` is a payload."""
+
+    def __init__(self, neighbours, sends):
+        self.neighbours, self.sends = neighbours, sends
+
+    def greet(self):
+        return self.next(0, None)
+
+    def next(self, pulse, _):
+        return [self.sends.get(pulse, {}).get(w) for w in self.neighbours]
+
+
+class LedNode(AlphaNode):
+    """A node of a network; an entry that it can't make is refused with the words that say why."""
+
+    def __init__(self, net, v, neighbours, sends):
+        self.port_to = dict(zip(neighbours, range(len(neighbours))))
+        super().__init__(net, v, Sends(neighbours, sends))
+
+    def level(self, w):
+        """How far the port to w has got beyond the node's own pulse: (safes, whether the next payload is here)."""
+        port = self.ports[self.port_to[w]]
+        return port.safes(), port.paid()
+
+    def stage(self):
+        """`asks` until its acknowledgements are here, then `safe` until its neighbours' safes are, then `ready`."""
+        if self.pulse_number == self.last:
+            return "last"
+        if not self.said:
+            return "asks"
+        return "ready" if all(port.safe for port in self.ports) else "safe"
+
+    def make(self, entry):
+        """An entry of lab/pictures/transcripts.py."""
+        if entry.kind == "pulse":
+            self.make_pulse(entry.pulse)
+        elif entry.kind == "put":
+            self.put(entry.neighbour, defined(entry.wire))
+        else:
+            self.take(entry.neighbour, defined(entry.wire))
+
+    def make_pulse(self, number):
+        if not self.can_pulse():
+            raise Refused(f"it can't begin pulse {number} here")
+        if number != self.pulse_number + 1:
+            raise Refused(f"its next pulse is {self.pulse_number + 1}")
+        self.pulse()
+
+    def put(self, w, wire):
+        out = self.ports[self.port_to[w]].out
+        if not out:
+            raise Refused(f"it has nothing to put for {w}")
+        if out[0] != wire:
+            raise Refused(f"what it has to put for {w} is {wire_words(out[0])}")
+        out.pop(0)
+
+    def take(self, w, wire):
+        try:
+            self.on_wire(self.port_to[w], wire)
+        except Refused:
+            raise Refused(f"it can't take {wire_words(wire)} from {w} here") from None
+
+
+@lru_cache(1 << 16)
+def defined(wire):
+    """A wire (kind, pulse, payload) of a text as the definitions have it."""
+    kind, pulse, payload = wire
+    if kind == "close":
+        return ("Close",)
+    return (kind.title(), pulse) if payload is None else ("Payload", pulse, (payload[0].title(), payload[1]))
