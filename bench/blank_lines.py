@@ -1,8 +1,7 @@
-#!/usr/bin/env python3
 """Feeds the programs a gigabyte of lines that say nothing, and measures time and peak memory.
 
-  blank_lines.py [--mebibytes N,..] [--lines KIND,..] [--commands COMMAND,..] [--most GIB] [--program PROGRAM] [--play
-        PLAY]
+  python3 -S -m bench.blank_lines [--mebibytes N,..] [--lines KIND,..] [--commands COMMAND,..] [--most GIB]
+                                  [--program PROGRAM] [--play PLAY]
       N         how many MiB of such lines; default 64,256,1024
       KIND      blank, return (a carriage return on each), comment, long (one comment); default: all
       COMMAND   forests, check, events, replay; default: all
@@ -27,10 +26,7 @@ import sys
 import tempfile
 import time
 
-from by_turns import TOP, build_peak
-
-sys.path.insert(1, TOP)
-
+from bench.by_turns import TOP, build_peak
 from tests.commands import PROGRAM_OF
 from tests.programs.slow_reader import answer_to
 
@@ -100,11 +96,9 @@ def row(peak, program, command, one, kind, mebibytes, most):
     lines = 1 if kind == "long" else mebibytes * MEBIBYTE // len(LINES[kind])
     answer, seconds, processor, memory = fed(peak, [program, command], before, behind, kind, mebibytes, most)
     is_right = answer == wanted(command, place, before, behind, lines)
-    print(
-        f"{command:8s} {place:8s} {kind:8s} {mebibytes:6d} {seconds:8.2f} {processor:8.2f} {processor / size * 1e9:8.2f}"
-        f" {memory / size:7.2f}  {'yes' if is_right else f'NO: {answer!r:.300}'}",
-        flush=True,
-    )
+    print(f"{command:8s} {place:8s} {kind:8s} {mebibytes:6d} {seconds:8.2f} {processor:8.2f}"
+          f" {processor / size * 1e9:8.2f} {memory / size:7.2f}  {'yes' if is_right else f'NO: {answer!r:.300}'}",
+          flush=True)
     return is_right
 
 
@@ -123,9 +117,8 @@ def main():
     given = words.parse_args()
     paths = {"forestplan": os.path.abspath(given.program), "forestplay": os.path.abspath(given.play)}
     good = []
-    print(
-        f"{'command':8s} {'where':8s} {'lines':8s} {'MiB':>6s} {'s':>8s} {'cpu s':>8s} {'ns/byte':>8s} {'memory':>7s}  right"
-    )
+    print(f"{'command':8s} {'where':8s} {'lines':8s} {'MiB':>6s} {'s':>8s} {'cpu s':>8s} {'ns/byte':>8s}"
+          f" {'memory':>7s}  right")
     with tempfile.TemporaryDirectory() as folder:
         peak = build_peak(folder)
         for command in given.commands:

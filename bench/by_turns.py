@@ -1,15 +1,15 @@
 """Runs forestplan and another program by turns on the same networks, and measures time and peak memory.
 
-plan/run.py and transcript/run.py print what it finds. The other program of plan/run.py is that of baseline/, with array
-queues as links and a deque of nodes for each worker, which is what forestplan has."""
+bench.plan.run and bench.transcript.run print what it finds. The other program of bench.plan.run is in baseline/, with
+array queues as links and a deque of nodes for each worker, which is what forestplan has."""
 import argparse
 import os
 import statistics
 import subprocess
 import sys
 
-import graphs
-from compare import once
+from bench import graphs
+from bench.compare import once
 
 BENCH = os.path.dirname(os.path.abspath(__file__))
 TOP = os.path.dirname(BENCH)

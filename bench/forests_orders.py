@@ -1,8 +1,7 @@
-#!/usr/bin/env python3
 """Times `forests` on one network of 20,000 nodes and 400,000 edges, its edges in random, ascending, descending and
 alternating order, beside the Rust program of baseline/, by turns.
 
-  forests_orders.py PROGRAM BASELINE [REPS]       default: 7 turns
+  python3 -S -m bench.forests_orders PROGRAM BASELINE [REPS]       default: 7 turns
 
 Prints for each order the least time of each program and the ratio, whether both wrote the same bytes, and the slowest
 order over the fastest. The networks are written to a folder of their own and removed.
@@ -12,7 +11,7 @@ import random
 import sys
 import tempfile
 
-from compare import once
+from bench.compare import once
 
 NODES, EDGES, LIMIT = 20_000, 400_000, 60.0
 

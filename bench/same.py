@@ -1,7 +1,6 @@
-#!/usr/bin/env python3
 """Compares what forestplan and the Rust program of baseline/ write on random networks.
 
-  same.py [--networks N] [--seed S] [PROGRAM [BASELINE]]
+  python3 -S -m bench.same [--networks N] [--seed S] [PROGRAM [BASELINE]]
 
 Default: 250 networks of up to 20 nodes, seed 7, PROGRAM as `./forestplan` builds it, BASELINE as baseline/build.sh
 builds it. Some networks have long identifiers, some have bars, and some a faulty line. Standard output, standard error
@@ -13,7 +12,7 @@ import random
 import subprocess
 import sys
 
-from by_turns import BASELINE, PROGRAM
+from bench.by_turns import BASELINE, PROGRAM
 
 COMMANDS = [["plain"], ["plan", "--workers", "1"], ["plan", "--workers", "3", "--capacity", "2"], ["forests"]]
 FAULTY = ["i 1", "i 3 5", "i 0 9", "b 1 0", "b 1 2049", "b 0 1", f"i 1 {2**128}", "e 1 x", "q", "b 1", "i 2 7", "e 1 1"]

@@ -1,7 +1,6 @@
-#!/usr/bin/env python3
 """Times `check` of 20,000 rows and 400,000 edges beside `forests` on the same network, by turns with another build.
 
-  run.py [--turns N] [PROGRAM [OTHER]]
+  python3 -S -m bench.check.run [--turns N] [PROGRAM [OTHER]]
 
 Default: 15 turns, PROGRAM as `./forestplan` builds it, and OTHER the same: then the ratio says how much two runs of one
 program differ. The program of baseline/ has no `check`. The network is 20,000 vertices in a circle, each joined to the
@@ -15,14 +14,9 @@ import statistics
 import sys
 import tempfile
 
-HERE = os.path.dirname(os.path.abspath(__file__))
-BENCH = os.path.dirname(HERE)
-TOP = os.path.dirname(BENCH)
-sys.path.insert(0, BENCH)
+from bench.by_turns import PROGRAM
+from bench.compare import once
 
-from compare import once
-
-PROGRAM = os.path.join(TOP, "crates", "forestplan", "out", "forestplan")
 TURNS, LIMIT, NODES, REACH = 15, 60.0, 20_000, 20
 
 

@@ -1,8 +1,7 @@
-#!/usr/bin/env python3
 """Times 10^8 calls of each colour step, and of the choice of a colour on a set of the first 1,023 colours, beside the
 same loop in plain Rust, built with -O.
 
-  run.py [FOLDER]
+  python3 -S -m bench.colour_steps.run [FOLDER]
 
 Copies the crates and the program to FOLDER (a new one for temporary files, if it isn't given), since the gate reads
 each .rt file of the repository; proves and builds it there, and builds plain.rs. Runs both by turns, compares what

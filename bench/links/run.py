@@ -1,8 +1,7 @@
-#!/usr/bin/env python3
 """Times one put and one take of a link beside the queues that it stands on: crossbeam's array queue in plain Rust, and
 the kit's ruled queue under the rule that asks nothing.
 
-  run.py [FOLDER]
+  python3 -S -m bench.links.run [FOLDER]
 
 On one thread 64 wires are put and then taken, at capacity 64; between two threads 100,000 wires are handed over, at
 capacities 1, 4 and 64. Prints the least nanoseconds of one wire (its put and its take), the ratio of the link to the

@@ -1,9 +1,9 @@
-#!/usr/bin/env python3
 """Measures the same run by programs in Go, Erlang, Java and Python beside `plan` and `plain`, by turns.
 
-  run.py [--turns N] [--networks NAME,..] [--processors N,..] [--limit SECONDS] [--only NAME,..] [PROGRAM]
+  python3 -S -m bench.peers.run [--turns N] [--networks NAME,..] [--processors N,..] [--limit SECONDS]
+                                [--only NAME,..] [PROGRAM]
 
-Default: 5 turns, every network of plan/run.py, on one processor and on four, 120 seconds a run, PROGRAM as
+Default: 5 turns, every network of bench.plan.run, on one processor and on four, 120 seconds a run, PROGRAM as
 `./forestplan` builds it. A language whose compiler isn't there is left out, and named. Programs of one thread run on
 one processor alone.
 
@@ -22,11 +22,10 @@ import tempfile
 import threading
 import time
 
-HERE = os.path.dirname(os.path.abspath(__file__))
-sys.path.insert(0, os.path.dirname(HERE))
+from bench import graphs
+from bench.by_turns import PROGRAM, build_peak, networks, numbers
 
-import graphs
-from by_turns import PROGRAM, build_peak, networks, numbers
+HERE = os.path.dirname(os.path.abspath(__file__))
 
 # By language: the tools that it needs, the words that build it in a folder, and by name the words that run it there.
 JAVA = ["java", "-XX:+UseParallelGC", "-Xshare:auto", "-cp", ".", "Alpha"]

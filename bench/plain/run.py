@@ -1,7 +1,6 @@
-#!/usr/bin/env python3
 """Times `plain` on networks of every kind beside the Rust program of baseline/ with its sparse engine, by turns.
 
-  run.py [--turns N] [PROGRAM [BASELINE]]
+  python3 -S -m bench.plain.run [--turns N] [PROGRAM [BASELINE]]
 
 Default: 15 turns, PROGRAM as `./forestplan` builds it, BASELINE as baseline/build.sh builds it. Writes each network
 from its definition in graphs.py to a folder of its own, which is removed, and prints for each its last pulse R, the
@@ -14,16 +13,10 @@ import statistics
 import sys
 import tempfile
 
-HERE = os.path.dirname(os.path.abspath(__file__))
-BENCH = os.path.dirname(HERE)
-TOP = os.path.dirname(BENCH)
-sys.path.insert(0, BENCH)
+from bench import graphs
+from bench.by_turns import BASELINE, PROGRAM
+from bench.compare import once
 
-import graphs
-from compare import once
-
-PROGRAM = os.path.join(TOP, "crates", "forestplan", "out", "forestplan")
-BASELINE = os.path.join(BENCH, "baseline", "target", "release", "forestbase")
 TURNS, LIMIT = 15, 60.0
 
 

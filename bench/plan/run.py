@@ -1,11 +1,11 @@
-#!/usr/bin/env python3
 """Times `plan` on networks of every kind beside the Rust program of baseline/, by turns.
 
-  run.py [--turns N] [--networks NAME,..] [--workers N,..] [--capacities N,..] [--limit SECONDS] [PROGRAM [BASELINE]]
+  python3 -S -m bench.plan.run [--turns N] [--networks NAME,..] [--workers N,..] [--capacities N,..]
+                               [--limit SECONDS] [PROGRAM [BASELINE]]
 
 Default: 5 turns, every network with each number of workers and each capacity that CASES has for it, 120 seconds a run,
 PROGRAM as `./forestplan` builds it, BASELINE as baseline/build.sh builds it. For a look:
-`run.py --turns 2 --networks queen8_8,complete32 --workers 1,4 --capacities 4`.
+`python3 -S -m bench.plan.run --turns 2 --networks queen8_8,complete32 --workers 1,4 --capacities 4`.
 
 The baseline has array queues as links, and a deque of nodes for each worker with stealing (BASE_POOL=deque): the same
 links and the same pool as PROGRAM. With one array queue of nodes (BASE_POOL=array) it is slower with two or four
@@ -22,11 +22,9 @@ import os
 import sys
 import tempfile
 
-sys.path.insert(0, os.path.dirname(os.path.dirname(os.path.abspath(__file__))))
-
-import graphs
-from by_turns import BASELINE, agree, build_peak, mark, networks, numbers, programs_of, run_once, timed, times
-from by_turns import words_of_command
+from bench import graphs
+from bench.by_turns import BASELINE, agree, build_peak, mark, networks, numbers, programs_of, run_once, timed, times
+from bench.by_turns import words_of_command
 
 FEW = [(workers, 4) for workers in (1, 2, 4, 8)]
 MANY = [(workers, capacity) for capacity in (4, 2, 1) for workers in (1, 2, 4, 8, 64)]

@@ -1,7 +1,6 @@
-#!/usr/bin/env python3
 """Compares how many channels a plan takes with what sequential greedy colourings take of the same network.
 
-  quality.py [NAME ..]        default: every network of the table
+  python3 -m bench.quality.quality [NAME ..]        default: every network of the table
 
 DSATUR (D. Brelaz, New methods to color the vertices of a graph, 1979) and smallest last (D. W. Matula and L. L. Beck,
 Smallest-last ordering and clustering and graph coloring algorithms, 1983) look at the whole network, one node after the
@@ -15,11 +14,9 @@ import random
 import subprocess
 import sys
 
-TOP = os.path.dirname(os.path.dirname(os.path.dirname(os.path.abspath(__file__))))
-sys.path.insert(0, TOP)
-
 from lab.networks import kinds
 from lab.networks.texts import Made, text_of
+from lab.programs import TOP
 
 Neighbours = dict[int, set[int]]
 

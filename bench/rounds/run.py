@@ -1,8 +1,7 @@
-#!/usr/bin/env python3
 """Times the synchronous engine, `run_rounds::<Greatest<D>>`, on a path of 20,000 nodes, a grid of 100 by 100 and a
 complete graph of 100, beside the same rounds written by hand in plain Rust, built with -O.
 
-  run.py [FOLDER]
+  python3 -S -m bench.rounds.run [FOLDER]
 
 Copies the crates, with what earlier proofs left in out/, and the program to FOLDER (a new one for temporary files, if
 it isn't given), since the gate reads each .rt file of the repository; proves and builds it there, and builds plain.rs.
@@ -65,15 +64,13 @@ def main():
                 answers.setdefault(network, set()).update(given)
             for case, time in times.items():
                 least[case] = min(time, least.get(case, time))
-    print(
-        f"{'network':10s} {'nodes':>6s} {'pulses':>6s} {'engine ns':>10s} {'slots ns':>10s} {'bare ns':>10s} {'engine/slots':>13s} {'engine/bare':>12s}"
-    )
+    print(f"{'network':10s} {'nodes':>6s} {'pulses':>6s} {'engine ns':>10s} {'slots ns':>10s} {'bare ns':>10s}"
+          f" {'engine/slots':>13s} {'engine/bare':>12s}")
     for network in answers:
         engine, slots, bare = (least[network, way] for way in ("engine", "slots", "bare"))
         name, nodes, last = network
-        print(
-            f"{name:10s} {nodes:>6s} {last:>6s} {engine:10.2f} {slots:10.2f} {bare:10.2f} {engine / slots:13.2f} {engine / bare:12.2f}"
-        )
+        print(f"{name:10s} {nodes:>6s} {last:>6s} {engine:10.2f} {slots:10.2f} {bare:10.2f}"
+              f" {engine / slots:13.2f} {engine / bare:12.2f}")
     if any(len(given) != 1 for given in answers.values()):
         sys.exit("the programs gave different answers")
 

@@ -1,11 +1,11 @@
-#!/usr/bin/env python3
 """Times `transcript` on the networks of plan/ beside another build of the program, by turns.
 
-  run.py [--turns N] [--networks NAME,..] [--workers N,..] [--limit SECONDS] [PROGRAM [OTHER]]
+  python3 -S -m bench.transcript.run [--turns N] [--networks NAME,..] [--workers N,..] [--limit SECONDS]
+                                     [PROGRAM [OTHER]]
 
 Default: 5 turns, every network with 1 and 4 workers and capacity 4, 120 seconds a run, PROGRAM as `./forestplan` builds
 it, and OTHER the same: then the ratio says how much two runs of one program differ. The program of baseline/ has no
-`transcript`. For a look: `run.py --turns 1 --networks myciel5,queen8_8`.
+`transcript`. For a look: `python3 -S -m bench.transcript.run --turns 1 --networks myciel5,queen8_8`.
 
 Writes each network from its definition in graphs.py to a folder of its own, which is removed, and lets both programs
 write to a file there. Prints for each the number of entries; the least and the median milliseconds of both programs and
@@ -25,10 +25,8 @@ import subprocess
 import sys
 import tempfile
 
-sys.path.insert(0, os.path.dirname(os.path.dirname(os.path.abspath(__file__))))
-
-import graphs
-from by_turns import TOP, agree, build_peak, mark, networks, programs_of, run_once, timed, times, words_of_command
+from bench import graphs
+from bench.by_turns import TOP, agree, build_peak, mark, networks, programs_of, run_once, timed, times, words_of_command
 
 CHECK = os.path.join(TOP, "bin", "check-transcript")
 SMALL = 1_500_000

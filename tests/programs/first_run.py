@@ -327,9 +327,9 @@ class FirstRun(Case):
                 found += [os.path.join(at, file) for file in files if is_called(os.path.join(at, file))]
         path = ":".join(part for part in os.environ["PATH"].split(":") if not os.path.exists(os.path.join(part, "rt")))
         for script in sorted(found):
-            # Those of a package are called as its modules.
+            # Those of a package are called as its modules; a program of bench/peers needs nothing beside it.
             name = os.path.relpath(script, top).removesuffix(".py").removesuffix("/__main__")
-            words = [script] if name.startswith("bench") else ["-m", name.replace("/", ".")]
+            words = [script] if name.startswith("bench/peers/python") else ["-m", name.replace("/", ".")]
             done = subprocess.run([sys.executable, *words, "--help"], stdin=subprocess.DEVNULL, capture_output=True,
                                   text=True, timeout=LIMIT, cwd=top, env=dict(os.environ, PATH=path, COLUMNS="120"))
             good = done.returncode == 0 and len(done.stdout) > 60 and not done.stderr
