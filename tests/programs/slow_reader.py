@@ -1,8 +1,9 @@
-"""What each command answers to any bytes, slow and plain: the texts are read here as docs/claim/FORMATS.md says and
-nowhere else, byte by byte; what is written of a text that has no fault comes from the other definitions beside this
-file.
+"""What each command answers to any bytes, slow and plain: the texts are read here as docs/claim/FORMATS.md says, byte
+by byte; what is written of a text that has no fault comes from the definitions.
 
-An answer is (status, standard output, standard error)."""
+The reader of networks shares nothing with lab/networks/network_text.py, so that the programs are judged by a reader
+that no user's command has, and that one too (two_readers.py). An answer is (status, standard output, standard error).
+"""
 import functools
 
 from lab.definitions.colours import Network, forests_text, network_of, plan_text
@@ -22,7 +23,7 @@ FORMATS, EVENTS = (b"edge", b"edges", b"col"), (b"pulse", b"put", b"take")
 
 
 class Fault(Exception):
-    """A fault of the input, in the words that stand behind the program's name."""
+    """A fault of the input, in the words that the program prints after its name."""
 
 
 class Stopped(Exception):
@@ -39,8 +40,8 @@ def answer_to(command, data):
 
 
 def rows_of(data):
-    """The fields of each line. Only a line feed ends a line, only spaces and tabs stand between fields, and one
-    carriage return at the end of a line is no part of it."""
+    """The fields of each line. Only a line feed ends a line, only spaces and tabs separate fields, and one carriage
+    return at the end of a line is no part of it."""
     return [
         [field for field in line.removesuffix(b"\r").replace(b"\t", b" ").split(b" ") if field]
         for line in data.split(b"\n")
