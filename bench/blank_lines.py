@@ -9,12 +9,11 @@
       PROGRAM   default: the built forestplan
       PLAY      default: the built forestplay
 
-The lines come through a pipe. They stand inside the network, behind it (before the last row, event or entry), or before
-a line that is faulty. Prints for each run the seconds, those of the processor, the nanoseconds of the processor for a
-byte, and the peak memory as a multiple of the input. The whole input is in memory at once, and one run is made at a
-time. Ends with status 1 if an answer isn't the one that docs/claim/FORMATS.md gives, by the slow reader of tests/ on
-the input without these lines; a run that needs more address space has the line `memory`, and counts as another answer.
-It needs a C compiler, cc.
+The lines come through a pipe: inside the network, after it (before the last row, event or entry), or before a faulty
+line. Prints for each run the seconds, the processor's seconds and its nanoseconds for a byte, and the peak memory as a
+multiple of the input. The whole input is in memory at once, and one run is made at a time. Ends with status 1 if an
+answer isn't the one that docs/claim/FORMATS.md gives, by the slow reader of tests/ on the input without these lines; a
+run that needs more address space has the line `memory`, and counts as another answer. It needs a C compiler, cc.
 """
 import argparse
 import contextlib
@@ -36,7 +35,7 @@ BLANK = ("blank", "return")
 NETWORK = b"p edge 2 1\n"
 EDGE = NETWORK + b"e 1 2\n"
 ENTRY = b"payload 0 hello 1\n"
-# Of each command what stands before the lines, and what behind them; and whether comments may be there.
+# Of each command what comes before the lines, and what after them; and whether comments may be there.
 INPUTS = {
     "forests": [("network", NETWORK, b"e 1 2\n", True), ("end", EDGE, b"", True), ("fault", NETWORK, b"e 1 1\n", True)],
     "check": [
@@ -58,7 +57,7 @@ INPUTS = {
 
 
 def wanted(command, place, before, behind, lines):
-    """The answer by the slow reader. Lines that say nothing change no answer, but the number of a line behind them."""
+    """The answer by the slow reader. Lines that say nothing change no answer, but the number of a line after them."""
     status, output, errors = answer_to(command, before + behind)
     if place == "fault":
         errors = re.sub(rb"line (\d+)", lambda found: b"line %d" % (int(found[1]) + lines), errors, count=1)
@@ -66,7 +65,7 @@ def wanted(command, place, before, behind, lines):
 
 
 def fed(peak, words, before, behind, kind, mebibytes, most):
-    """The answer; seconds, those of the processor, and peak memory in bytes."""
+    """The answer; seconds, processor seconds, and peak memory in bytes."""
     block = LINES[kind] * (MEBIBYTE // len(LINES[kind]))
     last = b"\n" if kind == "long" else b""
     counted, begun = peak + ".count", time.perf_counter()

@@ -137,7 +137,7 @@ def toolchain():
     rt = command_as_module()
     rt.Crate.allowed = rt.handles_of(TOP)
     rt.Crate.cuts_libraries = True
-    # What lies below a crate is told by the keys above.
+    # The keys above say what is below a crate.
     rt.Crate.stamp = lambda crate: ""
     rt.rtlib.Crate = rt.Crate
     return rt

@@ -32,7 +32,7 @@ def commands_of(name, text):
 
 
 def as_roff(text):
-    """A text that is printed as it stands, line by line."""
+    """A text that is printed line by line, unchanged."""
     lines = [line.replace("\\", "\\e").replace("-", "\\-") for line in text.rstrip("\n").split("\n")]
     return ".nf\n" + "".join(("\\&" if line[:1] in (".", "'") else "") + line + "\n" for line in lines) + ".fi\n"
 

@@ -35,7 +35,7 @@ from build.reckoning import jobs_with_room, measured_seconds, processors, second
 from build.shown import Shown
 
 LOGS = os.path.join(TOP, "out", "build")
-# A crate lowers its priority by WAY steps if the chain behind it is shorter than NEAR of the longest.
+# A crate lowers its priority by WAY steps if the chain of crates that wait for it is shorter than NEAR of the longest.
 WAY, NEAR = 19, 0.8
 # To prove these is mostly to read the crates below, and to compile, which more processes don't shorten.
 PROGRAMS = ("forestplan", "forestplay")
@@ -74,12 +74,12 @@ class Proving:
             self.begin(crate)
 
     def share_behind(self, crate):
-        """The length of the chain behind a crate, as a share of the longest."""
+        """The length of the chain of crates that wait for a crate, as a share of the longest."""
         return self.behind[crate] / max(self.behind[other] for other in [*self.left, *self.running])
 
     def processes_for(self, crate):
         """How many processes prove a crate. Each one loads what lies below anew, so one more costs 12 to 40 seconds.
-        The crate with the longest chain behind it gets three, and one that begins while at most one other runs two.
+        The crate with the longest chain gets three, and one that begins while at most one other runs two.
         Small crates and programs get one.
         """
         if self.seconds[crate] < SMALL or crate in PROGRAMS:
@@ -88,7 +88,7 @@ class Proving:
         return min(processors(), most)
 
     def begin(self, crate):
-        """Begins a crate, which gives way to others if the chain behind it is much shorter than the longest."""
+        """Begins a crate, which gives way to others if its chain is much shorter than the longest."""
         way = [] if self.share_behind(crate) >= NEAR else ["nice", "-n", str(WAY)]
         words = [
             sys.executable,

@@ -5,7 +5,7 @@
 
 The crate is proved from nothing over the statements of the libraries below it, by the gate's functions of the
 toolchain's command, and what it states, or the program, goes into the store (kit.py) under the key of it that prove.py
-found. The KEYs are those of all crates, as NAME=KEY. With --kept the library is built in the crate's out/ over what
+found. There is a KEY for each crate, as NAME=KEY. With --kept the library is built in the crate's out/ over what
 earlier checks kept there, and keeps its work for `rt check`.
 
 It ends as soon as its standard input does, and what it has started with it. The status is 0 if the crate is proved,

@@ -5,9 +5,9 @@ the same libraries. So the store has a folder like a checkout, `checkout/crates/
 each library, and the stamp of its text. It is offered to `rt` by rt's own function, which compares the formats of all
 that is below. What the gate proves rests on none of it: it builds anew.
 
-A library of the store fits those below it as the store has them. If a checkout has such a one above, and takes one
-below of the same text from another checkout, `rt check` refuses it (`unusable-built-library`): remove
-`crates/*/out/rlib`, and all come from the store again.
+A library of the store fits the store's libraries below it. If a checkout has it, and takes one below of the same text
+from another checkout, `rt check` refuses it (`unusable-built-library`): remove `crates/*/out/rlib`, and all come from
+the store again.
 """
 import copy
 import os

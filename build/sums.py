@@ -22,8 +22,8 @@ def text_of(folder: str) -> str:
 
 
 def read(folder: str) -> dict[str, str]:
-    """The sum of each file by its path, as the folder's own list has it; nothing if there is none. Paths that lead out
-    of the folder are passed over."""
+    """The sum of each file by its path, as the folder's own list has it; nothing without a list. Paths that lead out of
+    the folder are passed over."""
     try:
         with open(os.path.join(folder, NAME), encoding="utf-8") as file:
             lines = file.read().split("\n")

@@ -16,8 +16,8 @@ LAB = ("__init__.py", "door.py", "version.py")
 HELP = """\
 Copies crates of this tree, and all below them, into another repository.
 
-A crate goes to crates/NAME there, and its line into crates.txt, which is made if there
-is none. A crate that is there already stays if it says the same; if it says anything
+A crate goes to crates/NAME there, and its line into crates.txt, which is made if it
+isn't there. A crate that is there already stays if it says the same; if it says anything
 else, nothing is copied, unless --replace is given. Then write a line of your own, as
 mine: node_api interference sync_rounds
 and `rt try`, `rt check` and `rt ci` work there. With --build the folder build/ goes

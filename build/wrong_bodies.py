@@ -73,7 +73,7 @@ def tried(rt, crate, edits, keys, end):
 
 
 def said_of_each(rt, crate, edits):
-    """What the gate says of each edit, which it tries over what a check has proved of the crate as it stands."""
+    """What the gate says of each edit, which it tries over what a check has proved of the unchanged crate."""
     flags = ["--jobs", "1"]
     if hasattr(rt, "must_fail_all"):
         # Some kits have one function for this.
@@ -131,7 +131,7 @@ def main():
         "-j", "--jobs", type=int, default=prove.jobs_with_room(), help="how many lists are tried side by side"
     )
     words.add_argument(
-        "--minutes", type=float, default=float("inf"), help="begin no list later than so many minutes from now"
+        "--minutes", type=float, default=float("inf"), help="begin no list later than this many minutes from now"
     )
     words.add_argument("--since", metavar="REV", help="only what a change since the commit REV may concern")
     words.add_argument("crates", nargs="*", metavar="CRATE")

@@ -1,4 +1,4 @@
-"""Times one put and one take of a link beside the queues that it stands on: crossbeam's array queue in plain Rust, and
+"""Times one put and one take of a link beside the queues that it is made of: crossbeam's array queue in plain Rust, and
 the kit's ruled queue under the rule that asks nothing.
 
   python3 -S -m bench.links.run [FOLDER]
@@ -134,7 +134,7 @@ def run(program):
 
 
 def peak(*words):
-    """The greatest memory of the process, in bytes; at least that of this one."""
+    """The greatest memory of the process, in bytes; at least as much as this one has."""
     started = subprocess.Popen(words, stdout=subprocess.DEVNULL)
     _, status, used = os.wait4(started.pid, 0)
     started.returncode = os.waitstatus_to_exitcode(status)

@@ -61,7 +61,7 @@ def build(folder, program):
 
 
 class Runs:
-    """The runs of one program on one network with so many processors."""
+    """The runs of one program on one network with a number of processors."""
 
     def __init__(self):
         self.seconds, self.used, self.memory, self.is_right = [], [], 0.0, True
@@ -87,7 +87,7 @@ class Runs:
 
 
 def words_on(name, words, processors):
-    """The words that run a program on so many processors, or None if it has one thread and there are more."""
+    """The words that run a program on a number of processors, or None if it has one thread and there are more."""
     if processors > 1 and name in SINGLE:
         return None
     if name == "plan":

@@ -16,7 +16,7 @@ of entries.
 Nothing forces two runs to be in the same order, so the bytes differ. But every whole run of a network has the same
 number of entries and puts the same payloads on each link: these lines, sorted, have to be the same in all runs of both
 programs. Of a network with at most SMALL entries lab/transcripts/check.py checks the first transcript of each program
-as well. Ends with status 1 if the payloads or the numbers of entries differ, a transcript isn't that of a whole run, or
+as well. Ends with status 1 if the payloads or the numbers of entries differ, a transcript isn't of a whole run, or
 a program failed or took longer than the limit.
 """
 import hashlib

@@ -143,7 +143,7 @@ def merge(net: Network, f: int, old: Colours) -> Colours:
 
 def merged(net: Network, f: int, old: Colours, colour_in_f: Colours) -> Colours:
     """The list that its own equation gives back: each vertex has the least colour of 0 to the span that is not barred
-    at it and not among those of the neighbours that it looks at. There is one such list, since these have lower pairs;
+    at it and that no neighbour has at which it looks. There is one such list, since these neighbours have lower pairs;
     the equation is applied until it holds."""
     pair = {v: (colour_in_f[v], old[v]) for v in old}
     looked_at = {v: [w for w in ws if net.number[frozenset((v, w))] <= f and pair[w] < pair[v]]

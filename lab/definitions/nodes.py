@@ -5,7 +5,7 @@ refused, an event that isn't possible) raises `Refused`.
 A vertex is a number from 1. Its ports are numbers from 0: port 0 goes to its neighbour with the least number. A pulse
 is a number from 0, a forest and a colour too.
 
-A payload is (kind, number), the kind being "Hello", "Label", "Colour" or "Chosen"; None stands for no payload. A wire
+A payload is (kind, number), the kind being "Hello", "Label", "Colour" or "Chosen"; None is no payload. A wire
 is a tuple: ("Payload", pulse, (kind, number)), ("Ack", pulse), ("Safe", pulse) or ("Close",). An event is
 ("Pulse", vertex, None), ("Put", vertex, port) or ("Take", vertex, port)."""
 from collections.abc import Iterator
@@ -109,8 +109,8 @@ class Colouring:
         return [None] * self.degree if pulse == 12 else self.colours_sent()
 
     def merge(self, t: int, inbox: list[Slot]) -> list[Slot]:
-        """Merge step t, from 0, so pulse 13 + t: a node whose colours are the step's pair chooses, and tells it to its
-        neighbours in the forests merged so far."""
+        """Merge step t, from 0, so pulse 13 + t: a node whose colours are the step's pair chooses, and sends its
+        choice to its neighbours in the forests merged so far."""
         width = self.span + 1
         forest, step = divmod(t, 3 * width)
         if step == 0:
@@ -319,7 +319,7 @@ def named(names: list[int]) -> str:
 
 
 def missing_words(state: NetState, kind: str, v: int, port: int | None = None) -> str:
-    """What stands behind the line of an event that isn't possible: the wires of the pulse that are still to come, or
+    """What comes after the line of an event that isn't possible: the wires of the pulse that are still to come, or
     the out-list or the link that is empty."""
     if v not in state.nodes or port is not None and port >= len(state.nodes[v].ports):
         return ""
@@ -343,7 +343,7 @@ def event_of(state: NetState, entry) -> tuple:
 
 
 def entry_words(state: NetState, entry, refused: Refused) -> str:
-    """What stands behind the line of a refused entry: what its event lacks, or the pulse or wire to which its event
+    """What comes after the line of a refused entry: what its event lacks, or the pulse or wire to which its event
     comes."""
     if str(refused) == "NoSuch":
         return ""

@@ -1,4 +1,4 @@
-"""Real channel numbers (36, 40, 44, ..) beside those of a plan, which count from 1; and the command `bin/channels`."""
+"""Real channel numbers (36, 40, 44, ..) beside a plan's, which count from 1; and the command `bin/channels`."""
 import argparse
 import re
 import sys
@@ -7,11 +7,11 @@ from lab.networks.listed import clean
 from lab.networks.network_text import MAX_CHANNEL, shown, whole
 from lab.wrong import Wrong, wrong_line
 
-# Real numbers of channels, as frequencies in kHz are, have at most so many digits.
+# The most digits of a channel's real number, such as a frequency in kHz.
 MOST_DIGITS = 12
 
 HELP = """\
-Puts real channel numbers in place of those of a plan, or the other way round.
+Puts real channel numbers in place of a plan's channels, or the other way round.
 
 A plan counts channels from 1. TABLE has the real number of channel 1, then of channel
 2, and so on: `36 40 44 48`, or `1-13`, or `36-64/4` for each fourth. The plan is read

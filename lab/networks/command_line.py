@@ -67,7 +67,7 @@ COMMANDS = {
     ),
     "disk": (
         "Places by chance in a square; two are joined if they are near.",
-        "So transmitters interfere that stand near each other (a unit-disk graph).",
+        "So transmitters interfere that are near each other (a unit-disk graph).",
         "bin/network disk 30 --reach 0.26 --seed 5 > masts.col",
     ),
     "random": (

@@ -13,12 +13,12 @@ from lab.networks.texts import Made, text_of
 from lab.programs import TOP
 from lab.wrong import Wrong
 
-# Up to so many nodes times pulses the rounds are worked out here, in less than a second; above them `forestplay rounds`
-# is asked, and if it isn't built they are worked out here up to so many, in some seconds.
+# The most nodes times pulses for which the rounds are worked out here, in about a second. Above that `forestplay rounds`
+# is asked; if it isn't built, they are worked out here up to the second number, in some ten seconds.
 MOST_AT_ONCE, MOST_HERE = 300_000, 5_000_000
 # The last pulse before the merges.
 LAST_COLOUR = 12
-# Up to so many wires nobody waits for a run.
+# The most wires of a run for which nobody waits.
 AN_INSTANT = 100_000
 
 
@@ -165,8 +165,8 @@ def times(run):
 
 
 def processor_seconds_for(run, command):
-    """About how many seconds of processor time `plan` or `transcript` takes for a run, by its wires and those of a
-    smaller one that is made now; None if the program isn't built."""
+    """About how many seconds of processor time `plan` or `transcript` takes for a run, by its wires and by a
+    smaller run that is made now; None if the program isn't built."""
     known, program = network_for_time(), built("forestplan")
     if not program:
         return None

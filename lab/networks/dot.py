@@ -1,5 +1,5 @@
 """The nodes and edges of a graph in the language DOT of Graphviz. Attributes, ports and directions are left out, and a
-subgraph in braces at an end of an edge stands for all its nodes."""
+subgraph in braces at an end of an edge means all its nodes."""
 import re
 
 from lab.networks.listed import Listed

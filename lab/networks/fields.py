@@ -33,6 +33,6 @@ def why_no_number(fields, names):
             return f"{name} is missing"
         if whole(fields[at]) is None:
             if "\r" in fields[at]:
-                return "a carriage return stands inside the line, and only a line feed ends one"
+                return "a carriage return is inside the line, and only a line feed ends one"
             return f"`{shown(fields[at])}` is no number"
     return None

@@ -21,7 +21,7 @@ def plain(tag: str) -> str:
 
 
 def read(text: str, name: str) -> Listed:
-    """Its nodes and edges; those of graphs inside nodes too."""
+    """Its nodes and edges, and the nodes and edges of graphs inside nodes."""
     if "<!ENTITY" in text or "<!DOCTYPE" in text:
         raise Wrong(f"{name}: GraphML with a document type or entities isn't read")
     try:

@@ -22,14 +22,14 @@ def check_room(nodes, edges=0):
 
 
 def checked(nodes, edges):
-    """The edges as a set, if a network may have so many, and so many neighbours of a node."""
+    """The edges as a set, if neither they nor a node's neighbours are more than a network may have."""
     found, degrees = set(), [0] * (nodes + 1)
     for v, w in edges:
         found.add((v, w))
         degrees[v] += 1
         degrees[w] += 1
         if len(found) > MAX_EDGES:
-            raise Wrong(f"that would be more than {MAX_EDGES} edges, and a network has at most so many")
+            raise Wrong(f"that would be more than {MAX_EDGES} edges, the most that a network has")
         if max(degrees[v], degrees[w]) > MAX_DEGREE:
             raise Wrong(
                 f"that would be more than {MAX_DEGREE} neighbours of node {v if degrees[v] > MAX_DEGREE else w}"

@@ -5,7 +5,7 @@ from dataclasses import dataclass, field
 
 from lab.wrong import Wrong
 
-# No network within the limits needs so many bytes in any form.
+# More bytes than a network within the limits needs in any form.
 MOST_BYTES = 1 << 28
 # How files begin that are no text.
 NO_TEXT = {b"PK\x03\x04": "an Excel or OpenDocument file, or a ZIP archive: save the sheet as CSV",

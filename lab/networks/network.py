@@ -1,4 +1,4 @@
-"""`bin/network`: makes networks, reads other forms of them, numbers their nodes anew, tells what they are, and puts
+"""`bin/network`: makes networks, reads other forms of them, numbers their nodes anew, says what they are, and puts
 names back on a plan. Nothing of it is proved: what is claimed of a plan begins at the bytes of the network's text."""
 import csv
 import io

@@ -23,7 +23,7 @@ class Network:
     `given[v]` is the place (x, y) of a comment line `c at V X Y`, y growing downwards, and `names[v]` the name of `c
     name V NAME`; `said[v]` is the identifier of the line `i V NUMBER`, and `identifiers[v]` that or v; `bars[v]` has
     the channels of lines `b V CHANNEL`, ascending, and is there for the vertices that have some. `span` is the greatest
-    number of neighbours and the greatest number of bars of a vertex together: so many channels and one are enough."""
+    number of neighbours and the greatest number of bars of a vertex together: one channel more than that is enough."""
 
     def __init__(self, name, nodes, edges, given, names=None, identifiers=None, bars=None):
         self.name, self.nodes, self.edges, self.given, self.names = name, nodes, sorted(edges), given, names or {}
@@ -94,9 +94,9 @@ def check_vertices(path, line, fields, nodes):
     """Refuses what is no vertex, with the digits that the text has; of two, 0 first and then the greater one."""
     least, most = min(fields, key=whole), max(fields, key=whole)
     if whole(least) == 0:
-        raise wrong_line(path, line, "vertex 0 is none, since vertices count from 1 (F5)")
+        raise wrong_line(path, line, "there is no vertex 0, since vertices count from 1 (F5)")
     if whole(most) > nodes:
-        raise wrong_line(path, line, f"vertex {shown(most)} is none, since the `p` line has {nodes} (F5)")
+        raise wrong_line(path, line, f"there is no vertex {shown(most)}, since the `p` line has {nodes} (F5)")
 
 
 def edge_of(path, line, fields, nodes):
@@ -138,7 +138,7 @@ def bar_of(path, line, fields, read):
     """Vertex and channel of a `b` line."""
     v, channel = said_of_vertex(path, line, fields, read, "a barred channel", "b V CHANNEL")
     if not 1 <= channel <= MAX_CHANNEL:
-        what = f"channel {shown(fields[2])} is none that can be barred, which are 1 to {MAX_CHANNEL} (F13)"
+        what = f"channel {shown(fields[2])} can't be barred, only 1 to {MAX_CHANNEL} can (F13)"
         raise wrong_line(path, line, what)
     barred = read.bars.get(v, ())
     if channel not in barred and len(barred) == MAX_BARS:
@@ -149,7 +149,7 @@ def bar_of(path, line, fields, read):
 def unknown_line(path, line, field):
     """Of a line that begins like no line of a network."""
     if field.startswith("\ufeff"):
-        return wrong_line(path, line, "a byte order mark stands before the first word (F8)")
+        return wrong_line(path, line, "a byte order mark is before the first word (F8)")
     if "\0" in field or field.startswith("\ufffd"):
         return wrong_line(path, line, f"`{shown(field)}` is no text in ASCII; it may be UTF-16, or no text at all (F8)")
     return wrong_line(path, line, f"`{shown(field)}` begins no line of a network (F8)")

@@ -26,7 +26,7 @@ def read(text: str, name: str) -> Listed:
     try:
         graph = json.loads(text)
     except (ValueError, RecursionError) as why:
-        raise Wrong(f"{name}: it begins like JSON, and is none: {shown(str(why))}") from None
+        raise Wrong(f"{name}: it begins like JSON, and isn't JSON: {shown(str(why))}") from None
     links = next((graph[key] for key in LINKS if isinstance(graph.get(key), list)), None)
     nodes = graph.get("nodes")
     if links is None or not isinstance(nodes, list):

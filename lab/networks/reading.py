@@ -25,8 +25,8 @@ def listed_of(data, name, form=None, heading=None):
 
 
 def made_of(found, name):
-    """The network of what a text lists, the lines that say what was read and guessed, and those of what was left
-    out."""
+    """The network of what a text lists, the lines that say what was read and guessed, and the lines that say
+    what was left out."""
     by_text = found.nodes is not None and found.order is None
     order, by = numbered_by_text(found, name) if by_text else numbered(found)
     number = {node: v for v, node in order.items()}

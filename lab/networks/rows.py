@@ -97,7 +97,7 @@ def read_pairs(rows: Rows, name: str, separator: str | None, heading: bool | Non
 
 
 def refuse_others(body: Rows, name: str, separator: str | None) -> None:
-    """Refuses rows that may be no pairs: those of places, names beside numbers, or more than a pair and a weight."""
+    """Refuses rows that may be no pairs: places, names beside numbers, or more than a pair and a weight."""
     fields = [row for _, row in body]
     ones = [row[0] for row in fields]
     others = [row[1] for row in fields if len(row) > 1 and row[1]]

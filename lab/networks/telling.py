@@ -14,7 +14,7 @@ def steps_in_turn(network):
 
 
 def facts(reading, path):
-    """(name, what) of each line that is told; and warnings."""
+    """(name, what) of each line that `tell` prints; and warnings."""
     network = network_of_reading(reading, path)
     run = Run(network)
     degrees = [len(network.neighbours[v]) for v in network.vertices]

@@ -15,7 +15,7 @@ class Made:
 
 
 def decimal(number):
-    """At most three digits behind the point, none that are zeros at the end."""
+    """At most three digits after the point, without zeros at the end."""
     text = f"{number:.3f}".rstrip("0").rstrip(".")
     return "0" if text == "-0" else text
 

@@ -36,13 +36,13 @@ def unread(name: str, what: str, reader: str | None = None, otherwise: str = "")
 
 
 def refuse_rows(rows: list[tuple[int, list[str]]], text: str, name: str) -> None:
-    """Refuses rows of fields that are those of a form that is known and not read."""
+    """Refuses rows of fields in a form that is known and not read."""
     fields = [row for _, row in rows]
     mark = next((field for row in fields for field in row if field and not any(map(str.isalnum, field))), ":")
     if mark != ":":
         raise Wrong(f"{name}: `{shown(mark)}` is no name of a node; if it is: --as pairs, or --as adjacency")
     if any(field.count("(") != field.count(")") for row in fields for field in row):
-        raise Wrong(f"{name}: names in brackets with blanks or commas can't be told apart; "
+        raise Wrong(f"{name}: names in brackets with blanks or commas can't be separated; "
                     "networkx: nx.convert_node_labels_to_integers(G), or nx.write_graphml(G, FILE)")
     if is_trivial(text):
         raise unread(name, "TGF, nodes and then `#` and edges")

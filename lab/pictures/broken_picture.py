@@ -247,7 +247,7 @@ class OfMerge:
             svg.text(x, y + 3.5, v, 10, SOFT, "middle", halo=2.5, mark="number")
 
     def channels(self, svg, left, top, words, merged, upto, is_wrong):
-        """The channels after the forests up to a number, whose edges are grey; those of the last in ink."""
+        """The channels after the forests up to a number, whose edges are grey; the edges of the last in ink."""
         self.panel_title(svg, left, top, words)
         places, rounds = moved(self.places, left, top), self.blocks[0][1]
         for v, w in self.network.edges:

@@ -3,8 +3,8 @@ as nearly as the plane allows (stress majorisation: Gansner, Koren and North, Gr
 Only +, -, *, / and sqrt are used, and no random number, so that a network has one drawing on every machine."""
 from math import sqrt
 
-# Among so many vertices each pays attention to all others; among more, to those that are near and to some that are far
-# apart.
+# The most vertices of which each pays attention to all others; of more, each does so to near ones and to some that are
+# far apart.
 ALL_PAIRS = 120
 NEAR, LANDMARKS = 3, 32
 SWEEPS, STILL = 200, 0.001

@@ -22,7 +22,7 @@ def draw(network):
 
 
 def draw_map(svg, network, width, height, beside, top=TOP):
-    """The map in a box; names, identifiers and bars stand beside the circles."""
+    """The map in a box; names, identifiers and bars are beside the circles."""
     radius, least = (8.5, 6.5) if network.nodes > LARGE else (14, 9) if network.nodes > SMALL else (17, 11)
     places, radius = spaced(places_of(network), width - 2 * beside, height, MARGIN, radius, least)
     places = moved(places, beside, top)

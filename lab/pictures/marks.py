@@ -22,7 +22,7 @@ def channel_circle(svg, x, y, radius, channel, number=True, mark="channel"):
         svg.text(x, y + size * 0.36, channel, round(size, 1), fill, "middle", bold=True)
 
 
-# Of a vertex's barred channels so many are drawn, and behind them how many more there are.
+# The most barred channels of a vertex that are drawn; after them comes how many more there are.
 MOST_BARS = 4
 
 
@@ -111,7 +111,7 @@ def wire_arrow(svg, x1, y1, x2, y2, kind):
     svg.circle(x1, y1, 2.2 if kind == "payload" else 1.6, WIRES[kind])
 
 
-# Of a vertex's name so many letters are written beside its number, the last one an ellipsis if there are more.
+# The most letters of a vertex's name that are written beside its number, the last one an ellipsis if there are more.
 LONGEST_NAME = 12
 
 

@@ -6,7 +6,7 @@ from lab.pictures.svg import Svg, text_width
 from lab.wrong import Wrong
 
 LEFT, TOP, WIDTH = 64, 92, 1120
-# Above so many pulses a band is too narrow to be followed from node to node, and so many are drawn of a run that has
+# Above MOST_READABLE pulses a band is too narrow to be followed from node to node; USUAL are drawn of a run that has
 # more.
 MOST_READABLE, USUAL = 100, 40
 
@@ -76,7 +76,7 @@ def draw(run, pulses=None):
 
 
 def said_of(overview, network):
-    """What is seen; or, of more bands than can be told apart, how many they are."""
+    """What is seen; or, of more bands than can be followed, how many they are."""
     count = overview.last - overview.first + 1
     if count > MOST_READABLE:
         return f"{count} pulses, too many to follow one. Draw at most {MOST_READABLE} of them: --pulses A..B."

@@ -148,7 +148,7 @@ KINDS = {
     ),
     "schedules": (
         "Every order of events of a tiny network: its states as a lattice, one column an event.",
-        "At most four nodes and 200,000 states. Of long ones the first columns, or those of --events.\n"
+        "At most four nodes and 200,000 states. Of long ones the first columns, or the columns of --events.\n"
         "With a rule left out, up to the first event that goes wrong, which is red; with --events what\n"
         "comes after it, too.",
         "bin/picture schedules examples/triangle.col --events 0..24 > triangle-schedules.svg\n"
@@ -231,7 +231,7 @@ def usage_of(name):
 
 
 def add_options(kind, name):
-    """A stored text in place of the program's, and what the kind can be told."""
+    """A stored text in place of the program's, and the other options of the kind."""
     if name in OF_SPACE:
         return add_space_options(kind, name)
     if name == "map":

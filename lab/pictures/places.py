@@ -9,7 +9,7 @@ LARGEST_CIRCLE = 6
 # width.
 OF_CIRCLES, OF_SQUARES = 2.3, 2.95
 PUSHES, REFITS = 200, 12
-# A text of about this half width stands as near to its vertex at the side as above it; a wider one is moved aside.
+# A text of about this half width is as near to its vertex at the side as above it; a wider one is moved aside.
 SHORT, LITTLE = 5, 1.5
 FULL_TURN = 6.283185307179586
 

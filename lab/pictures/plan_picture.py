@@ -8,7 +8,7 @@ from lab.wrong import Wrong
 
 SMALL, LARGE, LARGEST_NUMBERED = 12, 40, 100
 BAR, GAP = 10.5, 3
-# Of a vertex's barred channels so many stand in its title.
+# The most barred channels of a vertex that its title names.
 MOST_SAID = 12
 
 
@@ -72,7 +72,7 @@ def boxes_of(network, size):
 
 
 def draw_label(svg, network, v, x, y):
-    """A vertex's number and name, and behind them its barred channels, around a place."""
+    """A vertex's number and name, and after them its barred channels, around a place."""
     size, bars = size_of(network), network.barred(v)
     shift = (GAP + bars_width(bars, BAR)) / 2 if bars else 0
     svg.text(
@@ -90,7 +90,7 @@ def draw_label(svg, network, v, x, y):
 
 
 def said_of_bars(bars):
-    """The barred channels of a vertex in words, behind its channel."""
+    """The barred channels of a vertex in words, to come after its channel."""
     if not bars:
         return ""
     more = f" and {len(bars) - MOST_SAID} more" if len(bars) > MOST_SAID else ""

@@ -63,7 +63,7 @@ def columns_of(rounds, forests):
 
 
 def bars_room(network):
-    """How much room the longest row of barred channels takes, behind the circles of the channels after a merge."""
+    """How much room the longest row of barred channels takes, beside the circles of the channels after a merge."""
     return max((20 + bars_width(bars, BAR) for bars in network.bars.values()), default=0)
 
 

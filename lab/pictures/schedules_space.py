@@ -33,7 +33,7 @@ class CutSpace(Space):
 
 
 def space_of(network, kind, without=(), beyond=False):
-    """The space of a network that was read. With a rule left out it goes on behind what goes wrong if `beyond`, up to
+    """The space of a network that was read. With a rule left out it goes on after what goes wrong if `beyond`, up to
     the first of the numbers of `BROKEN_STATES` within which something does."""
     if without and beyond:
         for limit in BROKEN_STATES:
@@ -86,7 +86,7 @@ def fault_words(space, key=None):
 
 
 def quoted(words):
-    """The quotes of a picture for those of a terminal."""
+    """Words with a picture's quotes in place of a terminal's."""
     return re.sub("`([^`]*)`", "‘\\1’", words)
 
 

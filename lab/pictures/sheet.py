@@ -224,7 +224,7 @@ def command_line():
     words = argparse.ArgumentParser(prog="sheet", usage="sheet [options]", description=HELP, epilog=MORE_HELP,
                                     formatter_class=argparse.RawDescriptionHelpFormatter)
     words.add_argument("--seed", default="1", metavar="N", help="any word or number; 1 if none is given")
-    words.add_argument("--sheets", type=how_many, default=1, metavar="COUNT", help="so many sheets, N-1, N-2 and so on")
+    words.add_argument("--sheets", type=how_many, default=1, metavar="COUNT", help="how many sheets: N-1, N-2, ..")
     words.add_argument("--lesson", type=lesson, action="append", metavar="N",
                        help="the questions of this lesson alone; may be given again")
     words.add_argument("--answers", action="store_true", help="with the answers")

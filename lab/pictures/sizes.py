@@ -38,7 +38,7 @@ def last_pulse(network):
 
 
 def least_wires(network):
-    """A whole run has so many wires and two for each payload: a safe for each pulse but the last, each edge and each
+    """The wires of a whole run without the two for each payload: a safe for each pulse but the last, each edge and each
     end, and a close for each edge and each end."""
     return 2 * len(network.edges) * (last_pulse(network) + 1)
 

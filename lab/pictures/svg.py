@@ -37,7 +37,7 @@ class Svg:
         self.parts = []
 
     def element(self, name, text=None, **attributes):
-        """Adds an element; `mark` is its class, by which tests count it, and `_` in a name stands for `-`."""
+        """Adds an element; `mark` is its class, by which tests count it, and `_` in a name means `-`."""
         words = [name]
         for key, value in attributes.items():
             if value is not None:

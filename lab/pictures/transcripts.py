@@ -15,7 +15,7 @@ from lab.pictures.colouring import Rounds
 from lab.pictures.led_node import LedNode, defined
 from lab.wrong import Wrong, wrong_line
 
-# Texts of more lines are read only as far as the pulses that are drawn depend on them: so many pulses further at first,
+# Texts of more lines are read only as far as the pulses that are drawn depend on them: AHEAD pulses further at first,
 # and further still if nodes ran ahead of each other by more.
 LONG_TEXT, AHEAD = 100_000, 8
 
@@ -48,7 +48,7 @@ class Entry:
 
 class Run:
     """`entries[v]` in v's order; `last` is R; `whole`, whether every node is through with its last pulse; `read_to`,
-    the pulse up to which a long text was read, or None if it was read to its end; `edition`, that of the text."""
+    the pulse up to which a long text was read, or None if it was read to its end; `edition`, the text's edition."""
 
     def __init__(self, network, name, entries, rounds, edition):
         self.network, self.name, self.entries, self.rounds, self.edition = network, name, entries, rounds, edition
@@ -243,8 +243,8 @@ def set_in_time(run):
 
 
 def check_stamps(run):
-    """Each stamp has to be one more than that of the entry before at the node, and than that of the put if it is a
-    take. Of a part of a text, a take whose put is missing is left out, with all behind it."""
+    """Each stamp has to be one more than the last one of the node, and of a take also than the put's. Of a part of a
+    text, a take whose put is missing is left out, with all after it."""
     for v, listed in run.entries.items():
         stamp, pulse = 0, 0
         for at, entry in enumerate(listed):
@@ -278,7 +278,7 @@ def nodes_of(run):
 
 
 def read_transcript(text, name, network, until=None):
-    """The run that a transcript tells of, or what is wrong with it. Of a long text, with `until`, only what the pulses
+    """The run that a transcript records, or what is wrong with it. Of a long text, with `until`, only what the pulses
     up to that one depend on is read."""
     if until is not None and text.count("\n") > LONG_TEXT:
         ahead = AHEAD
@@ -309,7 +309,7 @@ def run_of(text, name, network, stop=None):
 
 
 def check_entries(run):
-    """Has each node make its entries, whose places in time are their stamps. The first that can't be made is refused."""
+    """Has each node make its entries, whose places in time are their stamps; refuses the first that can't be made."""
     faults = []
     for v, node in nodes_of(run).items():
         try:

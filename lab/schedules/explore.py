@@ -13,7 +13,7 @@ from lab.wrong import Wrong
 MOST_NODES, LIMIT, BYTES_A_STATE = 4, 1_000_000, 420
 MOST_ROW, MOST_MERGED = 12, 5
 
-# What stands in place of what a reduced search doesn't know.
+# What is printed in place of what a reduced search doesn't know.
 REDUCED = "reduced: a safe or close is taken at once, so schedules, pulses apart and wires under way aren't counted"
 
 HELP = f"""\
@@ -87,7 +87,7 @@ def command_line():
         "--without", type=rules_of, default=[], metavar="RULES", help="the rules to leave out, with commas between"
     )
     words.add_argument(
-        "--limit", type=positive, default=LIMIT, metavar="STATES", help=f"give up beyond so many states ({LIMIT})"
+        "--limit", type=positive, default=LIMIT, metavar="STATES", help=f"give up after this many states ({LIMIT})"
     )
     words.add_argument(
         "--events", action="store_true", help="write one list of events alone, as `forestplay events` reads it"

@@ -1,5 +1,5 @@
-"""A node under the synchroniser with rules left out, and the rounds that it should simulate. The rules are those of
-rules.OF_SCHEDULES; `fifo` is one of the links, so it is in space.py.
+"""A node under the synchroniser with rules left out, and the rounds that it should simulate. rules.OF_SCHEDULES
+has the rules; `fifo` is one of the links, so it is in space.py.
 
 What a pulse does with an inbox that no round has is the program's own matter: it refuses a payload that isn't due, and
 a missing one that is (docs/claim/DEFINITIONS.md, refusals of the colouring), and goes on otherwise."""

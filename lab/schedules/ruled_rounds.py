@@ -1,5 +1,5 @@
 """The rounds of the colouring with rules left out, as lists over the vertices, by the definitions; and the smallest
-network on which they go wrong. The rules are those of rules.OF_ROUNDS.
+network on which they go wrong. rules.OF_ROUNDS has the rules.
 
 They go wrong if a node has its parent's colour in a forest after a pulse, or if neighbours in the forests merged so far
 have one merged colour after a merge. What a forest's colours are depends, at each node, on its ancestors there alone,
@@ -100,7 +100,7 @@ class RuledRounds:
 
 
 def networks(nodes, without):
-    """The networks of so many nodes that are enough to try, those with fewer edges first: (edges)."""
+    """The networks of a number of nodes that are enough to try, with fewer edges first: (edges)."""
     if set(without) <= set(OF_FORESTS):
         for count in range(1, nodes):
             for lower in itertools.combinations(range(1, nodes), count):

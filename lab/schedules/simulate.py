@@ -42,7 +42,7 @@ and half a million one to several minutes.
 This is Python over slow definitions, written from the project's pages. It is tested,
 and not proved. `forestplay replay`, which is, accepts what it writes.
 
-Status: 0 done, 1 the network can't be read or a slow edge is none of it (one line on
+Status: 0 done, 1 the network can't be read or hasn't the slow edge (one line on
 standard error says why), 2 the command line is refused.
 
 Examples:
@@ -66,7 +66,7 @@ class Held:
 
 
 class Player:
-    """A run on its way. `steps[v]` are the steps that are possible at v; beside each list of wires stands when each was
+    """A run on its way. `steps[v]` are the steps that are possible at v; beside each list of wires is when each was
     added to it, by the number of steps made."""
 
     def __init__(self, net):
@@ -132,7 +132,7 @@ def played(net, policy="random", seed="1", slow=(), lazy=()):
 
 
 def text_of_rows(nodes, rows):
-    """The transcript of edition 2: its lines by stamp, and those of one stamp by node."""
+    """The transcript of edition 2: its lines by stamp, and lines of one stamp by node."""
     lines = [f"{stamp} {line}" for stamp, _, line in sorted(rows, key=lambda row: row[:2])]
     return "".join(line + "\n" for line in [f"transcript 2 {nodes}", *lines])
 

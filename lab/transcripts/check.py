@@ -30,7 +30,7 @@ them was possible when it came, with just the wire that it names, and if the run
 whole: all nodes have made their last pulse, nothing is left to be put, and no
 link holds a wire. One of edition 2 is right if the order of its lines is such an
 order, and each stamp is the one that Lamport's clock gives: one more than the last
-one of that node, and of a take also than that of the put.
+one of that node, and of a take also than the put's.
 """
 
 MORE_HELP = """\
@@ -88,8 +88,7 @@ def find_order(net, entries):
 
 def first_refused(found):
     """Of the entries that are next and not possible: the first that its own node can't make, whatever the others do;
-    and if they all wait for a neighbour, the first that waits for one which is through; and if there is none, the
-    first."""
+    if they all wait for a neighbour, the first that waits for one which is through; else the first."""
     def rank(entry):
         waits = found.refusals[entry.vertex] == "LinkEmpty"
         return waits, waits and entry.neighbour in found.left, entry.line
@@ -182,7 +181,7 @@ WHY = {"NoSuch": why_no_such, "NotReady": why_not_ready, "LinkEmpty": why_link_e
 
 
 def unfinished(nodes):
-    """What keeps nodes from being those of a whole run: a node, and what it hasn't done."""
+    """What the nodes lack for a whole run: a node, and what it hasn't done."""
     ends = [(v, port) for v, node in nodes.items() for port in node.all_ports]
     for v, node in nodes.items():
         if node.pulse != node.last:
@@ -209,7 +208,7 @@ def whole_run(net, text):
 
 
 def run_as_it_stands(net, text):
-    """The same for most transcripts of runs: lines are compared with what the nodes do, as they stand in the text.
+    """The same for most transcripts of runs: lines are compared with what the nodes do, byte for byte.
     None if they aren't a whole run so; then they have to be read with care."""
     head, *lines = text.split(b"\n")
     if lines[-1:] != [b""]:
@@ -316,7 +315,7 @@ def words_of_command():
              "edition 2 as it is",
     )
     words.add_argument("network", metavar="NETWORK.col", help="a network that `forestplan` reads without a fault")
-    words.add_argument("transcript", nargs="?", metavar="TRANSCRIPT", help="a file, or - for standard input; default: -")
+    words.add_argument("transcript", nargs="?", metavar="TRANSCRIPT", help="a file; - is standard input, the default")
     return words
 
 

@@ -1,4 +1,4 @@
-"""The fields of an entry of a transcript, and which of them is wrong if a line is none."""
+"""The fields of an entry of a transcript, and which of them is wrong if a line isn't one."""
 import functools
 
 # The word of each payload of the colouring, and the bound of its number.

@@ -7,7 +7,7 @@ from lab.definitions.nodes import wire_words
 from lab.transcripts.fields import PAYLOADS, number, why_no_entry
 
 # `kind` is Pulse, Put or Take; `what` is the number of the pulse, or the wire, as lab/definitions/nodes.py has it. A
-# pulse has no neighbour. `text` is the line as the search takes it, without the stamp; `stamp` is that of edition 2.
+# pulse has no neighbour. `text` is the line as the search takes it, without the stamp; `stamp` is in edition 2 alone.
 Entry = namedtuple("Entry", "line vertex kind neighbour what text stamp", defaults=[None])
 
 # The first line: where it is, and what it says.
@@ -76,7 +76,7 @@ def read_to_fault(text):
             if fields := fields_of(raw):
                 entries.append(READERS[head.edition](line, fields))
         except ValueError:
-            cut = ", and no line feed behind it (is the text cut?)" if line == len(lines) else ""
+            cut = ", and no line feed after it (is the text cut?)" if line == len(lines) else ""
             return head, entries, Wrong(line, "X1", f"not an entry: {why_no_entry(fields, head.edition)}{cut}")
     return head, entries, None
 

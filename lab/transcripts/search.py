@@ -3,7 +3,7 @@ are led by the entries of a text. What lab/transcripts/check.py checks with; `Ne
 the same, slow and plain.
 
 An entry is its line, as b"1 put 2 safe 3", with one space between fields and no zeros before a number; so a wire is
-compared as it stands, as b"safe 3"."""
+compared as bytes, as b"safe 3"."""
 from lab.definitions.nodes import Colouring, last_pulse, ports_of
 
 
@@ -143,7 +143,7 @@ class Search:
                 self.steps.append((node.vertex, first, node.at))
 
     def made(self, own):
-        """Of lists by vertex, beside those of the entries, the members of those made, in the order found."""
+        """Of lists by vertex, with a member for each entry, the members of the entries made, in the order found."""
         return [member for v, first, end in self.steps for member in own[v][first:end]]
 
     def is_whole(self):

@@ -1,4 +1,4 @@
-"""Transcripts of edition 2: their lines are a run in the order in which they stand, with the stamps of Lamport's
+"""Transcripts of edition 2: their lines are a run in their order, with the stamps of Lamport's
 clock. It is written from the pages in docs/ alone."""
 from collections import deque
 
@@ -27,7 +27,7 @@ class Clock:
 
 
 def check_stamped(net, head, entries, fault=None):
-    """Makes the entries one by one as they stand; raises the first fault. Each entry has to be possible with what it
+    """Makes the entries one by one in their order; raises the first fault. Each entry has to be possible with what it
     says, its stamp has to be the one that the clock gives, and it has to come after the entry before it by stamp and
     then by vertex. At the end every node has to be through, and every link empty. With `fault` the entries end there,
     at a line that isn't an entry."""
@@ -90,7 +90,7 @@ def what_is_left(state, what):
 
 
 def unfinished(state):
-    """What keeps a state from being that of a whole run."""
+    """What a state lacks for a whole run."""
     for v, node in state.nodes.items():
         if node.pulse_number != node.last:
             yield f"node {v} is at pulse {node.pulse_number} of {node.last}"
@@ -105,12 +105,12 @@ KINDS = {b"pulse": "Pulse", b"put": "Put", b"take": "Take"}
 
 
 def stamped_as_it_stands(net, lines):
-    """The nodes after the lines of a whole run with right stamps; None if they aren't one as they stand, byte for
-    byte; then they have to be read with care.
+    """The nodes after the lines of a whole run with right stamps; None if they aren't one byte for byte; then they
+    have to be read with care.
 
     The entries of each node are led to the end by a search, in some order. What a node does follows from how many of
     its entries were made, and a take needs nothing but that its wire was put. In the order of these lines it was: the
-    clock has a stamp for it. So the lines are a run as they stand."""
+    clock has a stamp for it. So the lines are a run in their order."""
     clock, own, last = Clock(net.neighbours), {v: [] for v in net.neighbours}, (0, 0)
     for line in lines:
         stamp, _, entry = line.partition(b" ")

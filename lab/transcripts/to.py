@@ -18,7 +18,7 @@ Writes a transcript of edition 2 for other tools.
 """
 MORE_HELP = """\
 Without TRANSCRIPT it is read from standard input. Only a take without a put before it
-and lines that are none of a transcript are refused: bin/check-transcript judges a run.
+and lines that no transcript has are refused: bin/check-transcript judges a run.
 
 In ShiViz, give this as the parser of the log:
   (?<host>\\S*) (?<clock>{.*})\\n(?<event>.*)

@@ -77,7 +77,7 @@ REFUSED = [
     ("JSON of cytoscape", '{"elements": {"nodes": [{"data": {"id": "a"}}], "edges": []}}', "cytoscape_graph"),
     ("JSON of a tree", '{"id": 0, "children": [{"id": 1}]}', "tree_graph"),
     ("a list in JSON", "[[0, 1], [1, 2]]\n", "JSON"),
-    ("JSON that is cut", '{"nodes": [{"id": 0}', "begins like JSON, and is none"),
+    ("JSON that is cut", '{"nodes": [{"id": 0}', "begins like JSON, and isn't JSON"),
     ("METIS", "10 15\n" + "".join(" ".join(str(w + 1) for w in BESIDE[v]) + "\n" for v in range(10)), "METIS"),
     ("METIS of a row", "3 2\n2\n1 3\n2\n", "METIS"),
     ("a matrix", "".join(" ".join(row) + "\n" for row in MATRIX), "a matrix"),
@@ -93,7 +93,8 @@ REFUSED = [
     ("prose", "The quick brown fox\njumps over the lazy\ndog and goes away\n", "--as pairs"),
     ("tuples of networkx", "(0, 0) 1\n(0, 1) {}\n(0, 1) 1\n(0, 0) {}\n", "convert_node_labels_to_integers"),
     ("nodes without neighbours, or pairs", "0 0\n1 0\n2 0\n", "--as pairs or --as multiline"),
-    ("a ring with weights, or five nodes that know two each", "1 2 3\n2 3 4\n3 4 5\n4 5 1\n5 1 2\n", "pairs with a weight"),
+    ("a ring with weights, or five nodes that know two each", "1 2 3\n2 3 4\n3 4 5\n4 5 1\n5 1 2\n",
+     "pairs with a weight"),
     ("the same from 0", "0 1 2\n1 2 3\n2 3 4\n3 4 0\n4 0 1\n", "--as adjacency"),
     ("names and numbers", "site,channel\nUlm,1\nAue,6\n", "names beside numbers"),
     ("a table with a number of each line", "link,one,other,km\n1,Ulm,Aue,5\n2,Aue,Hof,6\n", "--as pairs"),
@@ -175,9 +176,9 @@ class ForeignForms(Case):
         """A number is quoted as it is in the text, and a text that says fewer edges than it has isn't cut. That a
         program fails says nothing of the text."""
         for data, status, said in (
-            (b"p edge 3 1\ne 1 %s\n" % (b"9" * 36 + b"\n"), 1, b"vertex %s is none" % (b"9" * 36)),
-            (b"p edge 3 1\ne 1 %s\n" % (b"9" * 60), 1, b"vertex %s.. is none" % (b"9" * 37)),
-            (b"p edge 3 1\nb 1 %s\n" % (b"8" * 60), 1, b"channel %s.. is none" % (b"8" * 37)),
+            (b"p edge 3 1\ne 1 %s\n" % (b"9" * 36 + b"\n"), 1, b"there is no vertex %s," % (b"9" * 36)),
+            (b"p edge 3 1\ne 1 %s\n" % (b"9" * 60), 1, b"there is no vertex %s..," % (b"9" * 37)),
+            (b"p edge 3 1\nb 1 %s\n" % (b"8" * 60), 1, b"channel %s.. can't be barred" % (b"8" * 37)),
             (b"p edge 3 1\ne 1 2\ne 1 3\n", 0, b"the text has 2: does the line belong to another text?"),
             (b"p edge 3 5\ne 1 2\ne 1 3\n", 0, b"says 5 edges, and the text has 2: is it cut?"),
         ):

@@ -53,8 +53,8 @@ class Sites(Case):
         self.note("north is on top, and east is right",
                   places[1][1] > places[3][1] > places[4][1] and places[4][0] < places[1][0] < places[2][0], places)
         self.note("the program reads it", run_program(PLAN, ["forests"], wrote).stdout.startswith(b"forests 4 1\n"))
-        self.refused("what is left out, if that is asked for", "--strict is asked for: 1 line left out, with a site", pairs,
-                     "--sites", sites, "--strict")
+        self.refused("what is left out, if that is asked for", "--strict is asked for: 1 line left out, with a site",
+                     pairs, "--sites", sites, "--strict")
 
     def test_spreadsheets(self):
         """A table as spreadsheets of some countries write it: semicolons, decimal commas, a mark, carriage returns."""

@@ -108,7 +108,7 @@ class Transcripts(unittest.TestCase):
     def test_a_text_that_ends_inside_a_line(self):
         self.assertEqual(said("transcript 2 2|1 1 put 2 pay"),
                          "line 2: X1: not an entry: `pay` is no wire, which are payload, ack, safe, close, and no "
-                         "line feed behind it "
+                         "line feed after it "
                          "(is the text cut?)")
 
     def test_the_command_is_found_through_a_link(self):
