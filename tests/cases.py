@@ -34,7 +34,7 @@ class Case(unittest.TestCase):
 
 
 def text(lines):
-    """Bytes of a text in which '|' stands for a line feed."""
+    """Bytes of a text in which '|' is a line feed."""
     return lines.replace("|", "\n").encode("latin-1")
 
 

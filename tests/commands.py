@@ -1,4 +1,4 @@
-"""The one table of all commands: those of the programs, and the scripts of bin/ with theirs.
+"""The one table of all commands: the programs' commands, and the scripts of bin/ with theirs.
 
 Each has a small input and the answer to it, worked by hand. What tests every command reads it from here, and
 tests/programs/commands.py fails if a command is missing. In the texts '|' is a line feed."""

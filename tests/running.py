@@ -1,4 +1,4 @@
-"""Finds the tests, and runs those of one module in this process; tests/__main__.py calls it for each module.
+"""Finds the tests, and runs one module's in this process; tests/__main__.py calls it for each module.
 
   python3 -m tests.running [--first] MODULE [TEST ..]
 
@@ -15,7 +15,7 @@ import unittest
 from tests import TOP
 from tests.cases import Wrong
 
-# The folders of tests/ that come first in the report; others come after them, and those of by_hand/ are no part of it.
+# The folders of tests/ that come first in the report; others come after them, and by_hand/ is no part of it.
 FOLDERS = ("programs", "faults", "pictures", "pages")
 
 
@@ -46,7 +46,7 @@ def is_helper(module):
 
 
 def tests_of(module):
-    """The tests of a module by their names, `MODULE.CLASS.test_x`; those of a class that it imports aren't its own."""
+    """The tests of a module by their names, `MODULE.CLASS.test_x`; a class that it imports isn't its own."""
     there = importlib.import_module(f"tests.{module}")
     found = {}
     for _, case in inspect.getmembers(there, inspect.isclass):
@@ -57,7 +57,7 @@ def tests_of(module):
 
 
 class Counting(unittest.TestResult):
-    """Counts rows: those of a test, or the test itself if it has none."""
+    """Counts rows: a test's, or the test itself if it has no rows."""
 
     def __init__(self):
         super().__init__()

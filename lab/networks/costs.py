@@ -13,8 +13,9 @@ from lab.networks.texts import Made, text_of
 from lab.programs import TOP
 from lab.wrong import Wrong
 
-# The most nodes times pulses for which the rounds are worked out here, in about a second. Above that `forestplay rounds`
-# is asked; if it isn't built, they are worked out here up to the second number, in some ten seconds.
+# The most nodes times pulses for which the rounds are worked out here, in about a second. Above that
+# `forestplay rounds` is asked; if it isn't built, they are worked out here up to the second number, in ten seconds or
+# so.
 MOST_AT_ONCE, MOST_HERE = 300_000, 5_000_000
 # The last pulse before the merges.
 LAST_COLOUR = 12

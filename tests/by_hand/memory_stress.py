@@ -5,7 +5,7 @@ refused once threads run. It is no part of the gate. The last line is 'N passed,
       --runs N           how many runs; default 1000
       --first K          the number of the first run; default 1. What is printed on the way says how to go on after an
                          interruption
-      --minutes M        stop after so many minutes, if N runs take longer
+      --minutes M        stop after M minutes, if N runs take longer
       --seed SEED        of networks, workers and limits, with the number of the run; default 2026. Which growth of
                          which thread is refused is another one in each run
       --jobs J           how many runs there are side by side; default: half the processors

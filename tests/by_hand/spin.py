@@ -1,5 +1,5 @@
 #!/usr/bin/env python3
-"""Searches a model in Promela (bench/spin/alpha.pml) with Spin, and compares its counts with those of bin/explore. The
+"""Searches a model in Promela (bench/spin/alpha.pml) with Spin, and compares its counts with bin/explore. The
 last line is 'N passed, M failed'.
 
   python3 -m tests.by_hand.spin [--all]

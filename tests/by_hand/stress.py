@@ -5,7 +5,7 @@ checks each transcript. It is no part of the gate. The last line is 'N passed, M
       --runs N           how many runs; default 1000
       --first K          the number of the first run; default 1. What is printed on the way says how to go on after an
                          interruption
-      --minutes M        stop after so many minutes, if N runs take longer
+      --minutes M        stop after M minutes, if N runs take longer
       --limit S          how many seconds a run may take; default 300. A run that takes longer is killed, and has failed
       --seed SEED        of networks and options, with the number of the run; default 2026. Which thread does what, and
                          when, is another thing in each run
@@ -134,7 +134,7 @@ def one_run(given, number):
 
 
 def all_runs(given):
-    """The counts of the runs. No run is left unfinished if the minutes are over: they are looked at behind each
+    """The counts of the runs. No run is left unfinished if the minutes are over: they are looked at after each
     batch."""
     end = None if given.minutes is None else time.monotonic() + 60 * given.minutes
     counts, after = Counter(failed=0), given.first + given.runs

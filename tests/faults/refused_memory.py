@@ -49,7 +49,7 @@ def refused_memory_rows(program, network, answer):
 
 
 def barred_networks(network):
-    """With identifiers and bars; and with so many bars that the nodes' sets of colours have boxes of their own."""
+    """With identifiers and bars; and with enough bars that the nodes' sets of colours have boxes of their own."""
     return [network + b"i 1 9\nb 3 1\nb 3 7\nb 1 2\ni 2 0\n",
             network + b"".join(b"b 1 %d\n" % channel for channel in range(1, 131))]
 
@@ -82,7 +82,7 @@ def count_and_bytes(front, folder, words, data=b"", refused=0, status=0):
 
 def sweep(program, front, words, data, wanted, own_name="forestplan", or_else=None):
     """Refuses growth 1, 2, .. until a run is as one without refusal. `wanted` is None if clap's text is the answer;
-    `or_else` is an answer that may come in place of that of memory."""
+    `or_else` is an answer that may come in place of the one for memory."""
     name = f"each growth refused in turn: {' '.join(words)}"
     memory = (4, b"", f"{own_name}: memory\n".encode())
     if wanted is None:

@@ -41,7 +41,7 @@ def refused_thread_rows(program, queens):
 
 
 class Counted:
-    """The program behind the libraries that refuse a growth or a thread."""
+    """The program under the libraries that refuse a growth or a thread."""
 
     def __init__(self, program, fronts, folder):
         self.program, self.front = program, ":".join(fronts)

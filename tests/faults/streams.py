@@ -17,8 +17,8 @@ from tests.settings import PLAN, PLAY
 LIMIT, PIECE = 60, 3
 INPUT, OUTPUT, ERRORS = range(3)
 
-# The program, the words, the input and the answer of each command, and of a transcript of the other edition; '|' stands
-# for a line feed.
+# The program, the words, the input and the answer of each command, and of a transcript of the other edition; '|' is a
+# line feed.
 CALLS = [(command.program, command.line, command.data, command.answer) for command in COMMANDS] + [
     ("forestplan", ["transcript", "--workers=2", "--edition=1"], APART,
      "transcript 1 2|" + "".join(f"{v} pulse {p}|" for v in (1, 2) for p in PULSES))
@@ -35,7 +35,7 @@ def pieces(data):
 
 
 class Broken:
-    """The programs behind the library that breaks a stream."""
+    """The programs under the library that breaks a stream."""
 
     def __init__(self, programs, folder):
         self.programs, self.counts = programs, os.path.join(folder, "counts")
@@ -50,7 +50,7 @@ class Broken:
         return (done.returncode, done.stdout, done.stderr), self.counted()
 
     def counted(self):
-        """The counts of the last run; none if it was killed, or isn't behind the library."""
+        """The counts of the last run; none if it was killed, or isn't under the library."""
         try:
             with open(self.counts, encoding="ascii") as file:
                 counts = [int(word) for word in file.read().split()]
@@ -87,7 +87,7 @@ class Streams(Case):
             self.help_rows(command)
 
     def read_rows(self, name, words, data, answer):
-        """One read more than the input has pieces meets its end, and the one behind that never comes."""
+        """One read more than the input has pieces meets its end, and the one after that never comes."""
         reads, wrong = pieces(data) + 1, []
         for call in range(reads + 1):
             got, counts = self.broken.run(name, words, data, INPUT, call)
@@ -97,7 +97,7 @@ class Streams(Case):
         self.note(f"{name} {' '.join(words)}: each of {reads} reads fails", not wrong, wrong[:2])
 
     def write_rows(self, name, words, data, answer, takes_none):
-        """The write behind the last piece never comes."""
+        """The write after the last piece never comes."""
         writes, wrong = pieces(answer), []
         for call in range(writes + 1):
             got, counts = self.broken.run(name, words, data, OUTPUT, call, takes_none)

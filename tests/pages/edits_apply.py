@@ -1,9 +1,9 @@
-"""Checks that each wrong body still applies: those of crates/NAME/must-fail/ and of crates/NAME/wrong-bodies/.
+"""Checks that each wrong body still applies, in crates/NAME/must-fail/ and in crates/NAME/wrong-bodies/.
 
 Nothing is compiled. By the text alone, of each edit:
 
 - it names a file of its crate below src/, specs/ or proofs/, and has a pair of an `old:` and a `new:` line;
-- each `old:` text stands exactly once in its file, as the pairs before it left that file, and the text is changed;
+- each `old:` text is exactly once in its file, as the pairs before it left that file, and the text is changed;
 - a path `name::item` of a `new:` text of code begins with a word that the file knows: a crate that crates.txt lists for
   this one, a module, an import or a type of the file, or one of the language. If it is a crate of this repository, its
   `src/lib.rt` names the item.
@@ -19,7 +19,7 @@ LANGUAGE = set(
     "std core crate self super Self bool char str i8 i16 i32 i64 i128 isize u8 u16 u32 u64 u128 usize".split()
 )
 
-# A path's first two words, if the first is written small. A call with types, `name::<T>(..)`, is none.
+# A path's first two words, if the first is written small. A call with types, `name::<T>(..)`, isn't one.
 PATH = re.compile(r"(?<![\w:])([a-z]\w*)::(\w+)")
 
 
@@ -96,7 +96,7 @@ def fault_of(crate, edit, listed):
 
 
 def edits():
-    """Each edit, with its crate: those of the gate, and the further ones."""
+    """Each edit, with its crate: the gate's, and the further ones."""
     crates = sorted(os.listdir(os.path.join(TOP, "crates")))
     for crate, folder in [
         (crate, os.path.join("crates", crate, name)) for crate in crates for name in ("must-fail", "wrong-bodies")

@@ -6,7 +6,7 @@
   lab/definitions/nodes.py), not from the program. tutorial_facts.py has the rest of what it says.
 - These definitions fit together: on small networks the rounds, and any order of events, end with the colours.
 - Each excerpt of code, a fence whose first line names its file, has its lines in that file, in this order; a comment
-  `..` stands for lines that are left out.
+  `..` means lines that are left out.
 - No crate is reached along more paths through crates.txt than build/paths.py allows.
 - README.md or docs/work/LAYERS.md names each crate. No line of a page is wider than 150 columns.
 - Each file named in backquotes exists, each link leads to a page and a heading, and each function and clause that
@@ -91,7 +91,7 @@ def played(net, rows):
 
 
 def greatest_colours(digits):
-    """The greatest colour after each of four bit steps from numbers of so many digits: in place i and its own digit,
+    """The greatest colour after each of four bit steps from numbers of that many digits: in place i and its own digit,
     1."""
     for _ in range(4):
         greatest = 2 * (digits - 1) + 1
@@ -100,7 +100,7 @@ def greatest_colours(digits):
 
 
 def tutorial_table(title, rows):
-    """What the rows of a table have to be, behind the first cell of each; None for a table that isn't worked out."""
+    """What the rows of a table have to be, after the first cell of each; None for a table that isn't worked out."""
     found = re.match(r"Forest (\d+) of `(.*)`, pulse by pulse:", title)
     if found:
         net, f = example(found.group(2)), int(found.group(1))

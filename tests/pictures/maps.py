@@ -45,7 +45,7 @@ def places_drawn(draw, network):
 
 
 def words_of_bars(net, v):
-    """What stands behind a vertex's channel: up to twelve of the barred ones."""
+    """What comes after a vertex's channel: up to twelve of the barred ones."""
     bars = [str(c + 1) for c in sorted(net.barred[v])]
     more = f" and {len(bars) - 12} more" if len(bars) > 12 else ""
     return f", barred {', '.join(bars[:12])}{more}" if bars else ""
@@ -272,7 +272,7 @@ class Maps(PictureCase):
 
     def bars_row(self, name, net, root, times):
         """Of each vertex the lowest four barred channels, crossed out, in the order of the vertices, and how many more
-        there are; all of it so many times."""
+        there are; all of it this many times."""
         of_all = times * [sorted(net.barred[v]) for v in sorted(net.barred)]
         wanted = [("bar", CHANNELS[c % 8], str(c + 1)) for bars in of_all for c in bars[:4]]
         shown = numbered(root, "bar")
@@ -454,7 +454,7 @@ class Maps(PictureCase):
         self.note(f"{name}: K", shown == [k for own in pairs for k in sorted({k for k, _ in own})], shown)
 
     def columns_row(self, name, root):
-        """Each head stands over its own columns: a shift over pulse 7, the drop of 5 over pulse 8, and so on."""
+        """Each head is over its own columns: a shift over pulse 7, the drop of 5 over pulse 8, and so on."""
         block = marks(root, "colours")[0]
         squares = [centre(mark)[0] for mark in block.iter() if mark.get("class") in ("colour", "alone")][:11]
         heads = marks(root, "group")[:len(HEADS)]
@@ -495,7 +495,7 @@ class Maps(PictureCase):
         self.note(f"bits of {name}: the next numbers", shown == wanted, shown)
 
     def player_rows(self, name, network):
-        """A frame for each pulse, ascending; in those of the colours a panel for each forest."""
+        """A frame for each pulse, ascending; in a pulse of the colours a panel for each forest."""
         net = network_of(network)
         text, last = rounds_text(net), last_pulse(net)
         page = self.draw("player", network, text)

@@ -49,7 +49,7 @@ def ends(element):
 
 
 def hue(element):
-    """The colour that speaks: of a ring that of its edge."""
+    """The colour that counts: a ring's is its edge's."""
     return element.get("stroke") if element.get("fill") == "#FFFFFF" else element.get("fill")
 
 

@@ -15,7 +15,7 @@ LETTER = 0.56
 
 
 def box_of(label):
-    """The left, right, upper and lower edge of a text that stands in the middle of its place."""
+    """The left, right, upper and lower edge of a text in the middle of its place."""
     x, y, size = (number(label, key) for key in ("x", "y", "font-size"))
     half = LETTER * size * len(label.text) / 2
     return x - half, x + half, y - 0.75 * size, y + 0.02 * size
@@ -35,7 +35,7 @@ class Names(PictureCase):
     needs_programs = False
 
     def label_rows(self, name, picture, deepest):
-        """No number covers a circle, another number or the picture's edge, but for so many pixels."""
+        """No number covers a circle, another number or the picture's edge, but for a number of pixels."""
         root = parsed(picture)
         labels, circles = marks(root, "number"), marks(root, "channel")
         width, height = (float(side) for side in root.get("viewBox").split()[2:])

@@ -149,7 +149,7 @@ class Pictures(PictureCase):
                          self.draw.run(kind, network, f"transcript 1 {nodes}\n{lines}".encode()), instead)
 
     def test_pulses(self):
-        """Pulses that the run doesn't have are refused, and of more than can be told apart the overview says how many
+        """Pulses that the run doesn't have are refused, and of more than can be followed the overview says how many
         they are."""
         text = transcript(APART, "pulses")
         last = int(re.findall(rb"pulse (\d+)", text)[-1])
@@ -262,7 +262,7 @@ class Pictures(PictureCase):
                 self.note(f"stored: {name}", (status, picture) == (0, file.read()), fault or "drawn anew it differs")
 
     def stored_text(self, words):
-        """The option and the text that stand for the program's; nothing if the command needs none, or names a stored
+        """The option and the text in place of the program's; nothing if the command needs none, or names a stored
         one."""
         if words[0] in ("schedules", "adversary", "broken", "watch") or any(
             word in ("--plan", "--rounds", "--transcript") for word in words

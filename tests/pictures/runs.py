@@ -241,7 +241,7 @@ class Runs(PictureCase):
         self.note(f"{name}: payloads go from pulse to pulse", not wrong, wrong[:2])
 
     def overview_rows(self, name, network, text, window=None):
-        """All pulses, or some: the ticks of them and of the next one, as far apart as their times; those of others are
+        """All pulses, or some: their ticks and the next pulse's, as far apart as their times; other pulses' ticks are
         grey."""
         last, times = last_pulse(network_of(network)), times_of(network, text)
         first, final = window or usual(last)

@@ -343,7 +343,7 @@ class Schedules(PictureCase):
         self.note(f"{name} without {without}: its words", good, words[:400])
 
     def beyond_rows(self, network, without, low, high):
-        """With --events, what comes behind the first event that goes wrong is there too: a node that has made a wrong
+        """With --events, what comes after the first event that goes wrong is there too: a node that has made a wrong
         pulse is red."""
         space = Space(network_of(network), without, beyond=True)
         root = parsed(
@@ -381,7 +381,7 @@ class Schedules(PictureCase):
         self.note("the run that is given is bold", [words for _, words in bold] == takes[:40], bold[:5])
         with open(path, "w", encoding="utf-8") as file:
             file.write("c a run\nput 1 0\ntake 2 0\ntake 2 0\n")
-        self.refused("a run that is none", "schedules", TWO, "--run", path,
+        self.refused("a text that is no run", "schedules", TWO, "--run", path,
                      words=b"line 4: `take 2 0` is not possible there")
 
     def refused(self, name, kind, network, *options, words=b'', status=1):

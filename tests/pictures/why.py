@@ -53,7 +53,7 @@ class ByHand(Case):
         status, said, fault = why("triangle", 2, "--text")
         self.assertEqual((status, fault), (0, ""))
         self.assertEqual(said.splitlines()[:len(HAND)], HAND)
-        # Node 2 is a root in forest 1: no parent told it a colour, and its own identifier is one of the two.
+        # Node 2 is a root in forest 1: no parent sent it a colour, and its own identifier is one of the two.
         self.assertIn("forest 1, node 2, a root, pulses 2 to 12: 2 0 0 0 0 1 1 0 0 1 1\n", said)
 
     def test_a_bar(self):

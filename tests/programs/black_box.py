@@ -95,7 +95,7 @@ class BlackBox(Case):
             ("complete graph on four", "p edge 4 6|e 1 2|e 1 3|e 1 4|e 2 3|e 2 4|e 3 4|",
              "forests 4 3|0 1 2|0 2 3|0 3 4|1 1 3|1 2 4|2 1 4|"),
             ("the lower vertex with the higher identifier", "p edge 2 1|i 1 7|e 1 2|", "forests 2 1|0 2 1|"),
-            ("identifiers changed about, behind the edges", "p edge 3 2|e 1 2|e 2 3|i 3 0 x|i 1 2|i 2 1|",
+            ("identifiers changed about, after the edges", "p edge 3 2|e 1 2|e 2 3|i 3 0 x|i 1 2|i 2 1|",
              "forests 3 1|0 2 1|0 3 2|"),
             ("no line feed at the end", "p edge 2 1|e 1 2", "forests 2 1|0 1 2|"),
             ("a triangle with a bar", TRIANGLE + "b 3 1|", TRIANGLE_FORESTS),
@@ -271,7 +271,7 @@ class BlackBox(Case):
                 self.expect(f"first {k} bytes", done, 0, text(answers[k]), b"")
 
     def test_edge_limit(self):
-        """400,000 different edges are read; the one after is told at its line, also behind repeats."""
+        """400,000 different edges are read; the one after is refused at its line, also after repeats."""
         pairs = [(v, v + d) for d in range(1, 21) for v in range(1, 20001 - d)][:400_001]
         pairs += [(v, v + 21) for v in range(1, 400_002 - len(pairs))]
         head = b"p edge 20000 400000\n"
@@ -282,7 +282,7 @@ class BlackBox(Case):
         self.expect("400,001 edges", run_program(PLAN, ["forests"], head + body + over), 1, b"",
                     b"forestplan: F7 line 400002\n")
         again = b"".join(b"e %d %d\n" % (w, v) for v, w in pairs[:1000])
-        self.expect("400,001 edges behind repeats",
+        self.expect("400,001 edges after repeats",
                     run_program(PLAN, ["forests"], head + again + body + over + b"e 0 0\n"), 1, b"",
                     b"forestplan: F7 line 401002\n")
 

@@ -35,7 +35,7 @@ def refusal(fault):
     return 1, b"", f"forestplay: {fault}\n".encode()
 
 
-# (name, input, output), in which '|' stands for a line feed
+# (name, input, output), in which '|' is a line feed
 WORKED = [
     ("no node", "p edge 0 0|", ""),
     ("a node alone", "p edge 1 0|", "node 1 pulse 0|"),
@@ -118,7 +118,7 @@ REFUSED = [
     (TRIANGLE + 2 * (ALL_PUT + ALL_TAKE) + ALL_PUT + "take 1 0|pulse 1|", "NotReady line 36: safe 0 of 3"),
 ]
 
-# the same of `replay`: (name, what stands behind the edge's lines, output)
+# the same of `replay`: (name, what comes after the edge's lines, output)
 REPLAYED = [
     ("no entry", "transcript 1 2|", "node 1 pulse 0|link 1 2 taken 0|node 2 pulse 0|link 2 1 taken 0|"),
     ("a greeting",
@@ -220,7 +220,7 @@ def random_network(source, most):
 
 
 def random_events(source, net, count):
-    """Events that are possible where they stand; now and then any event."""
+    """Events that are possible in their place; now and then any event."""
     state, events = NetState(net), []
     for _ in range(count):
         possible = list(state.possible())

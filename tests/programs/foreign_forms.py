@@ -1,7 +1,7 @@
 """Tests of what `bin/network read` makes of networks that other programs wrote: it reads them as they are, or refuses
 them by their name; never as another network.
 
-The texts of networkx are those of its version 3.6.1."""
+The texts of networkx are by its version 3.6.1."""
 import tempfile
 from unittest import mock
 
@@ -139,7 +139,7 @@ class ForeignForms(Case):
             self.note(f"it says {said.decode()}", said in told, told)
 
     def test_refused(self):
-        """A line that names the form, with status 1; and `tell` doesn't send anyone to `read` then."""
+        """A line that names the form, with status 1; and `network tell` doesn't name `read` then."""
         for name, text, said in REFUSED:
             data = text.encode("latin-1")
             status, wrote, told = call("read", "-", data=data)

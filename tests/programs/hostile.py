@@ -1,5 +1,5 @@
-"""Feeds the built programs texts that nobody would write, and compares each answer with that of a slow reader written
-from docs/claim/FORMATS.md (slow_reader.py).
+"""Feeds the built programs texts that nobody would write, and compares each answer with a slow reader's, which is
+written from docs/claim/FORMATS.md (slow_reader.py).
 
 Besides the random texts: each byte at each place of a small text, byte order marks and other bytes before each place,
 numbers around powers of two, lines of a megabyte, about as many bars of a vertex as the limit. It needs a C compiler,
@@ -28,13 +28,13 @@ WHOLE = {
 # known.
 WORDS = {command.name: command.line_of_one for command in COMMANDS}
 WORDS["transcript"] += ["--turns", "0"]
-# Bytes that editors and other systems put into texts: byte order marks, line ends, spaces that are none.
+# Bytes that editors and other systems put into texts: byte order marks, line ends, what looks like a space.
 MARKS = [b"\xef\xbb\xbf", b"\xff\xfe", b"\xfe\xff", b"\r\n", b"\r\r\n", b"\n\r", b"\r\r", b"\0\0", b"\n\0\n",
          b"\xc2\xa0", b"\xe2\x80\xa8", b"\x1b[2J"]
 
 
 class Programs:
-    """The built programs behind the library that runs them on many texts."""
+    """The built programs under the library that runs them on many texts."""
 
     def __init__(self, paths, front):
         self.paths, self.front = paths, front
@@ -61,7 +61,7 @@ def each_byte(data):
 
 
 def each_mark(data):
-    """Each of the marks before each byte of the text, and behind it all."""
+    """Each of the marks before each byte of the text, and at its end."""
     return (data[:at] + mark + data[at:] for at, mark in product(range(len(data) + 1), MARKS))
 
 
@@ -70,7 +70,7 @@ def beginnings(data):
 
 
 def each_number(data):
-    """Each number in place of each field, and a second field behind it."""
+    """Each number in place of each field, and a second field after it."""
     for line, fields in enumerate(rows := [line.split(b" ") for line in data.split(b"\n")]):
         for at, other in product(range(len(fields)), NUMBERS):
             changed = rows[:line] + [fields[:at] + [other] + fields[at + 1:]] + rows[line + 1:]
@@ -78,12 +78,12 @@ def each_number(data):
 
 
 def without_20_000_nodes(texts):
-    """The definitions of some commands are slow where each of so many vertices has a node."""
+    """The definitions of some commands are slow where each of 20,000 vertices has a node."""
     return (data for data in texts if b" 20000 " not in data and b" 19999 " not in data)
 
 
 def long_lines(data, length=2**20):
-    """A line of a megabyte before the text, in the middle of it and behind it; and many blank lines."""
+    """A line of a megabyte before the text, in the middle of it and after it; and many blank lines."""
     for line in (
         b"c" * length,
         b" " * length,
@@ -115,7 +115,7 @@ def long_lines(data, length=2**20):
 
 
 def crowds_of_bars(data):
-    """About as many bars of a vertex as the limit, each once or some again, before the text's own lines and behind
+    """About as many bars of a vertex as the limit, each once or some again, before the text's own lines and after
     them."""
     middle = data.index(b"\n") + 1
     for count, again in product((1023, 1024, 1025, 1026), (0, 3)):

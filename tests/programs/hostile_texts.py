@@ -118,7 +118,7 @@ def bars_in(source, nodes):
 
 
 def behind(source, command, net, network):
-    """The lines of the text behind that of the network."""
+    """The lines of the text that follows the network's."""
     if command == "check":
         return plan_text_lines(source, network)
     if command not in ("events", "replay"):

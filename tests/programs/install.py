@@ -39,7 +39,7 @@ def contents(path):
 
 
 def lines_of_page(text):
-    """The lines of a manual page that are printed as they stand, block by block, under its headings."""
+    """The lines of a manual page that are printed unchanged, block by block, under its headings."""
     blocks = re.findall(r'^\.SH "?([^"\n]*)"?\n\.nf\n(.*?)^\.fi\n', text, re.M | re.S)
     return {
         title: re.sub(r"^\\&", "", block, flags=re.M).replace("\\-", "-").replace("\\e", "\\")
@@ -218,7 +218,7 @@ class Install(Case):
         rows = [line.split("  ", 1) for line in contents(os.path.join(self.target, "SHA256SUMS")).decode().splitlines()]
         wrong = [path for known, path in rows
                  if hashlib.sha256(contents(os.path.join(self.target, path))).hexdigest() != known]
-        self.note("each sum is that of its file", not wrong and len(rows) > 100, wrong)
+        self.note("each sum is its file's", not wrong and len(rows) > 100, wrong)
         self.note("the programs have sums", {"bin/forestplan", "bin/forestplay"} <= {path for _, path in rows})
 
     def small_tree(self, name):

@@ -1,7 +1,7 @@
 """Transcripts made from the definitions (lab/definitions/nodes.py) under random schedules, and transcripts with one
 mistake.
 
-A transcript is held as its entries' lines without line feeds, those of each node in its own order."""
+A transcript is held as its entries' lines without line feeds, each node's in its own order."""
 import re
 from collections import deque
 
@@ -43,7 +43,7 @@ def turn(_, state, v, capacity):
 
 
 def some_events(source, state, v, capacity):
-    """Takes and puts at some of the ports, in any order, with a pulse before or behind them if there can be one."""
+    """Takes and puts at some of the ports, in any order, with a pulse before or after them if there can be one."""
     node, is_first = state.nodes[v], source.random() < 0.5
     if is_first and node.can_pulse():
         yield "Pulse", v, None

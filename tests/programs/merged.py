@@ -27,7 +27,7 @@ APART = "transcript 2 2|" + "".join(f"{p} {v} pulse {p}|" for p in range(1, 13) 
 # Both greet, then both take the other's greeting: the put has stamp 1, so has the counter of the one that takes.
 GREETED = f"transcript 2 2|1 1 put 2 {HELLO_1}|1 2 put 1 {HELLO_2}|2 1 take 2 {HELLO_2}|2 2 take 1 {HELLO_1}|"
 
-# (network, transcript, what is said, up to the second colon of a refusal), in which '|' stands for a line feed
+# (network, transcript, what is said, up to the second colon of a refusal), in which '|' is a line feed
 WORKED = (
     [
         ("p edge 0 0|", "transcript 2 0|", "whole run of 0 nodes, 0 entries, 0 payloads, 0 wires"),
@@ -100,7 +100,7 @@ def said_by(play, network, data):
 
 # ---- spoiled texts
 def with_stamp(source, rows, at):
-    """Another stamp; of 2^64 and above it is none."""
+    """Another stamp; a number of 2^64 or above is no stamp."""
     stamp, _, rest = rows[at].partition(b" ")
     others = {0, 1, int(stamp) - 1, int(stamp) + 1, 2 * int(stamp), GREATEST, GREATEST + 1, 10**20} - {int(stamp), -1}
     return [b"%d %s" % (source.choice(sorted(others)), rest)]
@@ -206,8 +206,8 @@ class Merged(Case):
 
     # ---- the program
     def test_one_worker(self):
-        """With one worker the whole text is known, as in edition 1; edition 2 is what the program writes if it isn't
-        told."""
+        """With one worker the whole text is known, as in edition 1; edition 2 is what the program writes without an
+        option."""
         wrong, count = [], 0
         for count, (network, net) in enumerate(networks(), 1):
             capacity = CAPACITIES[count % 3]

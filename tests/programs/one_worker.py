@@ -1,5 +1,5 @@
 """The run of one worker thread, by the definition of looks and turns (docs/claim/DEFINITIONS.md): with one worker it is
-the same each time, so all of it can be compared, and the number of looks that it needs tells whether capacity and turns
+the same each time, so all of it can be compared, and the number of looks that it needs shows whether capacity and turns
 reached the run."""
 from collections import deque
 
@@ -10,7 +10,7 @@ MOST_TAKES = 4
 
 
 class Run:
-    """The run that has made so many looks, or as many as it takes."""
+    """The run that has made a number of looks, or as many as it takes."""
 
     def __init__(self, net, capacity, looks=None):
         self.state, self.lines, self.looks = NetState(net), {v: [] for v in net.neighbours}, 0

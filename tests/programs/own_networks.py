@@ -502,7 +502,7 @@ class OwnNetworks(Case):
                   done)
 
     def told_of(self, data):
-        """{name: what} of the lines of `tell`."""
+        """{name: what} of the lines of `network tell`."""
         status, text, told = call("tell", "-", data=data)
         self.note("tell", status == 0, told)
         return dict(re.findall(r"^(.*?): (.*)$", text.decode(), re.M)), told
@@ -600,8 +600,8 @@ class OwnNetworks(Case):
             self.note(f"not warned of {data}", self.told_of(data)[1] == b"")
 
     def test_bounds(self):
-        """What `tell` says without the program of a network that is too large to be worked out: bounds of what it says
-        of a smaller one are above the counts."""
+        """What `network tell` says without the program of a network that is too large to be worked out: of a smaller
+        one these bounds are above the counts."""
         for words in ("complete 8", "random 30 80", "grid 5 5", "star 7", "tree 12", "disk 20 --seed 3"):
             run = Run(read_network(call(*words.split())[1].decode(), "net"))
             self.note(f"the most payloads of {words}", run.payloads <= most_payloads(run) <= 2 * run.payloads,
@@ -632,7 +632,7 @@ class OwnNetworks(Case):
                   told)
 
     def test_large(self):
-        """Of a large network `tell` has the rounds counted by the program."""
+        """Of a large network `network tell` has the rounds counted by the program."""
         data = self.written("random", 3000, 9000)
         told, _ = self.told_of(data)
         done = run_program(PLAY, ["rounds"], data)

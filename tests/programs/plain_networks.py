@@ -1,8 +1,8 @@
 """`plain` on 800 networks, beside the definition of the colours; and that definition on plans worked by hand.
 
-The networks are the same in every run. A difference is told with its number in the family and the text of the network.
-In 300 of them lines give identifiers of up to 128 binary digits; in the others vertex V has the identifier V. In 200 of
-them lines bar channels."""
+The networks are the same in every run. A difference is printed with the network's number in its family and its text. In
+300 of them lines give identifiers of up to 128 binary digits; in the others vertex V has the identifier V. In 200 lines
+bar channels."""
 import itertools
 import random
 import re
@@ -17,7 +17,7 @@ SEED = 2026
 LIMIT = 60
 MOST_TOLD = 4000
 
-# (text in which '|' stands for a line feed, channels of vertices 1, 2, ..)
+# (text in which '|' is a line feed, channels of vertices 1, 2, ..)
 WORKED_PLANS = [
     ("p edge 2 1|e 1 2|", [1, 2]),
     ("p edge 3 3|e 1 2|e 1 3|e 2 3|", [2, 3, 1]),
@@ -113,7 +113,7 @@ def long_names(source, nodes):
 
 
 def some_bars(source, nodes, most=12):
-    """Channels that are barred at some vertices, low ones mostly; so many at most of a vertex."""
+    """Channels that are barred at some vertices, low ones mostly; at most `most` of a vertex."""
     bars = {
         v: {
             source.choice((source.randint(1, 4), source.randint(1, nodes + 2), 2048))

@@ -1,4 +1,4 @@
-"""`plan`, which runs the nodes on worker threads: its bytes beside those of `plain`, whatever its options are; and runs
+"""`plan`, which runs the nodes on worker threads: its bytes beside `plain`'s, whatever its options are; and runs
 that stop. No time decides a result, but that a run of more than a minute has failed.
 
 That the bytes are the right ones is shown of `plain`, by plain_networks.py."""
@@ -27,7 +27,7 @@ TRIANGLE = b"p edge 3 3\ne 1 2\ne 1 3\ne 2 3\n"
 TRIANGLE_PLAN = b"plan\n1 2\n2 3\n3 1\n"
 STOPPED = b"forestplan: stopped\n"
 
-# Capacity, looks, the entries of the triangle's nodes after so many looks of one worker, and what the links then hold,
+# Capacity, looks, the entries of the triangle's nodes after these looks of one worker, and what the links then hold,
 # by hand: node 1 greets both neighbours, and node 2 takes that greeting. On a link that holds one wire its
 # acknowledgement has no place.
 GREETED = ["1 put 2 payload 0 hello 1", "1 put 3 payload 0 hello 1"]
@@ -42,7 +42,7 @@ FIRST_LOOKS = [
      {(1, 1): ["payload 0 hello 1"], (2, 0): ["payload 0 hello 2"], (2, 1): ["payload 0 hello 2"]}),
 ]
 
-# (words behind `plan`, input, status, standard output, standard error)
+# (words after `plan`, input, status, standard output, standard error)
 WORKED_RUNS = [
     ([], b"p edge 0 0\n", 0, b"plan\n", b""),
     (["--turns", "0"], b"p edge 0 0\n", 0, b"plan\n", b""),
@@ -80,8 +80,8 @@ def one_row(program, words, data, *wanted):
 
 
 def family_row(program, index):
-    """Each network of a family once, or of a long one so many, the pairs of workers and capacity by turns over all
-    families."""
+    """Each network of a family once, or the first ones of a long family, the pairs of workers and capacity by turns
+    over all families."""
     families = FAMILIES + BARRED
     title, _ = families[index]
     before = sum(1 for family in families[:index] for _ in played_texts(family))

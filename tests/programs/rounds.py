@@ -1,5 +1,5 @@
 """Black-box tests of `forestplay rounds`: compares whole texts with the definitions, and the payloads of the rounds
-with those of transcripts.
+with transcripts' payloads.
 
 Expected texts are worked by hand, or come from the definitions in lab/definitions/rounds.py; none is taken from a
 program."""

@@ -1,8 +1,8 @@
 """Tests of `explore`, which plays every schedule of a tiny network.
 
 The table of states and steps is compared with a second search, which walks over the network of
-lab/definitions/nodes.py, puts apart; its numbers with those of a trial written before it; its lists of events with what
-`forestplay events` makes of them; and the rounds without a rule with nodes that hear and send. `python3 -m
+lab/definitions/nodes.py, puts apart; its numbers with a trial's, which was written before it; its lists of events with
+what `forestplay events` makes of them; and the rounds without a rule with nodes that hear and send. `python3 -m
 tests.programs.schedules` plants mistakes in copies of the explorer, and prints each that these tests let through: it
 takes some minutes, and isn't part of the gate."""
 import argparse
@@ -172,7 +172,7 @@ def count_of_events(net):
 # Lists of events, and walks.
 
 def numbered(network, lines):
-    """The events as `answer_of` reads them, with their lines behind the network."""
+    """The events as `answer_of` reads them, with their lines after the network."""
     first = network.count("\n") + 1
     for line, event in enumerate(lines, first):
         kind, v, *port = event.split()
@@ -206,7 +206,7 @@ def explored(*words):
 
 # (network, rules, what goes wrong, the fault of `forestplay events` on that list or None): what happens to two nodes is
 # worked by hand. Without `early` the list is one that the program can play, since it keeps what comes early apart; a
-# wire out of turn is none that it can take.
+# wire out of turn is one that it can't take.
 BROKEN = [
     ("two", "safes", "node 2 makes pulse 2 without `label 0` from 1", 8, "NotReady"),
     ("two", "early", "node 2 makes pulse 1 with `label 0` from 1, not with `hello 1`", 16, None),
@@ -402,7 +402,7 @@ class Schedules(Case):
         return space, found
 
     def puts_rows(self, name):
-        """With puts apart; and these states, with the puts made that they still lack, are those of the search
+        """With puts apart; and these states, with the puts made that they still lack, are the states of the search
         without."""
         _, apart = self.table_rows(name, True)
         _, eager = self.table_rows(name, False)

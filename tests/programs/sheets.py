@@ -121,7 +121,7 @@ class Answers(Case):
 
 def distance(net, ends, v):
     """How many edges lie between v and the nearer one of the ends, whatever goes over the edge between these. So far
-    from an edge that stands still a node gets, less one: its neighbours at that edge stay at pulse 0."""
+    from a still edge a node gets, less one: its neighbours at that edge stay at pulse 0."""
     far, reached = 0, set(ends)
     while v not in reached:
         reached |= {w for u in reached for w in net.neighbours[u]}

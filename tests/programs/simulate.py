@@ -96,7 +96,7 @@ class Waits(Case):
 
     def test_how_far_a_slow_edge_lets_others_run(self):
         """By hand: while nothing goes over 2-3 in six in a row, nodes 2 and 3 wait for each other's acknowledgement at
-        pulse 0, so 1 and 4 wait for their safe; 5 makes one pulse by 4's safe, and 6 another by that of 5."""
+        pulse 0, so 1 and 4 wait for their safe; 5 makes one pulse by 4's safe, and 6 another by 5's."""
         net = network_of(contents("chain6"))
         state = NetState(net)
         for row in played(net, slow=[(2, 3)], seed="5"):

@@ -40,7 +40,7 @@ class Sites(Case):
         self.note(f"refused: {name}", good, (status, wrote, told))
 
     def test_table(self):
-        """The sites in their order, with those of no pair; a pair of another site is left out, and so is a loop."""
+        """The sites in their order, with sites of no pair; a pair of another site is left out, and so is a loop."""
         pairs, sites = self.file("pairs.csv", PAIRS), self.file("sites.csv", SITES)
         status, wrote, told = call("read", pairs, "--sites", sites)
         self.note("names", comments(wrote, "name") == {1: "Ulm", 2: "Aue", 3: "Hof", 4: "Bonn"}, (status, wrote, told))
@@ -65,7 +65,7 @@ class Sites(Case):
         self.note("a site without a place is counted", b"1 site without a place" in told and b": Bonn" in told, told)
 
     def test_columns(self):
-        """The names are those of the column that the pairs name."""
+        """The names come from the column that the pairs name."""
         sites = self.file("sites.csv", "name,id\nUpper Hill,u1\nDam,d2\nMill,m3\n")
         for pairs, names in (("u1 d2\n", ["u1", "d2", "m3"]), ("Dam,Mill\n", ["Upper Hill", "Dam", "Mill"])):
             wrote = call("read", self.file("pairs.csv", pairs), "--sites", sites)[1]
@@ -123,7 +123,7 @@ class Sites(Case):
             ("half a place", "id,x,y\na,1,\n", "line 2: no place"),
             ("no place", "id,x,y\na,1,east\n", "line 2: no place"),
             ("a latitude of 91", "id,lat,lon\na,91,0\n", "line 2: no latitude and longitude"),
-            ("an identifier that is none", "id,x,y,identifier\na,1,2,me\n", "line 2: no identifier below 2^128"),
+            ("a word as identifier", "id,x,y,identifier\na,1,2,me\n", "line 2: no identifier below 2^128"),
             ("identifiers alike", "id,x,y,identifier\na,1,2,9\nb,1,2,9\n", "nodes 1 and 2 have one identifier"),
             ("too many near", "id,x,y\n" + "".join(f"s{at},0,0\n" for at in range(1100)), "edges within 5 km"),
             ("no table", "a b c\nd e f\n", "no table"),

@@ -57,7 +57,7 @@ def number(field):
 
 
 def numbers(fields, count):
-    """The first numbers of some fields, or None if a field is missing or is none."""
+    """The first numbers of some fields, or None if a field is missing or no number."""
     found = [number(field) for field in fields[:count]]
     return None if len(found) < count or None in found else found
 

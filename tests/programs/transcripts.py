@@ -1,5 +1,5 @@
-"""Tests of `bin/check-transcript` and `bin/replay` with transcripts of edition 1; and by the first, of those of the
-built program. Those of edition 2 are in merged.py.
+"""Tests of `bin/check-transcript` and `bin/replay` with transcripts of edition 1, the first also with the built
+program's. Edition 2 is in merged.py.
 
 Expected verdicts are worked by hand, or come from the definitions in lab/definitions/nodes.py; none is taken from a
 program."""
@@ -29,7 +29,7 @@ WORKERS, CAPACITIES = (1, 2, 4, 64), (1, 2, 4)
 
 EDGE = "p edge 2 1|e 1 2|"
 # What the two nodes of EDGE send each other at which pulse. Node 2 is the root of the one forest: its colours there are
-# 2, 0 after each of the four bit steps, then 1, 1, 0, 0, 1, 1; those of node 1 are 1, then 1 after each bit step, then
+# 2, 0 after each of the four bit steps, then 1, 1, 0, 0, 1, 1; node 1's are 1, then 1 after each bit step, then
 # 0, 0, 1, 1, 0, 0. So node 1 chooses at pulse 13 and node 2 at pulse 15, of the pulses 13 to 18.
 EDGE_SENT = {
     1: {0: "hello 1", 1: "label 0", 13: "chosen 0"},
@@ -38,7 +38,7 @@ EDGE_SENT = {
 }
 EDGE_LAST = 18
 # What a node does in a pulse, by whether it sends a payload, and whether one comes: the other's wires come in the order
-# in which that one puts them, and the node's safe goes out at once if it sends no payload, and otherwise behind the
+# in which that one puts them, and the node's safe goes out at once if it sends no payload, and otherwise after the
 # acknowledgement.
 EDGE_PULSE = {(True, True): "put payload|take payload|put ack|take ack|put safe|take safe",
               (True, False): "put payload|take safe|take ack|put safe",
@@ -64,7 +64,7 @@ EDGE_WHOLE = "whole run of 2 nodes, 172 entries, 15 payloads, 68 wires"
 HELLO_1, HELLO_2 = "payload 0 hello 1", "payload 0 hello 2"
 APART = "transcript 1 2|" + "".join(f"{v} pulse {p}|" for v in (1, 2) for p in range(1, 13))
 
-# (network, transcript, what is said, up to the second colon of a refusal), in which '|' stands for a line feed
+# (network, transcript, what is said, up to the second colon of a refusal), in which '|' is a line feed
 WORKED = (
     [
         ("p edge 0 0|", "transcript 1 0|", "whole run of 0 nodes, 0 entries, 0 payloads, 0 wires"),
@@ -154,7 +154,7 @@ def networks():
 
 
 def is_counted(net, data, said):
-    """Whether the verdict's numbers are those of every whole run with the payloads of the text: each payload is
+    """Whether the verdict's numbers are right for every whole run with the payloads of the text: each payload is
     acknowledged, there is a safe of each pulse below the last and a closing mark for each direction of an edge, and all
     of it is taken.
     """

@@ -17,7 +17,7 @@ TRIANGLE = "p edge 3 3|e 1 2|e 1 3|e 2 3|"
 GOOD = TRIANGLE + "plan|1 2|2 3|3 1|"
 BARRED = TRIANGLE + "b 3 1|"
 
-# (text in which '|' stands for a line feed, what `check` says of it)
+# (text in which '|' is a line feed, what `check` says of it)
 WORKED_VERDICTS = [
     (GOOD, "proper 3"),
     (TRIANGLE + "plan|1 2|2 3|3 2|", "C4 vertices 1 3"),
