@@ -1,7 +1,8 @@
 """Checks what the pages README.md and docs/ show and name.
 
 - Each command shown, a line `$ ..`, is run at the top of the repository, by bash; what is under it, in the same
-  columns, has to be its output (notes after two blanks are left out), or its refusal.
+  columns, has to be its output (notes after two blanks are left out), or its refusal. A command in a list has to end
+  well. (tests/programs/install.py runs them in an installed folder.)
 - Each table of docs/learn/TUTORIAL.md is worked out from the definitions (lab/definitions/colours.py,
   lab/definitions/nodes.py), not from the program. tutorial_facts.py has the rest of what it says.
 - These definitions fit together: on small networks the rounds, and any order of events, end with the colours.
@@ -51,6 +52,16 @@ def shown_commands(lines):
                 break
             shown.append(re.split(r" {2,}", below[column:].rstrip())[0])
         yield number + 1, re.split(r" {2,}", found.group(2))[0], shown
+
+
+def listed_commands(lines):
+    """(line number, command) of each command in a list: an indented line of commands alone, some blanks apart. What
+    calls a program, reads a file or writes a folder of the reader's own is left out."""
+    for number, line in enumerate(lines, 1):
+        if re.match(r" {4}bin/", line):
+            for command in re.split(r" {2,}", line.strip()):
+                if command.startswith("bin/") and not re.search(r" -- |~/|\bpairs\.csv\b", command):
+                    yield number, command
 
 
 def tables_of(lines):
@@ -202,6 +213,16 @@ class Pages(Case):
             good = [(0, wanted.encode(), b"")] + [(status, b"", wanted.encode()) for status in (1, 3) if wanted]
             self.note(f"{page}:{number} {command}", (done.returncode, done.stdout, done.stderr) in good,
                       f"shown {wanted!r}, got {done}")
+
+    def test_listed_commands(self):
+        """Those of docs/pictures/README.md are run by tests/pictures/pictures.py."""
+        count = 0
+        for page in (page for page in PAGES if page != "docs/pictures/README.md"):
+            for number, command in listed_commands(lines_of(page)):
+                count += 1
+                done = run_line(command, limit=LIMIT, cwd=TOP)
+                self.note(f"{page}:{number} {command}", done.returncode == 0 and done.stdout and not done.stderr, done)
+        self.note("commands in lists", count > 8, count)
 
     def test_definitions(self):
         """On small networks the rounds, and any order of events, end with the colours: so the pages' definitions fit

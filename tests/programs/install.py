@@ -17,7 +17,7 @@ from tests import TOP
 from tests.cases import Case, text
 from tests.commands import APART, COMMANDS, PROGRAMS, commands_of
 from tests.commands import SCRIPTS as OF_BIN
-from tests.pages.pages import PAGES, lines_of, shown_commands
+from tests.pages.pages import PAGES, listed_commands, lines_of, shown_commands
 from tests.shell import run_line
 
 # Seconds; a busy machine takes long for the many calls of help that the manual pages are made of.
@@ -61,17 +61,35 @@ class Install(Case):
         self.note("install", self.installed[:2] == (0, b"") and b"install: " in self.installed[2], self.installed)
         self.run_rows("installed", self.target)
 
-    def test_lessons(self):
-        """Each command of the lessons prints in the folder what the page shows, as it does at the top of this tree."""
-        pages, count = [page for page in PAGES if page.startswith("docs/learn/")], 0
-        for page in pages:
+    def line(self, command):
+        return run_line(command, limit=LIMIT, cwd=self.target, env=ENVIRONMENT)
+
+    def test_pages(self):
+        """Each command of the pages prints in the folder what the page shows, as it does at the top of this tree. Only
+        README's begins with `./`, for which it names `bin/` in the folder."""
+        count = 0
+        for page in PAGES:
             for number, command, shown in shown_commands(lines_of(page)):
                 count += 1
-                done = run_line(command, limit=LIMIT, cwd=self.target, env=ENVIRONMENT)
+                done = self.line(re.sub(r"^\./", "bin/", command) if page == "README.md" else command)
                 wanted = "".join(line + "\n" for line in shown).encode()
                 good = [(0, wanted, b"")] + [(status, b"", wanted) for status in (1, 3) if wanted]
                 self.note(f"{page}:{number} {command}", (done.returncode, done.stdout, done.stderr) in good, done)
-        self.note("commands of the lessons", len(pages) > 5 and count > 60, (pages, count))
+        self.note("commands of the pages", count > 60, count)
+
+    def test_listed_commands(self):
+        """Each command in a list ends well, and draws what is stored, if it is the command of a stored picture."""
+        count = 0
+        for page in PAGES:
+            for number, command in listed_commands(lines_of(page)):
+                count += 1
+                words, _, stored = command.partition(" > ")
+                done = self.line(words)
+                is_quiet = re.fullmatch(rb"(picture: [^\n]* takes a while\n)?", done.stderr)
+                good = done.returncode == 0 and done.stdout and is_quiet
+                is_same = not stored.startswith("docs/") or done.stdout == contents(os.path.join(TOP, stored))
+                self.note(f"{page}:{number} {command}", good and is_same, (done.returncode, done.stderr))
+        self.note("commands in lists", count > 40, count)
 
     def test_copy(self):
         """A copy of the folder, called through links, where the folder itself is away."""
