@@ -8,7 +8,11 @@ each .rt file of the repository; proves and builds it there, and builds plain.rs
 they write, and prints the least time of each call and the ratio proved/plain. A further call is a crate in CRATES, a
 loop in loops.rs, and its lines in plain.rs and proved.rs.
 """
-import os, shutil, subprocess, sys, tempfile
+import os
+import shutil
+import subprocess
+import sys
+import tempfile
 
 HERE = os.path.dirname(os.path.abspath(__file__))
 TOP = os.path.dirname(os.path.dirname(HERE))

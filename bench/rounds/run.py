@@ -8,7 +8,11 @@ it isn't given), since the gate reads each .rt file of the repository; proves an
 Runs both by turns, compares the answers of all nodes, and prints the least nanoseconds of a node and pulse, and the
 engine's ratio to each of the two ways in which plain.rs writes the rounds. RT names another command than rt.
 """
-import os, shutil, subprocess, sys, tempfile
+import os
+import shutil
+import subprocess
+import sys
+import tempfile
 
 HERE = os.path.dirname(os.path.abspath(__file__))
 TOP = os.path.dirname(os.path.dirname(HERE))
