@@ -21,22 +21,19 @@ def main():
     sys.path[0] = os.path.dirname(os.path.dirname(os.path.realpath(__file__)))
     name = sys.argv[1] if len(sys.argv) > 1 else "build"
     sys.argv[:2] = sys.argv[1:2]
-    try:
-        door = importlib.import_module("lab.door")
-    except KeyboardInterrupt:
-        return 130
-    return door.run(name, lambda: command(name))
+    return importlib.import_module("lab.door").run(name, lambda: command_of(name))
 
 
-def command(name):
-    """Runs a command of this name, which takes its words from `sys.argv`."""
+def command_of(name):
+    """The command of this name, which takes its words from `sys.argv`: a function that returns the status."""
     if sys.argv[1:] == ["--version"]:
-        sys.stdout.write(importlib.import_module("lab.version").text())
-        return 0
-    if name not in MODULES:
-        print(f"build: one of these is wanted: {', '.join(MODULES)}", file=sys.stderr)
-        return 2
-    return importlib.import_module(f"build.{MODULES[name]}").main()
+        return importlib.import_module("lab.version").main
+    return importlib.import_module(f"build.{MODULES[name]}").main if name in MODULES else refuse_name
+
+
+def refuse_name():
+    print(f"build: one of these is wanted: {', '.join(MODULES)}", file=sys.stderr)
+    return 2
 
 
 if __name__ == "__main__":

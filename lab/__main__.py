@@ -24,24 +24,25 @@ def main():
     # Run as a folder, its own place comes first where modules are looked for; the package's is one above.
     sys.path[0] = os.path.dirname(os.path.dirname(os.path.realpath(__file__)))
     name, words = sys.argv[1] if len(sys.argv) > 1 else "lab", sys.argv[2:]
-    try:
-        door = importlib.import_module("lab.door")
-    except KeyboardInterrupt:
-        return 130
-    return door.run(name, lambda: command(name, words))
+    # `version NAME` is what the script of another name says.
+    called = words[0] if name == "version" and words else name
+    return importlib.import_module("lab.door").run(called, lambda: command_of(name, words))
 
 
-def command(name, words):
-    """Runs a command of this name."""
+def command_of(name, words):
+    """The command of this name with its words: a function that returns the status."""
     if name == "version" or name in COMMANDS and words == ["--version"]:
-        sys.stdout.write(importlib.import_module("lab.version").text())
-        return 0
-    if name in INNER:
-        return importlib.import_module(INNER[name]).main(words)
-    if name not in COMMANDS:
-        print(f"lab: a command is wanted: {', '.join(COMMANDS)}", file=sys.stderr)
-        return 2
-    return importlib.import_module(COMMANDS[name]).main(words)
+        return importlib.import_module("lab.version").main
+    module = COMMANDS.get(name) or INNER.get(name)
+    if module is None:
+        return refuse_name
+    main = importlib.import_module(module).main
+    return lambda: main(words)
+
+
+def refuse_name():
+    print(f"lab: a command is wanted: {', '.join(COMMANDS)}", file=sys.stderr)
+    return 2
 
 
 if __name__ == "__main__":

@@ -1,26 +1,33 @@
 """How a command that is written in Python ends: with one line in place of a traceback, whatever happens.
 
 A closed or full output, an input that can't be read, too little memory and Ctrl-C are no faults of the command. A
-reader that has gone away is no fault at all."""
+reader that has gone away is no fault at all. The scripts of bin/ call Python by door.sh, with Ctrl-C blocked."""
 import contextlib
+import errno
 import io
 import os
+import signal
 import sys
 import traceback
 
 # The statuses of a fault of the command itself, and of Ctrl-C.
 OWN_FAULT, STOPPED = 70, 130
+INTERRUPT = {signal.SIGINT}
 
 
 class Input(io.FileIO):
-    """Standard input, whose faults have its name."""
+    """Standard input, whose faults have its name. With a folder as standard input Python wouldn't start, so door.sh
+    closes it then."""
+
+    is_folder = os.environ.pop("FOLDER_AS_INPUT", None)
 
     @contextlib.contextmanager
     def named(self):
         try:
             yield
         except OSError as why:
-            raise OSError(why.errno, why.strerror, "standard input") from None
+            fault = errno.EISDIR if self.is_folder else why.errno
+            raise OSError(fault, os.strerror(fault), "standard input") from None
 
     def readinto(self, room):
         with self.named():
@@ -62,11 +69,27 @@ def without_output():
         os.dup2(os.open(os.devnull, os.O_WRONLY), 1)
 
 
-def run(name, command):
-    """Runs a command, a function that returns its status, and returns the status to end with."""
+def run(name, load):
+    """Runs the command that `load` imports, a function that returns its status, and returns the status to end with.
+    Ctrl-C waits while modules are imported, and is of no effect once the command has ended."""
+    signal.pthread_sigmask(signal.SIG_BLOCK, INTERRUPT)
+    try:
+        try:
+            return ended(name, load)
+        finally:
+            signal.pthread_sigmask(signal.SIG_BLOCK, INTERRUPT)
+    except KeyboardInterrupt:
+        without_output()
+        return said(name, "interrupted", STOPPED)
+
+
+def ended(name, load):
+    """The status of a command that nobody interrupts."""
     try:
         open_streams()
         try:
+            command = load()
+            signal.pthread_sigmask(signal.SIG_UNBLOCK, INTERRUPT)
             return command()
         finally:
             sys.stdout.flush()
@@ -80,9 +103,6 @@ def run(name, command):
     except MemoryError:
         without_output()
         return said(name, "out of memory", 1)
-    except KeyboardInterrupt:
-        without_output()
-        return said(name, "interrupted", STOPPED)
     except Exception as why:
         without_output()
         at = traceback.extract_tb(why.__traceback__)[-1]

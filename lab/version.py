@@ -3,6 +3,7 @@
 An installed folder has it in its file VERSION; a tree finds it out."""
 import os
 import subprocess
+import sys
 
 TOP = os.path.dirname(os.path.dirname(os.path.realpath(__file__)))
 NUMBER = "0.4.0"
@@ -42,3 +43,8 @@ def text() -> str:
     except OSError:
         kit = line_of(os.path.join("build", "kit_name.txt"))
         return f"forestplan {NUMBER}\ncommit {commit()}\nkit {kit or 'unknown'}\n"
+
+
+def main() -> int:
+    sys.stdout.write(text())
+    return 0

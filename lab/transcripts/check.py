@@ -295,7 +295,9 @@ def bytes_of(name):
     """The bytes of a file, or of standard input, which `-` is."""
     is_input = name in (None, "-")
     try:
-        with open(0 if is_input else name, "rb", closefd=not is_input) as file:
+        if is_input:
+            return sys.stdin.buffer.read()
+        with open(name, "rb") as file:
             return file.read()
     except OSError as failed:
         raise OSError(f"{'standard input' if is_input else name}: {failed.strerror}") from None

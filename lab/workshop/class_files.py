@@ -8,8 +8,8 @@ COPIED = (
     "bin/network", "bin/channels", "bin/workshop",
     "docs/learn/TUTORIAL.md", "docs/learn/GALLERY.md", "docs/learn/OWN_NETWORK.md", "docs/learn/PROTOCOL.md",
     "docs/learn/WORKSHOP.md", "docs/pictures",
-    "examples", "lab/__init__.py", "lab/__main__.py", "lab/door.py", "lab/programs.py", "lab/version.py",
-    "lab/watch.py", "lab/wrong.py", "lab/networks", "lab/workshop",
+    "examples", "lab/__init__.py", "lab/__main__.py", "lab/door.py", "lab/door.sh", "lab/programs.py",
+    "lab/version.py", "lab/watch.py", "lab/wrong.py", "lab/networks", "lab/workshop",
     "lab/schedules/__init__.py", "lab/schedules/policies.py", "lab/transcripts/__init__.py", "lab/transcripts/rules.py",
 )
 # Of these folders, what stays with the teacher.

@@ -1,6 +1,7 @@
 """Tests of how the commands that are written in Python end: with one line, and never with a traceback, if the output is
 closed or full, the input can't be read, or someone presses Ctrl-C."""
 import os
+import re
 import signal
 import subprocess
 import sys
@@ -42,30 +43,83 @@ class Endings(Case):
                                   input=b"", capture_output=True, timeout=LIMIT)
             self.note(f"a fault {redirected}", (done.returncode, done.stdout) == (1, b""), done)
 
+    def test_help_and_version(self):
+        """So it is with the help of a script that isn't Python, and with the version that each says."""
+        for name, words in (("bin/replay", ["--help"]), ("try", ["--help"]), ("test", ["--help"]),
+                            ("bin/network", ["--version"]), ("bin/replay", ["--version"]),
+                            ("forestplan", ["--version"]), ("bin/forestplay", ["--version"]),
+                            ("bin/install", ["--version"])):
+            for redirected, said in ((">/dev/full", b"No space left on device"), (">&-", b"Bad file descriptor")):
+                done = subprocess.run(["bash", "-c", f'exec "$0" "$@" {redirected}', os.path.join(TOP, name), *words],
+                                      stdin=subprocess.DEVNULL, capture_output=True, timeout=LIMIT)
+                wanted = b"%s: the output can't be written: %s\n" % (os.path.basename(name).encode(), said)
+                self.note(f"{name} {words} {redirected}", (done.returncode, done.stderr) == (1, wanted), done)
+            # The reader has gone before anything is written.
+            done = subprocess.run(["bash", "-c", 'set -o pipefail; "$0" "$@" | exec true', os.path.join(TOP, name),
+                                   *words], stdin=subprocess.DEVNULL, capture_output=True, timeout=LIMIT)
+            self.note(f"{name} {words} without a reader", (done.returncode, done.stderr) == (0, b""), done)
+
     def test_inputs(self):
         """An input that is closed, or a folder, is one line."""
         for name, words, status in (("network", ["read", "-"], 1), ("network", ["tell", "-"], 1),
                                     ("channels", ["1"], 1), ("check-transcript", [TRIANGLE], 2),
-                                    ("explore", ["-"], None), ("picture", ["plan", "-"], None)):
-            done = subprocess.run(["bash", "-c", 'exec "$0" "$@" <&-', os.path.join(TOP, "bin", name), *words],
+                                    ("transcript-to", ["json"], 1), ("simulate", ["-"], 1),
+                                    ("explore", ["-"], 1), ("picture", ["plan", "-"], 1)):
+            for redirected, said in (("<&-", b"Bad file descriptor"), (f"<{TOP}", b"Is a directory")):
+                done = subprocess.run(["bash", "-c", f'exec "$0" "$@" {redirected}', os.path.join(TOP, "bin", name),
+                                       *words], capture_output=True, timeout=LIMIT)
+                line = rb"%s: (-|standard input): %s\n" % (name.encode(), said)
+                good = (done.returncode, done.stdout) == (status, b"") and re.fullmatch(line, done.stderr)
+                self.note(f"{name} {words} {redirected}", good, done)
+        for name, words in (("network", ["path", "2"]), ("network", ["--version"]), ("install", ["--help"])):
+            done = subprocess.run([os.path.join(TOP, "bin", name), *words], stdin=os.open(TOP, os.O_RDONLY),
                                   capture_output=True, timeout=LIMIT)
-            good = done.stderr.count(b"\n") == 1 and b"Bad file descriptor" in done.stderr and done.stdout == b""
-            good = good and done.returncode in ((1, 2) if status is None else (status,))
-            self.note(f"{name} {words} of a closed input", good, done)
+            good = (done.returncode, done.stderr) == (0, b"") and done.stdout
+            self.note(f"{name} {words} needs no input, so it may be a folder", good, done)
 
     def test_interrupts(self):
         """Ctrl-C while a command waits for its input is one line and status 130."""
         for name, words in (("network", ["read", "-"]), ("channels", ["1"]), ("check-transcript", [TRIANGLE]),
                             ("picture", ["plan", "-"]), ("explore", ["-"])):
-            # A shell has what it runs in the background ignore SIGINT.
-            with subprocess.Popen([os.path.join(TOP, "bin", name), *words], stdin=subprocess.PIPE,
-                                  stdout=subprocess.PIPE, stderr=subprocess.PIPE,
-                                  preexec_fn=lambda: signal.signal(signal.SIGINT, signal.SIG_DFL)) as run:
+            with self.begun(name, words) as run:
                 self.wait_for_reading(run.pid)
                 run.send_signal(signal.SIGINT)
                 out, said = run.communicate(timeout=LIMIT)
             got, wanted = (run.returncode, out, said), (130, b"", b"%s: interrupted\n" % name.encode())
             self.note(f"{name} {words}", got == wanted, got)
+
+    def test_early_interrupts(self):
+        """Ctrl-C from the script's first moment on: a shell that hasn't begun Python ends by the signal. Python itself,
+        while it starts or imports modules, ends with one line, and never with a traceback."""
+        for name, words in (("network", ["read", "-"]), ("explore", ["-"]), ("wrong-bodies", ["--help"])):
+            lines = {130: b"%s: interrupted\n" % name.encode(), -signal.SIGINT: b""}
+            for at in range(24):
+                # Half of the moments are counted from the start of Python, where a command takes 60 ms to begin.
+                of_python, seconds = at % 2 == 1, at * 0.004
+                with self.begun(name, words) as run:
+                    if of_python:
+                        self.wait_for_python(run.pid)
+                    time.sleep(seconds)
+                    # As a terminal does, with all that the script has started.
+                    os.killpg(run.pid, signal.SIGINT)
+                    out, said = run.communicate(timeout=LIMIT)
+                is_done = (run.returncode, said) == (0, b"") and words == ["--help"]
+                good = is_done or said == lines.get(run.returncode) and not (of_python and run.returncode < 0)
+                self.note(f"{name} {words} {seconds:.3f} s after its start{' as Python' * of_python}", good,
+                          (run.returncode, said))
+
+    def begun(self, name, words):
+        # A shell has what it runs in the background ignore SIGINT.
+        return subprocess.Popen([os.path.join(TOP, "bin", name), *words], stdin=subprocess.PIPE, stdout=subprocess.PIPE,
+                                stderr=subprocess.PIPE, start_new_session=True,
+                                preexec_fn=lambda: signal.signal(signal.SIGINT, signal.SIG_DFL))
+
+    def wait_for_python(self, process):
+        """Waits until a process is Python, no longer the script."""
+        end = time.monotonic() + LIMIT
+        while time.monotonic() < end:
+            if os.path.basename(os.readlink(f"/proc/{process}/exe")).startswith("python"):
+                return
 
     def wait_for_reading(self, process):
         """Waits until a process is Python, no longer the script, and waits for what a pipe gives."""
@@ -80,7 +134,7 @@ class Endings(Case):
     def test_own_faults(self):
         """A fault of a command itself is one line, too."""
         for fault, said in (("{}['x']", "KeyError: 'x'"), ("1 / 0", "ZeroDivisionError"), ("[].pop()", "IndexError")):
-            script = f"import sys; from lab import door; sys.exit(door.run('some', lambda: {fault}))"
+            script = f"import sys; from lab import door; sys.exit(door.run('some', lambda: lambda: {fault}))"
             done = subprocess.run([sys.executable, "-c", script], capture_output=True, text=True, cwd=TOP)
             good = done.returncode == 70 and done.stderr.count("\n") == 1 and said in done.stderr
             self.note(f"a command that fails by {fault}", good and done.stderr.startswith("some: a fault of"), done)

@@ -211,6 +211,13 @@ class FirstRun(Case):
                 wanted = file.read()
             got = tree.call(*words, option)
             self.note(f"{' '.join([*words, option])} of a program that isn't built", got == (0, wanted, ""), got)
+        for redirected in (">/dev/full", ">&-"):
+            done = subprocess.run(["bash", "-c", f'exec "$0" plain --help {redirected}',
+                                   os.path.join(tree.top, "forestplan")], capture_output=True, env=tree.environment)
+            got = done.returncode, done.stderr
+            self.note(f"a stored help {redirected}", got == (4, b"forestplan: stream\n"), done)
+        self.note("help builds nothing",
+                  not os.path.exists(os.path.join(tree.top, "crates", "forestplan", "out", "forestplan")))
 
     def run_first(self, tree):
         got = tree.call("--help")
