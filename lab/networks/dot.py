@@ -9,7 +9,7 @@ from lab.wrong import wrong_line
 BEGINS = re.compile(r"\s*(strict\s+)?(di)?graph\b[^{;]*\{", re.I)
 COMMENT = re.compile(r"/\*.*?\*/|//[^\n]*|^#[^\n]*", re.S | re.M)
 TOKEN = re.compile(
-    r'\s*(?:(?P<mark>--|->|[{}\[\];,:=])|(?P<id>"(?:[^"\\]|\\.)*"|<[^>]*>|-?\.?[0-9][\w.]*|[^\W\d]\w*))', re.S
+    r'\s*(?:(?P<mark>--|->|[{}\[\];,:=])|(?P<id>"(?:[^"\\]|\\.)*"|<|-?\.?[0-9][\w.]*|[^\W\d]\w*))', re.S
 )
 WORDS = {"node", "edge", "graph"}
 
@@ -32,6 +32,16 @@ def begins(text):
     return BEGINS.match(without_comments(text)) is not None
 
 
+def end_of_html(text, at):
+    """The end of a text in angle brackets, which has more of them inside, from after the first one on."""
+    depth = 1
+    for found in re.compile("[<>]").finditer(text, at):
+        depth += 1 if found.group() == "<" else -1
+        if depth == 0:
+            return found.end()
+    return len(text)
+
+
 class Reader:
     """A place in the list of tokens, which are (line, mark, id): one of mark and id is None."""
 
@@ -45,9 +55,11 @@ class Reader:
                 rest = text[start:].lstrip()
                 raise self.wrong(1 + text[:len(text) - len(rest)].count("\n"), rest.split()[0])
             line += found.group()[:found.start(found.lastgroup) - start].count("\n")
-            self.tokens.append((line, found["mark"], found["id"]))
-            line += found.group(found.lastgroup).count("\n")
-            start = found.end()
+            end = found.end() if found["id"] != "<" else end_of_html(text, found.end())
+            value = text[found.start(found.lastgroup):end]
+            self.tokens.append((line, found["mark"], None if found["mark"] else value))
+            line += value.count("\n")
+            start = end
 
     def wrong(self, line, what):
         return wrong_line(self.name, line, f"DOT isn't read on from `{shown(what)}`")

@@ -1,4 +1,5 @@
 """A network in GraphML, as networkx, yEd, Gephi and igraph write it."""
+import re
 from xml.etree import ElementTree
 
 from lab.networks.listed import Listed, named_by_labels
@@ -21,9 +22,9 @@ def plain(tag: str) -> str:
 
 
 def read(text: str, name: str) -> Listed:
-    """Its nodes and edges, and the nodes and edges of graphs inside nodes."""
-    if "<!ENTITY" in text or "<!DOCTYPE" in text:
-        raise Wrong(f"{name}: GraphML with a document type or entities isn't read")
+    """Its nodes and edges; those of graphs inside nodes too."""
+    if re.search(r"<!ENTITY|<!DOCTYPE[^>]*\[", text):
+        raise Wrong(f"{name}: GraphML with entities of its own isn't read")
     try:
         # The text is decoded already, whatever encoding its first line names.
         root = ElementTree.fromstring(text.lstrip().encode(), ElementTree.XMLParser(encoding="utf-8"))
@@ -43,6 +44,7 @@ def read(text: str, name: str) -> Listed:
     unknown = next((end for _, *ends in found.edges for end in ends if end not in listed), None)
     if unknown is not None:
         raise Wrong(f"{name}: an edge names {shown(unknown)}, which is no node")
+    leave_groups(found, graphs[0])
     read_places(found, said)
     for word in LABELS:
         if said[word]:
@@ -65,13 +67,35 @@ def read_element(found: Listed, name: str, at: int, element: ElementTree.Element
         found.alone.append((at, node))
         for data in element:
             word = words.get(data.get("key"))
-            if plain(data.tag) == "data" and word in said and data.text:
+            if plain(data.tag) == "data" and word in said and data.text and data.text.strip():
                 said[word][node] = data.text
+            elif plain(data.tag) == "data":
+                read_drawing(node, data, said)
     if tag == "edge":
         ends = [element.get("source"), element.get("target")]
         if not all(ends):
             raise Wrong(f"{name}: an edge has no source or no target")
         found.edges.append((at, *ends))
+
+
+def read_drawing(node: str, data: ElementTree.Element, said: dict) -> None:
+    """The label and the place of a node as yEd draws it."""
+    for part in data.iter():
+        if plain(part.tag) == "NodeLabel" and part.text and part.text.strip():
+            said["label"].setdefault(node, part.text)
+        elif plain(part.tag) == "Geometry" and part.get("x") and part.get("y"):
+            said["x"].setdefault(node, part.get("x"))
+            said["y"].setdefault(node, part.get("y"))
+
+
+def leave_groups(found: Listed, graph: ElementTree.Element) -> None:
+    """Leaves out the nodes that only hold others, as the groups of yEd do."""
+    groups = {element.get("id") for element in graph.iter() if plain(element.tag) == "node"
+              and any(plain(child.tag) == "graph" for child in element)}
+    groups -= {end for _, *ends in found.edges for end in ends}
+    if groups:
+        found.notes.append(f"groups of nodes, without an edge of their own, are no nodes: {len(groups)}")
+        found.alone = [(at, node) for at, node in found.alone if node not in groups]
 
 
 def read_places(found: Listed, said: dict) -> None:

@@ -1,13 +1,19 @@
 """Whether the first row of pairs is a heading, and which columns name the ends of an edge."""
+import re
+
 from lab.networks.network_text import shown, whole
 from lab.networks.unread import is_number
 from lab.wrong import Wrong
 
 # Headings of the two columns that name an edge's ends, as Gephi, networkx, igraph and people write them.
-ENDS = {"source": "target", "from": "to", "node1": "node2", "node_1": "node_2", "node 1": "node 2", "nodea": "nodeb",
-        "node_a": "node_b", "site_a": "site_b", "site a": "site b", "site1": "site2", "site_1": "site_2", "src": "dst",
-        "start": "end", "id1": "id2", "vertex1": "vertex2", "node": "neighbour", "from_id": "to_id",
-        "source_id": "target_id", "from_site": "to_site", "from site": "to site"}
+ENDS = {"source": "target", "from": "to", "src": "dst", "start": "end", "node": "neighbour", "from_id": "to_id",
+        "source_id": "target_id", "from_site": "to_site", "from site": "to site", "transmitter": "receiver",
+        "victim": "interferer", "von": "nach", "quelle": "ziel", "sender": "empfänger"}
+# And those of two columns that differ in their last letter, as `site_a` and `site_b`, or `Site 1` and `Site 2`.
+NOUN = "(site|node|station|transmitter|mast|cell|vertex|id|standort|sender|knoten|zelle|anlage)"
+SECOND = {"a": "b", "1": "2"}
+# Parts of headings of tables that list channels.
+OF_CHANNELS = ("channel", "frequency", "kanal", "kanäl", "kanael", "frequenz")
 
 
 def columns_of(rows: list, name: str, heading: bool | None) -> tuple[bool, tuple[int, int] | None]:
@@ -16,6 +22,10 @@ def columns_of(rows: list, name: str, heading: bool | None) -> tuple[bool, tuple
     named = ends_named(rows)
     if heading is not None:
         return heading, named if heading else None
+    of_channels = next((word for word in rows[0][1] if any(part in word.lower() for part in OF_CHANNELS)), None)
+    if of_channels and not named:
+        raise Wrong(f"{name}: the column `{shown(of_channels)}` is no end of an edge: --bars reads a table of site and "
+                    "channel, and --licence takes numbers (if these are pairs: --heading yes or --heading no)")
     if named or shows_numbers(rows):
         return True, named
     if is_alone(rows):
@@ -27,11 +37,15 @@ def columns_of(rows: list, name: str, heading: bool | None) -> tuple[bool, tuple
 def ends_named(rows: list) -> tuple[int, int] | None:
     """The columns that the first row names as ends, unless these words come again below them."""
     words = [word.lower() for word in rows[0][1]]
-    for one, other in ENDS.items():
+    lettered = [re.fullmatch(NOUN + r"[ _.-]?[a1]", word) for word in words]
+    pairs = {word: word[:-1] + SECOND[word[-1]] for word, found in zip(words, lettered) if found} | ENDS
+    for one, other in pairs.items():
         if one in words and other in words:
             columns = words.index(one), words.index(other)
             below = {fields[at].lower() for _, fields in rows[1:] for at in columns if at < len(fields)}
-            return None if below & {one, other} else columns
+            # Nodes may be called `Site 1` and `Site 2`, too.
+            is_named = one not in ENDS and any(re.fullmatch(NOUN + r"[ _.-]?\w{1,4}", name) for name in below)
+            return None if below & {one, other} or is_named else columns
     return None
 
 

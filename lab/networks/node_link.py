@@ -6,10 +6,14 @@ from lab.networks.network_text import shown
 from lab.networks.unread import unread
 from lab.wrong import Wrong
 
-READERS = {"adjacency": "G = nx.adjacency_graph(json.load(open(FILE)))",
-           "elements": "G = nx.cytoscape_graph(json.load(open(FILE)))",
-           "children": "G = nx.Graph(nx.tree_graph(json.load(open(FILE))))"}
+# Keys of other forms, what each has in them, and how networkx reads them.
+READERS = {"adjacency": (list, "G = nx.adjacency_graph(json.load(open(FILE)))"),
+           "elements": (dict, "G = nx.cytoscape_graph(json.load(open(FILE)))"),
+           "children": (list, "G = nx.Graph(nx.tree_graph(json.load(open(FILE))))")}
 LINKS = ("links", "edges")
+# How networkx and D3 name the ends of a link, and how vis.js does.
+ENDS = (("source", "target"), ("from", "to"))
+OF_LISTS = "G = nx.from_dict_of_lists(json.load(open(FILE)))"
 
 
 def begins(text: str) -> bool:
@@ -30,8 +34,10 @@ def read(text: str, name: str) -> Listed:
     links = next((graph[key] for key in LINKS if isinstance(graph.get(key), list)), None)
     nodes = graph.get("nodes")
     if links is None or not isinstance(nodes, list):
-        known = next((key for key in READERS if key in graph), None)
-        raise unread(name, "JSON, and no object with lists `nodes` and `links`", READERS.get(known))
+        known = next((reader for key, (kind, reader) in READERS.items() if isinstance(graph.get(key), kind)), None)
+        if known is None and graph and all(isinstance(beside, list) for beside in graph.values()):
+            known = OF_LISTS
+        raise unread(name, "JSON, and no object with lists `nodes` and `links`", known)
     found, labels = Listed("JSON of nodes and links"), {}
     ids = [id_of(name, at, node) for at, node in enumerate(nodes)]
     by_place = all(one is None for one in ids)
@@ -66,7 +72,8 @@ def read_node(found: Listed, node: dict, one: str, labels: dict) -> None:
 
 
 def ends_of(name: str, link, known: set) -> list[str]:
-    ends = [link.get(end) for end in ("source", "target")] if isinstance(link, dict) else []
+    words = next((words for words in ENDS if isinstance(link, dict) and words[0] in link), ENDS[0])
+    ends = [link.get(word) for word in words] if isinstance(link, dict) else []
     # D3 puts the whole nodes into the links once it has laid them out.
     ends = [end.get("id") if isinstance(end, dict) else end for end in ends]
     if len(ends) != 2 or None in ends:

@@ -2,6 +2,7 @@
 read it as another network."""
 import re
 
+from lab.networks import metis
 from lab.networks.fields import shown, whole
 from lab.wrong import Wrong
 
@@ -19,12 +20,14 @@ HEADS = [
     (r"dl\s+n\s*=", "DL of UCINET", None),
     (r"nodedef\s*>", "GDF", None),
     (r"\\documentclass|\\begin\b", "TeX", None),
+    (r"\[\s*\[", "a matrix or a list in brackets", "G = nx.from_numpy_array(numpy.array(json.load(open(FILE))))"),
     (r"\[[\s\"'\[{\-0-9]", "JSON, and no object with `nodes` and `links`", None),
 ]
 
 
 def refuse_heads(text: str, name: str) -> None:
-    """Refuses a text that begins like a form that is known and not read."""
+    """Refuses a text that begins like a form that is known and not read, after lines of comment."""
+    text = re.sub(r"\A(\s*[%#][^\n]*\n)+", "", text)
     for head, what, reader in HEADS:
         if re.match(head, text.lstrip(), re.I | re.S | re.M):
             raise unread(name, what, reader)
@@ -38,6 +41,9 @@ def unread(name: str, what: str, reader: str | None = None, otherwise: str = "")
 def refuse_rows(rows: list[tuple[int, list[str]]], text: str, name: str) -> None:
     """Refuses rows of fields in a form that is known and not read."""
     fields = [row for _, row in rows]
+    if is_graph6(fields):
+        raise unread(name, "graph6", "G = nx.read_graph6(FILE)",
+                     "; if each line is a node without a neighbour: --as pairs")
     mark = next((field for row in fields for field in row if field and not any(map(str.isalnum, field))), ":")
     if mark != ":":
         raise Wrong(f"{name}: `{shown(mark)}` is no name of a node; if it is: --as pairs, or --as adjacency")
@@ -49,14 +55,20 @@ def refuse_rows(rows: list[tuple[int, list[str]]], text: str, name: str) -> None
     if is_matrix(fields) or is_labelled(fields):
         reader = "G = nx.from_numpy_array(numpy.loadtxt(FILE))"
         raise unread(name, "a matrix", reader, "; if these are pairs of nodes: --as pairs")
-    if is_metis(rows):
-        raise unread(name, "METIS, the number of nodes and of edges and then each node's neighbours", None,
-                     "; if each line is a node and its neighbours: --as adjacency")
+    if metis.is_like(text):
+        raise Wrong(f"{name}: it looks like METIS, which is read if that is said: --as metis; if each line is a node "
+                    "and its neighbours: --as adjacency")
+    if has_counts(fields):
+        first = shown(" ".join(fields[0]))
+        raise Wrong(f"{name}: the first line (`{first}`) may be how many nodes and edges there are: remove it then; if "
+                    "it is a pair or a node: --as pairs, or --as adjacency")
     if ["0", "0"] in fields and all(row[1:] == ["0"] for row in fields):
         raise Wrong(f"{name}: these may be pairs with 0, or nodes with no neighbours: say --as pairs or --as multiline")
     if all(len(row) < 2 or not any(row[1:]) for row in fields):
-        raise Wrong(f"{name}: no line has two nodes, so it may be graph6 or a list of names; if each line is a node "
-                    "without a neighbour: --as pairs")
+        if all("|" in row[0] for row in fields):
+            raise Wrong(f"{name}: `|` isn't read between columns: write `;` or a comma in its place")
+        raise Wrong(f"{name}: no line has two nodes, so it may be a list of names; if each line is a node without a "
+                    "neighbour: --as pairs")
 
 
 def is_trivial(text: str) -> bool:
@@ -66,8 +78,20 @@ def is_trivial(text: str) -> bool:
     return bool(mark and after.strip()) and is_begun
 
 
+def value_of(field: str) -> float | None:
+    """A number with a point or a comma before its fraction, as spreadsheets of some countries write it, or with the
+    other of both between its thousands; or None."""
+    if re.fullmatch(r"[-+]?(\d+[.,]?\d*|[.,]\d+)([eE][-+]?\d+)?", field):
+        return float(field.replace(",", "."))
+    if re.fullmatch(r"[-+]?\d{1,3}(,\d{3})+(\.\d*)?", field):
+        return float(field.replace(",", ""))
+    if re.fullmatch(r"[-+]?\d{1,3}(\.\d{3})+(,\d*)?", field):
+        return float(field.replace(".", "").replace(",", "."))
+    return None
+
+
 def is_number(field: str) -> bool:
-    return re.fullmatch(r"[-+]?(\d+\.?\d*|\.\d+)([eE][-+]?\d+)?", field) is not None
+    return value_of(field) is not None
 
 
 def is_matrix(fields: list[list[str]]) -> bool:
@@ -76,7 +100,7 @@ def is_matrix(fields: list[list[str]]) -> bool:
     side = len(fields)
     if side < 2 or any(len(row) != side or not all(map(is_number, row)) for row in fields):
         return False
-    numbers = [[float(field) for field in row] for row in fields]
+    numbers = [[value_of(field) for field in row] for row in fields]
     if all(number in (0, 1) for row in numbers for number in row):
         return True
     if side < 3 or any(numbers[at][at] for at in range(side)):
@@ -97,12 +121,33 @@ def is_labelled(fields: list[list[str]]) -> bool:
     return is_square and is_numbers and names == [row[0] for row in body]
 
 
-def is_metis(rows: list[tuple[int, list[str]]]) -> bool:
-    """Whether the first row counts the nodes and edges, and the line of each node has its neighbours, as in METIS."""
-    first, head = rows[0]
-    if not 2 <= len(head) <= 4 or any(whole(field) is None for _, row in rows for field in row):
+def has_counts(fields: list[list[str]]) -> bool:
+    """Whether the first row, or the first two, may count the nodes and the edges of the pairs below, which have numbers
+    alone; and would change the network if they were a pair or nodes."""
+    single = next((at for at, row in enumerate(fields) if len(row) != 1), len(fields))
+    first, body = [whole(field) for field in fields[0]], fields[max(single, 1):]
+    ends = [whole(field) for row in body for field in row[:2]]
+    if not body or None in ends or None in first or any(len(row) < 2 for row in body):
         return False
-    nodes, edges = whole(head[0]), whole(head[1])
-    said = {(line - first, whole(field)) for line, row in rows[1:] for field in row}
-    return (edges > 0 and len(said) == 2 * edges == sum(len(row) for _, row in rows[1:])
-            and rows[-1][0] - first <= nodes and all((w, v) in said for v, w in said))
+    if single:
+        counts = [whole(row[0]) for row in fields[:single]]
+        return single <= 2 and None not in counts and any(
+            count not in ends and (count == len(body) or count > max(ends)) for count in counts
+        )
+    if len(first) == 3:
+        return first[0] == first[1] and first[2] == len(body)
+    is_count = len(first) == 2 and first[1] == len(body) and max(ends) <= first[0]
+    return is_count and (len(body[0]) == 3 or frozenset(fields[0]) not in {frozenset(row[:2]) for row in body})
+
+
+def is_graph6(fields: list[list[str]]) -> bool:
+    """Whether each line has a number of nodes and as many letters as their pairs need, by six a letter."""
+    return all(len(row) == 1 and is_of_graph6(row[0]) for row in fields)
+
+
+def is_of_graph6(line: str) -> bool:
+    if not re.fullmatch(r"[?-~]+", line) or line[0] == "~" and len(line) < 4:
+        return False
+    digits = line[1:4] if line[0] == "~" else line[:1]
+    nodes = sum((ord(letter) - 63) << 6 * at for at, letter in enumerate(reversed(digits)))
+    return len(line) == (4 if line[0] == "~" else 1) + -(-nodes * (nodes - 1) // 12)

@@ -53,11 +53,33 @@ READ = [
     ("JSON", JSON % "edges", "JSON of nodes and links; 4 nodes"),
     ("JSON with links", (JSON % "links").replace("{", "{\n").replace(",", ",\n"), "JSON of nodes and links; 4 nodes"),
     ("JSON of D3", D3, "nodes are named by their label or name"),
+    ("JSON of vis.js", D3.replace('"source"', '"from"').replace('"target"', '"to"').replace("links", "edges"),
+     "JSON of nodes and links; 4 nodes"),
     ("a heading and a weight", "site_x,site_y,distance_km\nUlm,Aue,3.5\nUlm,Hof,1\nAue,Hof,2\nBonn,,\n",
      "with a heading"),
     ("a heading over numbers", "a b km\nUlm Aue 1\nUlm Hof 2\nAue Hof 3\nBonn Bonn 0\n",
      "1 edge from a node to itself left out"),
 ]
+YED = """<?xml version="1.0" encoding="UTF-8" standalone="no"?>
+<!DOCTYPE graphml SYSTEM "http://graphml.graphdrawing.org/dtds/1.0rc/graphml.dtd">
+<graphml xmlns="http://graphml.graphdrawing.org/xmlns" xmlns:y="http://www.yworks.com/xml/graphml">
+  <key attr.name="description" attr.type="string" for="node" id="d5"/>
+  <key for="node" id="d6" yfiles.type="nodegraphics"/>
+  <graph edgedefault="undirected" id="G">
+    <node id="n0"><data key="d5"/><data key="d6"><y:ShapeNode><y:Geometry height="30" width="30" x="100.0" y="50.0"/>
+      <y:NodeLabel alignment="center" x="5.0" y="6.0">Ulm<y:LabelModel/></y:NodeLabel></y:ShapeNode></data></node>
+    <node id="n1" yfiles.foldertype="group"><data key="d6"><y:GroupNode><y:Geometry x="1" y="2"/>
+      <y:NodeLabel>South</y:NodeLabel></y:GroupNode></data>
+      <graph edgedefault="undirected" id="n1:">
+        <node id="n1::n0"><data key="d6"><y:ShapeNode><y:Geometry x="20" y="-3.5"/><y:NodeLabel>Aue</y:NodeLabel>
+        </y:ShapeNode></data></node>
+        <node id="n1::n1"><data key="d6"><y:ShapeNode><y:Geometry x="60" y="20"/><y:NodeLabel>Hof</y:NodeLabel>
+        </y:ShapeNode></data></node>
+      </graph></node>
+    <edge id="e0" source="n0" target="n1::n1"><data key="d10"><y:PolyLineEdge/></data></edge>
+  </graph>
+</graphml>
+"""
 PETERSEN = [pair for v in range(5) for pair in ((v, (v + 1) % 5), (v + 5, (v + 2) % 5 + 5), (v, v + 5))]
 BESIDE = {v: sorted({a + b - v for a, b in PETERSEN if v in (a, b)}) for v in range(10)}
 MATRIX = [["01"[w in BESIDE[v]] for w in range(10)] for v in range(10)]
@@ -67,23 +89,41 @@ REFUSED = [
      "looks like GEXF"),
     ("another XML", "<?xml version='1.0'?>\n<osm><node id='1'/></osm>\n", "XML and no GraphML"),
     ("HTML", "<!DOCTYPE html>\n<html><body>a</body></html>\n", "HTML"),
+    ("Pajek after a comment", "% x\n*Network a net\n*Vertices 1\n1 \"Ulm\"\n", "Pajek"),
     ("Pajek", "*vertices 2\n1 Ulm 0.0 0.0 ellipse\n2 Aue 0.0 0.0 ellipse\n*edges\n1 2 1.0\n", "Pajek"),
     ("graph6", ">>graph6<<IheA@GUAo\n", "graph6"),
-    ("graph6 without a head", "IheA@GUAo\n", "graph6"),
+    ("graph6 without a head", "IheA@GUAo\n", "nx.read_graph6(FILE)"),
+    ("graph6 of 64 nodes", "~?@?" + "?" * 336 + "\n", "nx.read_graph6(FILE)"),
+    ("a list of names", "Ulm\nAue\n", "a list of names"),
     ("sparse6", ">>sparse6<<:I`ES@obGkqegW~\n", "sparse6"),
     ("sparse6 without a head", ":I`ES@obGkqegW~\n", "sparse6"),
     ("JSON of adjacency", '{"nodes": [{"id": 0}, {"id": 1}], "adjacency": [[{"id": 1}], [{"id": 0}]]}',
      "adjacency_graph"),
     ("JSON of cytoscape", '{"elements": {"nodes": [{"data": {"id": "a"}}], "edges": []}}', "cytoscape_graph"),
     ("JSON of a tree", '{"id": 0, "children": [{"id": 1}]}', "tree_graph"),
-    ("a list in JSON", "[[0, 1], [1, 2]]\n", "JSON"),
-    ("JSON that is cut", '{"nodes": [{"id": 0}', "begins like JSON, and isn't JSON"),
-    ("METIS", "10 15\n" + "".join(" ".join(str(w + 1) for w in BESIDE[v]) + "\n" for v in range(10)), "METIS"),
-    ("METIS of a row", "3 2\n2\n1 3\n2\n", "METIS"),
+    ("a dictionary of lists in JSON", '{"a": ["b"], "b": ["a"]}', "from_dict_of_lists"),
+    ("places in JSON", '{"type": "FeatureCollection", "features": []}', "JSON, and no object with lists `nodes`"),
+    ("elements of a map in JSON", '{"version": 0.6, "elements": [{"type": "node", "id": 1}]}', "JSON, and no object"),
+    ("a list in JSON", "[[0, 1], [1, 2]]\n", "a matrix or a list in brackets"),
+    ("a matrix as numpy prints it", "[[0 1 0]\n [1 0 1]\n [0 1 0]]\n", "a matrix or a list in brackets"),
+    ("JSON that is cut", '{"nodes": [{"id": 0}', "begins like JSON, and is none"),
+    ("METIS", "10 15\n" + "".join(" ".join(str(w + 1) for w in BESIDE[v]) + "\n" for v in range(10)), "--as metis"),
+    ("METIS of a row", "3 2\n2\n1 3\n2\n", "--as metis"),
+    ("METIS with weights", "3 2 011\n5 2 1\n4 1 1 3 7\n9 2 7\n", "--as metis"),
+    ("METIS without edges", "2 0\n\n\n", "--as metis"),
     ("a matrix", "".join(" ".join(row) + "\n" for row in MATRIX), "a matrix"),
     ("a matrix in CSV", "".join(",".join(row) + "\n" for row in MATRIX), "a matrix"),
     ("a matrix with weights", "0 2 0.5\n2 0 1\n0.5 1 0\n", "a matrix"),
     ("a matrix with names", ",A,B,C\nA,0,1,1\nB,1,0,0\nC,1,0,0\n", "a matrix"),
+    ("a German matrix with names", ";A;B;C\nA;0;1,5;1\nB;1,5;0;0\nC;1;0;0\n", "a matrix"),
+    ("counts before the edges", "10 15\n" + "".join(f"{v + 1} {w + 1}\n" for v, w in PETERSEN), "how many nodes"),
+    ("counts before the edges, from 0", "10 15\n" + "".join(f"{v} {w}\n" for v, w in PETERSEN), "how many nodes"),
+    ("counts before edges with weights", "3 2\n1 2 1\n2 3 -1\n", "how many nodes and edges"),
+    ("counts in two lines", "9\n3\n1 2\n2 4\n4 1\n", "how many nodes and edges"),
+    ("rows, columns and entries", "3 3 2\n1 2 1\n2 3 1\n", "how many nodes and edges"),
+    ("a table of channels", "Channel,Frequency (MHz)\n36,5180\n40,5200\n", "the column `Channel` is no end of an edge"),
+    ("a table of bars", "Site,Barred Channels\nUlm,6 11\nAue,1\n", "--bars reads a table of site and channel"),
+    ("columns between bars", "site_a|site_b\nUlm|Aue\nAue|Hof\n", "`|` isn't read between columns"),
     ("a small matrix", "0 1\n1 0\n", "--as pairs"),
     ("TGF", "1 First\n2 Second\n#\n1 2\n", "TGF"),
     ("UCINET", "dl n=3 format=edgelist1\ndata:\n1 2\n2 3\n", "UCINET"),
@@ -96,7 +136,8 @@ REFUSED = [
     ("a ring with weights, or five nodes that know two each", "1 2 3\n2 3 4\n3 4 5\n4 5 1\n5 1 2\n",
      "pairs with a weight"),
     ("the same from 0", "0 1 2\n1 2 3\n2 3 4\n3 4 0\n4 0 1\n", "--as adjacency"),
-    ("names and numbers", "site,channel\nUlm,1\nAue,6\n", "names beside numbers"),
+    ("names and numbers", "site,power\nUlm,1\nAue,6\n", "names beside numbers"),
+    ("names and channels", "site,channel\nUlm,1\nAue,6\n", "--bars reads a table of site and channel"),
     ("a table with a number of each line", "link,one,other,km\n1,Ulm,Aue,5\n2,Aue,Hof,6\n", "--as pairs"),
     ("neighbours without lines", "Ulm Aue Hof\nBonn Kiel Jena\n", "--as adjacency"),
     ("a heading or a pair", "one,other\nUlm,Aue\nAue,Hof\nHof,Ulm\n", "--heading yes or --heading no"),
@@ -128,6 +169,45 @@ class ForeignForms(Case):
             places = comments(call("read", "-", data=text.encode())[1], "at")
             wanted = {v: (f"{v - 1} 0" if "GraphML" in name else f"{2 * v - 1} {2 * v}") for v in range(1, 5)}
             self.note(f"read: {name}: its places", places == wanted, places)
+
+    def test_metis(self):
+        """METIS is read if that is said, whatever weights it has: the example of its manual, in five of its forms. What
+        isn't whole is refused with its line."""
+        plain = ["5 3 2", "1 3 4", "5 4 2 1", "2 3 6 7", "1 3 6", "5 4 7", "6 4"]
+        of_edges = [" ".join(f"{w} {9 - at}" for at, w in enumerate(row.split())) for row in plain]
+        wanted = {frozenset((str(v), w)) for v, row in enumerate(plain, 1) for w in row.split()}
+        for head, rows in (("7 11", plain), ("7 11 1", of_edges), ("7 11 001", of_edges),
+                           ("7 11 010 3", [f"4 1 0 {row}" for row in plain]),
+                           ("7 11 100", [f"8 {row}" for row in plain]),
+                           ("7 11 111 2", [f"8 4 1 {row}" for row in of_edges])):
+            text = "% of the manual\n" + "\n".join([head, *rows]) + "\n"
+            status, wrote, told = call("read", "-", "--as", "metis", data=text.encode())
+            good = status == 0 and pairs_in(wrote) == (wanted, set()) and len(wanted) == 11
+            self.note(f"METIS {head}", good and (b"weights aren't read" in told) == (head != "7 11"), (wrote, told))
+        for text, alone in (("3 1\n2\n1\n\n", {"3"}), ("2 0\n\n\n", {"1", "2"}), ("0 0\n", set())):
+            got = call("read", "-", "--as", "metis", data=text.encode())
+            self.note(f"METIS {text!r}", got[0] == 0 and pairs_in(got[1])[1] == alone, got)
+        for text, said in (("3 2\n2\n1 3", b"is it cut?"), ("3 2\n2\n1 3\n4\n", b"line 4: no line of node 3"),
+                           ("3 2\n2\n1 3\n\n", b"node 2 names 3 as its neighbour"), ("2 2\n2\n1\n", b"says 2 edges"),
+                           ("2 1 7\n2\n1\n", b"`7` is no kind of weights"), ("2 1 1\n2\n1 5\n", b"line 2: no line of"),
+                           ("a b\n", b"line 1: METIS begins"), ("", b"METIS begins"), ("20001 0\n", b"at most 20000")):
+            got = call("read", "-", "--as", "metis", data=text.encode())
+            self.note(f"METIS {text!r}", got[:2] == (1, b"") and said in got[2] and got[2].count(b"\n") == 1, got)
+
+    def test_drawings(self):
+        """Labels, places and groups of yEd, and labels of Graphviz in the form of HTML."""
+        status, wrote, told = call("read", "-", data=YED.encode())
+        self.note("yEd", status == 0 and pairs_in(wrote) == ({frozenset(("Ulm", "Hof"))}, {"Aue"}), (wrote, told))
+        self.note("its places", comments(wrote, "at") == {1: "100 50", 2: "20 -3.5", 3: "60 20"}, wrote)
+        self.note("its group", b"groups of nodes, without an edge of their own, are no nodes: 1\n" in told, told)
+        joined = YED.replace('target="n1::n1"', 'target="n1"')
+        self.note("a group with an edge is a node", call("read", "-", data=joined.encode())[1].count(b"c name") == 4)
+        dot = 'graph {\n "Ulm" [label=<<b>U</b> -- <i>x</i>>];\n Ulm -- Aue [label=<3 <sub>km</sub>>]; Aue -- Hof\n}\n'
+        got = call("read", "-", data=dot.encode())
+        wanted = {frozenset(("Ulm", "Aue")), frozenset(("Aue", "Hof"))}
+        self.note("labels of Graphviz", got[0] == 0 and pairs_in(got[1]) == (wanted, set()), got)
+        cut = call("read", "-", data=dot[:40].encode())
+        self.note("such a label that is cut", cut[:2] == (1, b"") and b"is the text cut?" in cut[2], cut)
 
     def test_matrix_market(self):
         head = "%%MatrixMarket matrix coordinate real symmetric\n% by hand\n"
