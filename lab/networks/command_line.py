@@ -84,6 +84,7 @@ COMMANDS = {
         "  graphml, gml  as networkx, yEd, Gephi and igraph write them\n"
         "  json          lists `nodes` and `links`, as networkx writes and D3 reads them\n"
         "  matrixmarket  a sparse matrix of coordinates\n"
+        "  metis         with weights or without, if --as names it\n"
         "  dot           a graph in the language of Graphviz\n"
         "  dimacs        `p` and `e` lines, with mistakes that are mended if that can be\n"
         "The form is guessed unless --as names it. Numbers from 1 on are kept, those from 0\n"
@@ -91,10 +92,12 @@ COMMANDS = {
         "Mended, and said: a byte order mark, line ends of a carriage return alone, edges from\n"
         "a node to itself (left out), and edges that come again or in both directions (once).\n"
         "\n"
-        "A table of sites is CSV with a heading: site (or name, id), and if there are any\n"
-        "lat and lon (degrees), x and y (km), or easting and northing (m), and identifier.\n"
-        "With it the nodes are the sites of the table, in its order, those without a\n"
-        "neighbour too. A table of bars is CSV with the heading site,channel.",
+        "CSV has commas, semicolons or tabs, with decimal points or commas. A table of sites\n"
+        "has a heading: site (or name, id), and if there are any lat and lon (degrees), x and\n"
+        "y (km), or easting and northing (m), and identifier. With it the nodes are the sites\n"
+        "of the table, in its order, those without a neighbour too; a pair of another site is\n"
+        "left out, and said with the name that is most alike. A table of bars has the heading\n"
+        "site,channel. Headings may be German, too.",
         "bin/network read pairs.csv --sites sites.csv > sites.col\n"
         "  bin/network read --sites sites.csv --reach 5.5 --bars bars.csv > sites.col",
     ),
@@ -183,7 +186,7 @@ def add_words(command, name):
         command.add_argument("--bars", metavar="CSV", help="a table of channels that are barred at sites")
         command.add_argument("--licence", metavar="TABLE", help="the channels that all may use, as '1 6 11': the first "
                              "is channel 1 of the plan; bars are of these numbers, and `bin/channels` puts them back")
-        command.add_argument("--strict", action="store_true", help="refuses, where something would be left out")
+        command.add_argument("--strict", action="store_true", help="refuses it if something would be left out")
     if name == "number":
         command.add_argument("--by", choices=WAYS, required=True, help="the order of the new numbers")
         command.add_argument("--reverse", action="store_true", help="the other way round")

@@ -65,14 +65,22 @@ def decoded(data: bytes, name: str) -> tuple[str, list[str]]:
         try:
             text = data.decode("utf-8-sig")
         except UnicodeDecodeError:
-            text = data.decode("latin-1")
-            notes.append("read as Latin-1, since it is no UTF-8")
+            text, name_of_it = of_windows(data)
+            notes.append(f"read as {name_of_it}, since it is no UTF-8")
     if "\0" in text:
         raise Wrong(f"{name}: it has bytes of value zero, so it is no text")
     text = text.replace("\r\n", "\n")
     if "\r" in text:
         notes.append("lines end with a carriage return alone")
     return text.replace("\r", "\n"), notes
+
+
+def of_windows(data: bytes) -> tuple[str, str]:
+    """The text as western Windows has it, which is Latin-1 with more letters; a few bytes are none of them."""
+    try:
+        return data.decode("cp1252"), "Windows-1252"
+    except UnicodeDecodeError:
+        return data.decode("latin-1"), "Latin-1"
 
 
 def named_by_labels(found: Listed, labels: dict[str, str], word: str) -> None:

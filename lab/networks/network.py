@@ -79,6 +79,8 @@ def was_read(given):
         raise Wrong(f"{name}: refused, since --strict is asked for: {'; '.join(left_out)}")
     for what in said + left_out:
         say(f"{name}: {what}")
+    if left_out:
+        say(f"{name}: --strict refuses what has something left out")
     if licence:
         network.head = [f"Channel {channel} is {number}" for channel, number in enumerate(licence, 1)]
     return text_of(network)

@@ -15,13 +15,35 @@ FORMS = ("pairs", "adjacency", "multiline")
 
 def rows_of(text: str) -> tuple[Rows, str | None]:
     """(line, fields) of each line that is neither blank nor a comment; and the separator, or None for blanks."""
+    text = re.sub(r"\A\s*\"?sep=.\"?[ \t]*(?=\n)", "", text)
     lines = [(number, re.sub(r"\s*\{.*\}\s*$", "", line)) for number, line in enumerate(text.split("\n"), 1)]
     lines = [(number, line) for number, line in lines if line.strip() and not line.lstrip().startswith(("#", "%"))]
-    separator = next((mark for mark in (";", ",", "\t") if lines and all(mark in line for _, line in lines)), None)
+    separator = next((mark for mark in ("\t", ";", ",") if is_separator(mark, lines)), None)
     if separator is None:
         return [(number, line.split()) for number, line in lines], None
     fields = csv.reader((line for _, line in lines), delimiter=separator, skipinitialspace=True)
-    return [(number, [field.strip() for field in row]) for (number, _), row in zip(lines, fields)], separator
+    rows = [(number, [field.strip() for field in row]) for (number, _), row in zip(lines, fields)]
+    # Spreadsheets write empty rows, too.
+    return [(number, row) for number, row in rows if any(row)], separator
+
+
+def is_separator(mark: str, lines: list[tuple[int, str]]) -> bool:
+    """Whether a mark parts the fields of each line, and isn't the comma of numbers between blanks."""
+    if not lines or not all(mark in line for _, line in lines):
+        return False
+    return mark != "," or not all(
+        len(line.split()) > 2 and not re.search(r"(?<!\d),|,(?!\d)", line) for _, line in lines
+    )
+
+
+def uneven(text: str) -> tuple[int, str] | None:
+    """The first line without a mark that parts most other lines, and this mark."""
+    lines = [(number, line) for number, line in enumerate(text.split("\n"), 1) if line.strip()]
+    for mark in ("\t", ";", ","):
+        without = [number for number, line in lines if mark not in line]
+        if without and 2 * len(without) < len(lines) and not (mark == "," and re.search(r"\d,\d|[({]", text)):
+            return without[0], {"\t": "tab"}.get(mark, f"`{mark}`")
+    return None
 
 
 def read(text: str, name: str, form: str | None, heading: bool | None) -> Listed:
@@ -29,6 +51,9 @@ def read(text: str, name: str, form: str | None, heading: bool | None) -> Listed
     rows, separator = rows_of(text)
     if not rows:
         raise Wrong(f"{name}: it has no line with a node")
+    if separator is None and form != "adjacency" and uneven(text):
+        line, mark = uneven(text)
+        raise wrong_line(name, line, f"no {mark}, and most other lines have one: remove what is no row of the table")
     if not form and not ("{" in text and groups_of(rows)):
         refuse_rows(rows, text, name)
     form = form or ("multiline" if "{" in text and groups_of(rows) else None)

@@ -7,15 +7,20 @@ from lab.networks.listed import Listed, clean, decoded
 from lab.networks.network_text import IDENTIFIERS, MAX_BARS, MAX_CHANNEL, MAX_EDGES, MAX_NODES, shown
 from lab.networks.reading import counted
 from lab.networks.rows import rows_of
+from lab.networks.spelling import named
 from lab.wrong import Wrong, wrong_line
 
 # Headings of the columns, in small letters without blanks, lines and points.
-NAMES = ("site", "name", "id", "siteid", "sitename", "node", "label", "transmitter", "station", "mast", "cell", "ap")
+NAMES = ("site", "name", "id", "siteid", "sitename", "node", "label", "transmitter", "station", "mast", "cell", "ap",
+         "standort", "standortname", "bezeichnung", "kennung", "sender", "knoten", "zelle", "anlage")
 # Columns of a place, with what makes kilometres of them; latitude and longitude are in degrees.
 PLANES = (("x", "y", 1.0), ("xkm", "ykm", 1.0), ("xm", "ym", 0.001), ("easting", "northing", 0.001),
-          ("east", "north", 0.001))
-GLOBES = (("lat", "lon"), ("lat", "lng"), ("lat", "long"), ("latitude", "longitude"))
-IDENTIFIER, CHANNELS = "identifier", ("channel", "channels", "barred", "bar")
+          ("east", "north", 0.001), ("rechtswert", "hochwert", 0.001), ("ostwert", "nordwert", 0.001))
+GLOBES = (("lat", "lon"), ("lat", "lng"), ("lat", "long"), ("latitude", "longitude"), ("breite", "länge"),
+          ("breitengrad", "längengrad"))
+IDENTIFIER = "identifier"
+CHANNELS = ("channel", "channels", "barredchannel", "barredchannels", "barred", "bar", "kanal", "kanäle",
+            "gesperrterkanal", "gesperrtekanäle", "gesperrt")
 # The mean radius of the earth in kilometres.
 EARTH = 6371.0088
 
@@ -87,6 +92,10 @@ def read_sites(data: bytes, name: str) -> Sites:
         if own and (number is None or number >= IDENTIFIERS):
             raise wrong_line(name, line, f"no identifier below 2^128: `{shown(own)}`")
         found.identifiers.append(number)
+    strips = {int(place[0] // 1000) for place in found.places if place}
+    if not globe and plane and plane[0] == "rechtswert" and len(strips) > 1:
+        raise Wrong(f"{name}: places in several strips of Gauss and Krüger have no common map; latitude and longitude "
+                    "have one")
     if len(found.lines) > MAX_NODES:
         raise Wrong(f"{name}: {len(found.lines)} sites, and a network has at most {MAX_NODES} nodes")
     return found
@@ -171,8 +180,10 @@ def with_sites(found: Listed, sites: Sites, name: str, reach: float | None) -> N
     strange = [(line, end) for line, *ends in found.edges + found.alone for end in map(clean, ends) if end not in known]
     if strange:
         lines = {line for line, _ in strange}
-        found.left_out.append(f"{counted(len(lines), 'line')} left out, with a site that isn't in {name}, first line "
-                              f"{strange[0][0]}: {shown(strange[0][1])}")
+        what = f"a site that isn't in {name}: {named(strange, known)}"
+        if not pairs & known:
+            raise Wrong(f"{name}: none of its names is in the pairs; each line has {what}")
+        found.left_out.append(f"{counted(len(lines), 'line')} left out, with {what}")
         found.edges = [row for row in found.edges if row[0] not in lines]
         found.alone = [row for row in found.alone if row[0] not in lines]
     found.order = names
@@ -181,6 +192,8 @@ def with_sites(found: Listed, sites: Sites, name: str, reach: float | None) -> N
     found.identifiers |= {one: number for one, number in zip(names, sites.identifiers) if number is not None}
     if reach is None:
         return
+    if not any(sites.points):
+        raise Wrong(f"{name}: no site has a place: columns lat and lon, x and y, or easting and northing are wanted")
     lost = [one for one, point in zip(names, sites.points) if point is None]
     if lost:
         found.left_out.append(f"{counted(len(lost), 'site')} without a place, joined to none by the reach, first: "
@@ -204,7 +217,7 @@ def with_bars(found: Listed, data: bytes, name: str, licence: list[int] | None) 
     for line, fields in rows:
         fields = fields + [""] * (len(words) - len(fields))
         one = clean(fields[site])
-        for word in fields[channel].split():
+        for word in re.findall(r"[^\s,;]+", fields[channel]):
             if not re.fullmatch(r"[0-9]{1,12}", word):
                 raise wrong_line(name, line, f"`{shown(word)}` is no channel")
             number = int(word) if licence is None else licence.index(int(word)) + 1 if int(word) in licence else None
@@ -218,7 +231,9 @@ def with_bars(found: Listed, data: bytes, name: str, licence: list[int] | None) 
                 found.bars.setdefault(one, set()).add(number)
         if len(found.bars.get(one, ())) > MAX_BARS:
             raise wrong_line(name, line, f"more than {MAX_BARS} channels are barred at {shown(one)}")
-    for lost, what in ((strange, "of an unknown site"), (outside, "of a channel outside the licence")):
-        if lost:
-            first = f"first at line {lost[0][0]} of {name}: {shown(lost[0][1])}"
-            found.left_out.append(f"{counted(len(lost), 'bar')} {what} left out, {first}")
+    if strange:
+        found.left_out.append(f"{counted(len(strange), 'bar')} of {name} left out, of an unknown site: "
+                              f"{named(strange, known)}")
+    if outside:
+        first = f"first at line {outside[0][0]} of {name}: {shown(outside[0][1])}"
+        found.left_out.append(f"{counted(len(outside), 'bar')} of a channel outside the licence left out, {first}")

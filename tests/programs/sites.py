@@ -9,7 +9,7 @@ import tempfile
 from lab.definitions.colours import network_of
 from tests import TOP
 from tests.cases import Case, run_program
-from tests.programs.own_networks import call, comments, edges_of
+from tests.programs.own_networks import call, comments, edges_of, pairs_in
 from tests.settings import PLAN
 
 SITES = ("site,lat,lon,identifier\nUlm,48.4,10.0,7\nAue,50.6,12.7,\nHof,50.3,11.9,0x10\n"
@@ -47,7 +47,8 @@ class Sites(Case):
         self.note("edges", edges_of(wrote) == {(1, 3), (2, 3)}, wrote)
         self.note("identifiers", network_of(wrote).identifiers == {1: 7, 2: 2, 3: 16, 4: 0x1b63_8445_e6}, wrote)
         self.note("a pair of a strange site is counted",
-                  b"1 line left out, with a site that isn't in %s, first line 4: Prag" % sites.encode() in told, told)
+                  b"1 line left out, with a site that isn't in %s: Prag (line 4)\n" % sites.encode() in told, told)
+        self.note("--strict is named", told.endswith(b": --strict refuses what has something left out\n"), told)
         self.note("a loop is counted", b"1 edge from a node to itself left out, first at line 5: Aue" in told, told)
         places = {v: tuple(map(float, rest.split())) for v, rest in comments(wrote, "at").items()}
         self.note("north is on top, and east is right",
@@ -55,6 +56,52 @@ class Sites(Case):
         self.note("the program reads it", run_program(PLAN, ["forests"], wrote).stdout.startswith(b"forests 4 1\n"))
         self.refused("what is left out, if that is asked for", "--strict is asked for: 1 line left out, with a site",
                      pairs, "--sites", sites, "--strict")
+
+    def test_misspelt(self):
+        """Names that aren't in the table are said, a few of them, with those that are written most alike."""
+        sites = self.file("sites.csv", "site,x,y\nUlm,0,0\nKöln,1,1\nHof am Wald,2,2\n")
+        pairs = self.file("pairs.csv", "Ulm;Kölln;3,5\nKöln;Hof am Wald;4\nhof am wald;Ulm;1\nPrag;Ulm;2\n"
+                                       "Koln;Ulm;1\nWien;Linz;7\nUlm;Kölln;2\n")
+        status, wrote, told = call("read", pairs, "--sites", sites)
+        said = (f"6 lines left out, with a site that isn't in {sites}: Kölln (line 1, is it Köln?), "
+                "hof am wald (line 3, is it Hof am Wald?), Prag (line 4), Koln (line 5, is it Köln?), and 2 more\n")
+        self.note("misspelt sites", (status, edges_of(wrote)) == (0, {(2, 3)}) and said.encode() in told, told)
+        self.refused("misspelt sites, if that is asked for", "asked for: 6 lines left out", pairs, "--sites", sites,
+                     "--strict")
+        self.refused("sites of another table", "none of its names is in the pairs",
+                     self.file("other.csv", "A,B\nB,C\n"), "--sites", sites)
+        told = call("read", pairs, "--bars", self.file("bars.csv", "site,channel\nUlmm,6\nUlm,7\nBonn,1\n"))[2]
+        said = b"2 bars of %s left out, of an unknown site: Ulmm (line 2, is it Ulm?), Bonn (line 4)\n"
+        self.note("a bar of a misspelt site", said % os.path.join(self.folder, "bars.csv").encode() in told, told)
+
+    def test_german_spreadsheets(self):
+        """Tables as a German Excel writes them are read at the first try: with semicolons, decimal commas, carriage
+        returns and empty rows, in Windows-1252 or after a byte order mark; with German headings or without one."""
+        rows = "Ulm;Köln – West;3,5\r\nKöln – West;Hof;1.012,25\r\nHof;Ulm;7\r\n"
+        wanted = {frozenset(pair) for pair in (("Ulm", "Köln – West"), ("Köln – West", "Hof"), ("Hof", "Ulm"))}
+        for head in ("", "Standort A;Standort B;Entfernung (km)\r\n", "Von;Nach;Abstand\r\n", "Eins;Zwei;km\r\n",
+                     "sep=;\r\nSender 1;Sender 2;km\r\n"):
+            for data in ((head + rows + ";;\r\n").encode("cp1252"), ("\ufeff" + head + rows).encode()):
+                status, wrote, told = call("read", "-", data=data)
+                self.note(f"German pairs after {head!r}", status == 0 and pairs_in(wrote) == (wanted, set()), told)
+        numbered = "Nr.;Anlage A;Anlage B;Bemerkung\r\n1;Ulm;Hof;\r\n2;Hof;Aue;gut, sehr gut\r\n".encode("cp1252")
+        wrote = call("read", "-", data=numbered)[1]
+        wanted = {frozenset(("Ulm", "Hof")), frozenset(("Hof", "Aue"))}
+        self.note("columns by their headings", pairs_in(wrote)[0] == wanted, wrote)
+        sites = self.file("sites.csv", "Standort;Breite;Länge;Höhe\r\nUlm;48,4;10,0;480\r\nHof;48,4;10,0;9\r\n".encode(
+            "cp1252"))
+        bars = self.file("bars.csv", "Standort;Gesperrte Kanäle\r\nHof;6, 11\r\n".encode("cp1252"))
+        status, wrote, told = call("read", "--sites", sites, "--reach", "1", "--bars", bars)
+        good = (status, edges_of(wrote)) == (0, {(1, 2)}) and b"\nb 2 6\nb 2 11\n" in wrote
+        self.note("German sites and bars", good, (wrote, told))
+        gauss = "Name;Rechtswert;Hochwert\r\nUlm;3573000,5;5363000\r\nHof;%s573000;5363500\r\n"
+        wrote = call("read", "--sites", self.file("gk.csv", gauss % 3), "--reach", "1")[1]
+        self.note("Gauss and Krüger", edges_of(wrote) == {(1, 2)}, wrote)
+        self.refused("two strips", "strips", "--sites", self.file("gk.csv", gauss % 4), "--reach", "1")
+        self.refused("no place at all", "no site has a place: columns lat and lon", "--sites",
+                     self.file("bare.csv", "Name;Leistung\nUlm;5\n"), "--reach", "1")
+        title = self.file("t.csv", "Störungen 2026\r\nStandort A;Standort B;km\r\n" + rows)
+        self.refused("a title over the table", "line 1: no `;`, and most other lines have one", title)
 
     def test_spreadsheets(self):
         """A table as spreadsheets of some countries write it: semicolons, decimal commas, a mark, carriage returns."""
@@ -102,8 +149,8 @@ class Sites(Case):
     def test_bars(self):
         pairs, bars = self.file("pairs.csv", "Ulm,Aue\n"), "site,channel\nUlm,6\nUlm,11 6\nAue,1\nHof,1\n"
         for words, wanted, left_out in (
-            ([], {1: [6, 11], 2: [1]}, b"1 bar of an unknown site left out, first at line 5 of "),
-            (["--licence", "1 6 11"], {1: [2, 3], 2: [1]}, b"bars.csv: Hof"),
+            ([], {1: [6, 11], 2: [1]}, b"left out, of an unknown site: Hof (line 5)\n"),
+            (["--licence", "1 6 11"], {1: [2, 3], 2: [1]}, b"1 bar of "),
             (["--licence", "6-11/5"], {1: [1, 2]}, b"1 bar of a channel outside the licence left out"),
         ):
             status, wrote, told = call("read", pairs, "--bars", self.file("bars.csv", bars), *words)
@@ -178,5 +225,8 @@ class Channels(Case):
             file.flush()
             got = call("names", file.name, "--channels", "36 40", data=b"plan\n1 2\n2 1\n")
             self.note("names with real channels", got == (0, b"Ulm 40\nAue 36\n", b""), got)
+            got = call("names", file.name, data=b"plan\n1 40\n2 36\n")
+            hint = b"channel 40 is not one of 1 to 2 (C5); if it is a real channel number: bin/channels --back TABLE\n"
+            self.note("a plan of real channels", got[:2] == (1, b"") and got[2].endswith(hint), got)
             got = call("names", file.name, "--channels", "36", data=b"plan\n1 2\n2 1\n")
             self.note("more channels than the licence", got[:2] == (1, b"") and b"takes 2 channels" in got[2], got)
