@@ -7,7 +7,7 @@ import subprocess
 import sys
 import tempfile
 
-from build import kit, manuals, sums
+from build import kit, manuals, readme, sums
 from lab import version
 from lab.workshop.class_files import class_files, stubs
 
@@ -28,8 +28,8 @@ without the toolchain and without this tree.
 
 The folder gets the layout of this tree: in bin/ the two programs and the scripts
 picture, network, channels, explore, check-transcript, replay, simulate, sheet,
-transcript-to and workshop, and their modules, the examples, README, the pages and
-lessons, the licences, and a manual page for each command. So the lessons' commands
+transcript-to and workshop, and their modules, the examples, a README of what is there,
+the pages and lessons, the licences, and a manual page for each command. So the lessons' commands
 work in it as they do here; with its bin/ on the PATH they work anywhere without the
 bin/ before them. VERSION says what it was made from, and SHA256SUMS has a sum of each
 file: sha256sum -c SHA256SUMS. The programs need the C library alone, the scripts bash
@@ -111,6 +111,9 @@ def make(room, is_class=False):
     for source, path in files_to_copy(is_class):
         os.makedirs(os.path.dirname(os.path.join(room, path)), exist_ok=True)
         shutil.copy(source, os.path.join(room, path))
+    if not is_class:
+        with open(os.path.join(TOP, "README.md"), encoding="utf-8") as file:
+            write(os.path.join(room, "README.md"), readme.installed(file.read(), {*PROGRAMS, *SCRIPTS}))
     for path in sorted(os.listdir(os.path.join(room, "bin"))):
         page = os.path.join(room, "share", "man", "man1", f"{path}.1")
         write(page, manuals.page_of(path, os.path.join(room, "bin", path)))

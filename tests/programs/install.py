@@ -230,7 +230,7 @@ class Install(Case):
         for name in SCRIPTS:
             got = run([os.path.join(self.target, "bin", name), "--version"], env=ENVIRONMENT)
             self.note(f"{name} --version", got == (0, version.encode(), b""), got)
-        for name in ("README.md", "LICENSE-MIT", "LICENSE-APACHE", "CHANGELOG.md", "docs/claim/FORMATS.md"):
+        for name in ("LICENSE-MIT", "LICENSE-APACHE", "CHANGELOG.md", "docs/claim/FORMATS.md"):
             there, here = (contents(os.path.join(top, name)) for top in (self.target, TOP))
             self.note(f"{name} is there", there == here)
         rows = [line.split("  ", 1) for line in contents(os.path.join(self.target, "SHA256SUMS")).decode().splitlines()]
@@ -238,6 +238,25 @@ class Install(Case):
                  if hashlib.sha256(contents(os.path.join(self.target, path))).hexdigest() != known]
         self.note("each sum is its file's", not wrong and len(rows) > 100, wrong)
         self.note("the programs have sums", {"bin/forestplan", "bin/forestplay"} <= {path for _, path in rows})
+
+    def test_readme(self):
+        """README there names the commands that are there, all of them, and nothing that only the repository has."""
+        here, there = (contents(os.path.join(top, "README.md")).decode() for top in (TOP, self.target))
+        rows = re.findall(r"^`(bin/\S+?)[ `][^|]*\| ", there, re.M)
+        wanted = {f"bin/{name}" for name in [*PROGRAMS, *SCRIPTS]}
+        self.note("a row of each command", set(rows) == wanted and len(rows) > len(wanted), set(rows) ^ wanted)
+        named = set(re.findall(r"bin/[\w-]+", there))
+        missing = {path for path in named if not os.path.isfile(os.path.join(self.target, path))}
+        self.note("each command that it names is there", named >= wanted and not missing, missing)
+        links = {link.partition("#")[0] for link in re.findall(r"\]\(([^)]+)\)", there)}
+        lost = {link for link in links if not os.path.isfile(os.path.join(self.target, link))}
+        self.note("each page that it links is there", len(links) > 10 and not lost, lost)
+        self.note("nothing of the repository alone", not re.findall(r"\./\w+|\brt\b|wrong-bodies", there), there)
+        self.note("the claim is that of the repository",
+                  all(part in there for part in re.findall(r"^## The claim\n.*?(?=^## )|^## What is.*", here, re.M | re.S)))
+        shown = re.search(r"\$ (bin/forestplan plan < \S+)", there)
+        got = run(["bash", "-c", shown[1]], cwd=self.target, env=ENVIRONMENT)
+        self.note("its first command", got == (0, b"plan\n1 2\n2 3\n3 1\n", b""), got)
 
     def small_tree(self, name):
         """A tree of this one's scripts, whose programs are of one crate each, and were built by another command."""

@@ -1,0 +1,26 @@
+"""README of an installed folder: that of this tree, with the commands that are there, as they are called there."""
+import re
+
+# In place of the section on the first call and the tests, up to the table of the commands.
+SECTION = """\
+## In this folder
+
+    bin/forestplan plan < examples/triangle.col     prints the plan
+
+The programs need no toolchain, the scripts bash and Python 3. With `bin/` on the PATH the commands work anywhere, and
+`man` finds their pages. VERSION says from which commit the folder was made, and SHA256SUMS has a sum of each file. What
+a page says of `crates/`, `bench/`, `tests/` and the toolchain is about the repository of that commit.
+
+"""
+
+
+def installed(text: str, commands: set[str]) -> str:
+    """The text of README as it is in a folder with these commands in its bin/."""
+    text, count = re.subn(r"^## Two commands\n.*?(?=^Command \| )", lambda _: SECTION, text, flags=re.M | re.S)
+    if count != 1:
+        raise ValueError("README.md has no section `Two commands` before its table of commands")
+    text = text.replace("./forestplan", "bin/forestplan")
+    rows = re.findall(r"^`bin/([\w-]+)[^`]*` \| .*\n", text, re.M)
+    for name in {row for row in rows if row not in commands}:
+        text = re.sub(rf"^`bin/{name}[^`]*` \| .*\n", "", text, flags=re.M)
+    return text
