@@ -1,22 +1,26 @@
 """Real channel numbers (36, 40, 44, ..) beside a plan's, which count from 1; and the command `bin/channels`."""
 import argparse
+import os
 import re
 import sys
 
+from lab.networks import sites
 from lab.networks.listed import clean
 from lab.networks.network_text import MAX_CHANNEL, shown, whole
 from lab.wrong import Wrong, wrong_line
 
-# The most digits of a channel's real number, such as a frequency in kHz.
+# Headings of the column of channels in a file, in small letters without blanks.
+HEADINGS = ("channel", "channels", "channelnumber", "kanal", "kanäle", "kanalnummer")
+# Real numbers of channels, as frequencies in kHz are, have at most so many digits.
 MOST_DIGITS = 12
 
 HELP = """\
 Puts real channel numbers in place of a plan's channels, or the other way round.
 
 A plan counts channels from 1. TABLE has the real number of channel 1, then of channel
-2, and so on: `36 40 44 48`, or `1-13`, or `36-64/4` for each fourth. The plan is read
-from standard input, and written with the other numbers. So `forestplan check` can judge
-a plan of real numbers, whoever made it.
+2, and so on: `36 40 44 48`, or `1-13`, or `36-64/4` for each fourth; or it is a file, CSV
+with a column `channel`. The plan is read from standard input, and written with the other
+numbers. So `forestplan check` can judge a plan of real numbers, whoever made it.
 
 With --back without TABLE, channel 1 is the lowest number that the plan has, channel 2
 the next, and so on; which is which is said on standard error. Take that only for a
@@ -34,7 +38,31 @@ Examples:
 
 
 def table_of(words: list[str]) -> list[int]:
-    """The real numbers that words name, in their order; each once."""
+    """The real numbers that words name, or a file of this name, in their order; each once."""
+    is_file = len(words) == 1 and re.search(r"[^\d\s,;/-]", words[0]) and os.path.isfile(words[0])
+    found = numbers_in(words[0]) if is_file else numbers_of(words)
+    if len(set(found)) != len(found) or len(found) > MAX_CHANNEL:
+        raise Wrong(f"the table names a channel twice, or more than {MAX_CHANNEL} channels")
+    return found
+
+
+def numbers_in(path: str) -> list[int]:
+    """The column of channels of a table."""
+    try:
+        with open(path, "rb") as file:
+            words, rows, _ = sites.table(file.read(), path)
+    except OSError as why:
+        raise Wrong(f"{path}: {why.strerror}") from None
+    column = next((words.index(word) for word in HEADINGS if word in words), None)
+    if column is None or not rows:
+        raise Wrong(f"{path}: no column is named channel, or it has no row")
+    for line, fields in rows:
+        if column >= len(fields) or not re.fullmatch(r"\d{1,%d}" % MOST_DIGITS, fields[column]):
+            raise wrong_line(path, line, f"no channel: `{shown(','.join(fields))}`")
+    return [int(fields[column]) for _, fields in rows]
+
+
+def numbers_of(words: list[str]) -> list[int]:
     found = []
     for word in re.split(r"[\s,;]+", " ".join(words).strip(" ,;")):
         parts = re.fullmatch(r"(\d{1,%d})(?:-(\d{1,%d})(?:/(\d{1,6}))?)?" % (MOST_DIGITS, MOST_DIGITS), word)
@@ -45,8 +73,6 @@ def table_of(words: list[str]) -> list[int]:
         if not numbers or len(numbers) > MAX_CHANNEL:
             raise Wrong(f"`{word}` names no channel, or more than {MAX_CHANNEL}")
         found += numbers
-    if len(set(found)) != len(found) or len(found) > MAX_CHANNEL:
-        raise Wrong(f"the table names a channel twice, or more than {MAX_CHANNEL} channels")
     return found
 
 
@@ -85,7 +111,7 @@ def main(words: list[str]) -> int:
     asked = argparse.ArgumentParser(prog="channels", usage="channels [--back] TABLE.. < PLAN", description=HELP,
                                     epilog=MORE_HELP, formatter_class=argparse.RawDescriptionHelpFormatter)
     asked.add_argument("--back", action="store_true", help="from real numbers to those that count from 1")
-    asked.add_argument("table", nargs="*", metavar="TABLE", help="the real numbers, in order")
+    asked.add_argument("table", nargs="*", metavar="TABLE", help="the real numbers, in order, or a file that has them")
     given = asked.parse_args(words)
     if not given.table and not given.back:
         asked.error("a table is wanted, as 1 6 11")

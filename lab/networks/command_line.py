@@ -184,8 +184,9 @@ def add_words(command, name):
         command.add_argument("--sites", metavar="CSV", help="a table of sites")
         command.add_argument("--reach", type=float, metavar="KM", help="joins sites that are less than KM apart")
         command.add_argument("--bars", metavar="CSV", help="a table of channels that are barred at sites")
-        command.add_argument("--licence", metavar="TABLE", help="the channels that all may use, as '1 6 11': the first "
-                             "is channel 1 of the plan; bars are of these numbers, and `bin/channels` puts them back")
+        command.add_argument("--licence", metavar="TABLE", help="the channels that all may use, as '1 6 11', or a CSV "
+                             "file with a column `channel`: the first is channel 1 of the plan; bars are of these "
+                             "numbers, and `bin/channels` puts them back")
         command.add_argument("--strict", action="store_true", help="refuses it if something would be left out")
     if name == "number":
         command.add_argument("--by", choices=WAYS, required=True, help="the order of the new numbers")

@@ -25,7 +25,7 @@ def columns_of(rows: list, name: str, heading: bool | None) -> tuple[bool, tuple
     of_channels = next((word for word in rows[0][1] if any(part in word.lower() for part in OF_CHANNELS)), None)
     if of_channels and not named:
         raise Wrong(f"{name}: the column `{shown(of_channels)}` is no end of an edge: --bars reads a table of site and "
-                    "channel, and --licence takes numbers (if these are pairs: --heading yes or --heading no)")
+                    "channel, and --licence one of channels (if these are pairs: --heading yes or --heading no)")
     if named or shows_numbers(rows):
         return True, named
     if is_alone(rows):

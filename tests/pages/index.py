@@ -7,6 +7,7 @@ import os
 import re
 
 from build import promises
+from build.paths import listed, with_below
 from tests import TOP
 from tests.cases import Case
 
@@ -50,6 +51,12 @@ class Index(Case):
         self.assertEqual(wide, [], f"lines of README.md above {README_COLUMNS} columns")
         before, _, after = text.partition("## The claim")
         self.assertEqual((before.count("!["), after.count("![")), (1, 0), "one picture, before the claim")
+
+    def test_vendored(self):
+        """OWN_PROGRAM says how many crates bin/vendor copies."""
+        rows = re.findall(r"bin/vendor \S+ (\w+) .*?: .*?(\d+) crates", text_of("docs", "work", "OWN_PROGRAM.md"))
+        wrong = [(crate, count) for crate, count in rows if int(count) != len(with_below([crate], listed()))]
+        self.assertEqual((len(rows), wrong), (2, []), "crates of an example of bin/vendor")
 
     def test_readme_has_each_command(self):
         """Each script of bin/ that users call, and each command of the programs, is in a row of the table."""

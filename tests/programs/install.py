@@ -252,8 +252,8 @@ class Install(Case):
         lost = {link for link in links if not os.path.isfile(os.path.join(self.target, link))}
         self.note("each page that it links is there", len(links) > 10 and not lost, lost)
         self.note("nothing of the repository alone", not re.findall(r"\./\w+|\brt\b|wrong-bodies", there), there)
-        self.note("the claim is that of the repository",
-                  all(part in there for part in re.findall(r"^## The claim\n.*?(?=^## )|^## What is.*", here, re.M | re.S)))
+        parts = re.findall(r"^## The claim\n.*?(?=^## )|^## What is.*", here, re.M | re.S)
+        self.note("the claim is that of the repository", len(parts) == 2 and all(part in there for part in parts), there)
         shown = re.search(r"\$ (bin/forestplan plan < \S+)", there)
         got = run(["bash", "-c", shown[1]], cwd=self.target, env=ENVIRONMENT)
         self.note("its first command", got == (0, b"plan\n1 2\n2 3\n3 1\n", b""), got)

@@ -203,6 +203,32 @@ class Channels(Case):
             done = run_program(PLAN, ["check"], (file.read() + got[1]).encode())
         self.note("a real plan is judged", done.stdout == b"proper 3\n", done)
 
+    def test_files(self):
+        """The licence as a table, as spreadsheets write it."""
+        folder = self.enterContext(tempfile.TemporaryDirectory())
+        path = os.path.join(folder, "my licence.csv")
+        for text, wanted in (
+            ("Channel,Frequency (MHz)\r\n36,5180\r\n40,5200\r\n", (0, "plan\n1 40\n2 36\n", "")),
+            ("Bemerkung;Kanal\r\ngut;36\r\n;40\r\n;;\r\n", (0, "plan\n1 40\n2 36\n", "")),
+            ("channel\n36\n40\n", (0, "plan\n1 40\n2 36\n", "")),
+            ("Frequency\n5180\n", "no column is named channel"),
+            ("channel,power\n36,1\nforty,1\n", "line 3: no channel: `forty,1`"),
+            ("channel,power\n36,1\n36,2\n", "names a channel twice"),
+            ("channel\n", "or it has no row"),
+        ):
+            with open(path, "w", encoding="utf-8", newline="") as file:
+                file.write(text)
+            got = self.call(path, data="plan\n1 2\n2 1\n")
+            good = got == wanted if isinstance(wanted, tuple) else got[:2] == (2, "") and wanted in got[2]
+            self.note(f"a licence {text!r}", good, got)
+        with open(path, "w", encoding="utf-8") as file:
+            file.write("channel\n1\n6\n11\n")
+        bars = os.path.join(folder, "bars.csv")
+        with open(bars, "w", encoding="utf-8") as file:
+            file.write("site,channel\nAue,11\n")
+        wrote = call("read", "-", "--licence", path, "--bars", bars, data=b"source,target\nUlm,Aue\n")[1]
+        self.note("read with a licence of a file", b"\nb 2 3\n" in wrote and b"c Channel 3 is 11\n" in wrote, wrote)
+
     def test_refused(self):
         for words, data, said in (
             (["1", "6"], "plan\n1 2\n2 3\n", "line 3: channel 3, and the table has 2: it takes 3 channels"),
