@@ -69,10 +69,19 @@ def without_output():
         os.dup2(os.open(os.devnull, os.O_WRONLY), 1)
 
 
+def interrupt(*_):
+    """Ctrl-C ends the command once: further ones don't disturb how it ends."""
+    signal.pthread_sigmask(signal.SIG_BLOCK, INTERRUPT)
+    raise KeyboardInterrupt
+
+
 def run(name, load):
     """Runs the command that `load` imports, a function that returns its status, and returns the status to end with.
     Ctrl-C waits while modules are imported, and is of no effect once the command has ended."""
     signal.pthread_sigmask(signal.SIG_BLOCK, INTERRUPT)
+    # A shell has what it runs in the background ignore Ctrl-C.
+    if signal.getsignal(signal.SIGINT) == signal.default_int_handler:
+        signal.signal(signal.SIGINT, interrupt)
     try:
         try:
             return ended(name, load)
