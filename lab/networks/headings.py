@@ -14,6 +14,8 @@ NOUN = "(site|node|station|transmitter|mast|cell|vertex|id|standort|sender|knote
 SECOND = {"a": "b", "1": "2"}
 # Parts of headings of tables that list channels.
 OF_CHANNELS = ("channel", "frequency", "kanal", "kanäl", "kanael", "frequenz")
+# And headings of tables of places.
+OF_PLACES = {"lat", "latitude", "easting", "breite", "breitengrad", "rechtswert", "ostwert"}
 
 
 def columns_of(rows: list, name: str, heading: bool | None) -> tuple[bool, tuple[int, int] | None]:
@@ -26,6 +28,8 @@ def columns_of(rows: list, name: str, heading: bool | None) -> tuple[bool, tuple
     if of_channels and not named:
         raise Wrong(f"{name}: the column `{shown(of_channels)}` is no end of an edge: --bars reads a table of site and "
                     "channel, and --licence one of channels (if these are pairs: --heading yes or --heading no)")
+    if not named and OF_PLACES & {word.lower() for word in rows[0][1]}:
+        raise Wrong(f"{name}: these columns look like places, which --sites reads (if they are pairs: --heading yes)")
     if named or shows_numbers(rows):
         return True, named
     if is_alone(rows):

@@ -131,6 +131,12 @@ def refuse_others(body: Rows, name: str, separator: str | None) -> None:
             not all(map(is_number, ones))):
         raise Wrong(f"{name}: a name and two numbers in each line look like places, which --sites reads "
                     "(if they are pairs: --as pairs)")
+    known = {field for row in fields for field in row[:2]}
+    for line, row in body:
+        parts = [part.strip() for field in row[:2] for part in field.split(",") if "," in field]
+        if parts and known.issuperset(parts):
+            what = shown(";".join(row))
+            raise wrong_line(name, line, f"`{what}` may name more than two nodes: write a line for each pair")
     if any(are_of_two_kinds(part) for part in (fields, fields[1:])):
         raise unsure(name, "names beside numbers may be no pairs of nodes", PAIRS)
     if all(len(row) <= 2 for row in fields):
