@@ -75,6 +75,16 @@ def interrupt(*_):
     raise KeyboardInterrupt
 
 
+def note_lost(said):
+    """Ctrl-C in the midst of what Python does aside, as when it has imported a module, would be lost with a traceback:
+    it comes again at once."""
+    if issubclass(said.exc_type, KeyboardInterrupt):
+        signal.signal(signal.SIGALRM, interrupt)
+        signal.setitimer(signal.ITIMER_REAL, 0.001)
+    else:
+        sys.__unraisablehook__(said)
+
+
 def run(name, load):
     """Runs the command that `load` imports, a function that returns its status, and returns the status to end with.
     Ctrl-C waits while modules are imported, and is of no effect once the command has ended."""
@@ -82,6 +92,7 @@ def run(name, load):
     # A shell has what it runs in the background ignore Ctrl-C.
     if signal.getsignal(signal.SIGINT) == signal.default_int_handler:
         signal.signal(signal.SIGINT, interrupt)
+        sys.unraisablehook = note_lost
     try:
         try:
             return ended(name, load)

@@ -89,10 +89,9 @@ class Endings(Case):
             self.note(f"{name} {words}", got == wanted, got)
 
     def test_early_interrupts(self):
-        """Ctrl-C from the script's first moment on: a shell that hasn't begun Python ends by the signal. Python itself,
-        while it starts or imports modules, ends with one line, and never with a traceback."""
+        """Ctrl-C from the script's first moment on. Python, while it starts or imports modules, ends with one line, and
+        never with a traceback; a shell that hasn't begun Python ends by the signal, or passes over it while it waits."""
         for name, words in (("network", ["read", "-"]), ("explore", ["-"]), ("wrong-bodies", ["--help"])):
-            lines = {130: b"%s: interrupted\n" % name.encode(), -signal.SIGINT: b""}
             for at in range(24):
                 # Half of the moments are counted from the start of Python, where a command takes 60 ms to begin.
                 of_python, seconds = at % 2 == 1, at * 0.004
@@ -103,10 +102,26 @@ class Endings(Case):
                     # As a terminal does, with all that the script has started.
                     os.killpg(run.pid, signal.SIGINT)
                     out, said = run.communicate(timeout=LIMIT)
-                is_done = (run.returncode, said) == (0, b"") and words == ["--help"]
-                good = is_done or said == lines.get(run.returncode) and not (of_python and run.returncode < 0)
+                if (run.returncode, said) == (0, b"") and words == ["--help"]:
+                    continue
+                good = (run.returncode, said) == (130, b"%s: interrupted\n" % name.encode())
+                good = good or not of_python and b"Traceback" not in said and said.count(b"\n") < 2
                 self.note(f"{name} {words} {seconds:.3f} s after its start{' as Python' * of_python}", good,
                           (run.returncode, said))
+
+    def test_interrupts_aside(self):
+        """Ctrl-C in what Python calls aside, whose faults it prints and forgets, ends the command, too."""
+        script = ("import os, signal, sys, time, weakref; from lab import door\n"
+                  "class Some: pass\n"
+                  "def command():\n"
+                  "    it = Some()\n"
+                  "    aside = weakref.ref(it, lambda _: [os.kill(os.getpid(), signal.SIGINT) for _ in range(3)])\n"
+                  "    del it\n"
+                  f"    time.sleep({LIMIT})\n"
+                  "sys.exit(door.run('some', lambda: command))\n")
+        done = subprocess.run([sys.executable, "-c", script], capture_output=True, text=True, cwd=TOP,
+                              timeout=LIMIT / 2, preexec_fn=lambda: signal.signal(signal.SIGINT, signal.SIG_DFL))
+        self.note("a callback", (done.returncode, done.stderr) == (130, "some: interrupted\n"), done)
 
     def begun(self, name, words):
         # A shell has what it runs in the background ignore SIGINT.
