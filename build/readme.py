@@ -1,4 +1,4 @@
-"""README of an installed folder: that of this tree, with the commands that are there, as they are called there."""
+"""README of an installed folder: README of this tree, with the commands that the folder has, as they are called."""
 import re
 
 # In place of the section on the first call and the tests, up to the table of the commands.

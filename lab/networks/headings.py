@@ -9,7 +9,7 @@ from lab.wrong import Wrong
 ENDS = {"source": "target", "from": "to", "src": "dst", "start": "end", "node": "neighbour", "from_id": "to_id",
         "source_id": "target_id", "from_site": "to_site", "from site": "to site", "transmitter": "receiver",
         "victim": "interferer", "von": "nach", "quelle": "ziel", "sender": "empfänger"}
-# And those of two columns that differ in their last letter, as `site_a` and `site_b`, or `Site 1` and `Site 2`.
+# And headings that differ in their last letter, as `site_a` and `site_b`, or `Site 1` and `Site 2`.
 NOUN = "(site|node|station|transmitter|mast|cell|vertex|id|standort|sender|knoten|zelle|anlage)"
 SECOND = {"a": "b", "1": "2"}
 # Parts of headings of tables that list channels.

@@ -76,7 +76,7 @@ def decoded(data: bytes, name: str) -> tuple[str, list[str]]:
 
 
 def of_windows(data: bytes) -> tuple[str, str]:
-    """The text as western Windows has it, which is Latin-1 with more letters; a few bytes are none of them."""
+    """The text as western Windows has it, which is Latin-1 with more letters, or as Latin-1 if a byte is no letter."""
     try:
         return data.decode("cp1252"), "Windows-1252"
     except UnicodeDecodeError:

@@ -317,7 +317,8 @@ def words_of_command():
              "edition 2 as it is",
     )
     words.add_argument("network", metavar="NETWORK.col", help="a network that `forestplan` reads without a fault")
-    words.add_argument("transcript", nargs="?", metavar="TRANSCRIPT", help="a file; - is standard input, the default")
+    words.add_argument("transcript", nargs="?", metavar="TRANSCRIPT",
+                       help="a file, or - for standard input; default: -")
     return words
 
 

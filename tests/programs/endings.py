@@ -90,7 +90,7 @@ class Endings(Case):
 
     def test_early_interrupts(self):
         """Ctrl-C from the script's first moment on. Python, while it starts or imports modules, ends with one line, and
-        never with a traceback; a shell that hasn't begun Python ends by the signal, or passes over it while it waits."""
+        never with a traceback; a shell that hasn't begun Python ends by the signal, or passes over it as it waits."""
         for name, words in (("network", ["read", "-"]), ("explore", ["-"]), ("wrong-bodies", ["--help"])):
             for at in range(24):
                 # Half of the moments are counted from the start of Python, where a command takes 60 ms to begin.
