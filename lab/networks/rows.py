@@ -16,8 +16,7 @@ FORMS = ("pairs", "adjacency", "multiline")
 def rows_of(text: str) -> tuple[Rows, str | None]:
     """(line, fields) of each line that is neither blank nor a comment; and the separator, or None for blanks."""
     text = re.sub(r"\A\s*\"?sep=.\"?[ \t]*(?=\n)", "", text)
-    lines = [(number, re.sub(r"\s*\{.*\}\s*$", "", line)) for number, line in enumerate(text.split("\n"), 1)]
-    lines = [(number, line) for number, line in lines if line.strip() and not line.lstrip().startswith(("#", "%"))]
+    lines = lines_of(text)
     separator = next((mark for mark in ("\t", ";", ",") if is_separator(mark, lines)), None)
     if separator is None:
         return [(number, line.split()) for number, line in lines], None
@@ -25,6 +24,12 @@ def rows_of(text: str) -> tuple[Rows, str | None]:
     rows = [(number, [field.strip() for field in row]) for (number, _), row in zip(lines, fields)]
     # Spreadsheets write empty rows, too.
     return [(number, row) for number, row in rows if any(row)], separator
+
+
+def lines_of(text: str) -> list[tuple[int, str]]:
+    """The lines that are neither blank nor a comment, by their numbers, without data of networkx."""
+    lines = [(number, re.sub(r"\s*\{.*\}\s*$", "", line)) for number, line in enumerate(text.split("\n"), 1)]
+    return [(number, line) for number, line in lines if line.strip() and not line.lstrip().startswith(("#", "%"))]
 
 
 def is_separator(mark: str, lines: list[tuple[int, str]]) -> bool:
@@ -37,11 +42,12 @@ def is_separator(mark: str, lines: list[tuple[int, str]]) -> bool:
 
 
 def uneven(text: str) -> tuple[int, str] | None:
-    """The first line without a mark that parts most other lines, and this mark."""
-    lines = [(number, line) for number, line in enumerate(text.split("\n"), 1) if line.strip()]
-    for mark in ("\t", ";", ","):
+    """The first line without a mark that parts most other lines, and this mark; tabs alone are blanks as others are."""
+    lines = lines_of(text)
+    for mark, is_another in (("\t", not re.search(r"\S \S", text)), (";", False),
+                             (",", re.search(r"\d,\d|[({]", text))):
         without = [number for number, line in lines if mark not in line]
-        if without and 2 * len(without) < len(lines) and not (mark == "," and re.search(r"\d,\d|[({]", text)):
+        if without and 2 * len(without) < len(lines) and not is_another:
             return without[0], {"\t": "tab"}.get(mark, f"`{mark}`")
     return None
 
@@ -53,7 +59,8 @@ def read(text: str, name: str, form: str | None, heading: bool | None) -> Listed
         raise Wrong(f"{name}: it has no line with a node")
     if separator is None and form != "adjacency" and uneven(text):
         line, mark = uneven(text)
-        raise wrong_line(name, line, f"no {mark}, and most other lines have one: remove what is no row of the table")
+        raise wrong_line(name, line, f"no {mark}, and most other lines have one: remove the line if it is no row of "
+                         "the table, or end it with one if it is a node alone")
     if not form and not ("{" in text and groups_of(rows)):
         refuse_rows(rows, text, name)
     form = form or ("multiline" if "{" in text and groups_of(rows) else None)

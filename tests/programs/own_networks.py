@@ -143,6 +143,8 @@ FORMS = [
     ("pairs with a gap in the numbers", "10 20\n20 40\n", "10-20 20-40", "", "numbered anew, in their order"),
     ("pairs and a lone node", "1 2\n3\n", "12", "3", "3 nodes, 1 of them without a neighbour"),
     ("a ring as adjacency", "1 2 3\n2 1 3\n3 1 2\n", "12 13 23", "", "adjacency; 3 nodes, 3 edges"),
+    ("adjacency with tabs", "a\tb\tc\nb\ta\nc\ta\nd\n", "ab ac", "d", "adjacency; 4 nodes, 1 of them without"),
+    ("pairs with tabs and a lone node", "1\t2\n2\t3\n4\n", "12 23", "4", "pairs; 4 nodes, 1 of them without"),
     ("adjacency with colons", "a: b c\nb: a\nc: a\n", "ab ac", "", "adjacency; 3 nodes, 2 edges"),
     (
         "DOT",
