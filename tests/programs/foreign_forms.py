@@ -106,7 +106,7 @@ REFUSED = [
     ("elements of a map in JSON", '{"version": 0.6, "elements": [{"type": "node", "id": 1}]}', "JSON, and no object"),
     ("a list in JSON", "[[0, 1], [1, 2]]\n", "a matrix or a list in brackets"),
     ("a matrix as numpy prints it", "[[0 1 0]\n [1 0 1]\n [0 1 0]]\n", "a matrix or a list in brackets"),
-    ("JSON that is cut", '{"nodes": [{"id": 0}', "begins like JSON, and is none"),
+    ("JSON that is cut", '{"nodes": [{"id": 0}', "begins like JSON, and isn't JSON"),
     ("METIS", "10 15\n" + "".join(" ".join(str(w + 1) for w in BESIDE[v]) + "\n" for v in range(10)), "--as metis"),
     ("METIS of a row", "3 2\n2\n1 3\n2\n", "--as metis"),
     ("METIS with weights", "3 2 011\n5 2 1\n4 1 1 3 7\n9 2 7\n", "--as metis"),
