@@ -20,7 +20,8 @@ Makes networks, reads them in other forms, and says what they are.
   read FILE           another form of a network: pairs (CSV), adjacency, GraphML, GML,
                       JSON, DOT, Matrix Market, DIMACS; or sites and a reach
   number FILE         the same network, with other numbers
-  tell FILE           what a network is, what a run on it costs, or what is wrong with it
+  tell FILE           what a network is, what a run on it costs, or what is wrong with it;
+                      or of a code of the programs, as C8, what it means and what to do
   names FILE          a plan on standard input, with the names of a network that was read
 """
 
@@ -39,6 +40,7 @@ Status: 0 done, 1 the file can't be read as a network, 2 the command line is ref
 SIZES = {"path": ["nodes"], "ring": ["nodes"], "star": ["nodes"], "complete": ["nodes"], "grid": ["rows", "columns"],
          "queen": ["rows", "columns"], "tree": ["nodes"], "disk": ["nodes"], "random": ["nodes", "edges"]}
 CHANCE = ("tree", "disk", "random")
+USAGES = {"read": "network read [FILE] [options]", "tell": "network tell FILE\n       network tell CODE"}
 # What each command does: a line of help, more of it, and its example.
 COMMANDS = {
     "path": ("A row: node 1 is joined to 2, 2 to 3, and so on.", "", "bin/network path 20 | bin/forestplan plain"),
@@ -123,8 +125,11 @@ COMMANDS = {
         "  time        how long `plain` takes, which is run meanwhile, and about how long `plan`\n"
         "              and `transcript`, by the wires alone: a smaller run is measured. Nodes\n"
         "              without edges, other work on the machine and more workers than\n"
-        "              processors can double it. `plain` prints the same plan as `plan`.",
-        "bin/network tell examples/petersen.col",
+        "              processors can double it. `plain` prints the same plan as `plan`.\n\n"
+        "If FILE is a code that the programs report, and no file, it says what the fault is and\n"
+        "what to do. The words after the code may follow: C8 vertex 1.",
+        "bin/network tell examples/petersen.col\n"
+        "  bin/network tell C8",
     ),
     "names": (
         "Puts the names of a network on a plan, which it reads from standard input.",
@@ -150,7 +155,7 @@ def command_line():
         sizes = " ".join(size.upper() for size in SIZES.get(name, ["file"]))
         command = commands.add_parser(
             name,
-            usage=f"network {name} {sizes if name != 'read' else '[FILE]'} [options]",
+            usage=USAGES.get(name, f"network {name} {sizes} [options]"),
             description=f"{what}\n\n{more}".rstrip(),
             epilog=f"Example:\n  {example}",
             formatter_class=argparse.RawDescriptionHelpFormatter,
@@ -164,8 +169,9 @@ def add_words(command, name):
     for size in SIZES.get(name, ()):
         command.add_argument(size, type=int, metavar=size.upper(), help=f"how many {size}")
     if name not in SIZES:
-        count = "?" if name == "read" else None
-        command.add_argument("file", metavar="FILE", nargs=count, help="a file, or - for standard input")
+        count = {"read": "?", "tell": "+"}.get(name)
+        what = "a file, or - for standard input" + "; or a code, as C8" * (name == "tell")
+        command.add_argument("file", metavar="FILE", nargs=count, help=what)
     if name in CHANCE + ("number",):
         command.add_argument(
             "--seed", type=int, default=1, metavar="N", help="the same number chooses the same again; default: 1"

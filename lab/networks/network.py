@@ -2,10 +2,12 @@
 names back on a plan. Nothing of it is proved: what is claimed of a plan begins at the bytes of the network's text."""
 import csv
 import io
+import os
 import sys
 
 from lab.networks import kinds, listed, sites
 from lab.networks.channels import table_of
+from lab.networks.codes import code_of, is_like_a_code, tell_code
 from lab.networks.command_line import SIZES, command_line
 from lab.networks.costs import NotMeasured
 from lab.networks.listed import Listed
@@ -87,19 +89,32 @@ def was_read(given):
 
 
 def was_told(given):
-    data = bytes_of(given.file)
+    """What is said of a network, or of a code if there is no file of that name."""
+    words = " ".join(given.file)
+    if not os.path.exists(words):
+        if found := code_of(words):
+            return "".join(line + "\n" for line in tell_code(found))
+        if is_like_a_code(words):
+            raise Wrong(f"{words} is neither a file nor a code of the programs: docs/claim/FORMATS.md has all codes")
+    if len(given.file) > 1:
+        given.refuse("one FILE, or a code and where it is, as `C8 vertex 1`")
+    return network_told(words)
+
+
+def network_told(path):
+    data = bytes_of(path)
     try:
-        lines, warned = tell(data.decode("utf-8", "replace"), given.file)
+        lines, warned = tell(data.decode("utf-8", "replace"), path)
     except NotMeasured:
         raise
     except Wrong as why:
         # Of a network that is too large `read` would say the same.
-        other = None if str(why).endswith(("(F7)", "(N1)")) else other_form(data, given.file)
+        other = None if str(why).endswith(("(F7)", "(N1)")) else other_form(data, path)
         if other:
-            raise Wrong(f"{why}\nnetwork: but `bin/network read {given.file}` can read it: {other}") from None
+            raise Wrong(f"{why}\nnetwork: but `bin/network read {path}` can read it: {other}") from None
         raise
     for what in warned:
-        say(f"{given.file}: {what}")
+        say(f"{path}: {what}")
     return "".join(line + "\n" for line in lines)
 
 
