@@ -27,6 +27,7 @@ def draw(network, space):
         "TITLE": escaped(f"{title_of(network, space)}: you are the network"),
         "ABOUT": escaped(about(space)),
         "PLAY": escaped(play_words(network, space)),
+        "TRANSCRIPT": escaped(transcript_words(network, space)),
         "WIDTH": str(WIDTH),
         "HEIGHT": str(HEIGHT),
         "STATES": f"{space.count:,}",
@@ -70,6 +71,16 @@ def play_words(network, space):
             "up to there it shows the same as this page:"
         )
     return f"{words}. It accepts the list, and shows:"
+
+
+def transcript_words(network, space):
+    """How the list becomes the transcript of its run."""
+    name = network.name
+    words = (f"Store the list as list.events, and type bin/simulate {name}.col --events list.events > "
+             f"list.transcript. Once all have halted (or with --to-the-end, which plays the rest) "
+             f"(cat {name}.col; cat list.transcript) | bin/forestplay replay accepts it. bin/picture run and watch "
+             "draw it, halted or not.")
+    return words + " An event that can happen here alone is refused there, with its line." * bool(space.without)
 
 
 def plan_of(network, space):

@@ -1,4 +1,4 @@
-"""The network of a file, as the slow definitions have it."""
+"""The text of a file, and the network of one as the slow definitions have it."""
 import sys
 
 from lab.definitions.colours import Network
@@ -13,15 +13,18 @@ def network_of(read):
     )
 
 
-def network_at(path):
-    """(name, network) of a file, or of standard input for `-`."""
+def text_at(path):
+    """The text of a file, or of standard input for `-`."""
     try:
         if path == "-":
-            text = sys.stdin.buffer.read()
-        else:
-            with open(path, "rb") as file:
-                text = file.read()
+            return sys.stdin.buffer.read().decode("utf-8", "replace")
+        with open(path, "rb") as file:
+            return file.read().decode("utf-8", "replace")
     except OSError as why:
         raise Wrong(f"{path}: {why.strerror}") from None
-    read = read_network(text.decode("utf-8", "replace"), path)
+
+
+def network_at(path):
+    """(name, network) of a file, or of standard input for `-`."""
+    read = read_network(text_at(path), path)
     return "this network" if path == "-" else read.name, network_of(read)

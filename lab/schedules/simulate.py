@@ -1,14 +1,16 @@
-"""The door: `bin/simulate NETWORK [options]`. Plays a run without a clock by a seed, step by step, on the slow
-definitions (lab/definitions/nodes.py), and writes its transcript, or one line on standard error."""
+"""The door: `bin/simulate NETWORK [options]`. Plays a run without a clock by a seed or by a list of events, step by
+step, on the slow definitions (lab/definitions/nodes.py), and writes its transcript, or one line on standard error."""
 import argparse
+import re
 import sys
 from collections import deque
 
-from lab.definitions.nodes import NetState, wire_words
+from lab.definitions.nodes import NetState, Refused, missing_words, wire_words
 from lab.schedules.policies import POLICIES, Step, policy_of
-from lab.schedules.reading import network_at
-from lab.transcripts.stamps import Clock
-from lab.wrong import Wrong
+from lab.networks.fields import shown
+from lab.schedules.reading import network_at, text_at
+from lab.transcripts.stamps import Clock, unfinished
+from lab.wrong import Wrong, wrong_line
 
 HABITS = {
     "random": "any step that is possible, each as likely as any other",
@@ -29,6 +31,12 @@ and seed give the same run on every machine.
 
 A step is a put, a take or a pulse of one node. What waits comes when nothing else is
 possible, so it is as slow as it can be.
+
+With --events a list of events takes the place of the policy, as the page of
+`bin/picture adversary` shows and copies it, `bin/explore --events` writes it and
+`forestplay events` reads it. An event that isn't possible is refused. If the list ends
+before all nodes are done, so does the transcript, and `forestplay replay` reports
+NotWhole; with --to-the-end the policy plays the rest.
 """
 MORE_HELP = f"""\
 The policies; those that choose an edge or a node choose it by the seed:
@@ -42,13 +50,15 @@ and half a million one to several minutes.
 This is Python over slow definitions, written from the project's pages. It is tested,
 and not proved. `forestplay replay`, which is, accepts what it writes.
 
-Status: 0 done, 1 the network can't be read or hasn't the slow edge (one line on
-standard error says why), 2 the command line is refused.
+Status: 0 done, 1 the network or the list can't be read, an event isn't possible, or the
+network hasn't the slow edge (one line on standard error says why), 2 the command line
+is refused.
 
 Examples:
   bin/simulate examples/chain6.col --slow 2-3 --seed 7 > slow.transcript
   bin/picture run examples/chain6.col --transcript slow.transcript > slow.svg
   (cat examples/chain6.col; cat slow.transcript) | bin/forestplay replay
+  bin/simulate examples/two.col --events list.events --to-the-end > list.transcript
 """
 
 
@@ -114,6 +124,22 @@ class Player:
         if step.kind == "put":
             self.look_at(w)
 
+    def step_of(self, kind, v, port):
+        """The step of an event; raises `Refused` if it isn't possible."""
+        self.state.carried(kind.title(), v, port)
+        w = 0 if port is None else self.state.neighbours[v][port]
+        return next(step for step in self.steps[v] if (step.kind, step.neighbour) == (kind, w))
+
+    def play_events(self, events, name):
+        """The events (line, kind, vertex, port) of a list."""
+        for line, kind, v, port in events:
+            try:
+                self.make(self.step_of(kind, v, port))
+            except Refused as refused:
+                words = f"{kind} {v}" + ("" if port is None else f" {port}")
+                missing = missing_words(self.state, kind.title(), v, port)
+                raise wrong_line(name, line, f"`{words}` isn't possible there{missing} ({refused})") from None
+
     def play(self, policy):
         """Goes on until nothing is possible."""
         while steps := [step for own in self.steps.values() for step in own]:
@@ -124,11 +150,37 @@ def edges_of(net):
     return sorted(tuple(sorted(edge)) for edge in net.number)
 
 
-def played(net, policy="random", seed="1", slow=(), lazy=()):
-    """The rows (stamp, vertex, line) of a run of a network of the definitions, in the order in which they were made."""
-    player, chooser = Player(net), policy_of(policy, sorted(net.neighbours), edges_of(net), seed)
+def played(net, policy="random", seed="1", slow=(), lazy=(), player=None):
+    """The rows (stamp, vertex, line) of a run of a network of the definitions, in the order in which they were made;
+    `player` may be on its way."""
+    player = player or Player(net)
+    chooser = policy_of(policy, sorted(net.neighbours), edges_of(net), seed)
     player.play(Held(chooser, slow, lazy) if slow or lazy else chooser)
     return player.rows
+
+
+def events_of(text, name):
+    """(line, kind, vertex, port) of each event of a list; a note after a colon, as `bin/explore` writes it, is passed
+    over."""
+    for line, raw in enumerate(text.split("\n"), 1):
+        event, _, note = raw.partition(":")
+        words = event.split()
+        if not words or words[0].startswith("c"):
+            continue
+        if words[0] == "take" and len(words) == 4 or note.endswith(", out of turn"):
+            raise wrong_line(name, line, f"`{shown(raw.strip())}` overtakes another message, and links keep their order")
+        found = re.fullmatch(r"(pulse) ([0-9]{1,10})|(put|take) ([0-9]{1,10}) ([0-9]{1,10})", " ".join(words))
+        if found is None:
+            raise wrong_line(name, line, f"`{shown(raw.strip())}` is no event (NoEvent)")
+        pulse, node, kind, v, port = found.groups()
+        yield (line, pulse, int(node), None) if pulse else (line, kind, int(v), int(port))
+
+
+def played_by_list(net, path):
+    """The player after the events of a file, or of standard input."""
+    player, name = Player(net), "standard input" if path == "-" else path
+    player.play_events(events_of(text_at(path), name), name)
+    return player
 
 
 def text_of_rows(nodes, rows):
@@ -155,23 +207,47 @@ def command_line():
                        help="what goes over this edge waits, whatever the policy is; may be given again")
     words.add_argument("--lazy", type=int, action="append", default=[], metavar="V",
                        help="what this node does waits, whatever the policy is; may be given again")
+    words.add_argument("--events", metavar="LIST", help="play this list of events, a file or - for standard input")
+    words.add_argument("--to-the-end", action="store_true", help="after the events of LIST the policy plays the rest")
     return words
 
 
+def check_names(name, net, given):
+    """Refuses edges and nodes that the network hasn't."""
+    for v, w in given.slow:
+        if frozenset((v, w)) not in net.number:
+            raise Wrong(f"{name} has no edge {v}-{w}")
+    for v in given.lazy:
+        if v not in net.neighbours:
+            raise Wrong(f"{name} has no node {v}: its nodes are 1 to {len(net.neighbours)}")
+
+
+def rows_asked(net, given):
+    """The rows of the run that the command line asks for; a list that ends early is said."""
+    if not given.events:
+        return played(net, given.policy, given.seed, given.slow, given.lazy)
+    player = played_by_list(net, given.events)
+    if given.to_the_end:
+        return played(net, given.policy, given.seed, given.slow, given.lazy, player)
+    if left := next(unfinished(player.state), None):
+        print(f"simulate: after the last event {left}; --to-the-end plays the rest", file=sys.stderr)
+    return player.rows
+
+
 def main(words):
-    given = command_line().parse_args(words)
+    line = command_line()
+    given = line.parse_args(words)
+    if given.to_the_end and not given.events:
+        line.error("--to-the-end is for a list of --events")
+    if given.network == given.events == "-":
+        line.error("standard input is one file, not two")
     try:
         name, net = network_at(given.network)
-        for v, w in given.slow:
-            if frozenset((v, w)) not in net.number:
-                raise Wrong(f"{name} has no edge {v}-{w}")
-        for v in given.lazy:
-            if v not in net.neighbours:
-                raise Wrong(f"{name} has no node {v}: its nodes are 1 to {len(net.neighbours)}")
+        check_names(name, net, given)
+        rows = rows_asked(net, given)
     except Wrong as why:
         print(f"simulate: {why}", file=sys.stderr)
         return 1
-    rows = played(net, given.policy, given.seed, given.slow, given.lazy)
     sys.stdout.buffer.write(text_of_rows(len(net.neighbours), rows).encode())
     return 0
 

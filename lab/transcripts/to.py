@@ -20,6 +20,9 @@ MORE_HELP = """\
 Without TRANSCRIPT it is read from standard input. Only a take without a put before it
 and lines that no transcript has are refused: bin/check-transcript judges a run.
 
+The other way, from the list of events of `bin/picture adversary` to a transcript, goes
+`bin/simulate NETWORK --events LIST`.
+
 In ShiViz, give this as the parser of the log:
   (?<host>\\S*) (?<clock>{.*})\\n(?<event>.*)
 

@@ -214,8 +214,17 @@ def played(browser, network, play):
     return subprocess.run([play, "events"], input=text, capture_output=True, timeout=LIMIT)
 
 
-def list_rows(browser, name, network, play):
-    """The list is accepted, and forestplay shows the page's state, on the way and at the end."""
+def replayed(browser, network, net, play):
+    """What forestplay says of the transcript that `bin/simulate` makes of the page's list."""
+    text = browser.value("by('list').value").encode()
+    made = subprocess.run([os.path.join(TOP, "bin", "simulate"), net, "--events", "-"], input=text, capture_output=True,
+                          timeout=LIMIT)
+    return subprocess.run([play, "replay"], input=network + made.stdout, capture_output=True, timeout=LIMIT)
+
+
+def list_rows(browser, name, network, net, play):
+    """The list is accepted, and forestplay shows the page's state, on the way and at the end; and it accepts the list's
+    transcript at the end."""
     browser.value("by('anew').click()")
     for events in (25, 0):
         for _ in range(events):
@@ -226,6 +235,10 @@ def list_rows(browser, name, network, play):
             done, shown = played(browser, network, play), browser.value("by('state').textContent") + "\n"
             good = (done.returncode, done.stdout.decode()) == (0, shown)
             note(f"{name}: forestplay shows the same after {events or 'all'} events", good, (done, shown))
+            if not events:
+                again = replayed(browser, network, net, play)
+                note(f"{name}: forestplay replays the list's transcript",
+                     (again.returncode, again.stdout) == (0, done.stdout), again)
     said, won = browser.value("by('said').textContent"), browser.value(
         "P.dares.map(function (dare) { return judged(dare)[0]; })"
     )
@@ -293,7 +306,7 @@ def walk(browser, name, network, options, size, given):
                 browser.key("1")
                 browser.shot(os.path.join(given.shots, f"{called.replace(', ', '-').replace(' ', '_')}.png"))
             freeze_rows(browser, called)
-            list_rows(browser, called, network, given.play)
+            list_rows(browser, called, network, net, given.play)
         else:
             broken_rows(browser, called, network, given.play)
         if given.shots:

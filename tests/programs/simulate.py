@@ -3,14 +3,16 @@
 Each run is played again here on lab/definitions/nodes.py, entry by entry, and its order beside what is possible then:
 nothing is compared with what simulate itself wrote before."""
 import os
+import random
 import re
 import subprocess
 import tempfile
 
 from lab.definitions.colours import colours, network_of
-from lab.definitions.nodes import NetState
+from lab.definitions.nodes import NetState, wire_words
 from lab.schedules.policies import POLICIES
 from lab.schedules.simulate import HABITS, played
+from lab.schedules.space import Space
 from lab.transcripts.reading import read
 from lab.transcripts.stamps import check_stamped
 from tests import TOP
@@ -136,6 +138,131 @@ class Runs(Case):
 
     def test_help_has_all_policies(self):
         self.assertEqual(sorted(HABITS), sorted(POLICIES))
+
+
+def walk(net, events, source):
+    """(lines of a list of random events, the entries of each node that they write down), and the state at the end."""
+    state, lines, entries = NetState(net), [], {v: [] for v in net.neighbours}
+    while len(lines) < events and (possible := list(state.possible())):
+        kind, v, port = source.choice(possible)
+        wire = state.step(kind, v, port)
+        lines.append(" ".join(str(word) for word in (kind.lower(), v, port) if word is not None))
+        entries[v].append(f"{v} pulse {state.nodes[v].pulse_number}" if port is None else
+                          f"{v} {kind.lower()} {state.neighbours[v][port]} {wire_words(wire)}")
+    return lines, entries, state
+
+
+def entries_of(text):
+    """{vertex: its entries in the order of a transcript of edition 2}."""
+    found = {}
+    for line in text.decode().splitlines()[1:]:
+        entry = line.partition(" ")[2]
+        found.setdefault(int(entry.split(" ")[0]), []).append(entry)
+    return found
+
+
+def in_edition_1(text):
+    """The same entries in the same order, without stamps."""
+    head, *lines = text.decode().splitlines()
+    rest = [line.partition(" ")[2] for line in lines]
+    return "".join(line + "\n" for line in [head.replace("transcript 2", "transcript 1"), *rest]).encode()
+
+
+class Lists(Case):
+    """A list of events as a transcript."""
+
+    needs_programs = False
+
+    def test_random_lists(self):
+        """The transcript has each node's entries of the list, in its order; and with --to-the-end further ones."""
+        for name in NETWORKS:
+            net = network_of(contents(name))
+            for events in (0, 1, 40, 400):
+                lines, entries, state = walk(net, events, random.Random(f"{name} {events}"))
+                status, text, fault = simulate(example(name), "--events", "-", data="\n".join(lines).encode())
+                self.note(f"{name}, {events} events", status == 0 and entries_of(text) == {
+                    v: own for v, own in entries.items() if own}, fault)
+                is_over = all(node.drained() for node in state.nodes.values()) and not any(state.link.values())
+                self.note(f"{name}, {events} events: what is left is said",
+                          (fault == b"") == is_over and fault.count(b"\n") <= 1, fault)
+                whole = simulate(example(name), "--events", "-", "--to-the-end", data="\n".join(lines).encode())
+                self.note(f"{name}, {events} events, to the end", whole[::2] == (0, b""), whole)
+                head, rows = read(whole[1])
+                check_stamped(net, head, rows)
+                self.note(f"{name}: it begins with the list", all(
+                    own == entries_of(whole[1])[v][:len(own)] for v, own in entries.items()))
+
+    def test_lists_of_the_page(self):
+        """A list to the end as the adversary's page writes it, with puts as soon as they can be, is a whole run."""
+        for name, net in (("two", network_of(contents("two"))), ("path", network_of(contents("path")))):
+            space = Space(net)
+            lines = space.lines(space.path(space.ends[0]), True)
+            events = "".join(f"{line}\n" for line in map(str, lines)).encode()
+            status, text, fault = simulate(example(name), "--events", "-", data=events)
+            self.note(f"{name}: the list is a run", (status, fault) == (0, b""), fault)
+            head, rows = read(text)
+            check_stamped(net, head, rows)
+
+    def test_what_is_passed_over(self):
+        """Comments, blank lines, and notes after a colon."""
+        plain = b"put 1 0\ntake 2 0\n"
+        noted = b"c a list\n\n  put\t1 0: payload 0 hello 1 for 2\r\ncomment\ntake 2 0: payload 0 hello 1 from 1\n"
+        self.assertEqual(simulate(example("two"), "--events", "-", data=noted),
+                         simulate(example("two"), "--events", "-", data=plain))
+
+    def test_worked(self):
+        """Two nodes, by hand: 1 greets, 2 takes it and puts its own greeting. Lamport's clock gives 1, then 2 for the
+        take (one more than the put), then 3."""
+        status, text, fault = simulate(example("two"), "--events", "-", data=b"put 1 0\ntake 2 0\nput 2 0\n")
+        self.assertEqual((status, text), (0, b"transcript 2 2\n1 1 put 2 payload 0 hello 1\n"
+                                             b"2 2 take 1 payload 0 hello 1\n3 2 put 1 payload 0 hello 2\n"))
+        self.assertEqual(fault, b"simulate: after the last event node 1 is at pulse 0 of 18; --to-the-end plays the rest\n")
+
+    def test_refusals(self):
+        for events, end in (
+            ("pulse 1", "line 1: `pulse 1` isn't possible there: ack 0 of 2; safe 0 of 2 (NotReady)"),
+            ("put 1 0|put 1 0", "line 2: `put 1 0` isn't possible there: list of 1 for 2 (NothingToPut)"),
+            ("c|take 1 0", "line 2: `take 1 0` isn't possible there: link from 2 to 1 (LinkEmpty)"),
+            ("put 3 0", "line 1: `put 3 0` isn't possible there (NoSuch)"),
+            ("put 1 1", "line 1: `put 1 1` isn't possible there (NoSuch)"),
+            ("put 1", "line 1: `put 1` is no event (NoEvent)"),
+            ("pulse 1 0", "line 1: `pulse 1 0` is no event (NoEvent)"),
+            ("Put(1,0)", "line 1: `Put(1,0)` is no event (NoEvent)"),
+            ("put 1 0|take 2 0 1", "line 2: `take 2 0 1` overtakes another message, and links keep their order"),
+            ("put 1 0|take 2 0: ack 0 from 1, out of turn",
+             "line 2: `take 2 0: ack 0 from 1, out of turn` overtakes another message, and links keep their order"),
+        ):
+            done = simulate(example("two"), "--events", "-", data=events.replace("|", "\n").encode())
+            self.note(events, done == (1, b"", f"simulate: standard input {end}\n".encode()), done)
+        for words, wanted, end in (
+            ([example("two"), "--events", "nowhere"], 1, b"simulate: nowhere: No such file or directory\n"),
+            ([example("two"), "--to-the-end"], 2, b"--to-the-end is for a list of --events\n"),
+            (["-", "--events", "-"], 2, b"standard input is one file, not two\n"),
+        ):
+            status, text, fault = simulate(*words)
+            self.note(" ".join(words[1:]), (status, text) == (wanted, b"") and fault.endswith(end), fault)
+
+
+class ListsByTheProgram(Case):
+    """A list leads the proved machine to the state to which its transcript does."""
+
+    def test_states(self):
+        triangle = os.path.join(TOP, "examples", "triangle.events")
+        with open(triangle, "rb") as file:
+            lists = [("triangle", file.read())]
+        for name in ("two", "path", "barred"):
+            lines, _, _ = walk(network_of(contents(name)), 90, random.Random(f"states {name}"))
+            lists.append((name, "".join(line + "\n" for line in lines).encode()))
+        for name, events in lists:
+            status, text, _ = simulate(example(name), "--events", "-", data=events)
+            self.note(f"{name}: it is written", status == 0)
+            wanted = call(PLAY, "events", data=contents(name) + b"\n" + events)
+            self.note(f"{name}: the state of the list", wanted[::2] == (0, b"") and wanted[1], wanted)
+            got = call(PLAY, "replay", data=contents(name) + b"\n" + in_edition_1(text))
+            self.note(f"{name}: the state of the transcript", got == wanted, (got, wanted))
+            status, text, _ = simulate(example(name), "--events", "-", "--to-the-end", data=events)
+            done = call(PLAY, "replay", data=contents(name) + b"\n" + text)
+            self.note(f"{name}: to the end, it is replayed whole", done[::2] == (0, b""), done)
 
 
 class Refusals(Case):
