@@ -5,7 +5,8 @@
    DEGREE(v), CHANNEL(v), and DUE(v,p,w), one more than what w sends v at pulse p - 1, or 0. Nodes count from 0 here.
 
    A put is made as soon as it can be; with PUTS it is an event of its own. An event is a d_step: a take, a pulse, or a
-   put. */
+   put. With REDUCE a safe or a close that comes next on its link is taken at once and alone, the one of the lowest node
+   and neighbour first; the header has ANY_NEXT, whether there is one, and LOWER_NEXT(v,w), whether a lower one is. */
 #include NET
 
 #ifndef CAP
@@ -17,6 +18,12 @@
 #define CLOSE 4
 
 #define IN(w) link[w * N + v]
+#define NEXT(v,w) (link[(w) * N + (v)] ? [SAFE, _, _] || link[(w) * N + (v)] ? [CLOSE, _, _])
+#ifdef REDUCE
+#define FREE !ANY_NEXT
+#else
+#define FREE 1
+#endif
 
 chan link[N * N] = [CAP] of { byte, byte, byte };      /* from v to w at v * N + w; no wire finds it full */
 #ifdef PUTS
@@ -203,9 +210,15 @@ inline on_wire(w) {
     k = 0; q = 0; x = 0
 }
 
-#define TAKE(w) :: d_step { IN(w) ? k, q, x -> on_wire(w) }
+#ifdef REDUCE
+#define MAY(w) nempty(IN(w)) && (FREE || NEXT(v,w) && !LOWER_NEXT(v,w))
+#else
+#define MAY(w) nempty(IN(w))
+#endif
+#define TAKE(w) :: d_step { MAY(w) -> IN(w) ? k, q, x; on_wire(w) }
 #ifdef PUTS
-#define PUT(w) :: d_step { out[v * N + w] ? k, q, x -> link[v * N + w] ! k, q, x; k = 0; q = 0; x = 0 }
+#define PUT(w) :: d_step { FREE && nempty(out[v * N + w]) -> out[v * N + w] ? k, q, x; \
+                           link[v * N + w] ! k, q, x; k = 0; q = 0; x = 0 }
 #else
 #define PUT(w)
 #endif
@@ -229,7 +242,7 @@ proctype Node(byte v) {
     PROGRAM
 end:
     do
-    :: d_step { said && p < R && ALL_SAFE -> pulse() }
+    :: d_step { FREE && said && p < R && ALL_SAFE -> pulse() }
     TAKE(0) PUT(0)
     TAKE(1) PUT(1)
 #if N > 2

@@ -3,12 +3,13 @@
 last line is 'N passed, M failed'.
 
   python3 -m tests.by_hand.spin [--all]
-      --all   also four nodes in a row, and four that are all neighbours, which takes minutes
+      --all   also four nodes in a row, and four that are all neighbours, which takes some minutes and 1.2 GB
 
 The model was written apart from lab/schedules: other states, another language, another search. It asserts in every
 state that a pulse has the round's inbox, that no wire comes which a node refuses, that no link finds its two places
 full, and at the end that the plan is right and all links are empty. Spin's process that starts the nodes adds three
-states and four steps. It needs spin and gcc (Debian: `apt-get install spin gcc`), and so is no part of ./test."""
+states and four steps. Of a reduced search, both take a safe or a close that comes next on its link at once and alone,
+as `bin/explore --reduce` does. It needs spin and gcc (Debian: `apt-get install spin gcc`), and so is no part of ./test."""
 import os
 import re
 import subprocess
@@ -32,11 +33,14 @@ LARGE = {
     "path of four": b"p edge 4 3\ne 1 2\ne 2 3\ne 3 4\n",
     "all of four": b"p edge 4 6\ne 1 2\ne 1 3\ne 1 4\ne 2 3\ne 2 4\ne 3 4\n",
 }
-# (network, rules left out, whether puts are events).
-CASES = [("two", "", False), ("two", "", True), ("path", "", False), ("path", "", True), ("triangle", "", False),
-         ("triangle", "", True), ("star of four", "", False), ("ring of four", "", False), ("two", "acks", False),
-         ("two", "acks", True), ("path", "acks", False), ("triangle", "acks", False)]
-ALL = [("path of four", "", False), ("all of four", "", False)]
+# Of each network: rules left out, puts as events, reduced.
+PLAIN, PUTS, WITHOUT_ACKS = ("", False, False), ("", True, False), ("acks", False, False)
+REDUCED, REDUCED_PUTS = ("", False, True), ("", True, True)
+CASES = [(name, *case) for case in (PLAIN, PUTS, WITHOUT_ACKS, REDUCED, REDUCED_PUTS)
+         for name in ("two", "path", "triangle")]
+CASES += [("two", "acks", True, False)]
+CASES += [(name, *case) for name in ("star of four", "ring of four") for case in (PLAIN, REDUCED)]
+ALL = [(name, *case) for name in LARGE for case in (PLAIN, REDUCED)]
 MOST = 4_000_000
 
 
@@ -66,6 +70,8 @@ def header_of(net):
     by_pulse = {}
     for (v, p, w), number in due.items():
         by_pulse.setdefault(p, []).append((f"v == {v - 1} && w == {w - 1}", number + 1))
+    links = [(v - 1, w - 1) for v in vertices for w in ports_of(net, v)]
+    lower = " || ".join(f"({a} < v || {a} == v && {b} < w) && NEXT({a},{b})" for a, b in links)
     return "".join(f"#define {line}\n" for line in [
         f"N {len(vertices)}",
         f"DELTA {net.greatest_degree}",
@@ -75,12 +81,14 @@ def header_of(net):
         f"DEGREE(v) {chain([(f'v == {v - 1}', len(net.neighbours[v])) for v in vertices])}",
         f"CHANNEL(v) {chain([(f'v == {v - 1}', end[v]) for v in vertices])}",
         f"DUE(v,p,w) {chain([(f'p == {p}', chain(items)) for p, items in sorted(by_pulse.items())])}",
+        f"ANY_NEXT ({' || '.join(f'NEXT({a},{b})' for a, b in links)})",
+        f"LOWER_NEXT(v,w) ({lower})",
     ])
 
 
-def searched(net, without, puts):
+def searched(net, without, puts, reduce):
     """(states, steps, errors) by Spin."""
-    options = ["-DPUTS"] * puts + (["-DWITHOUT_ACKS", "-DCAP=8"] if without == "acks" else [])
+    options = ["-DPUTS"] * puts + ["-DREDUCE"] * reduce + (["-DWITHOUT_ACKS", "-DCAP=8"] if without == "acks" else [])
     with tempfile.TemporaryDirectory() as folder:
         def run(*words):
             return subprocess.run(words, cwd=folder, check=True, capture_output=True, text=True).stdout
@@ -97,14 +105,14 @@ def searched(net, without, puts):
 
 def main():
     tally = {True: 0, False: 0}
-    for name, without, puts in CASES + ALL * (sys.argv[1:] == ["--all"]):
+    for name, without, puts, reduce in CASES + ALL * (sys.argv[1:] == ["--all"]):
         net = network_of((NETWORKS | LARGE)[name])
-        space = Space(net, [without] if without else [], MOST, puts)
+        space = Space(net, [without] if without else [], MOST, puts, reduce=reduce)
         wanted = space.count + 3, len(space.target) + 4, 0
-        got = searched(net, without, puts)
+        got = searched(net, without, puts, reduce)
         good = got == wanted and not space.faults
         tally[good] += 1
-        what = f"{name}{f' without {without}' if without else ''}{', puts apart' if puts else ''}"
+        what = f"{name}{f' without {without}' if without else ''}{', puts apart' * puts}{', reduced' * reduce}"
         print(f"{'' if good else 'FAILED '}{what}: {space.count:,} states and {len(space.target):,} steps"
               + ("" if good else f", and Spin has {got}"))
     print(f"{tally[True]} passed, {tally[False]} failed")
