@@ -3,7 +3,8 @@ number.
 
   phases    what a node does at each pulse, from 0
   nodes     for each node, ascending: `values`, a row each of [pulse, words, channel or 0, 1 if it made a pulse with a
-            wrong inbox, what it holds in words], and `column`, which of them it has in each state
+            wrong inbox, what it holds in words, for which safes it waits besides in words], and `column`, which of
+            them it has in each state
   links     for each link: `from`, `to`, `put` and `take`, the ports of the two, `contents`, lists of numbers of
             `wires`, the one that comes next first, and `column`, which of them it holds in each state
   wires     the wires in words
@@ -56,8 +57,16 @@ def node_words(node):
     }.get(node.stage, "waits for nothing")
 
 
-def node_row(node, last, holds):
-    return [node.pulse, node_words(node), node.colour + 1 if node.pulse == last else 0, int(node.wrong), holds]
+def besides_words(space, v, node, value):
+    """For which safes a node waits, if it also waits for acknowledgements: it needs all of both."""
+    if node.stage != "asks" or "safes" in space.without:
+        return ""
+    lacks = [(f"safe {node.pulse}", w) for w, port in zip(space.ports[v], value.ports) if not port.safe]
+    return f", and for {waiting(lacks)}" if lacks else ""
+
+
+def node_row(node, last, *words):
+    return [node.pulse, node_words(node), node.colour + 1 if node.pulse == last else 0, int(node.wrong), *words]
 
 
 def held_words(value, neighbours):
@@ -71,12 +80,14 @@ def held_words(value, neighbours):
     return "; ".join(filter(None, [now and f"has {now}", early and f"early: {early}"]))
 
 
+def row_of_value(space, v, value):
+    node = space.node_words(v, value)
+    return tuple(node_row(node, space.last, held_words(value, space.ports[v]), besides_words(space, v, node, value)))
+
+
 def nodes_of(space):
     for a, v in enumerate(space.vertices):
-        rows, row_of = numbered([
-            tuple(node_row(space.node_words(v, value), space.last, held_words(value, space.ports[v])))
-            for value in space.locals[a]
-        ])
+        rows, row_of = numbered([row_of_value(space, v, value) for value in space.locals[a]])
         yield {"values": rows, "column": column(row_of[state[a]] for state in space.states)}
 
 

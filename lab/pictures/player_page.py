@@ -16,6 +16,8 @@ SIZE, RADIUS, LEAST, LABEL = 560, 15, 9, 10
 # Numbers in a panel beside others are larger, since the panel is drawn smaller; names have no room to be.
 LABEL_IN_PANEL = 14
 EDGE, MERGED, MINE = "#DDDDDD", "#B0B0B0", "#444444"
+# A ground of its own: a browser that darkens pages leaves what is drawn as it is.
+GROUND = f'<rect width="100%" height="100%" fill="{PAPER}"/>'
 SAY = {
     "greet": "Every node tells its neighbours its identifier.",
     "orient": "Each numbers its higher neighbours and tells each its forest: the edges are parted.",
@@ -134,7 +136,7 @@ def draw(rounds):
         frames.append(
             f'<figure class="frame" data-pulse="{pulse}"{hidden}><figcaption><b>{escaped(caption)}</b><br>'
             f'{escaped(said)}</figcaption>\n'
-            f'<svg viewBox="0 0 {SIZE} {SIZE}">\n{film.frame(pulse).inner()}\n</svg></figure>'
+            f'<svg viewBox="0 0 {SIZE} {SIZE}">{GROUND}\n{film.frame(pulse).inner()}\n</svg></figure>'
         )
     has_choice = rounds.forests > 1
     options = "".join(f'<option value="{f}">forest {f}</option>' for f in range(rounds.forests))
@@ -192,7 +194,7 @@ def legend():
     svg.head(42, 117, 1, 0, 8, MINE)
     turn_mark(svg, 16, 143, 8, 1, 0, "legend")
     size = f'viewBox="0 0 {svg.width} {svg.height}" width="{svg.width}" height="{svg.height}"'
-    return f'<svg {size} role="img" aria-label="legend">\n{svg.inner()}\n</svg>'
+    return f'<svg {size} role="img" aria-label="legend">{GROUND}\n{svg.inner()}\n</svg>'
 
 
 def turn_mark(svg, x, y, half, colour, old, mark="turn"):

@@ -21,7 +21,7 @@ from lab.wrong import Wrong
 PAGE = os.path.join(os.path.dirname(os.path.abspath(__file__)), "watch_page.html")
 MOST_ENTRIES = 20_000
 # In pixels; two nodes are at least APART radii from each other, so that there is room for a message between them.
-SIZE, MARGIN, RADIUS, LEAST, LABEL, APART = 600, 74, 24, 9, 12, 4.5
+SIZE, MARGIN, RADIUS, LEAST, LABEL, APART = 680, 60, 24, 9, 12, 6
 ORDER = ("The order is one of those that are possible, not that of real time: a stamp is Lamport’s clock, "
          "and it only says that a node’s own steps, and a take after its put, come one after the other.")
 
@@ -171,6 +171,8 @@ class Run:
                 self.start[entry.vertex] = look
             else:
                 self.moments.append(Moment(entry, stamp, look, during))
+        # How many entries are made when a pulse is made for the last time.
+        self.made_at = {moment.during: at for at, moment in enumerate(self.moments, 1) if moment.kind == "pulse"}
         self.flights = [flight for flight in self.flights if flight.take_at is None or flight.take_at >= 0]
         self.first_stamp = self.moments[0].stamp - 1 if self.moments else 0
         self.last_stamp = self.moments[-1].stamp if self.moments else 0
@@ -199,9 +201,11 @@ class Run:
         }
 
     def all_at(self, pulse):
-        """The stamp from which on all nodes have made a pulse, as far as it is shown."""
-        stamps = [reached.get(pulse, self.last_stamp) for reached in self.at_pulse.values()]
-        return min(max([*stamps, self.first_stamp]), self.last_stamp)
+        """When the last node makes a pulse, as far as it is shown: the stamp, and how many entries are made then."""
+        stamps = [reached.get(pulse) for reached in self.at_pulse.values()]
+        if None in stamps:
+            return self.last_stamp, len(self.moments)
+        return min(max([*stamps, self.first_stamp]), self.last_stamp), self.made_at.get(pulse, 0)
 
 
 class Numbers:
@@ -252,6 +256,9 @@ def about(runs, pulses):
     shown_ = f"Pulses {pulses[0]} to {pulses[1]} of {run.last}"
     entries = " and ".join(f"{len(one.moments):,}" for one in runs)
     said = f"{shown_}, {entries} entries: each is a pulse, a put or a take of one node."
+    if len(runs) == 2:
+        said += (" At a whole number of the slider each run is at the moment when the last of its nodes makes that "
+                 "pulse; its other nodes may be ahead.")
     cut = [one for one in runs if not one.is_whole and not one.is_cut]
     return said + (f" {cut[0].name} ends before the nodes are through." if cut else "")
 

@@ -26,6 +26,22 @@ CLICKS = """<script>
   by("only").checked = false; by("only").onchange();
   slider.value = slider.max; slider.oninput(); see("at the end");
   by("next").click(); see("past the end");
+  // How many messages are seen at 200 places of the slider, and how many of them cover a node of their edge.
+  var shown = 0, covering = 0;
+  for (var k = 0; k < 200; k++) {
+    slider.value = +slider.min + (slider.max - slider.min) * k / 200; slider.oninput();
+    stages.forEach(function (stage) { stage.pool.forEach(function (one) {
+      if (one.group.style.display === "none") return;
+      shown++;
+      var box = one.box.getBBox(), ends = one.title.textContent.match(/from (\d+) to (\d+)$/).slice(1);
+      if (ends.some(function (v) {
+        var node = map.nodes[v - 1], x = Math.max(box.x, Math.min(node.x, box.x + box.width));
+        var y = Math.max(box.y, Math.min(node.y, box.y + box.height));
+        return Math.hypot(x - node.x, y - node.y) < radius;
+      })) covering++;
+    }); });
+  }
+  seen.push(["messages", shown > 100, covering].join("|"));
   slider.value = slider.min; slider.oninput(); by("speed").value = "10"; by("play").click();
   setTimeout(function () {
     see("playing");
@@ -68,6 +84,7 @@ def main():
     words.add_argument("browser", nargs="?", default="chromium")
     browser, tally = words.parse_args().browser, {True: 0, False: 0}
     network = os.path.join(TOP, "examples", "triangle.col")
+    row = os.path.join(TOP, "examples", "chain6.col")
     with tempfile.TemporaryDirectory() as folder:
         paths = []
         for policy in ("random", "newest"):
@@ -87,7 +104,8 @@ def main():
                "one back": ("pulse 1", play, "#pulse-1"), "at the end": ("after pulse 30", play, "#pulse-31")}
         for name, files, wanted in (("one run", paths[:1], one), ("two runs", paths, two)):
             seen = seen_on(browser, call("picture", "watch", network, *files))
-            wanted = wanted | {"button while it plays": stop, "button when it is stopped": play}
+            wanted = wanted | {"button while it plays": stop, "button when it is stopped": play,
+                               "messages": ("true", "0")}
             seen |= {"button while it plays": seen.get("playing", ("", ""))[1],
                      "button when it is stopped": seen.get("stopped", ("", ""))[1]}
             for step, what in wanted.items():
@@ -95,6 +113,10 @@ def main():
                 tally[good] += 1
                 if not good:
                     print(f"FAILED {name}, {step}: wanted {what}, seen {seen.get(step)}")
+        seen = seen_on(browser, call("picture", "watch", row, os.path.join(TOP, "examples", "chain6_slow.transcript")))
+        tally[seen.get("messages") == ("true", "0")] += 1
+        if seen.get("messages") != ("true", "0"):
+            print(f"FAILED six in a row: messages that cover nodes: {seen.get('messages')}")
     print(f"{tally[True]} passed, {tally[False]} failed")
     return 1 if tally[False] else 0
 

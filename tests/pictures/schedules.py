@@ -100,6 +100,15 @@ def waits_of(net, v, node):
     return f"can make pulse {p + 1}" if p < last_pulse(net) else "has halted"
 
 
+def besides_of(net, v, node):
+    """The safes that a node lacks besides acknowledgements."""
+    p, ports = node.pulse_number, list(zip(sorted(net.neighbours[v]), node.ports))
+    lacks = [str(w) for w, port in ports if not port.safe]
+    if p == last_pulse(net) or node.said or not lacks:
+        return ""
+    return f", and for safe {p} of " + " and ".join(filter(None, [", ".join(lacks[:-1]), lacks[-1]]))
+
+
 def put_all(net, state, lines):
     for v in sorted(net.neighbours):
         for port in range(len(net.neighbours[v])):
@@ -222,7 +231,7 @@ class Schedules(PictureCase):
             while True:
                 nodes = [
                     (node.pulse_number, waits_of(net, v, node),
-                     node.program.merged + 1 if node.pulse_number == last_pulse(net) else 0)
+                     node.program.merged + 1 if node.pulse_number == last_pulse(net) else 0, besides_of(net, v, node))
                     for v, node in state.nodes.items()
                 ]
                 links = {
@@ -230,7 +239,7 @@ class Schedules(PictureCase):
                     for (v, port), wires in state.link.items()
                 }
                 events = {(kind.lower(), v, port, 0) for kind, v, port in state.possible()}
-                if ([row[:3] for row in table.nodes(s)], table.wires(s), {event for event, _ in table.steps[s]}) != (
+                if ([(*row[:3], row[5]) for row in table.nodes(s)], table.wires(s), {event for event, _ in table.steps[s]}) != (
                     nodes,
                     links,
                     events,

@@ -185,17 +185,25 @@ class TwoRuns(Page):
         table = table_of(page)
         self.assertEqual(table["same"], [True] * (last_pulse(net) + 1))
         self.assertEqual(sum(map(len, table["sent"])), 269)
-        for run in table["runs"]:
-            pulses = [[] for _ in range(last_pulse(net) + 1)]
-            for stamp, _, look, _ in run["rows"]:
-                p = run["looks"][look]["p"]
-                pulses[p].append(stamp)
-            first = {}
-            for stamp, v, look, _ in run["rows"]:
-                first.setdefault((v, run["looks"][look]["p"]), stamp)
-            for p, stamp in enumerate(run["all"]):
-                reached = [first.get((v, p), 0) for v in range(1, 11)]
-                self.assertEqual(stamp, max(reached) if p else 0)
+        for run, text in zip(table["runs"], texts):
+            lines = [line.split(" ") for line in text.decode().splitlines()[1:]]
+            for p, moment in enumerate(run["all"]):
+                # The last line in which a node makes pulse p, by its stamp and its number.
+                made = [(int(line[0]), at) for at, line in enumerate(lines, 1) if line[2:] == ["pulse", str(p)]]
+                self.assertEqual((len(made), moment), (10 if p else 0, list(made[-1]) if p else [0, 0]))
+
+    def test_a_run_that_is_cut(self):
+        """Of a text that ends early the last moment is its end."""
+        data = contents("triangle.col")
+        net = network_of(data)
+        texts = [merged_text(3, made_transcript(random.Random(f"cut {k}"), net, 3)) for k in "ab"]
+        lines = texts[0].splitlines(keepends=True)
+        at = next(at for at, line in enumerate(lines) if line.endswith(b" pulse 5\n"))
+        cut = b"".join(lines[:at + 1])
+        page = self.drawn(self.file("net.col", data), self.file("a", cut), self.file("b", texts[1]))
+        # One node alone has made pulse 5.
+        self.assertEqual(table_of(page)["runs"][0]["all"][5:], [[int(lines[at].split(b" ")[0]), at]])
+        self.assertIn("At a whole number of the slider each run is at the moment when the last of its nodes", page)
 
 
 class Refusals(Page):
