@@ -94,9 +94,9 @@ KINDS = {
     "why": (
         "Which messages decided the channel of --vertex, back to identifiers; all others are faded.",
         "At most 400 rows, a row for each node of each forest that mattered. With --text the same in\n"
-        "words, of any network: each choice, who had taken the lower channels, and the colours that gave\n"
-        "the turns. What wasn't heard is left out: that a channel is free, and, of the greetings, who is\n"
-        "whose parent.",
+        "words, of any network: each choice, who had taken the lower channels, the colours that gave the\n"
+        "turns, and each message. What wasn't heard is left out: that a channel is free, and, of the\n"
+        "greetings, who is whose parent.",
         "bin/picture why examples/triangle.col --vertex 2 > triangle-why.svg\n"
         "  bin/picture why examples/petersen.col --vertex 6 --text",
     ),

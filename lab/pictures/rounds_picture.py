@@ -2,7 +2,7 @@
 coloured, circles where channels are chosen."""
 from lab.pictures.colouring import LAST_COLOUR
 from lab.pictures.marks import alone_chip, bar_mark, bar_row, bars_width, channel_circle, colour_square, number_square
-from lab.pictures.palette import FOREST_COLOURS, INK, SOFT, channel_hue
+from lab.pictures.palette import FOREST_COLOURS, INK, PAPER, SOFT, channel_hue, short
 from lab.pictures.svg import Svg, text_width
 from lab.wrong import at_most
 
@@ -134,10 +134,12 @@ class Strip:
             else:
                 number_square(self.svg, x, y, COLUMN / 2 - 2.5, colour)
             if self.cone and not self.cone.has_colour(v, self.forest, number):
-                self.fade(x, y, COLUMN)
+                self.fade(x, y, COLUMN, short(colour))
 
-    def fade(self, x, y, side):
-        self.svg.rect(x - side / 2, y - ROW / 2, side, ROW, "#FFFFFF", fill_opacity="0.82", mark="faded")
+    def fade(self, x, y, side, number):
+        """Makes a mark pale, and writes its number anew: white on a pale ground can't be read."""
+        self.svg.rect(x - side / 2, y - ROW / 2, side, ROW, PAPER, fill_opacity="0.84", mark="faded")
+        self.svg.text(x, y + 3.6, number, 10 if len(str(number)) < 3 else 8.5, SOFT, "middle")
 
     def merge(self, is_full):
         """Right: who chooses at which step, with a pale line of the channel that each node has before and after."""
@@ -185,6 +187,6 @@ class Strip:
         for x, pulse in chosen:
             channel_circle(svg, x, y, min(self.column, ROW) / 2 - 1, pulse.chosen[v] + 1, mark="choice")
             if self.cone and not self.cone.has_choice(v, self.forest):
-                self.fade(x, y, self.column)
+                self.fade(x, y, self.column, pulse.chosen[v] + 1)
         channel_circle(svg, end + 24, y, 11, channel + 1, mark="after")
         bar_row(svg, end + 44, y, self.rounds.network.barred(v), BAR)

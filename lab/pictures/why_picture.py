@@ -121,13 +121,18 @@ def listed(things):
 
 
 def summary(cone):
-    most, who = cone.farthest()
-    names = cone.identifiers()
+    """How many messages decided it, and on whose identifiers it depends."""
+    names, nodes = cone.identifiers(), cone.network.nodes
     if not names:
-        return "it has no neighbour that is heard: the least channel that isn't barred"
-    return (f"{len(cone.messages)} of {cone.all_messages()} messages decided it, and the identifiers of "
-            f"{len(names)} of {cone.network.nodes} nodes; the farthest, of {listed(who)}, {most} "
-            f"edge{'s' * (most != 1)} away")
+        return "It has no neighbour that is heard: the least channel that isn't barred."
+    counts = f"{len(cone.messages)} of {cone.all_messages()} messages decided it, and the identifiers of "
+    most, who = cone.farthest()
+    if not most:
+        return f"{counts}1 of {nodes} nodes: its own."
+    edges = f"{most} edge{'s' * (most != 1)} away"
+    farthest = (f"The farthest of them is node {who[0]}, {edges}" if len(who) == 1
+                else f"The farthest of them are the nodes {listed(who)}, each {edges}")
+    return f"{counts}{len(names)} of {nodes} nodes. {farthest} by the shortest way."
 
 
 def channel_of(cone):
@@ -145,8 +150,18 @@ def text(cone):
     lines += [line for _, v, f in choices for line in choice_lines(cone, v, f)]
     lines += [colour_line(cone, v, f) for f in cone.forests() for v in cone.network.vertices
               if any(cone.has_colour(v, f, p) for p in range(SEED, LAST_COLOUR + 1))]
+    if cone.messages:
+        lines.append("the messages that decided it, pulse by pulse:")
+        lines += [f"  {message_words(cone, *message)}" for message in sorted(cone.messages)]
     lines.append(NOT_FOLLOWED)
     return "".join(line + "\n" for line in lines)
+
+
+def message_words(cone, pulse, v, w, said):
+    """A message, and the forest of which it is: of a colour that of the edge, of a choice the one that is merged."""
+    step = cone.rounds.pulses[pulse].step
+    where = f"in the merge of forest {step[0]}" if step else f"in forest {cone.rounds.forest_of[v, w]}"
+    return f"{v} told {w} {said} in pulse {pulse}, {where}"
 
 
 def choice_lines(cone, v, f):
@@ -172,8 +187,8 @@ def draw(cone):
     rounds, network = cone.rounds, cone.network
     forests = cone.forests()
     if not forests:
-        raise Wrong(f"node {cone.vertex} of {network.name} is in no forest: {summary(cone)}")
+        raise Wrong(f"node {cone.vertex} of {network.name} is in no forest, so no message decided its channel")
     at_most("why", len(forests) * network.nodes, "rows", MOST_ROWS, "--text, which has no limit")
     title = f"{network.name}: why node {cone.vertex} has channel {channel_of(cone)}"
-    said = summary(cone)
-    return draw_strips(rounds, forests, title, [said[0].upper() + said[1:] + "."], cone)
+    pale = "Pale is what didn’t decide it; the last column, with the channels after a merge, is never pale."
+    return draw_strips(rounds, forests, title, [summary(cone), pale], cone)

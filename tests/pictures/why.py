@@ -19,7 +19,8 @@ from tests.cases import Case
 
 HAND = [
     "why node 2 of triangle has channel 3",
-    "8 of 49 messages decided it, and the identifiers of 2 of 3 nodes; the farthest, of 3, 1 edge away",
+    "8 of 49 messages decided it, and the identifiers of 2 of 3 nodes. The farthest of them is node 3, 1 edge away by the "
+    "shortest way.",
     "pulse 26, merge of forest 1: the turn of node 2, with colour 1 in the forest and 1 so far; it chooses colour 2, "
     "channel 3",
     "  channel 1 is taken: node 3 told it so in pulse 22",
@@ -69,6 +70,24 @@ class ByHand(Case):
 
 class Messages(Case):
     needs_programs = False
+
+    def test_words(self):
+        """Each message of the cone has a line, by pulse, which is a message of the rounds; and a colour is told along an
+        edge of its forest, from a parent to its child."""
+        for name, vertex in (("triangle", 2), ("petersen", 6), ("barred", 4)):
+            net = network_of(example(name))
+            text = set(rounds_text(net).decode().splitlines())
+            said = why(name, vertex, "--text")[1]
+            part = said.partition("the messages that decided it, pulse by pulse:\n")[2]
+            rows = re.findall(r"^  (\d+) told (\d+) (colour|chosen) (\d+) in pulse (\d+), in (the merge of )?forest (\d+)$",
+                              part, re.M)
+            self.note(f"{name}: as many as are counted", len(rows) == int(said.splitlines()[1].split(" ")[0]) > 0, rows)
+            self.note(f"{name}: by pulse", [int(row[4]) for row in rows] == sorted(int(row[4]) for row in rows))
+            for v, w, kind, number, pulse, merge, forest in rows:
+                self.note(f"{name}: {v} told {w} in pulse {pulse}",
+                          f"{v} put {w} payload {pulse} {kind} {number}" in text and bool(merge) == (kind == "chosen")
+                          and (bool(merge) or net.parent(int(forest), int(w)) == int(v)), (v, w, kind, number, forest))
+        self.note("one by hand", "  4 told 3 colour 0 in pulse 10, in forest 0\n" in why("petersen", 6, "--text")[1])
 
     def test_each_is_of_the_rounds(self):
         for name in ("path", "triangle", "four_cycle", "barred", "petersen", "drops", "long_names"):
