@@ -46,6 +46,12 @@ def waiting(waits):
     )
 
 
+def phase_words(phase):
+    """What a pulse is for; `merge 0 2 1` with its forest and the pair whose turn it is."""
+    name, *numbers = phase.split(" ")
+    return "merge of forest {}, turn of the pair ({}, {})".format(*numbers) if numbers else name
+
+
 def node_words(node):
     """What a node waits for, or what it can do."""
     if node.waits:
@@ -121,7 +127,7 @@ def table_of(space, words):
         faults.setdefault(s, {})[-1 if e is None else e] = sentences.setdefault(sentence, len(sentences))
     return {
         "digits": DIGITS,
-        "phases": [space.phase(p) for p in range(space.last + 1)],
+        "phases": [phase_words(space.phase(p)) for p in range(space.last + 1)],
         "last": space.last,
         "states": space.count,
         "followed": space.expanded,

@@ -131,8 +131,8 @@ def draw_node(automaton):
         ("ready", "pulse", "ready"),
         INK,
         [(945, y - 32), (985, y - 92), (1040, y - 20), (958, y + 4)],
-        "next pulse, both at once",
-        (1000, y - 82),
+        "next pulse, safe and ready at once",
+        (962, y - 82),
     )
     begins(automaton.svg, 85, y)
     for x, row, name, under in STAGES.values():

@@ -30,10 +30,10 @@ def draw(rounds, forest=0, vertex=None):
     lengths = ", ".join(str(max(map(digits, pair))) for pair in pairs)
     is_short = all(rounds.identifiers[v] == v for v in network.vertices)
     said = (
-        "The names are the vertices’ own numbers, so they are short; of 128 digits, four steps leave six colours "
-        "just so."
+        "Here the names are the nodes’ own numbers, which are short. Names of 128 digits become one of six colours "
+        "in four steps, too."
         if is_short
-        else "Names of up to 128 digits, and four steps leave six colours."
+        else "Names of up to 128 digits become one of six colours in four steps."
     )
     rule = ("It looks for the least place i in which its digits differ from its parent’s; with its own digit d there, "
             "it becomes 2·i + d.")

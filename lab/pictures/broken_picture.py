@@ -10,6 +10,7 @@ from lab.pictures.schedules_picture import wrapped
 from lab.pictures.schedules_space import broken_rounds, left_out_words
 from lab.pictures.svg import Svg, counted, text_width
 from lab.schedules.ruled_rounds import RuledRounds
+from lab.schedules.rules import OF_FORESTS
 from lab.wrong import at_most
 
 LEFT, ROW, COLUMN, HALF, HEAD, GAP, RIGHT = 100, 38, 34, 12, 62, 40, 24
@@ -56,7 +57,7 @@ def left_out(without):
 def title(rounds, without, network):
     clash = rounds.clash
     name = "W" if network is None else f"{network.name} w"
-    return f"{name}ithout {left_out(without)}: nodes {clash.v} and {clash.w} get one colour"
+    return f"{name}ithout {left_out(without)}: nodes {clash.v} and {clash.w} get the same colour"
 
 
 def told(rounds, without, network, smaller):
@@ -68,9 +69,11 @@ def told(rounds, without, network, smaller):
         others = [str(v) for v in rounds.net.neighbours if v not in joined]
         named = " and ".join([", ".join(others[:-1])] * bool(others[1:]) + others[-1:])
         apart = f" ({named} {'has' if len(others) == 1 else 'have'} none)"
+        # Of forests' rules rows alone are tried.
+        what = "rows" if set(without) <= set(OF_FORESTS) else "networks"
         said.append(f"A smallest network that goes wrong: {counted(nodes, 'node')} with the edges "
                     f"{', '.join(f'{v}-{w}' for v, w in edges)}{apart * bool(others)}"
-                    + (f"; {smaller} smaller ones go right." if smaller else "."))
+                    + (f"; {smaller} smaller {what} go right." if smaller else "."))
     said += [f"{words[0].upper()}{words[1:]}." for words in rounds.words().split("\n")]
     return [words.replace("'", "’") for words in said]
 
@@ -221,11 +224,9 @@ class OfMerge:
 
     def draw_block(self, svg, top, block, is_wrong):
         f, (_, rounds, _) = self.clash.forest, block
-        before = "before any merge" if f == 0 else "merged: forest 0" if f == 1 else f"merged: forests 0 to {f - 1}"
-        self.channels(svg, 20, top, before, rounds.merged[f], f - 1, False)
+        self.channels(svg, 20, top, "channels before this merge", rounds.merged[f], f - 1, False)
         self.colours(svg, 20 + self.panel, top, rounds)
-        after = "merged: forest 0" if f == 0 else f"merged: forests 0 to {f}"
-        self.channels(svg, 20 + 2 * self.panel, top, after, rounds.merged[f + 1], f, is_wrong)
+        self.channels(svg, 20 + 2 * self.panel, top, "channels after this merge", rounds.merged[f + 1], f, is_wrong)
         for at, line in enumerate(self.chooses(block)):
             svg.text(
                 20 + 3 * self.panel,
@@ -270,7 +271,7 @@ class OfMerge:
     def colours(self, svg, left, top, rounds):
         """The colours in the forest that is merged."""
         f, places = self.clash.forest, moved(self.places, left, top)
-        self.panel_title(svg, left, top, f"forest {f}, its colours")
+        self.panel_title(svg, left, top, f"colours in forest {f}")
         for v, w in self.network.edges:
             if self.forest_of(v, w, rounds) != f:
                 draw_edge(svg, places, self.bend, v, w, OTHER, 1.3)
