@@ -74,8 +74,10 @@ COMMANDS = {
     ),
     "random": (
         "So many different edges by chance, each choice as likely as any other.",
-        "",
-        "bin/network random 50 120 --seed 3 > net.col",
+        "With wishes the networks of all seeds are equally hard: with --neighbours D and --forests U\n"
+        "each has 12 + 3·U·(D + 1) as its last pulse. Then not each choice is as likely.",
+        "bin/network random 50 120 --seed 3 > net.col\n"
+        "  bin/network random 8 9 --connected --neighbours 3 --forests 2 --seed 7 > sheet.col",
     ),
     "read": (
         "Reads a network in another form, and writes it in the DIMACS format.",
@@ -184,6 +186,10 @@ def add_words(command, name):
             metavar="R",
             help="joined if nearer than R sides of the square; default: 0.26",
         )
+    if name == "random":
+        command.add_argument("--connected", action="store_true", help="each node can be reached from each other")
+        command.add_argument("--neighbours", type=int, metavar="D", help="the node with the most neighbours has D")
+        command.add_argument("--forests", type=int, metavar="U", help="there are U forests")
     if name == "read":
         command.add_argument("--as", dest="form", choices=FORMS, help="the form, if the guess is wrong")
         command.add_argument("--heading", choices=("yes", "no"), help="whether the first line of pairs is a heading")

@@ -6,6 +6,7 @@ import os
 import sys
 
 from lab.networks import kinds, listed, sites
+from lab.networks.alike import alike
 from lab.networks.channels import table_of
 from lab.networks.codes import code_of, is_like_a_code, tell_code
 from lab.networks.command_line import SIZES, command_line
@@ -37,15 +38,30 @@ def say(what):
     print(f"network: {what}", file=sys.stderr)
 
 
+def wishes_of(given):
+    """Whether it has to be connected, and how many neighbours and forests it has to have; empty without a wish."""
+    wishes = [getattr(given, name, None) for name in ("connected", "neighbours", "forests")]
+    return wishes if wishes[0] or wishes[1:] != [None, None] else []
+
+
+def wish_words(given):
+    """The wishes as options."""
+    if not wishes_of(given):
+        return ""
+    numbers = [(name, getattr(given, name)) for name in ("neighbours", "forests")]
+    return " --connected" * given.connected + "".join(f" --{name} {n}" for name, n in numbers if n is not None)
+
+
 def made(given):
     """A network of a kind."""
     sizes = [getattr(given, size) for size in SIZES[given.command]]
     more = {"tree": ["seed"], "disk": ["reach", "seed"], "random": ["seed"]}.get(given.command, [])
+    maker = alike if wishes_of(given) else MAKERS[given.command]
     try:
-        network = MAKERS[given.command](*sizes, *(getattr(given, name) for name in more))
+        network = maker(*sizes, *(getattr(given, name) for name in more), *wishes_of(given))
     except Wrong as why:
         given.refuse(str(why))
-    options = "".join(f" --{name} {getattr(given, name)}" for name in more)
+    options = "".join(f" --{name} {getattr(given, name)}" for name in more) + wish_words(given)
     network.head = [f"Made by bin/network {given.command} {' '.join(map(str, sizes))}{options}"]
     return text_of(network)
 

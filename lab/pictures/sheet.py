@@ -9,6 +9,7 @@ import sys
 from lab.definitions.colours import Network, colours, first_colours, merge, three
 from lab.definitions.nodes import NetState, last_pulse
 from lab.definitions.rounds import Facts
+from lab.networks.alike import alike_edges
 from lab.networks.network_text import Network as Drawn
 from lab.pictures.map_picture import draw_map
 from lab.pictures.svg import Svg, escaped
@@ -177,29 +178,8 @@ def farthest(net, edge):
 
 def network_by(source):
     """A connected network of the sheets' sizes, by chance."""
-    while True:
-        edges = edges_by(source)
-        net = Network({v: v for v in range(1, NODES + 1)}, edges)
-        if len(edges) == EDGES and net.greatest_degree == NEIGHBOURS and net.forest_count == FORESTS:
-            return net
-
-
-def edges_by(source):
-    """A tree of all nodes, and then further edges, nobody having too many neighbours."""
-    order, degree, edges = list(range(1, NODES + 1)), dict.fromkeys(range(1, NODES + 1), 0), set()
-    for at in range(NODES - 1, 0, -1):
-        other = int(source.random() * (at + 1))
-        order[at], order[other] = order[other], order[at]
-    pairs = [(order[int(source.random() * at)], order[at]) for at in range(1, NODES)]
-    pairs += [(1 + int(source.random() * NODES), 1 + int(source.random() * NODES)) for _ in range(4 * EDGES)]
-    for v, w in pairs:
-        edge = min(v, w), max(v, w)
-        if v != w and edge not in edges and len(edges) < EDGES and max(degree[v], degree[w]) < NEIGHBOURS:
-            edges.add(edge)
-            degree[v], degree[w] = degree[v] + 1, degree[w] + 1
-        elif len(edges) < NODES - 1 and edge not in edges:
-            return set()  # The tree itself has no room for this edge.
-    return edges
+    edges = alike_edges(source, NODES, EDGES, True, NEIGHBOURS, FORESTS)
+    return Network({v: v for v in range(1, NODES + 1)}, edges)
 
 
 def draw(seed, count, answers, lessons):

@@ -8,6 +8,7 @@ import tempfile
 from tests import TOP
 from tests.cases import Case, run_program, text
 from tests.commands import EDGE, PROGRAM_OF, TRIANGLE
+from tests.programs.own_networks import call
 from tests.settings import PLAN, PLAY
 
 PATHS = {"forestplan": PLAN, "forestplay": PLAY}
@@ -54,10 +55,10 @@ FAULTS = [
 WITHOUT_INPUT = {"F9", "N3", "C7", "X2", "Memory", "memory", "threads", "stamps", "stream"}
 
 
-def tell(*words, folder=None):
-    done = subprocess.run([os.path.join(TOP, "bin", "network"), "tell", *words], capture_output=True, text=True,
-                          timeout=60, cwd=folder)
-    return done.returncode, done.stdout, done.stderr
+def tell(*words):
+    """In this process: status, output and what is said."""
+    status, output, errors = call("tell", *words)
+    return status, output.decode(), errors.decode()
 
 
 def of_formats():
@@ -104,8 +105,10 @@ class Codes(Case):
         with tempfile.TemporaryDirectory() as folder:
             with open(os.path.join(folder, "C8"), "w", encoding="ascii") as file:
                 file.write("p edge 2 1\ne 1 2\n")
-            status, said, fault = tell("C8", folder=folder)
-            self.note("a file C8", (status, fault) == (0, "") and said.startswith("nodes: 2\n"), (status, said, fault))
+            done = subprocess.run([os.path.join(TOP, "bin", "network"), "tell", "C8"], capture_output=True, timeout=60,
+                                  cwd=folder)
+            self.note("a file C8", (done.returncode, done.stderr) == (0, b"") and done.stdout.startswith(b"nodes: 2\n"),
+                      done)
 
 
 class Faults(Case):

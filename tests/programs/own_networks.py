@@ -102,7 +102,8 @@ def example(name):
 REFUSED = ["path 0", "path -1", "path x", "path 20001", "ring 2", "star 1025", "star 0", "complete 1025",
            "complete 2000", "grid 0 3", "grid 200 101", "queen 141 141", "queen 0 1", "tree 0", "tree 20001",
            "disk 30 --reach 0", "disk 30 --reach 3", "disk 0", "disk 2000 --reach 2", "random 10 46",
-           "random 2000 400001", "random 5 -1", "random 5", "path 3 4", "path 3 --seed 1", "square 4", "", "read",
+           "random 2000 400001", "random 5 3 --connected", "random 5 9 --neighbours 3", "random 5 4 --forests 5",
+           "random 5 4 --neighbours -1", "random 5 4 --forests -1", "path 3 --connected", "random 5 -1", "random 5", "path 3 4", "path 3 --seed 1", "square 4", "", "read",
            "number x", "number x --by size", "tell", "tell x y", "read x --as graph"]
 
 
@@ -348,6 +349,32 @@ class OwnNetworks(Case):
         joined = {(v, w) for v in places for w in places
                   if v < w and sum((a - b) ** 2 for a, b in zip(places[v], places[w])) < (1000 * reach) ** 2}
         self.note(f"a disk of reach {reach}", list(places.values()) == wanted and edges_of(text) == joined, text[:200])
+
+    def test_wishes(self):
+        """Networks by chance with wishes are as they are wished, and other seeds give others."""
+        for words, wanted in (
+            ("8 9 --connected --neighbours 3 --forests 2", (True, 3, 2)),
+            ("12 14 --connected", (True, None, None)),
+            ("20 20 --neighbours 4", (None, 4, None)),
+            ("20 20 --forests 3", (None, None, 3)),
+            ("60 80 --connected --neighbours 4 --forests 3", (True, 4, 3)),
+            ("2 1 --connected --neighbours 1 --forests 1", (True, 1, 1)),
+            ("3 0 --neighbours 0 --forests 0", (None, 0, 0)),
+        ):
+            texts = set()
+            for seed in range(1, 9):
+                text = self.written("random", *words.split(), "--seed", seed)
+                net = network_of(text)
+                nodes, edges = map(int, words.split()[:2])
+                reached = {1}
+                while more := {w for v in reached for w in net.neighbours[v]} - reached:
+                    reached |= more
+                found = len(reached) == nodes, net.greatest_degree, net.forest_count
+                good = all(wish in (None, there) for wish, there in zip(wanted, found))
+                self.note(f"random {words}, seed {seed}",
+                          good and (len(net.neighbours), len(net.number)) == (nodes, edges), (found, text))
+                texts.add(text.split(b"\n", 1)[1])
+            self.note(f"random {words}: the seeds differ", len(texts) == (8 if edges > 2 else 1), len(texts))
 
     def test_seeds(self):
         for words in ("tree 50", "disk 50", "random 50 100"):
