@@ -77,7 +77,7 @@ def legend(svg):
     svg.line(492, y, 510, y, INK, 1.8)
     svg.head(516, y, 1, 0, 8, INK)
     svg.text(524, y + 4, "to the parent", 11.5, SOFT)
-    alone_chip(svg, 28, y + 22, 5)
+    alone_chip(svg, 28, y + 22, 6, 1)
     svg.text(80, y + 26, "no edge in this forest", 11.5, SOFT)
     for x, colour, words in ((292, INK, "merged now"), (412, "#9A9A9A", "merged before"), (540, FAINT, "other edges")):
         svg.line(x, y + 22, x + 18, y + 22, colour, 1.8)
@@ -104,7 +104,7 @@ def numbers(svg, sheet, left, top):
 
 
 def colours_panel(svg, left, sheet, forest):
-    """The forest's edges as arrows to the parents; a chip where a vertex has no edge in it."""
+    """The forest's edges as arrows to the parents; a pale chip where a vertex has no edge in it, but a colour."""
     edges = sheet.rounds.edges_of(forest)
     mine = {(min(e), max(e)) for e in edges}
     title(svg, left, TOP, f"forest {forest}", counted(len(edges), "edge"))
@@ -119,7 +119,7 @@ def colours_panel(svg, left, sheet, forest):
                       4.5 if sheet.is_large else 8, radius + (1.5 if sheet.is_large else 3), mark="arrow")
         for v, (x, y) in sorted(places.items()):
             if not sheet.rounds.in_forest(v, forest):
-                alone_chip(svg, x, y, radius * 0.6)
+                alone_chip(svg, x, y, radius * 0.6, None if sheet.is_large else sheet.three[v, forest])
             elif sheet.is_large:
                 svg.rect(
                     x - radius,

@@ -373,11 +373,13 @@ class Maps(PictureCase):
         squares = [mark for mark in above.iter() if mark.get("class") in ("colour", "alone")]
         places = dict(zip(sorted(net.neighbours), map(centre, squares)))
         coloured = three(net, f)
-        wanted = [("colour", COLOURS[coloured[v]]) if v in ended else ("alone", ALONE) for v in sorted(net.neighbours)]
+        is_small = len(places) <= 40
+        wanted = [("colour", COLOURS[coloured[v]]) if v in ended else
+                  ("alone", COLOURS[coloured[v]] if is_small else ALONE) for v in sorted(net.neighbours)]
         self.note(f"{name}: squares", [row[:2] for row in numbered(above, "colour", "alone")] == wanted, wanted)
-        if len(places) <= 40:
-            numbers = [row[2] for row in numbered(above, "colour")]
-            self.note(f"{name}: their numbers", numbers == [str(coloured[v]) for v in sorted(ended)], numbers)
+        if is_small:
+            numbers = [row[2] for row in numbered(above, "colour", "alone")]
+            self.note(f"{name}: their numbers", numbers == [str(coloured[v]) for v in sorted(net.neighbours)], numbers)
         arrows = {}
         for mark in marks(above, "arrow"):
             start, end = ends(mark)
