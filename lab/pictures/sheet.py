@@ -49,7 +49,7 @@ h1 small{{font-weight:normal;font-size:13px}}p{{margin:4px 0}}svg{{display:block
 table{{border-collapse:collapse;margin:4px 0}}
 td,th{{border:1px solid #6B6B6B;padding:2px 0;text-align:center;min-width:46px;height:24px}}
 th{{font-weight:normal;background:#F3EFE4;padding:2px 7px;text-align:left}}
-b.answer{{color:#0072B2}}.blank{{display:inline-block;min-width:90px;border-bottom:1px solid #6B6B6B}}
+b.answer{{color:#0072B2}}.blank{{display:inline-block;min-width:90px;border-bottom:1px solid #6B6B6B}}.list{{min-width:190px}}
 .question{{break-inside:avoid}}section{{break-after:page}}section:last-child{{break-after:auto}}
 pre{{font-size:11px;color:#6B6B6B;columns:3}}
 </style></head><body>
@@ -73,8 +73,10 @@ class Sheet:
 
     # How an answer, or room for one, is written.
 
-    def filled(self, answer):
-        return f'<b class="answer">{escaped(answer)}</b>' if self.answers else '<span class="blank">&nbsp;</span>'
+    def filled(self, answer, is_list=False):
+        """`is_list` says that there has to be room for several numbers."""
+        room = "blank list" if is_list else "blank"
+        return f'<b class="answer">{escaped(answer)}</b>' if self.answers else f'<span class="{room}">&nbsp;</span>'
 
     def table(self, head, rows):
         """A row of vertices, and rows of (name, entries, whether they are given)."""
@@ -97,7 +99,7 @@ class Sheet:
                f"here? {self.filled(self.net.greatest_degree + 1)}</p>")
         yield ("<p>Somebody has made this plan. Which neighbours have the same channel?</p>"
                + self.table("node", [("channel", [wrong[v] for v in self.vertices], True)])
-               + f"<p>{self.filled('; '.join(pairs))}</p>")
+               + f"<p>{self.filled('; '.join(pairs), True)}</p>")
 
     def lesson_2(self, _):
         rows = [(f"parent in forest {f}", [self.net.parent(f, v) or "-" for v in self.vertices], False)
@@ -112,7 +114,7 @@ class Sheet:
         for name, node in ((f"node {v}", v), (f"its parent {w}", w)):
             said = ", ".join(str(table[p][node]) for p in range(2, 7))
             ask = "Bit steps in forest 0: the colours of" if node == v else "And of"
-            yield f"<p>{ask} {name} after the pulses 2 to 6? {self.filled(said)}</p>"
+            yield f"<p>{ask} {name} after the pulses 2 to 6? {self.filled(said, True)}</p>"
         rows = [("pulse 6", [table[6][v] for v in self.vertices], True)]
         words = {7: "shift", 8: "drop 5", 9: "shift", 10: "drop 4", 11: "shift", 12: "drop 3"}
         rows += [(f"pulse {p}: {words[p]}", [table[p][v] for v in self.vertices], False) for p in range(7, 13)]

@@ -152,7 +152,9 @@ def text(cone):
               if any(cone.has_colour(v, f, p) for p in range(SEED, LAST_COLOUR + 1))]
     if cone.messages:
         lines.append("the messages that decided it, pulse by pulse:")
-        lines += [f"  {message_words(cone, *message)}" for message in sorted(cone.messages)]
+        lines += [message_words(cone, *message) for message in sorted(cone.messages)]
+    if names := cone.identifiers():
+        lines.append(f"the identifiers that decided it: of node{'s' * (len(names) > 1)} {listed(names)}")
     lines.append(NOT_FOLLOWED)
     return "".join(line + "\n" for line in lines)
 

@@ -54,6 +54,8 @@ class ByHand(Case):
         status, said, fault = why("triangle", 2, "--text")
         self.assertEqual((status, fault), (0, ""))
         self.assertEqual(said.splitlines()[:len(HAND)], HAND)
+        # Of node 1 no colour from before pulse 11 matters, when it took its parent's.
+        self.assertIn("the identifiers that decided it: of nodes 2 and 3\n", said)
         # Node 2 is a root in forest 1: no parent sent it a colour, and its own identifier is one of the two.
         self.assertIn("forest 1, node 2, a root, pulses 2 to 12: 2 0 0 0 0 1 1 0 0 1 1\n", said)
 
@@ -79,7 +81,7 @@ class Messages(Case):
             text = set(rounds_text(net).decode().splitlines())
             said = why(name, vertex, "--text")[1]
             part = said.partition("the messages that decided it, pulse by pulse:\n")[2]
-            rows = re.findall(r"^  (\d+) told (\d+) (colour|chosen) (\d+) in pulse (\d+), in (the merge of )?forest (\d+)$",
+            rows = re.findall(r"^(\d+) told (\d+) (colour|chosen) (\d+) in pulse (\d+), in (the merge of )?forest (\d+)$",
                               part, re.M)
             self.note(f"{name}: as many as are counted", len(rows) == int(said.splitlines()[1].split(" ")[0]) > 0, rows)
             self.note(f"{name}: by pulse", [int(row[4]) for row in rows] == sorted(int(row[4]) for row in rows))
@@ -87,7 +89,7 @@ class Messages(Case):
                 self.note(f"{name}: {v} told {w} in pulse {pulse}",
                           f"{v} put {w} payload {pulse} {kind} {number}" in text and bool(merge) == (kind == "chosen")
                           and (bool(merge) or net.parent(int(forest), int(w)) == int(v)), (v, w, kind, number, forest))
-        self.note("one by hand", "  4 told 3 colour 0 in pulse 10, in forest 0\n" in why("petersen", 6, "--text")[1])
+        self.note("one by hand", "\n4 told 3 colour 0 in pulse 10, in forest 0\n" in why("petersen", 6, "--text")[1])
 
     def test_each_is_of_the_rounds(self):
         for name in ("path", "triangle", "four_cycle", "barred", "petersen", "drops", "long_names"):

@@ -138,6 +138,7 @@ class Sheets(Case):
         self.assertNotIn("<b class=answer>", sheets)
         self.assertNotIn("p edge", sheets)
         cut = re.sub(r"<p>The network, for the programs:</p>\n<pre>.*?</pre>\n", "", answers, flags=re.S)
+        cut = re.sub(r'<b class="answer">[^<]*[,;a][^<]*</b>', '<span class="blank list">&nbsp;</span>', cut)
         cut = re.sub(r'<b class="answer">.*?</b>', '<span class="blank">&nbsp;</span>', cut)
         cut = re.sub(r"<b class=answer>.*?</b>", "", cut)
         cut = cut.replace("Sheet x, answers<small></small>", f"Sheet x<small>Name: {'_' * 28}</small>")
