@@ -50,6 +50,10 @@ COLOURING = {
         "[(name, port) for port, name in names.items() if name > self.name]"),
     "label_falling": Mistake(
         "parents are numbered by falling identifier", "if name > self.name)", "if name > self.name)[::-1]"),
+    "names_text": Mistake(
+        "parents are sorted as texts, and not as numbers",
+        "sorted((name, port) for port, name in names.items() if name > self.name)",
+        "sorted(((name, port) for port, name in names.items() if name > self.name), key=lambda up: str(up[0]))"),
     "names_64": Mistake(
         "identifiers are kept in 64 binary digits", 'own["identifier"]\n', 'own["identifier"] % (1 << 64)\n'),
     "names_float": Mistake(

@@ -6,6 +6,7 @@ import sys
 import tempfile
 import unittest
 
+from lab.workshop.cases import NETWORKS
 from tests.workshop.base import ALPHA, EXAMPLES, played
 
 specification = importlib.util.spec_from_file_location("mistakes_of_nodes", os.path.join(EXAMPLES, "mistakes.py"))
@@ -14,15 +15,17 @@ sys.dont_write_bytecode, before = True, sys.dont_write_bytecode
 specification.loader.exec_module(MISTAKES)
 sys.dont_write_bytecode = before
 
-# By mistake, what is found on most4 and on rest3: (node, pulse) of a difference, or None where all is right.
+# By mistake, what is found on most4 and on rest3: (node, pulse) of a difference, or None where all is right. On rest3
+# by hand: node 2 has the parents 3 and 13, in this order, and as texts in the other. The bit steps of 13, 3 and 2 give
+# 1, 3 and 0, and then the same again; the shift gives node 2 the 3, which is dropped in pulse 12 and not in pulse 8.
 COLOURING = {
-    "shift_root": ((1, 7), (2, 7)), "no_shift": ((3, 7), (1, 7)), "drop_parent": ((3, 8), None),
-    "drop_children": ((3, 8), None), "drop_all": (None, (1, 8)), "bit_highest": ((3, 3), (3, 3)),
-    "bit_root": ((1, 3), (2, 3)), "bit_parent": ((3, 3), (1, 3)), "label_ports": ((3, 1), None),
-    "label_falling": ((3, 1), None), "names_64": ((1, 0), None), "names_float": ((3, 3), None),
-    "merge_this": ((1, 31), None), "merge_all": ((1, 13), None), "merge_old": ((2, 38), (3, 19)),
-    "merge_keep": ((3, 55), None), "bars_forgotten": ((4, 19), (1, 13)), "bars_channels": ((4, 19), (1, 13)),
-    "bars_first": ((4, 19), (1, 13)), "bars_width": ((4, 19), (3, 16)),
+    "shift_root": ((1, 7), (1, 7)), "no_shift": ((3, 7), (2, 7)), "drop_parent": ((3, 8), None),
+    "drop_children": ((3, 8), None), "drop_all": (None, (2, 8)), "bit_highest": ((3, 3), (2, 3)),
+    "bit_root": ((1, 3), (1, 3)), "bit_parent": ((3, 3), (2, 3)), "label_ports": ((3, 1), (2, 1)),
+    "label_falling": ((3, 1), (2, 1)), "names_text": (None, (2, 1)), "names_64": ((1, 0), None),
+    "names_float": ((3, 3), None), "merge_this": ((1, 31), (1, 26)), "merge_all": ((1, 13), (2, 13)),
+    "merge_old": ((2, 38), (3, 19)), "merge_keep": ((3, 55), (3, 27)), "bars_forgotten": ((4, 19), (1, 13)),
+    "bars_channels": ((4, 19), (1, 13)), "bars_first": ((4, 19), (1, 13)), "bars_width": ((4, 19), (3, 16)),
     # Nobody ever chooses in the last pulse of a merge, and nothing is sent in it.
     "merge_last": (None, None), "merge_first_heard": (None, None),
 }
@@ -55,6 +58,16 @@ class Mistakes(unittest.TestCase):
 
     def test_each_has_a_row(self):
         self.assertEqual((set(COLOURING), set(ALPHA_MISTAKES)), (set(MISTAKES.COLOURING), set(MISTAKES.ALPHA)))
+
+    def test_the_two_networks_show_all_that_can_show(self):
+        """Those that rest3 is there for are in its comment, and how many most4 shows in that of most4."""
+        can_show = {name for name, rights in COLOURING.items() if rights != (None, None)}
+        on_most4 = {name for name in can_show if COLOURING[name][0]}
+        self.assertEqual(can_show - on_most4, {"drop_all", "names_text"})
+        for words in ("rest3", "most4"):
+            self.assertIn(words, NETWORKS.split(","))
+        with open(os.path.join(EXAMPLES, "most4.col"), encoding="ascii") as text:
+            self.assertIn(f"{len(on_most4)} of the {len(can_show)} typical mistakes", text.readline())
 
     def test_of_the_colouring(self):
         for name, rights in COLOURING.items():
