@@ -12,11 +12,11 @@ from typing import Callable
 
 from lab.workshop.answers import MOST_BYTES, end_of, lines_of, shown
 from lab.workshop.findings import Fault
+from lab.workshop.last_errors import LAST_BYTES, last_errors
 from lab.workshop.limits import Limits, limit
 
 SOON = 0.3                  # seconds after which an answer is late, and it is looked whether it still matters
 LOOK = 0.004                # seconds between two looks whether a program has ended
-LAST_LINES, LAST_LETTERS = 3, 400
 NO_FILES = "; three files are open for each program: raise `ulimit -n`, or use --one-process"
 
 
@@ -100,12 +100,10 @@ class Process:
         return Fault("ended", f"it ended with {found}{after} instead of an answer{self.last_errors()}")
 
     def last_errors(self) -> str:
-        """What it has written to standard error at last."""
         size = self.errors.seek(0, os.SEEK_END)
-        self.errors.seek(max(0, size - 4096))
-        lines = [line.strip() for line in self.errors.read().decode("utf-8", "replace").splitlines() if line.strip()]
-        words = " | ".join(lines[-LAST_LINES:])
-        return f"; on standard error: {shown(words[-LAST_LETTERS:], LAST_LETTERS)}" if words else ""
+        self.errors.seek(max(0, size - LAST_BYTES))
+        words = last_errors(self.errors.read())
+        return f"; on standard error: {words}" if words else ""
 
     def end(self) -> None:
         """No more messages: a program that reads to the end of its input ends now."""

@@ -1,5 +1,5 @@
-"""A program that misbehaves: its `main` takes HOW as the first word. Until the fifth message it is the right node with a
-clock."""
+"""A program that misbehaves: its `main` takes HOW as the first word. Until the fifth message it is the right node with
+a clock."""
 import os
 import subprocess
 import sys

@@ -88,6 +88,13 @@ class Misbehaving(unittest.TestCase):
                         self.assertIn(words, dict(found.lines)["wrong"])
                     self.assertEqual(left_at_last(), [])
 
+    def test_the_place_of_a_crash_is_named(self):
+        with open(os.path.join(TOP, "tests", "workshop", "broken_node.py"), encoding="utf-8") as text:
+            lines = text.read().splitlines()
+        line = 1 + next(k for k, words in enumerate(lines) if "raise ValueError" in words)
+        words = dict(played("rounds", "two", command("crashes")).finding.lines)["wrong"]
+        self.assertIn(f'broken_node.py", line {line}, in crash | ', words)
+
     def test_a_late_answer_to_a_wrong_step_isn_t_waited_for(self):
         """Node 2 hangs in pulse 1, but before that it acknowledges nothing: that is what it is told."""
         code = ("import sys, time\nsys.path[:0] = [%r]\nimport talk\nfrom alpha_node import AlphaNode\n"

@@ -2,6 +2,7 @@
 import unittest
 
 from lab.networks.network_text import Network
+from lab.workshop.last_errors import last_errors
 from lab.workshop.right_rounds import RightRounds
 from lab.workshop.why_rounds import Why
 from tests.workshop.base import network
@@ -69,3 +70,57 @@ class Words(unittest.TestCase):
             with self.subTest(node=v, pulse=p):
                 self.assertEqual(Why(rounds, v).of_choice(p), turn.format(p, colour, own, rest))
         self.assertEqual(rounds.channels, {1: 1, 2: 2})
+
+
+PYTHON = """\
+Traceback (most recent call last):
+  File "my_node.py", line 50, in main
+    answer = node.pulse(0, {})
+             ^^^^^^^^^^^^^^^^^
+  File "my_node.py", line 19, in pulse
+    return self.to(self.ports[0]) + self.to(port)
+           ~~~~~~~^^^^^^^^^^^^^^^
+  File "my_node.py", line 31, in to
+    return "put " + port
+           ~~~~~~~^~~~~~
+TypeError: can only concatenate str (not "int") to str
+"""
+JAVA = """\
+debugging
+Exception in thread "main" java.lang.NullPointerException: Cannot read "String.length()"
+\tat AlphaNode.take(AlphaNode.java:28)
+\tat AlphaNode.read(AlphaNode.java:35)
+\tat java.base/java.util.List.forEach(List.java:15)
+\tat java.base/java.util.List.all(List.java:16)
+\tat AlphaNode.main(AlphaNode.java:52)
+"""
+JAVASCRIPT = """\
+/home/a/node.js:3
+function start() { return colours.length; }
+                                  ^
+
+TypeError: Cannot read properties of null (reading 'length')
+    at start (/home/a/node.js:3:35)
+    at Interface.<anonymous> (/home/a/node.js:4:47)
+    at Interface.emit (node:events:524:28)
+    at Readable.push (node:internal/streams/readable:392:5)
+
+Node.js v20.20.2
+"""
+
+
+class LastErrors(unittest.TestCase):
+    def test_the_place_of_the_mistake_is_among_them(self):
+        for text, words in (
+            (PYTHON, '`File "my_node.py", line 19, in pulse | return self.to(self.ports[0]) + self.to(port) | File '
+                     '"my_node.py", line 31, in to | return "put " + port | TypeError: can only concatenate str (not '
+                     '"int") to str`'),
+            (JAVA, '`debugging | Exception in thread "main" java.lang.NullPointerException: Cannot read '
+                   '"String.length()" | at AlphaNode.take(AlphaNode.java:28) | at AlphaNode.read(AlphaNode.java:35)`'),
+            (JAVASCRIPT, "`function start() { return colours.length; } | TypeError: Cannot read properties of null "
+                         "(reading 'length') | at start (/home/a/node.js:3:35) | at Interface.<anonymous> "
+                         "(/home/a/node.js:4:47) | Node.js v20.20.2`"),
+            ("", ""), ("\n  ^^^ \n", ""),
+        ):
+            with self.subTest(text[:20]):
+                self.assertEqual(last_errors(text.encode()), words)
