@@ -23,6 +23,21 @@ class Standing:
         return [f"put {link} {wire}" for link, wire in self.puts.items()] + \
             ([f"pulse {self.pulse + 1}"] if self.can_pulse else [])
 
+    def undone(self) -> str:
+        """The same, of a node that doesn't do it."""
+        return " or ".join(due if due.startswith("put") else f"make {due}" for due in self.dues())
+
+    def why_not_safe(self) -> str:
+        """Why it can't have said safe yet; nothing if no acknowledgement is missing."""
+        acks = [part.removeprefix("ack ") for part in self.lacks.split("; ") if part.startswith("ack ")]
+        if not acks:
+            return ""
+        whose = acks[0].replace(" of ", " from ")
+        return f"it can't have said safe yet: it lacks the acknowledgement{'s' * (' and ' in whose)} of pulse {whose}"
+
+    def lacked_safes(self) -> str:
+        return "; ".join(part for part in self.lacks.split("; ") if not part.startswith("ack "))
+
     def named(self, wire: str, link: int) -> str:
         return f"{wire} {self.link.format(link)}"
 
@@ -47,7 +62,8 @@ def rule_of(at: Standing, words: str, says_lacks: bool = True) -> str:
     rule = "a node makes its next pulse once it has said safe and has the safes of all its neighbours"
     if not at.lacks:
         return f"{rule}; it has too many wires that it hasn't put yet"
-    return f"{rule}; it lacks {at.lacks}" if says_lacks else rule
+    lacked = f"it lacks {at.lacked_safes()}" if says_lacks and at.lacked_safes() else ""
+    return "; ".join(filter(None, [rule, at.why_not_safe(), lacked]))
 
 
 def rule_of_put(at: Standing, link: int, wire: list[str]) -> str:
@@ -94,13 +110,13 @@ def rule_of_end(at: Standing, wire: list[str], right: str) -> str:
         return rule_of_safe(right)
     if wire[0] == "close":
         return "close is put once on each link"
-    lacked = [part for part in at.lacks.split("; ") if part.startswith("ack")]
-    return "safe P is said once in each pulse P but the last, to each neighbour, once each payload that it sent in P " \
-           "is acknowledged" + (f"; it lacks {lacked[0]}" if lacked else "")
+    rule = "safe P is said once in each pulse P but the last, to each neighbour, once each payload that it sent in " \
+           "P is acknowledged"
+    return "; ".join(filter(None, [rule, at.why_not_safe()]))
 
 
 def stuck_words(owing: list[tuple[int, Standing]]) -> str:
     """Of a run in which no wire is on its way: who could do something, and doesn't."""
-    words = [f"node {v} at pulse {at.pulse} doesn't {' and '.join(at.dues())}" for v, at in owing if at.dues()]
+    words = [f"node {v} at pulse {at.pulse} doesn't {at.undone()}" for v, at in owing if at.dues()]
     more = "; .." if len(words) > MOST_OWING else ""
     return "nothing is on its way, and not all is done: " + "; ".join(words[:MOST_OWING]) + more

@@ -47,7 +47,7 @@ class AlphaRun:
             wire = self.links.take(step)
             self.write(v, f"take {w} {wire.words}", wire.stamp)
             line = f"take {self.rounds.ports[v][w]} {wire.words}"
-            if not self.told(nodes, v, [line], line):
+            if not self.told(nodes, v, [line], f"`{line}`"):
                 return
         nodes.stop(PATIENCE)
 

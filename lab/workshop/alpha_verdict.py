@@ -30,36 +30,35 @@ def wrong_entry(run: AlphaRun, entries: list[Entry], verdict: Verdict) -> Findin
     where = f"node {v} at pulse {at.pulse}, entry {verdict.at + 1} of the run, stamp {stamp}"
     why = rule_of(at, with_port(run.rounds, v, words))
     lines = [("where", where), ("wrong", with_port(run.rounds, v, words, True)), ("right", right_words(at)),
-             ("why", why), *hints(at, " payload " in words), ("judge", verdict.line)]
+             ("why", why), *hints(at, " payload " in words or at.has_payload_due()), ("judge", verdict.line)]
     return Finding(verdict.name, v, at.pulse, lines, verdict.at)
 
 
 def no_answer(run: AlphaRun, entries: list[Entry]) -> Finding:
     v, fault, asked = run.stop
     at = at_node(run.rounds, entries, v)
-    inbox = f"; pulse {at.pulse + 1} has {run.rounds.inbox(v, at.pulse + 1)}" if at.can_pulse else ""
-    lines = [("where", f"node {v} at pulse {at.pulse}, told `{asked}`"), ("wrong", fault.words),
-             ("right", right_words(at) + inbox), *hints(at, False), ("judge", "all that was done before is right")]
+    inbox = f"; {run.rounds.heard_words(v, at.pulse + 1)}" if at.can_pulse else ""
+    lines = [("where", f"node {v} at pulse {at.pulse}, after it got {asked}"), ("wrong", fault.words),
+             ("right", right_words(at) + inbox), *hints(at, fault.kind == "ended"),
+             ("judge", "all that was done before is right")]
     return Finding(fault.kind, v, at.pulse, lines)
 
 
 def stuck(run: AlphaRun, entries: list[Entry], verdict: Verdict) -> Finding:
     """Nothing is on its way, and not all is done: who could do something, and who waits for what."""
-    lines, first, waiting = [], None, []
+    owing, waiting = [], []
     for v in run.network.vertices:
         at = at_node(run.rounds, entries, v)
         if at.dues():
-            lines.append(("wrong", f"node {v} at pulse {at.pulse} doesn't {' and '.join(at.dues())}{though(at)}"))
-            if first is None:
-                first = at
-                lines += hints(at, True)
+            owing.append(at)
         elif at.pulse < at.last:
             waiting.append(f"node {v} for {at.lacks}")
+    first, *others = [("wrong", f"node {at.v} at pulse {at.pulse} doesn't {at.undone()}{though(at)}") for at in owing]
     where = f"nothing is on its way after {len(entries)} of {run.rounds.events} entries, and not all is done"
     more = " | .." if len(waiting) > MOST_WAITING else ""
     waits = [("waits", " | ".join(waiting[:MOST_WAITING]) + more)] if waiting else []
-    shown = lines[:MOST_STUCK + len(hints(first, True))]
-    return Finding("stuck", first.v, first.pulse, [("where", where), *shown, *waits, ("judge", verdict.line)])
+    lines = [("where", where), first, *hints(owing[0], owing[0].has_payload_due()), *others[:MOST_STUCK - 1], *waits]
+    return Finding("stuck", owing[0].v, owing[0].pulse, [*lines, ("judge", verdict.line)])
 
 
 def though(at) -> str:

@@ -53,6 +53,12 @@ class RightRounds:
                     heard[p + 1][w][self.ports[w][v]] = words
         return heard
 
+    def heard_words(self, v: int, p: int) -> str:
+        """What a node's neighbours sent it for the inbox of a pulse from 1 on, as a sentence."""
+        if not self.heard[p][v]:
+            return f"node {v}'s neighbours sent it nothing in pulse {p - 1}, so the inbox of its pulse {p} is empty"
+        return f"in pulse {p - 1} node {v}'s neighbours sent it {self.inbox(v, p)}: the inbox of its pulse {p}"
+
     def inbox(self, v: int, p: int) -> str:
         """The inbox of a pulse in words."""
         came = [f"{words} by port {port}" for port, words in sorted(self.heard[p][v].items())]

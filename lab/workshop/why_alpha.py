@@ -9,7 +9,7 @@ from lab.workshop.right_rounds import RightRounds
 from lab.workshop.why_rounds import Why
 
 SO_FAR = 8
-MOST_EARLY = 2
+MOST_EARLY, MOST_PULSES = 3, 8
 
 
 @dataclass
@@ -22,9 +22,11 @@ class At(Standing):
     def why_payload(self, link: int) -> str:
         return Why(self.rounds, self.v).of_port(self.pulse, self.rounds.network.neighbours[self.v][link])
 
+    def has_payload_due(self) -> bool:
+        return any(wire.startswith("payload") for wire in self.puts.values())
+
     def owes(self, payloads: str) -> str:
-        inbox = self.rounds.inbox(self.v, self.pulse)
-        return f"in pulse {self.pulse}, whose inbox has {inbox}, it has to send {payloads} first"
+        return f"in pulse {self.pulse} it has to send {payloads} first; {self.rounds.heard_words(self.v, self.pulse)}"
 
 
 def at_node(rounds: RightRounds, before: list[Entry], v: int) -> At:
@@ -56,28 +58,44 @@ def right_words(at: At) -> str:
 
 def hints(at: At, about_payload: bool) -> list[tuple[str, str]]:
     """What the node had got: the inbox of its pulse, what came early, and what it did last."""
-    inbox = [("inbox", f"pulse {at.pulse} has {at.rounds.inbox(at.v, at.pulse)}")] if at.pulse and about_payload else []
+    inbox = [("inbox", at.rounds.heard_words(at.v, at.pulse))] if at.pulse and about_payload else []
     own = [with_port(at.rounds, at.v, words) for _, u, words in at.before if u == at.v]
     so_far = (".. " if len(own) > SO_FAR else "") + "; ".join(own[-SO_FAR:]) if own else "nothing"
-    return [*inbox, *(("early", words) for words in early(at)[-MOST_EARLY:]), ("so far", so_far)]
+    return [*inbox, *(("early", words) for words in early(at, about_payload)), ("so far", so_far)]
 
 
-def early(at: At) -> list[str]:
-    """What came a pulse early and matters now."""
-    found, pulse = [], 0
+def early(at: At, about_payload: bool) -> list[str]:
+    """What came a pulse early and matters now: the safes that aren't used up yet, and the payloads. If what is wrong
+    may come from a payload, all of them matter, however long ago they came: one that was lost can show late."""
+    safes, payloads, pulse = [], [], 0
     for _, u, words in at.before:
         if u != at.v:
             continue
         match words.split():
             case ["pulse", _]:
                 pulse += 1
-            case ["take", _, "payload", of, *_] if int(of) == pulse + 1 >= at.pulse:
-                use = f"for the inbox of pulse {pulse + 2}"
-                found.append(f"`{with_port(at.rounds, at.v, words)}` came at pulse {pulse}, and is {use}")
+            case ["take", _, "payload", of, *_] if int(of) == pulse + 1 and (about_payload or pulse + 1 >= at.pulse):
+                payloads.append((pulse, words))
             case ["take", _, "safe", of] if int(of) == pulse + 1 >= at.pulse:
-                use = f"to be kept until pulse {pulse + 1} is made"
-                found.append(f"`{with_port(at.rounds, at.v, words)}` came at pulse {pulse}, and is {use}")
-    return found
+                safes.append((pulse, words))
+    return [*older(payloads[:-MOST_EARLY]),
+            *(f"{came(at, pulse, words)}; it is for the inbox of pulse {pulse + 2}"
+              for pulse, words in payloads[-MOST_EARLY:]),
+            *(f"{came(at, pulse, words)}; it is to be kept until pulse {pulse + 1} is made"
+              for pulse, words in safes[-MOST_EARLY:])]
+
+
+def came(at: At, pulse: int, words: str) -> str:
+    return f"`{with_port(at.rounds, at.v, words)}` came at pulse {pulse}"
+
+
+def older(payloads: list[tuple[int, str]]) -> list[str]:
+    """In one line, the early payloads that aren't shown one by one."""
+    if not payloads:
+        return []
+    pulses = sorted({pulse + 1 for pulse, _ in payloads})
+    of = listed("pulse", pulses) if len(pulses) <= MOST_PULSES else f"pulses {pulses[0]} to {pulses[-1]}"
+    return [f"{len(payloads)} more came a pulse early before these, of {of}"]
 
 
 def with_port(rounds: RightRounds, v: int, words: str, names_neighbour: bool = False) -> str:

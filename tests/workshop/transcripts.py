@@ -14,11 +14,12 @@ GREETED = f"1 1 put 2 {HELLO_1}|1 2 put 1 {HELLO_2}|2 1 take 2 {HELLO_2}|2 2 tak
 ACKED = GREETED + "3 1 put 2 ack 0|3 2 put 1 ack 0|4 1 take 2 ack 0|4 2 take 1 ack 0|"
 SAFE = "safe P is said once in each pulse P but the last, to each neighbour, once each payload that it sent in P is " \
        "acknowledged"
+NO_ACK = "it can't have said safe yet: it lacks the acknowledgement of pulse 0 from 2"
 PULSE = "a node makes its next pulse once it has said safe and has the safes of all its neighbours"
 # (the entries of edition 2, the line that is said)
 ROWS = (
     (f"1 1 put 2 {HELLO_1}|2 1 put 2 safe 0|",
-     f"line 3: NothingToPut: node 1 puts safe 0 for 2: list of 1 for 2; {SAFE}; it lacks ack 0 of 2"),
+     f"line 3: NothingToPut: node 1 puts safe 0 for 2: list of 1 for 2; {SAFE}; {NO_ACK}"),
     (GREETED + "3 2 put 1 ack 1|",
      "line 6: WrongWire: node 2 puts ack 1 for 1: expected ack 0; a payload is acknowledged with its own pulse as "
      "soon as it "
@@ -43,7 +44,7 @@ ROWS = (
     (ACKED + "5 1 put 2 safe 0|6 1 put 2 safe 1|",
      "line 11: NothingToPut: node 1 puts safe 1 for 2: list of 1 for 2; the node is at pulse 0, and safe P is said "
      "in pulse P"),
-    ("1 1 pulse 1|", f"line 2: NotReady: node 1 makes pulse 1: ack 0 of 2; safe 0 of 2; {PULSE}"),
+    ("1 1 pulse 1|", f"line 2: NotReady: node 1 makes pulse 1: ack 0 of 2; safe 0 of 2; {PULSE}; {NO_ACK}"),
     (f"1 1 take 2 {HELLO_2}|1 2 put 1 {HELLO_2}|",
      "line 2: LinkEmpty: node 1 takes payload 0 hello 2 from 2: link from 2 to 1; it is put in line 3, with stamp 1: "
      "a take has "
@@ -58,7 +59,9 @@ ROWS = (
     (f"1 1 put 2 {HELLO_1}|", "line 2: NotWhole: after the last entry node 1 is at pulse 0 of 18 (is the text cut?)"),
     # An entry before a line that is none comes first.
     ("1 1 pulse 1|1 1 put 2 payload 0 colour -2|", f"line 2: NotReady: node 1 makes pulse 1: ack 0 of 2; safe 0 of "
-                                                   f"2; {PULSE}"),
+                                                   f"2; {PULSE}; {NO_ACK}"),
+    # All is acknowledged, so nothing is said of acknowledgements.
+    (ACKED + "5 1 pulse 1|", f"line 10: NotReady: node 1 makes pulse 1: safe 0 of 2; {PULSE}"),
     (f"1 1 put 2 {HELLO_1}|1 1 put 2 payload 0 colour -2|", "line 3: X1: not an entry: `-2` is no number of a "
                                                             "colour, which is below 2^128"),
     ("x 1 pulse 1|", "line 2: X1: not an entry: `x` is no number of a stamp, which is below 2^64"),
@@ -91,13 +94,13 @@ class Transcripts(unittest.TestCase):
     def test_of_edition_1(self):
         for entries, line in (
             (f"1 put 2 {HELLO_1}|1 put 2 safe 0|",
-             f"line 3: NothingToPut: node 1 puts safe 0 for 2, for which it has nothing; {SAFE}; it lacks ack 0 of 2"),
+             f"line 3: NothingToPut: node 1 puts safe 0 for 2, for which it has nothing; {SAFE}; {NO_ACK}"),
             (f"1 put 2 {HELLO_1}|1 take 2 {HELLO_2}|2 put 1 {HELLO_2}|2 take 1 {HELLO_1}|",
              "line 3: NotWhole: after the last entry nothing is on its way, and not all is done: node 1 at pulse 0 "
              "doesn't put "
              "2 ack 0; node 2 at pulse 0 doesn't put 1 ack 0"),
             (f"1 put 2 {HELLO_1}|1 pulse 2|1 put 2 odd|",
-             f"line 3: NotReady: node 1 makes pulse 2, but it hasn't taken ack 0 from 2; {PULSE}"),
+             f"line 3: NotReady: node 1 makes pulse 2, but it hasn't taken ack 0 from 2; {PULSE}; {NO_ACK}"),
             (f"1 put 2 {HELLO_1}|1 take 2 {HELLO_2}|2 put 1 odd|", "line 4: X1: not an entry: `odd` is no wire, "
                                                                    "which are payload, ack, "
                                                                    "safe, close"),

@@ -2,8 +2,11 @@
 import unittest
 
 from lab.networks.network_text import Network
+from lab.transcripts.rules import rule_of
+from lab.workshop.judge import Entry
 from lab.workshop.last_errors import last_errors
 from lab.workshop.right_rounds import RightRounds
+from lab.workshop.why_alpha import At, early
 from lab.workshop.why_rounds import Why
 from tests.workshop.base import network
 
@@ -70,6 +73,78 @@ class Words(unittest.TestCase):
             with self.subTest(node=v, pulse=p):
                 self.assertEqual(Why(rounds, v).of_choice(p), turn.format(p, colour, own, rest))
         self.assertEqual(rounds.channels, {1: 1, 2: 2})
+
+
+# What comes to node 1 of the row: its port 0 is to node 2, and port 1 to node 3. A pulse by pulse, in words.
+EARLY_LABEL = "take 2 payload 1 label 0"
+EARLY_LABEL_WORDS = "`take 0 payload 1 label 0` came at pulse 0; it is for the inbox of pulse 2"
+
+
+def pulses(first, last):
+    """Pulses with the safes that come between them, so many entries that none of before is among the last eight."""
+    return [words for p in range(first, last + 1)
+            for words in (f"take 2 safe {p - 1}", f"take 3 safe {p - 1}", f"pulse {p}", f"put 2 safe {p}")]
+
+
+class AlphaWords(unittest.TestCase):
+    @classmethod
+    def setUpClass(cls):
+        cls.rounds = RightRounds(ROW)
+
+    def at(self, *words, lacks=""):
+        entries = [Entry(k, 1, entry) for k, entry in enumerate(words)]
+        pulse = sum(entry.startswith("pulse") for entry in words)
+        return At(pulse, self.rounds.last, False, lacks, {}, "by port {}", self.rounds, entries, 1)
+
+    def test_what_came_early_is_shown_however_long_ago(self):
+        long_ago = self.at(EARLY_LABEL, *pulses(1, 20))
+        self.assertEqual(early(long_ago, True), [EARLY_LABEL_WORDS])
+        self.assertEqual(early(long_ago, False), [])
+        self.assertEqual(early(self.at(EARLY_LABEL), False), [EARLY_LABEL_WORDS])
+        # What came in time isn't early.
+        self.assertEqual(early(self.at("pulse 1", EARLY_LABEL), True), [])
+
+    def test_of_many_the_last_three_and_how_many_more(self):
+        words = [EARLY_LABEL, *pulses(1, 4), "take 3 payload 5 colour 1", *pulses(5, 6), "take 3 payload 7 colour 0",
+                 *pulses(7, 8), "take 3 payload 9 colour 0", *pulses(9, 9), "take 3 payload 10 colour 0"]
+        self.assertEqual(early(self.at(*words), True), [
+            "2 more came a pulse early before these, of pulses 1 and 5",
+            "`take 1 payload 7 colour 0` came at pulse 6; it is for the inbox of pulse 8",
+            "`take 1 payload 9 colour 0` came at pulse 8; it is for the inbox of pulse 10",
+            "`take 1 payload 10 colour 0` came at pulse 9; it is for the inbox of pulse 11"])
+
+    def test_a_safe_is_early_until_its_pulse_is_over(self):
+        came = ["take 3 safe 0", "take 3 safe 1", "pulse 1"]
+        words = "`take 1 safe 1` came at pulse 0; it is to be kept until pulse 1 is made"
+        self.assertEqual(early(self.at(*came), False), [words])
+        self.assertEqual(early(self.at(*came, "pulse 2"), False), [])
+
+    def test_whose_messages_an_inbox_has(self):
+        for v, p, words in (
+            (2, 1, "in pulse 0 node 2's neighbours sent it hello 7 by port 0: the inbox of its pulse 1"),
+            (1, 1, "in pulse 0 node 1's neighbours sent it hello 2 by port 0, hello 11 by port 1: the inbox of its "
+                   "pulse 1"),
+            (3, 2, "in pulse 1 node 3's neighbours sent it label 0 by port 0: the inbox of its pulse 2"),
+            (2, 2, "node 2's neighbours sent it nothing in pulse 1, so the inbox of its pulse 2 is empty"),
+        ):
+            with self.subTest(node=v, pulse=p):
+                self.assertEqual(self.rounds.heard_words(v, p), words)
+
+    def test_a_node_that_can_t_have_said_safe(self):
+        pulse = "a node makes its next pulse once it has said safe and has the safes of all its neighbours"
+        safe = "safe P is said once in each pulse P but the last, to each neighbour, once each payload that it sent " \
+               "in P is acknowledged"
+        one = "it can't have said safe yet: it lacks the acknowledgement of pulse 0 by port 1"
+        both = "it can't have said safe yet: it lacks the acknowledgements of pulse 0 by ports 0 and 1"
+        for lacks, words, right in (
+            ("ack 0 by port 1", "pulse 1", f"{pulse}; {one}"),
+            ("ack 0 by ports 0 and 1; safe 0 by port 1", "pulse 1", f"{pulse}; {both}; it lacks safe 0 by port 1"),
+            ("safe 0 by ports 0 and 1", "pulse 1", f"{pulse}; it lacks safe 0 by ports 0 and 1"),
+            ("ack 0 by port 1; safe 0 by port 1", "put 0 safe 0", f"{safe}; {one}"),
+            ("safe 0 by port 1", "put 0 safe 0", safe),
+        ):
+            with self.subTest(lacks=lacks, words=words):
+                self.assertEqual(rule_of(self.at(lacks=lacks), words), right)
 
 
 PYTHON = """\
