@@ -3,7 +3,7 @@ make is written down with Lamport's stamps, and `forestplay replay` judges it.""
 from typing import NamedTuple
 
 from lab.schedules.policies import Policy
-from lab.workshop.answers import is_number, no_such_line, port_of
+from lab.workshop.answers import is_number, no_such_line, port_of, shown
 from lab.workshop.findings import Fault
 from lab.workshop.first_message import own_data
 from lab.workshop.judge import Entry, verdict_on
@@ -76,6 +76,9 @@ class AlphaRun:
                 words = wire_of(line, wire)
                 self.write(v, f"put {w} {words}")
                 self.links.put(v, w, words, self.counters[v])
+            case ["colour" | "chose", *_]:
+                raise Fault("garbage", f"{shown(line)} is a line of rounds alone; the lines of alpha are {FORMS} and "
+                                       "`end`")
             case _:
                 raise no_such_line(line, FORMS)
 

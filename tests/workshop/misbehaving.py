@@ -107,6 +107,22 @@ class Misbehaving(unittest.TestCase):
         self.assertEqual((found.kind, found.node), ("WrongWire", 2))
         self.assertLess(time.monotonic() - start, 30)
 
+    def test_a_line_of_rounds_is_garbage_without_a_clock(self):
+        """But a wrong step before it, in the same answer, comes first."""
+        code = ("import sys\nsys.path[:0] = [%r]\nimport talk\nfrom alpha_node import AlphaNode\n"
+                "class Node(AlphaNode):\n    def enter(self, out):\n        super().enter(out)\n"
+                "        if self.pulse == 2: self.answer += %r\ntalk.serve(Node)\n")
+        for more, kind, words in (
+            (["colour 0 3"], "garbage", "`colour 0 3` is a line of rounds alone; the lines of alpha are `put PORT"),
+            (["chose 1"], "garbage", "`chose 1` is a line of rounds alone"),
+            (["put 0 close", "colour 0 3"], "NothingToPut", "put 0 close"),
+        ):
+            with self.subTest(more):
+                program = code % (os.path.join(TOP, "examples", "workshop", "python"), more)
+                found = played("alpha", "two", [sys.executable, "-S", "-c", program, MARK]).finding
+                self.assertEqual((found.kind, found.pulse), (kind, 2))
+                self.assertIn(words, dict(found.lines)["wrong"])
+
     def test_ending_the_workshop_ends_the_programs(self):
         rows = (("loops", signal.SIGTERM, 143), ("child", signal.SIGINT, 130), ("hangs", signal.SIGHUP, 129))
         for how, number, status in rows:
