@@ -8,7 +8,7 @@ import tempfile
 import unittest
 
 from tests import TOP
-from tests.workshop.base import ALPHA, EXAMPLES, GREEDY, ROUNDS, call
+from tests.workshop.base import ALPHA, GREEDY, ROUNDS, call
 from tests.workshop.mistakes import MISTAKES
 
 WAITS = [sys.executable, "-S", "-c", "import time; time.sleep(100)"]
@@ -128,23 +128,6 @@ class Command(unittest.TestCase):
             self.assertEqual(did, [words for u, words in rows if u == str(v)])
             seen += len(did)
         self.assertEqual(seen, len(rows))
-
-    def test_the_skeletons_talk(self):
-        """They greet in pulse 0, so what is wrong is what comes after it."""
-        c, java = self.path("node"), self.path("java")
-        source = os.path.join(EXAMPLES, "skeletons", "rounds_node.c")
-        subprocess.run(["cc", "-Wall", "-Werror", "-o", c, source], check=True)
-        rows = [("rounds", [sys.executable, os.path.join(EXAMPLES, "skeletons", "rounds_node.py")], "node 1, pulse 1 "
-                                                                                                    "(orient)"),
-                ("rounds", [c], "node 1, pulse 1 (orient)"),
-                ("alpha", [sys.executable, os.path.join(EXAMPLES, "skeletons", "alpha_node.py")], "doesn't put 0 ack "
-                                                                                                  "0")]
-        if subprocess.run(["which", "javac"], capture_output=True).returncode == 0:
-            subprocess.run(["javac", "-d", java, os.path.join(EXAMPLES, "skeletons", "AlphaNode.java")], check=True)
-            rows.append(("alpha", ["java", "-Xmx64m", "-cp", java, "AlphaNode"], "doesn't put 0 ack 0"))
-        for kind, command, words in rows:
-            with self.subTest(command[-1]):
-                self.assertIn(words, call(kind, "two", "--", *command).stdout)
 
     def test_the_league_counts(self):
         done = call("open", "path5", "--", *GREEDY)

@@ -2,7 +2,6 @@
 words mean."""
 import sys
 
-# What a node is told; lines of a later edition are passed over.
 KNOWN = ("identifier", "degree", "nodes", "delta", "bars", "forests", "last", "barred")
 
 
@@ -21,21 +20,27 @@ class Node:
         return []           # yours
 
 
+def own_data(lines):
+    """What a node is told, by name; lines of a later edition are passed over."""
+    told = {name: [int(value) for value in values] for name, *values in lines if name in KNOWN}
+    return {name: values[0] for name, values in told.items()} | {"barred": told["barred"][1:]}
+
+
 def main():
-    node, message = None, []
+    nodes, message = {}, []
     for line in sys.stdin:
         words = line.split()
         if words != ["end"]:
             message.append(words)
             continue
+        # With --one-process a message begins with `to K`, and K says which node is meant.
+        which = message.pop(0)[1] if message[0][0] == "to" else "only"
         if message[0][0] == "workshop":
-            told = {name: [int(value) for value in values] for name, *values in message[1:] if name in KNOWN}
-            own = {name: values[0] for name, values in told.items()} | {"barred": told["barred"][1:]}
-            node = Node(own)
-            answer = node.start()
+            nodes[which] = Node(own_data(message[1:]))
+            answer = nodes[which].start()
         else:
             _, port, *wire = message[0]
-            answer = node.take(int(port), wire)
+            answer = nodes[which].take(int(port), wire)
         print("\n".join([*answer, "end"]), flush=True)
         message = []
 
