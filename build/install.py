@@ -9,7 +9,7 @@ import tempfile
 
 from build import kit, manuals, readme, sums
 from lab import version
-from lab.workshop.class_files import class_files, stubs
+from lab.workshop.class_files import class_files, page_for_a_class, stubs
 
 TOP = os.path.dirname(os.path.dirname(os.path.realpath(__file__)))
 
@@ -117,11 +117,22 @@ def make(room, is_class=False):
     for path in sorted(os.listdir(os.path.join(room, "bin"))):
         page = os.path.join(room, "share", "man", "man1", f"{path}.1")
         write(page, manuals.page_of(path, os.path.join(room, "bin", path)))
-    for path, text in stubs().items() if is_class else ():
-        write(os.path.join(room, path), text)
-        os.chmod(os.path.join(room, path), 0o755)
+    if is_class:
+        finish_class(room)
     write(os.path.join(room, "VERSION"), version_text())
     write(os.path.join(room, sums.NAME), sums.text_of(room))
+
+
+def finish_class(room):
+    """Takes the links to pages that a class doesn't get from its pages, and adds what is said of commands."""
+    paths = set(class_files(TOP)) | set(stubs())
+    for path in filter(lambda path: path.endswith(".md"), paths):
+        with open(os.path.join(room, path), encoding="utf-8") as file:
+            text = file.read()
+        write(os.path.join(room, path), page_for_a_class(text, path, paths))
+    for path, text in stubs().items():
+        write(os.path.join(room, path), text)
+        os.chmod(os.path.join(room, path), 0o755)
 
 
 def put(room, folder):

@@ -1,6 +1,7 @@
 """What `bin/install --class DIR` copies: what students may see. The slow definitions, and all that is written with
 them, are solutions of the assignment; so are the right nodes."""
 import os
+import re
 from typing import Iterator
 
 # Files and whole folders, each at the path that it has here; a folder stands for all files below it.
@@ -22,7 +23,8 @@ WITHOUT = ("picture", "explore", "check-transcript", "replay", "simulate", "shee
 STUB = """\
 #!/usr/bin/env bash
 # {name} is written with definitions that solve the assignment, so it isn't in the folder of a class.
-echo "{name}: this is the folder of a class, which has no {name}; your teacher's folder has it, and docs/pictures the lessons' pictures" >&2
+echo "{name}: this is the folder of a class, which has no {name}; your teacher's folder has it, and docs/pictures the \\
+lessons' pictures" >&2
 exit 2
 """
 
@@ -42,3 +44,16 @@ def class_files(top: str) -> Iterator[str]:
 def stubs() -> dict[str, str]:
     """{path: text} of the commands that are left out."""
     return {f"bin/{name}": STUB.format(name=name) for name in WITHOUT}
+
+
+LINK = re.compile(r"(?<!!)\[([^]]+)\]\(([^)#\s]+)(?:#[^)\s]*)?\)")
+
+
+def page_for_a_class(text: str, path: str, paths: set[str]) -> str:
+    """A page without its links to what isn't copied; their words stay."""
+    def kept(link):
+        words, target = link.groups()
+        found = os.path.normpath(os.path.join(os.path.dirname(path), target))
+        is_there = ":" in target or found in paths or any(other.startswith(found + "/") for other in paths)
+        return link[0] if is_there else words
+    return LINK.sub(kept, text)

@@ -76,6 +76,36 @@ class Pages(unittest.TestCase):
 
 
 class ClassFolder(unittest.TestCase):
+    def test_no_link_of_a_page_leads_to_what_isn_t_there(self):
+        """Those that it has in the repository, to pages of the teacher, are words in the folder of a class."""
+        with tempfile.TemporaryDirectory() as folder:
+            install(folder, is_class=True)
+            count = 0
+            for at, _, names in os.walk(folder):
+                for name in names:
+                    if not name.endswith((".md", ".html")):
+                        continue
+                    with open(os.path.join(at, name), encoding="utf-8") as text:
+                        links = re.findall(r"\]\(([^)#\s]+)|(?:href|src)=\"([^\"#]+)", text.read())
+                    for target in filter(lambda target: ":" not in target, map("".join, links)):
+                        count += 1
+                        with self.subTest(page=name, target=target):
+                            self.assertTrue(os.path.exists(os.path.join(at, target)))
+            self.assertGreater(count, 30)
+            with open(os.path.join(folder, "docs", "learn", "WORKSHOP.md"), encoding="utf-8") as text:
+                words = text.read()
+            self.assertIn("(PROMISES)", words)
+            self.assertIn("[PROTOCOL](PROTOCOL.md)", words)
+
+    def test_links_to_what_is_copied_stay(self):
+        """Beside it, above it, to a folder, elsewhere, a picture, and to a part of the page itself."""
+        paths = {"docs/learn/A.md", "docs/learn/B.md", "docs/pictures/c.svg"}
+        for text, right in (("[B](B.md#part)", "[B](B.md#part)"), ("[the c](../pictures/c.svg)",) * 2,
+                            ("[all](../pictures)",) * 2, ("[x](https://x.org/a)",) * 2, ("[part](#part)",) * 2,
+                            ("![C](../pictures/d.svg)",) * 2, ("see [D](../claim/D.md#part).", "see D.")):
+            with self.subTest(text):
+                self.assertEqual(class_files.page_for_a_class(text, "docs/learn/A.md", paths), right)
+
     def test_it_has_no_solution_and_works(self):
         with tempfile.TemporaryDirectory() as folder:
             install(folder, is_class=True)
