@@ -1,10 +1,14 @@
-"""The points of a submission, of what `bin/workshop .. --json` printed for rounds, alpha and open:
+"""Adds up the points of a submission, from what the workshop prints for each of the three assignments:
 
-    bin/workshop rounds --runs 100 --seed S --json -- ./node > rounds.json     and so on; then
+    bin/workshop rounds --runs 100 --seed S --json -- ./rounds_node > rounds.json
+    bin/workshop alpha --runs 120 --seed S --json -- ./alpha_node > alpha.json
+    bin/workshop open --runs 50 --seed S --json -- ./own_node > open.json
     python3 examples/workshop/points.py rounds.json alpha.json open.json
 
-40 for rounds, by the share of runs that are right; 40 for alpha, 4 for each policy of which all runs are right; 10
-for open, if all plans are right. Another scale is a change of these lines."""
+rounds has 40 points times the share of the runs that are right, rounded down. alpha has 4 points for each policy of
+which all runs are right; 120 runs play each of the ten policies on each of the twelve networks, so that is 40 at most.
+open has 10 points if all plans are right, and none otherwise. So all three have 90 at most; the 10 points of the
+exercises are added by hand. For another scale change these lines."""
 import json
 import sys
 
@@ -19,12 +23,17 @@ def points(result):
     return 10 * all(right)
 
 
-total = 0
-for name in sys.argv[1:]:
-    with open(name, encoding="utf-8") as text:
-        result = json.load(text)
-    total += points(result)
-    silent = sum(case["verdict"] == "silent" for case in result["cases"])
-    again = f"; {silent} were silent: run it again" if silent else ""
-    print(f"{result['assignment']}: {points(result)} points, {result['right']} of {result['runs']} runs right{again}")
-print(f"in all: {total}")
+def main(names):
+    total = 0
+    for name in names:
+        with open(name, encoding="utf-8") as text:
+            result = json.load(text)
+        total += points(result)
+        silent = sum(case["verdict"] == "silent" for case in result["cases"])
+        again = f"; {silent} were silent: run it again" if silent else ""
+        print(f"{result['assignment']}: {points(result)} points, {result['right']} of {result['runs']} runs right{again}")
+    print(f"in all: {total}")
+
+
+if __name__ == "__main__":
+    main(sys.argv[1:])

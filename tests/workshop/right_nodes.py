@@ -3,7 +3,8 @@ gives the same run."""
 import unittest
 
 from lab.schedules.policies import POLICIES
-from tests.workshop.base import ALPHA, GREEDY, ROUNDS, in_c, in_java, played
+from lab.workshop.right_rounds import RightRounds
+from tests.workshop.base import ALPHA, GREEDY, ROUNDS, in_c, in_java, network, played
 
 
 class RightNodes(unittest.TestCase):
@@ -59,3 +60,14 @@ class RightNodes(unittest.TestCase):
                 case = played("open", name, GREEDY)
                 self.good(case)
                 self.assertEqual(case.league, league)
+
+    def test_from_how_many_nodes_on_the_lessons_are_faster(self):
+        """The teacher's answer to exercise 5: from 21 on a row and from 30 on a ring, each with one node less not yet.
+        A node more makes the greedy run a pulse longer, and the last pulse of the rounds stays."""
+        for kind, first, last in (("path", 21, 21), ("ring", 30, 30)):
+            for nodes, pulses in ((first - 1, last), (first, last + 1)):
+                with self.subTest(kind=kind, nodes=nodes):
+                    case = played("open", f"{kind}{nodes}", GREEDY, is_shared=True)
+                    self.good(case)
+                    self.assertEqual(case.league.pulses, pulses)
+                    self.assertEqual(RightRounds(network(f"{kind}{nodes}")).last, last)
