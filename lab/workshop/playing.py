@@ -14,6 +14,7 @@ from lab.workshop.right_rounds import RightRounds
 from lab.workshop.rounds_run import RoundsRun
 
 MOST_SHRINKS = 60
+APART = "with --one-process each message begins with a line `to K`; does the program keep its nodes apart by it?"
 
 
 class Player:
@@ -35,6 +36,8 @@ class Player:
             case.finding = {"rounds": self.rounds, "alpha": self.alpha, "open": self.open}[self.assignment](case)
         except Fault as fault:              # a command can't be started
             raise NoVerdict(fault.words) from None
+        if case.finding and self.is_shared and case.finding.pulse <= 1:
+            case.finding.lines.append(("note", APART))
         return case.finding is None
 
     def rounds(self, case: Case) -> Finding | None:

@@ -6,6 +6,7 @@ import sys
 import tempfile
 import unittest
 
+from lab.workshop.playing import APART
 from tests.workshop.base import EXAMPLES, call
 
 FOLDER = os.path.join(EXAMPLES, "skeletons")
@@ -51,7 +52,7 @@ class Skeletons(unittest.TestCase):
                 several, one = (call(kind, "path3", *more, "--", *command).stdout.splitlines()[1:]
                                 for more in ([], ["--one-process"]))
                 self.assertIn(words, "\n".join(several))
-                self.assertEqual(several, one)
+                self.assertEqual([*several, f"note   {APART}"], one)
 
     def test_they_keep_the_nodes_of_one_process_apart(self):
         pulse, wire = "pulse 1\nend\n", "take 0 safe 0\nend\n"
