@@ -50,6 +50,21 @@ class Standing:
         return f"in pulse {self.pulse} it has to send {payloads} first"
 
 
+PULSE = "a node makes its next pulse once it has said safe and has the safes of all its neighbours"
+SAFE = "safe P is said once in each pulse P but the last, to each neighbour, once each payload that it sent in P is " \
+       "acknowledged"
+# Of a wire that is due: when it is put.
+DUE = {"ack": "a payload is acknowledged with its own pulse as soon as it is taken",
+       "safe": "safe P is said as soon as all payloads of P are acknowledged, and at once if none was sent",
+       "close": "close is put on each link as the node makes its last pulse"}
+
+
+def rules_of_dues(at: Standing) -> str:
+    """Why it has to do what it can do."""
+    rules = [DUE.get(wire.split(" ")[0]) or at.why_payload(link) for link, wire in at.puts.items()]
+    return "; ".join(dict.fromkeys([*rules, *[PULSE] * at.can_pulse]))
+
+
 def rule_of(at: Standing, words: str, says_lacks: bool = True) -> str:
     """The rule that an entry breaks: `pulse P`, or `put LINK WIRE`; and what a pulse lacks, if that wasn't said yet."""
     what, first, *wire = words.split()
@@ -59,19 +74,17 @@ def rule_of(at: Standing, words: str, says_lacks: bool = True) -> str:
         return f"pulses are made one by one, and its next is {at.pulse + 1}"
     if at.pulse == at.last:
         return f"pulse {at.last} is the last"
-    rule = "a node makes its next pulse once it has said safe and has the safes of all its neighbours"
     if not at.lacks:
-        return f"{rule}; it has too many wires that it hasn't put yet"
+        return f"{PULSE}; it has too many wires that it hasn't put yet"
     lacked = f"it lacks {at.lacked_safes()}" if says_lacks and at.lacked_safes() else ""
-    return "; ".join(filter(None, [rule, at.why_not_safe(), lacked]))
+    return "; ".join(filter(None, [PULSE, at.why_not_safe(), lacked]))
 
 
 def rule_of_put(at: Standing, link: int, wire: list[str]) -> str:
     """Of a wire that isn't the one that is due on its link."""
     kind, right = wire[0], at.puts.get(link, "")
     if right.startswith("ack"):
-        return "a payload is acknowledged with its own pulse as soon as it is taken, before anything else is put " \
-               "on that link"
+        return f"{DUE['ack']}, before anything else is put on that link"
     if kind == "payload":
         return rule_of_payload(at, link, int(wire[1]))
     if right.startswith("payload"):
@@ -80,13 +93,12 @@ def rule_of_put(at: Standing, link: int, wire: list[str]) -> str:
         return rule_of_safe(right)
     if kind == "ack":
         return "each payload is acknowledged once, with the payload's own pulse"
-    return rule_of_end(at, wire, right)
+    return rule_of_end(at, link, wire, right)
 
 
 def rule_of_safe(right: str) -> str:
     """Of a wire before a safe that is due on its link."""
-    return f"this link has to get {right} before: safe P is said as soon as all payloads of P are acknowledged, " \
-           "and at once if none was sent"
+    return f"this link has to get {right} before: {DUE['safe']}"
 
 
 def rule_of_payload(at: Standing, link: int, pulse: int) -> str:
@@ -96,7 +108,7 @@ def rule_of_payload(at: Standing, link: int, pulse: int) -> str:
     return at.why_payload(link)
 
 
-def rule_of_end(at: Standing, wire: list[str], right: str) -> str:
+def rule_of_end(at: Standing, link: int, wire: list[str], right: str) -> str:
     """Of a safe or a close."""
     if wire[0] == "close" and at.pulse != at.last:
         return f"close is the last wire of a link, put as the node makes its last pulse, {at.last}; " \
@@ -110,9 +122,10 @@ def rule_of_end(at: Standing, wire: list[str], right: str) -> str:
         return rule_of_safe(right)
     if wire[0] == "close":
         return "close is put once on each link"
-    rule = "safe P is said once in each pulse P but the last, to each neighbour, once each payload that it sent in " \
-           "P is acknowledged"
-    return "; ".join(filter(None, [rule, at.why_not_safe()]))
+    if at.pulse == at.last:
+        return f"{SAFE}; its pulse, {at.pulse}, is the last"
+    said = at.named(" ".join(wire), link)
+    return f"{SAFE}; {at.why_not_safe() or f'it has put {said} already'}"
 
 
 def stuck_words(owing: list[tuple[int, Standing]]) -> str:

@@ -1,6 +1,6 @@
 """The verdict on a run without a clock, in words: the first wrong entry, a program that gave no answer, or a run
 that is stuck."""
-from lab.transcripts.rules import rule_of
+from lab.transcripts.rules import rule_of, rules_of_dues
 from lab.workshop.alpha_run import AlphaRun
 from lab.workshop.findings import Finding
 from lab.workshop.judge import Entry, Verdict, verdict_on
@@ -57,7 +57,8 @@ def stuck(run: AlphaRun, entries: list[Entry], verdict: Verdict) -> Finding:
     where = f"nothing is on its way after {len(entries)} of {run.rounds.events} entries, and not all is done"
     more = " | .." if len(waiting) > MOST_WAITING else ""
     waits = [("waits", " | ".join(waiting[:MOST_WAITING]) + more)] if waiting else []
-    lines = [("where", where), first, *hints(owing[0], owing[0].has_payload_due()), *others[:MOST_STUCK - 1], *waits]
+    lines = [("where", where), first, ("why", rules_of_dues(owing[0])),
+             *hints(owing[0], owing[0].has_payload_due()), *others[:MOST_STUCK - 1], *waits]
     return Finding("stuck", owing[0].v, owing[0].pulse, [*lines, ("judge", verdict.line)])
 
 

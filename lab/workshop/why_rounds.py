@@ -113,7 +113,7 @@ class Why:
         inboxes = [self.rounds.heard[q][self.v].values() for q in range(start + 1, p + 1)]
         heard = {int(words.split()[1]) for inbox in inboxes for words in inbox}
         bars = [channel - 1 for channel in self.network.barred(self.v)]
-        barred = f"; {listed('colour', bars)} barred to it" if bars else ""
+        barred = f"; {listed('colour', bars)} {'is' if len(bars) == 1 else 'are'} barred at it" if bars else ""
         to = sorted(self.ports[w] for w in self.ports if self.forest_of(w) <= forest)
         told = "in the last pulse of a merge nothing is sent" if p == start + length - 1 else \
             f"its neighbours in {forests_to(forest)} get it, by {listed('port', to)}"

@@ -60,6 +60,8 @@ ROWS = (
     # An entry before a line that is none comes first.
     ("1 1 pulse 1|1 1 put 2 payload 0 colour -2|", f"line 2: NotReady: node 1 makes pulse 1: ack 0 of 2; safe 0 of "
                                                    f"2; {PULSE}; {NO_ACK}"),
+    (ACKED + "5 1 put 2 safe 0|6 1 put 2 safe 0|",
+     f"line 11: NothingToPut: node 1 puts safe 0 for 2: list of 1 for 2; {SAFE}; it has put safe 0 for 2 already"),
     # All is acknowledged, so nothing is said of acknowledgements.
     (ACKED + "5 1 pulse 1|", f"line 10: NotReady: node 1 makes pulse 1: safe 0 of 2; {PULSE}"),
     (f"1 1 put 2 {HELLO_1}|1 1 put 2 payload 0 colour -2|", "line 3: X1: not an entry: `-2` is no number of a "

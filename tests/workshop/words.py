@@ -2,7 +2,7 @@
 import unittest
 
 from lab.networks.network_text import Network
-from lab.transcripts.rules import rule_of
+from lab.transcripts.rules import rule_of, rules_of_dues
 from lab.workshop.judge import Entry
 from lab.workshop.last_errors import last_errors
 from lab.workshop.right_rounds import RightRounds
@@ -136,15 +136,35 @@ class AlphaWords(unittest.TestCase):
                "in P is acknowledged"
         one = "it can't have said safe yet: it lacks the acknowledgement of pulse 0 by port 1"
         both = "it can't have said safe yet: it lacks the acknowledgements of pulse 0 by ports 0 and 1"
+        said = f"{safe}; it has put safe 0 by port 0 already"
         for lacks, words, right in (
             ("ack 0 by port 1", "pulse 1", f"{pulse}; {one}"),
             ("ack 0 by ports 0 and 1; safe 0 by port 1", "pulse 1", f"{pulse}; {both}; it lacks safe 0 by port 1"),
             ("safe 0 by ports 0 and 1", "pulse 1", f"{pulse}; it lacks safe 0 by ports 0 and 1"),
             ("ack 0 by port 1; safe 0 by port 1", "put 0 safe 0", f"{safe}; {one}"),
-            ("safe 0 by port 1", "put 0 safe 0", safe),
+            ("safe 0 by port 1", "put 0 safe 0", said),
         ):
             with self.subTest(lacks=lacks, words=words):
                 self.assertEqual(rule_of(self.at(lacks=lacks), words), right)
+        last = self.at(*pulses(1, self.rounds.last))
+        self.assertEqual(rule_of(last, f"put 0 safe {last.last}"), f"{safe}; its pulse, {last.last}, is the last")
+
+    def test_why_a_node_has_to_do_what_it_doesn_t(self):
+        """By hand: in pulse 1 node 1 labels its parent, node 3; in pulse 0 it greets both neighbours."""
+        ack = "a payload is acknowledged with its own pulse as soon as it is taken"
+        safe = "safe P is said as soon as all payloads of P are acknowledged, and at once if none was sent"
+        label = "its parents are the neighbours above its own identifier, 7, by ascending identifier: 11 (port 1) in " \
+                "forest 0; each gets the label of its forest"
+        pulse = "a node makes its next pulse once it has said safe and has the safes of all its neighbours"
+        for puts, can_pulse, right in (
+            ({0: "ack 0", 1: "ack 0"}, False, ack), ({0: "safe 1", 1: "ack 0"}, False, f"{safe}; {ack}"),
+            ({1: "payload 1 label 0"}, False, label), ({}, True, pulse),
+            ({0: "close"}, False, "close is put on each link as the node makes its last pulse"),
+        ):
+            with self.subTest(puts=puts):
+                at = self.at("pulse 1")
+                at.puts, at.can_pulse = puts, can_pulse
+                self.assertEqual(rules_of_dues(at), right)
 
 
 PYTHON = """\
