@@ -9,7 +9,7 @@ import tempfile
 
 from build import kit, manuals, readme, sums
 from lab import version
-from lab.workshop.class_files import class_files, page_for_a_class, stubs
+from lab.workshop.class_files import README, class_files, page_for_a_class, stubs
 
 TOP = os.path.dirname(os.path.dirname(os.path.realpath(__file__)))
 
@@ -124,12 +124,14 @@ def make(room, is_class=False):
 
 
 def finish_class(room):
-    """Takes the links to pages that a class doesn't get from its pages, and adds what is said of commands."""
+    """Takes the links to pages that a class doesn't get from its pages, and adds a first page and the commands that
+    only say that they aren't there."""
     paths = set(class_files(TOP)) | set(stubs())
     for path in filter(lambda path: path.endswith(".md"), paths):
         with open(os.path.join(room, path), encoding="utf-8") as file:
             text = file.read()
         write(os.path.join(room, path), page_for_a_class(text, path, paths))
+    write(os.path.join(room, "README.md"), README)
     for path, text in stubs().items():
         write(os.path.join(room, path), text)
         os.chmod(os.path.join(room, path), 0o755)

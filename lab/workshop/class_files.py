@@ -6,7 +6,7 @@ from typing import Iterator
 
 # Files and whole folders, each at the path that it has here; a folder stands for all files below it.
 COPIED = (
-    "bin/network", "bin/channels", "bin/workshop",
+    "LICENSE-MIT", "LICENSE-APACHE", "bin/network", "bin/channels", "bin/workshop",
     "docs/learn/TUTORIAL.md", "docs/learn/GALLERY.md", "docs/learn/OWN_NETWORK.md", "docs/learn/PROTOCOL.md",
     "docs/learn/WORKSHOP.md", "docs/pictures",
     "examples", "lab/__init__.py", "lab/__main__.py", "lab/door.py", "lab/door.sh", "lab/programs.py",
@@ -26,6 +26,21 @@ STUB = """\
 echo "{name}: this is the folder of a class, which has no {name}; your teacher's folder has it, and docs/pictures the \\
 lessons' pictures" >&2
 exit 2
+"""
+
+
+README = """\
+# A class with forestplan
+
+Transmitters find channels by talking with their neighbours alone. Here you learn how, and write one yourself.
+
+- [TUTORIAL](docs/learn/TUTORIAL.md): the algorithm in six lessons, with commands to try; begin there.
+- [WORKSHOP](docs/learn/WORKSHOP.md): write the program of one node, in any language; [PROTOCOL](docs/learn/PROTOCOL.md)
+  is how it talks, and `examples/workshop/skeletons` has programs to begin with.
+- [OWN_NETWORK](docs/learn/OWN_NETWORK.md): channels for a network of your own.
+- [GALLERY](docs/learn/GALLERY.md): what goes wrong if a rule is left out.
+
+Type commands in this folder, as `bin/workshop rounds two -- python3 my_node.py`, or put its `bin` on the PATH.
 """
 
 

@@ -47,15 +47,17 @@ def puts_of(run: RoundsRun) -> list[str]:
 
 
 def repeat(case: Case, folder: str) -> list[str]:
-    """Commands that give the verdict again."""
-    folder = shlex.quote(folder)
+    """Commands that give the verdict again, for the folder in which the workshop was called. The folder of a class has
+    no check-transcript."""
+    folder, door = shlex.quote(folder), shlex.quote(os.path.relpath(os.path.join(TOP, "bin")))
+    has_check = os.path.exists(os.path.join(TOP, "lab", "transcripts", "check.py"))
     match case.run:
         case AlphaRun():
-            return [f"  cat {folder}/network.col {folder}/run.transcript | bin/forestplay replay",
-                    f"  bin/check-transcript {folder}/network.col {folder}/run.transcript"]
+            return [f"  cat {folder}/network.col {folder}/run.transcript | {door}/forestplay replay",
+                    *[f"  {door}/check-transcript {folder}/network.col {folder}/run.transcript"] * has_check]
         case OpenRun():
-            return [f"  cat {folder}/network.col {folder}/plan | bin/forestplan check"]
-    return [f"  bin/forestplay rounds < {folder}/network.col | grep ' put ' > {folder}/right.puts",
+            return [f"  cat {folder}/network.col {folder}/plan | {door}/forestplan check"]
+    return [f"  {door}/forestplay rounds < {folder}/network.col | grep ' put ' > {folder}/right.puts",
             f"  diff {folder}/said.puts {folder}/right.puts"]
 
 

@@ -7,7 +7,6 @@ import sys
 import tempfile
 import unittest
 
-from tests import TOP
 from tests.workshop.base import ALPHA, GREEDY, ROUNDS, call
 from tests.workshop.mistakes import MISTAKES
 
@@ -94,19 +93,20 @@ class Command(unittest.TestCase):
         self.assertEqual(one["cases"], [row for row in all_of["cases"] if row["case"] == 2])
 
     def test_anybody_can_repeat_the_verdict(self):
-        """The commands in verdict.txt are run as they stand."""
+        """The commands in verdict.txt are run as they stand, in the folder in which the workshop was called."""
         rows = (("alpha", self.wrong("safes_none", "alpha"), ["forestplay: NotReady line", "NotReady"]),
                 ("rounds", self.wrong("bit_root", "rounds"), ["", "payload 3 colour"]),
                 ("open", [sys.executable, "-S", "-c", ALL_ONE], ["forestplan: C4 vertices 1 2"]))
         for kind, command, expected in rows:
             with self.subTest(kind):
-                kept = self.path(f"kept of {kind}")
-                self.assertEqual(call(kind, "path3", "--keep", kept, "--", *command).returncode, 1)
-                with open(os.path.join(kept, "verdict.txt"), encoding="utf-8") as text:
+                kept, here = f"kept of {kind}", self.path("a folder")
+                os.makedirs(here, exist_ok=True)
+                self.assertEqual(call(kind, "path3", "--keep", kept, "--", *command, cwd=here).returncode, 1)
+                with open(os.path.join(here, kept, "verdict.txt"), encoding="utf-8") as text:
                     lines = text.read().partition("The same without the workshop:\n")[2].splitlines()
                 self.assertEqual(len(lines), len(expected))
                 for line, words in zip(lines, expected):
-                    done = subprocess.run(["bash", "-c", line], cwd=TOP, capture_output=True, text=True)
+                    done = subprocess.run(["bash", "-c", line], cwd=here, capture_output=True, text=True)
                     self.assertIn(words, done.stdout + done.stderr)
 
     def test_the_record_is_what_the_programs_read_and_wrote(self):

@@ -133,6 +133,7 @@ class ClassFolder(unittest.TestCase):
                         with self.subTest(page=name, target=target):
                             self.assertTrue(os.path.exists(os.path.join(at, target)))
             self.assertGreater(count, 30)
+            self.assertTrue(os.path.exists(os.path.join(folder, "README.md")))
             with open(os.path.join(folder, "docs", "learn", "WORKSHOP.md"), encoding="utf-8") as text:
                 words = text.read()
             self.assertIn("(PROMISES)", words)
