@@ -62,7 +62,7 @@ DUE = {"ack": "a payload is acknowledged with its own pulse as soon as it is tak
 def rules_of_dues(at: Standing) -> str:
     """Why it has to do what it can do."""
     rules = [DUE.get(wire.split(" ")[0]) or at.why_payload(link) for link, wire in at.puts.items()]
-    return "; ".join(dict.fromkeys([*rules, *[PULSE] * at.can_pulse]))
+    return "; ".join(dict.fromkeys([*rules, *[f"{PULSE}, and this node has"] * at.can_pulse]))
 
 
 def rule_of(at: Standing, words: str, says_lacks: bool = True) -> str:

@@ -4,7 +4,7 @@ from lab.transcripts.rules import rule_of, rules_of_dues
 from lab.workshop.alpha_run import AlphaRun
 from lab.workshop.findings import Finding
 from lab.workshop.judge import Entry, Verdict, verdict_on
-from lab.workshop.why_alpha import at_node, hints, right_words, with_port
+from lab.workshop.why_alpha import At, at_node, hints, right_words, with_port
 from lab.workshop.why_rounds import Why
 
 MOST_STUCK, MOST_WAITING = 4, 6
@@ -31,7 +31,7 @@ def wrong_entry(run: AlphaRun, entries: list[Entry], verdict: Verdict) -> Findin
     why = rule_of(at, with_port(run.rounds, v, words))
     lines = [("where", where), ("wrong", with_port(run.rounds, v, words, True)), ("right", right_words(at)),
              ("why", why), *hints(at, " payload " in words or at.has_payload_due()), ("judge", verdict.line)]
-    return Finding(verdict.name, v, at.pulse, lines, verdict.at)
+    return Finding(verdict.name, v, at.pulse, lines, verdict.at, way=kind_of(words))
 
 
 def no_answer(run: AlphaRun, entries: list[Entry]) -> Finding:
@@ -53,21 +53,26 @@ def stuck(run: AlphaRun, entries: list[Entry], verdict: Verdict) -> Finding:
             owing.append(at)
         elif at.pulse < at.last:
             waiting.append(f"node {v} for {at.lacks}")
-    first, *others = [("wrong", f"node {at.v} at pulse {at.pulse} doesn't {at.undone()}{though(at)}") for at in owing]
+    first, *others = [("wrong", f"node {at.v} at pulse {at.pulse} doesn't {at.undone()}") for at in owing]
     where = f"nothing is on its way after {len(entries)} of {run.rounds.events} entries, and not all is done"
     more = " | .." if len(waiting) > MOST_WAITING else ""
     waits = [("waits", " | ".join(waiting[:MOST_WAITING]) + more)] if waiting else []
-    lines = [("where", where), first, ("why", rules_of_dues(owing[0])),
+    lines = [("where", where), first, ("why", why_due(owing[0])),
              *hints(owing[0], owing[0].has_payload_due()), *others[:MOST_STUCK - 1], *waits]
-    return Finding("stuck", owing[0].v, owing[0].pulse, [*lines, ("judge", verdict.line)])
+    lines.append(("judge", verdict.line))
+    return Finding("stuck", owing[0].v, owing[0].pulse, lines, way=kind_of(owing[0].dues()[0]))
 
 
-def though(at) -> str:
-    if not at.can_pulse:
-        return ""
-    if not at.rounds.ports[at.v]:
-        return ": it has no neighbours, so it waits for nobody"
-    return ", though it has said safe and has the safes of all its neighbours"
+def kind_of(words: str) -> str:
+    """An entry's kind: `pulse`, or the wire's, and of a payload its word too."""
+    fields = words.split()
+    return fields[0] if fields[0] == "pulse" else " ".join(field for field in fields[2:5] if not field.isdecimal())
+
+
+def why_due(at: At) -> str:
+    if at.can_pulse and not at.rounds.ports[at.v]:
+        return "a node without neighbours waits for nobody, so it makes all its pulses at its start"
+    return rules_of_dues(at)
 
 
 def wrong_channel(run: AlphaRun) -> Finding | None:

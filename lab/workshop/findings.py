@@ -19,12 +19,17 @@ class Finding:
     """The first thing in a run that isn't right.
 
     `kind` is a word of docs/learn/PROTOCOL.md, "What is wrong"; `node` and `pulse` say whose it is and when,
-    `lines` explain it, each with a label. `entry` is the index of the wrong entry of a run without a clock."""
+    `lines` explain it, each with a label. `entry` is the index of the wrong entry of a run without a clock. `way` says
+    in a few words what is wrong, without numbers: two findings of one kind and way may have the same cause."""
     kind: str
     node: int
     pulse: int
     lines: list[tuple[str, str]] = field(default_factory=list)
     entry: int | None = None
+    way: str = ""
+
+    def is_like(self, other: "Finding") -> bool:
+        return (self.kind, self.way) == (other.kind, other.way)
 
     def text(self) -> list[str]:
         return [f"{label:6} {words}" for label, words in self.lines]

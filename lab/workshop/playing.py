@@ -77,7 +77,7 @@ class Player:
             for network in smaller(case.network):
                 left -= 1
                 other = Case(case.number, network, case.policy, case.seed)
-                if not self.play(other) and other.finding.kind == case.finding.kind:
+                if not self.play(other) and other.finding.is_like(case.finding):
                     found = other
                 if found or not left:
                     break

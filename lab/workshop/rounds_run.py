@@ -70,19 +70,27 @@ class RoundsRun:
                 raise answer
             said = self.said[p][v] = Said(answer, len(self.rounds.ports[v]))
         except Fault as fault:
-            return Finding(fault.kind, v, p, [where, self.came(p, v), ("wrong", fault.words)])
+            lines = [where, self.came(p, v), ("wrong", fault.words), ("right", self.right_puts(p, v))]
+            return Finding(fault.kind, v, p, lines, way=self.rounds.phase[p][0])
         found = self.difference(p, v, said)
         if found is None:
             return None
         wrong, right, why = found
         lines = [where, self.came(p, v), ("wrong", wrong), ("right", right), ("why", why(Why(self.rounds, v)))]
-        return Finding("differs", v, p, lines)
+        return Finding("differs", v, p, lines, way=f"{self.rounds.phase[p][0]} {kind_of(wrong, right)}")
 
     def came(self, p: int, v: int) -> tuple[str, str]:
         if p == 0:
             data = own_data(self.network, v, "rounds", self.rounds.forests, self.rounds.last)
             return "told", "; ".join(data[1:])
         return "came", self.rounds.inbox(v, p)
+
+    def right_puts(self, p: int, v: int) -> str:
+        """All that a node has to send in a pulse."""
+        puts = {self.rounds.ports[v][w]: words for w, words in self.rounds.puts[p].get(v, {}).items()}
+        said = [f"put {port} {words}" for port, words in sorted(puts.items())]
+        return "; ".join(said[:MOST_NAMED]) + "; .." * (len(said) > MOST_NAMED) if said else \
+            "nothing is sent in this pulse"
 
     def difference(self, p: int, v: int, said: Said) -> tuple[str, str, Callable[[Why], str]] | None:
         """(what it said, what is right, why), the last as a question."""
@@ -105,6 +113,12 @@ class RoundsRun:
             wrong = "no line `channel C`" if said.channel is None else f"channel {said.channel}"
             return wrong, f"channel {channel}", Why.of_channel
         return None
+
+
+def kind_of(wrong: str, right: str) -> str:
+    """What differs: `channel`, `chose`, or the word of a payload."""
+    fields = (right if right.startswith("put") else wrong).split()
+    return fields[2] if fields[0] == "put" else "channel" if "channel" in right else fields[0]
 
 
 def put_words(port: int, words: str | None) -> str:

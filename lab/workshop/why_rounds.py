@@ -106,8 +106,8 @@ class Why:
         length = 3 * self.network.channels
         start = 13 + length * forest
         pair = self.rounds.colours[12][self.v][forest], self.old_before(start)
-        turn = f"pulse {p} is the turn of the nodes with colour {colour} in forest {forest} and merged colour {old} " \
-               f"so far; this node has {pair[0]} and {pair[1]}"
+        turn = f"pulse {p} is the turn of the nodes that have colour {colour} in forest {forest} and had merged " \
+               f"colour {old} before this merge; this node has {pair[0]} and had {pair[1]}"
         if pair != (colour, old):
             return f"{turn}: it isn't its turn, and it sends nothing"
         inboxes = [self.rounds.heard[q][self.v].values() for q in range(start + 1, p + 1)]

@@ -87,6 +87,14 @@ class Command(unittest.TestCase):
         self.assertIn("smallest case that is wrong: stuck", done.stdout)
         self.assertRegex(done.stdout, r"\ncase   \d: \w+, oldest; 2 nodes, edges 1-2\n")
 
+    def test_the_smallest_case_is_wrong_in_the_same_way(self):
+        """This node is wrong in the shift of two nodes, and never says its channel, which shows on one node."""
+        self.wrong("no_shift", "rounds")
+        code = f"import sys\nsys.path[:0] = [{self.path('no_shift')!r}]\n" + NO_CHANNEL
+        done = call("rounds", "two", "path3", "--", sys.executable, "-S", "-c", code)
+        self.assertRegex(done.stdout, r"\ncase   0: two; 2 nodes, edges 1-2\nwhere  node 1, pulse 7 \(shift\)\n")
+        self.assertRegex(call("rounds", "path1", "--", sys.executable, "-S", "-c", code).stdout, "no line `channel C`")
+
     def test_a_case_by_its_number(self):
         all_of = json.loads(call("rounds", "random6", "--runs", "4", "--json", "--one-process", "--", *ROUNDS).stdout)
         one = json.loads(call("rounds", "random6", "--case", "2", "--json", "--one-process", "--", *ROUNDS).stdout)
@@ -138,6 +146,14 @@ class Command(unittest.TestCase):
         self.assertIn("after 5 pulses nodes 1 and 2 said no channel", done.stdout)
 
 
+NO_CHANNEL = """\
+import talk
+from rounds_node import RoundsNode
+class Node(RoundsNode):
+    def react(self, lines):
+        return [line for line in super().react(lines) if not line.startswith("channel")]
+talk.serve(Node)
+"""
 ALL_ONE = """\
 import sys
 for line in sys.stdin:

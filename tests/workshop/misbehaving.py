@@ -92,8 +92,10 @@ class Misbehaving(unittest.TestCase):
         with open(os.path.join(TOP, "tests", "workshop", "broken_node.py"), encoding="utf-8") as text:
             lines = text.read().splitlines()
         line = 1 + next(k for k, words in enumerate(lines) if "raise ValueError" in words)
-        words = dict(played("rounds", "two", command("crashes")).finding.lines)["wrong"]
-        self.assertIn(f'broken_node.py", line {line}, in crash | ', words)
+        found = dict(played("rounds", "two", command("crashes")).finding.lines)
+        self.assertIn(f'broken_node.py", line {line}, in crash | ', found["wrong"])
+        # The fifth message is pulse 4, in which node 1, the lower of the two, has no child to send to.
+        self.assertEqual((found["where"], found["right"]), ("node 1, pulse 4 (step)", "nothing is sent in this pulse"))
 
     def test_a_late_answer_to_a_wrong_step_isn_t_waited_for(self):
         """Node 2 hangs in pulse 1, but before that it acknowledges nothing: that is what it is told."""

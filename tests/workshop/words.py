@@ -61,8 +61,8 @@ class Words(unittest.TestCase):
         """By hand: their three-colours are 0 and 1, both have the merged colour 0, and there are 2 colours. So node
         1 chooses in the first pulse, and node 2, which hears of it, in the third."""
         rounds = RightRounds(network("two"))
-        turn = "pulse {} is the turn of the nodes with colour {} in forest 0 and merged colour 0 so far; " \
-               "this node has {} and 0: {}"
+        turn = "pulse {} is the turn of the nodes that have colour {} in forest 0 and had merged colour 0 before " \
+               "this merge; this node has {} and had 0: {}"
         for v, p, colour, own, rest in (
             (1, 13, 0, 0, "it is its turn. In this merge neighbours told it of no colour; the least that is left is 0; "
                           "its neighbours in forest 0 get it, by port 0"),
@@ -158,7 +158,7 @@ class AlphaWords(unittest.TestCase):
         pulse = "a node makes its next pulse once it has said safe and has the safes of all its neighbours"
         for puts, can_pulse, right in (
             ({0: "ack 0", 1: "ack 0"}, False, ack), ({0: "safe 1", 1: "ack 0"}, False, f"{safe}; {ack}"),
-            ({1: "payload 1 label 0"}, False, label), ({}, True, pulse),
+            ({1: "payload 1 label 0"}, False, label), ({}, True, f"{pulse}, and this node has"),
             ({0: "close"}, False, "close is put on each link as the node makes its last pulse"),
         ):
             with self.subTest(puts=puts):
