@@ -83,7 +83,8 @@ def varied(network: Network, chance: Chance) -> Network:
 
 def cases_of(networks: list[str], policies: list[str], runs: int, seed: str, only: int | None = None) -> list[Case]:
     """All runs, or number `only` of them. Each network has its own identifiers in the first run, and varied ones
-    later; smaller networks come first."""
+    later. The policies change from network to network, and for each network from run to run: so a hundred runs play
+    all ten, and ten for each network play each on it once. Smaller networks come first."""
     for policy in policies:
         if policy not in POLICIES and policy != "":
             raise Wrong(f"there is no policy {policy}, which are {', '.join(POLICIES)}")
@@ -94,7 +95,7 @@ def cases_of(networks: list[str], policies: list[str], runs: int, seed: str, onl
         network = network_of(networks[at], chance)
         if number >= len(networks):
             network = varied(network, chance)
-        cases.append(Case(number, network, policies[number // len(networks) % len(policies)], own_seed))
+        cases.append(Case(number, network, policies[(number // len(networks) + at) % len(policies)], own_seed))
     return sorted(cases, key=lambda case: (case.network.nodes, len(case.network.edges), case.number))
 
 
