@@ -63,7 +63,7 @@ class Pages(unittest.TestCase):
             (workshop, limits.OPEN_FILES, r"It may open ([\d,]+) files"),
             (protocol, answers.MOST_LETTERS, r"up to ([\d,]+) letters a line"),
             (protocol, last_errors.LAST_LINES, r"shows the last (\w+) lines"),
-            (teaching, len(MISTAKES.MISTAKES), r"writes ([\d,]+) wrong nodes"),
+            (teaching, len(MISTAKES.MISTAKES), r"writes ([\d,]+)\s+wrong nodes"),
             (teaching, len(MISTAKES.MISTAKES) - 3, r"([\d,]+) of them show; three change nothing"),
             (workshop, len(cases.NETWORKS.split(",")), r"plays (\w+) networks under"),
             (workshop, len(POLICIES), r"networks under (\w+) policies"),
