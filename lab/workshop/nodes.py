@@ -11,7 +11,7 @@ Answer = list[str] | Fault
 
 
 class Nodes:
-    """A program for each vertex; the commands are dealt in turn. Used in `with`, so that all are stopped, whatever
+    """A program for each vertex; the vertices get the commands in turn. Used in `with`, so that all are stopped, whatever
     happens."""
 
     def __init__(self, vertices, commands: list[list[str]], limits: Limits, is_shared: bool = False):

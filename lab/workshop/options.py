@@ -14,18 +14,19 @@ judge say whether what they do is right.
   `open`    an algorithm of one's own, with a clock: `forestplan check` judges the
             plan, and pulses, payloads and channels are counted
 
-COMMAND is started once for each node. It reads what its node is told on standard
-input and answers on standard output; docs/learn/PROTOCOL.md is the page for
-students. Several commands are dealt to the nodes in turn.
+COMMAND is started once for each node. It reads the messages to its node on standard
+input and writes its answers on standard output; docs/learn/PROTOCOL.md is the page
+for students. If there are several commands, the nodes get them in turn.
 
 NETWORK is a file, the name of an example, or a kind with its number of nodes: pathN,
 ringN, starN, completeN or randomN. Without one there are 100 runs on twelve
-small networks, with varied identifiers and bars, under the ten policies.
+small networks, with varied identifiers and bars, under the ten policies. Ten runs
+for each network play it once under each policy.
 """
 
 MORE_HELP = """\
-Nothing here decides what is right: that is what the proved programs say. The same
-seed gives the same run, whatever the language of the nodes and however fast they are.
+The workshop decides nothing by itself: the proved programs do. The same seed gives
+the same run, whatever the language of the nodes and however fast they are.
 
 Status: 0 all runs are right, 1 one isn't, 2 the command line is refused, or a
 network, 3 there is no verdict (the judge or a command can't be run).
