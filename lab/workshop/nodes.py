@@ -11,8 +11,8 @@ Answer = list[str] | Fault
 
 
 class Nodes:
-    """A program for each vertex; the vertices get the commands in turn. Used in `with`, so that all are stopped, whatever
-    happens."""
+    """A program for each vertex; the vertices get the commands in turn. Used in `with`, so that all are stopped,
+    whatever happens."""
 
     def __init__(self, vertices, commands: list[list[str]], limits: Limits, is_shared: bool = False):
         self.vertices, self.commands, self.limits, self.is_shared = list(vertices), commands, limits, is_shared

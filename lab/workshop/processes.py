@@ -17,7 +17,10 @@ from lab.workshop.limits import Limits, limit
 
 SOON = 0.3                  # seconds after which an answer is late, and it is looked whether it still matters
 LOOK = 0.004                # seconds between two looks whether a program has ended
-NO_FILES = "; three files are open for each program: raise `ulimit -n`, or use --one-process"
+# Why a program can't be started, in words that help.
+HINTS = {errno.EMFILE: "; three files are open for each program: raise `ulimit -n`, or use --one-process",
+         errno.EACCES: "; `chmod +x FILE` lets a file be started",
+         errno.ENOEXEC: "; the first line of a script says what runs it, as `#!/usr/bin/env python3`"}
 
 
 class Process:
@@ -33,8 +36,8 @@ class Process:
         except OSError as why:
             if self.errors:
                 self.errors.close()
-            more = NO_FILES if why.errno == errno.EMFILE else ""
-            raise Fault("start", f"`{' '.join(command)}` can't be started: {why.strerror}{more}") from None
+            words = f"`{' '.join(command)}` can't be started: {why.strerror}{HINTS.get(why.errno, '')}"
+            raise Fault("start", words) from None
         limit(self.process.pid, limits)
         self.input, self.output = self.process.stdin.fileno(), self.process.stdout.fileno()
         os.set_blocking(self.input, False)

@@ -66,6 +66,16 @@ class Command(unittest.TestCase):
                 self.assertNotIn("Traceback", done.stderr)
                 self.assertEqual(done.stdout == "", status > 1)
 
+    def test_a_file_that_can_t_be_started(self):
+        for mode, words in ((0o644, "Permission denied; `chmod +x FILE` lets"), (0o755, "`#!/usr/bin/env python3`")):
+            with self.subTest(words):
+                with open(self.path("node"), "w", encoding="ascii") as file:
+                    file.write("print('end')\n")
+                os.chmod(self.path("node"), mode)
+                done = call("rounds", "two", "--", self.path("node"))
+                self.assertEqual((done.returncode, done.stdout), (3, ""))
+                self.assertIn(words, done.stderr)
+
     def test_the_result_for_a_program(self):
         done = call("alpha", "alone4", "path1", "--policies", "newest", "--runs", "3", "--json", "--one-process", "--",
                     *self.wrong("close_never", "alpha"))
