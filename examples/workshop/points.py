@@ -31,7 +31,8 @@ def main(names):
         total += points(result)
         silent = sum(case["verdict"] == "silent" for case in result["cases"])
         again = f"; {silent} were silent: run it again" if silent else ""
-        print(f"{result['assignment']}: {points(result)} points, {result['right']} of {result['runs']} runs right{again}")
+        right = f"{result['right']} of {result['runs']} runs right"
+        print(f"{result['assignment']}: {points(result)} points, {right}{again}")
     print(f"in all: {total}")
 
 

@@ -39,7 +39,7 @@ class AlphaRun:
         one of them is wrong, for certain."""
         for v in self.network.vertices:
             data = own_data(self.network, v, "alpha", self.rounds.forests, self.rounds.last)
-            if not self.told(nodes, v, data, "its own data"):
+            if not self.is_answered(nodes, v, data, "its own data"):
                 return
         while self.links.steps and len(self.entries) <= self.rounds.events:
             step = self.policy.choose(self.links.steps)
@@ -47,12 +47,12 @@ class AlphaRun:
             wire = self.links.take(step)
             self.write(v, f"take {w} {wire.words}", wire.stamp)
             line = f"take {self.rounds.ports[v][w]} {wire.words}"
-            if not self.told(nodes, v, [line], f"`{line}`"):
+            if not self.is_answered(nodes, v, [line], f"`{line}`"):
                 return
         nodes.stop(PATIENCE)
 
-    def told(self, nodes: Nodes, v: int, lines: list[str], asked: str) -> bool:
-        """Tells a node something and writes down what it does; False if that is no answer."""
+    def is_answered(self, nodes: Nodes, v: int, lines: list[str], asked: str) -> bool:
+        """Sends a node a message and writes down what it does; False if there is no answer."""
         try:
             for line in nodes.ask(v, lines, self.if_late):
                 self.answered(v, line)

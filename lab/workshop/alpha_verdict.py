@@ -12,7 +12,7 @@ MOST_STUCK, MOST_WAITING = 4, 6
 
 def finding_of(run: AlphaRun) -> Finding | None:
     """What isn't right in a run that was played, or None. What comes first in the run counts: a program that ends
-    because of a wrong step before is told of the step."""
+    because of a wrong step before gets the verdict on that step."""
     entries = run.in_order()
     verdict = verdict_on(run.network, entries)
     if verdict.is_about_an_entry:

@@ -4,7 +4,7 @@ import os
 import re
 from typing import Iterator
 
-# Files and whole folders, each at the path that it has here; a folder stands for all files below it.
+# Files and whole folders, each at the path that it has here; a folder means all files below it.
 COPIED = (
     "LICENSE-MIT", "LICENSE-APACHE", "bin/network", "bin/channels", "bin/workshop",
     "docs/learn/TUTORIAL.md", "docs/learn/GALLERY.md", "docs/learn/OWN_NETWORK.md", "docs/learn/PROTOCOL.md",

@@ -25,7 +25,7 @@ class Entry(NamedTuple):
 
 @dataclass
 class Verdict:
-    """`name` is None if the run is right and whole; otherwise that of the refusal. `at` is the index of the entry
+    """`name` is that of the refusal, or None if the run is right and whole. `at` is the index of the entry
     that is refused, `words` what the judge says of it, `line` the judge's own line."""
     name: str | None = None
     at: int | None = None
@@ -83,7 +83,7 @@ def transcript_text(nodes: int, entries: list[Entry]) -> str:
 
 
 def verdict_on(network: Network, entries: list[Entry]) -> Verdict:
-    """The judge's verdict on entries in the order in which they stand."""
+    """The judge's verdict on entries in this order."""
     return verdict_of(network_text(network), transcript_text(network.nodes, entries))
 
 

@@ -19,7 +19,7 @@ class Limits:
 
 
 def limits_of(timeout: float, megabytes: int, programs: int) -> Limits:
-    """Those of so many programs, which share what may be written."""
+    """The limits of a number of programs, which share what may be written."""
     written = max(MEGABYTE, min(16 * MEGABYTE, WRITTEN_IN_ALL // max(1, programs)))
     return Limits(timeout, megabytes * MEGABYTE, written)
 

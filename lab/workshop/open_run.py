@@ -93,6 +93,6 @@ class OpenRun:
         code, v, w = found[1], int(found[2]), found[3]
         channel = self.channels[v]
         words = {"C4": f"nodes {v} and {w} are neighbours, and both have channel {channel}",
-                 "C5": f"channel {channel} of node {v} is none of 1 to {self.network.channels}, which are enough",
+                 "C5": f"channel {channel} of node {v} isn't one of 1 to {self.network.channels}, which are enough",
                  "C8": f"channel {channel} of node {v} is barred there"}[code]
         return Finding(code, v, p, [("wrong", words), ("judge", line)])

@@ -11,7 +11,7 @@ judge say whether what they do is right.
 
   `rounds`  with a clock: compared with `forestplay rounds`, pulse by pulse
   `alpha`   without one: the workshop delivers, `forestplay replay` judges the run
-  `open`    an algorithm of one's own, with a clock: `forestplan check` judges the
+  `open`    an algorithm of your own, with a clock: `forestplan check` judges the
             plan, and pulses, payloads and channels are counted
 
 COMMAND is started once for each node. It reads the messages to its node on standard
@@ -43,9 +43,10 @@ def command_line() -> argparse.ArgumentParser:
         prog="workshop", usage="workshop {rounds,alpha,open} [NETWORK ..] [options] -- COMMAND .. [-- COMMAND ..]",
         description=HELP, epilog=MORE_HELP, formatter_class=argparse.RawDescriptionHelpFormatter)
     words.add_argument("assignment", choices=["rounds", "alpha", "open"],
-                       help="with a clock, without one, or one's own")
+                       help="with a clock, without one, or your own algorithm")
     words.add_argument("networks", nargs="*", metavar="NETWORK", help=f"default: {NETWORKS.replace(',', ' ')}")
-    words.add_argument("--runs", type=count, metavar="N", help="so many runs; default: 1 for each NETWORK, or 100")
+    words.add_argument("--runs", type=count, metavar="N",
+                       help="the number of runs; default: 1 for each NETWORK, or 100")
     words.add_argument("--seed", default="1", help="whatever is by chance comes from it; default: 1")
     words.add_argument("--policies", metavar="LIST",
                        help=f"of alpha, with commas: {', '.join(POLICIES)}; default: all, in turn")

@@ -1,6 +1,6 @@
 """One student's program as a process: a message goes to its standard input, and its answer, up to a line `end`,
 comes from its standard output. Whatever it does, the workshop goes on: what is no answer is a Fault, and `stop`
-leaves no process behind."""
+leaves no process."""
 import errno
 import os
 import select

@@ -31,7 +31,7 @@ class RightRounds:
         return text
 
     def read(self, fields: list[str]) -> None:
-        """A line of the rounds, behind those before it."""
+        """Adds a line of the rounds."""
         if fields[0] == "pulse":
             self.phase.append(fields[2:])
             for table in (self.puts, self.colours, self.chose):

@@ -82,7 +82,7 @@ class RoundsRun:
     def came(self, p: int, v: int) -> tuple[str, str]:
         if p == 0:
             data = own_data(self.network, v, "rounds", self.rounds.forests, self.rounds.last)
-            return "told", "; ".join(data[1:])
+            return "knows", "; ".join(data[1:])
         return "came", self.rounds.inbox(v, p)
 
     def right_puts(self, p: int, v: int) -> str:

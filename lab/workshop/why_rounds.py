@@ -1,5 +1,5 @@
 """Why a node has to do something in a pulse: the definition of the pulse's phase, with this node's numbers. Every
-number is from the text of `forestplay rounds`, or was told to the node."""
+number is from the text of `forestplay rounds`, or the node knows it."""
 from lab.workshop.findings import listed
 from lab.workshop.right_rounds import RightRounds
 
@@ -115,11 +115,11 @@ class Why:
         bars = [channel - 1 for channel in self.network.barred(self.v)]
         barred = f"; {listed('colour', bars)} {'is' if len(bars) == 1 else 'are'} barred at it" if bars else ""
         to = sorted(self.ports[w] for w in self.ports if self.forest_of(w) <= forest)
-        told = "in the last pulse of a merge nothing is sent" if p == start + length - 1 else \
+        sent = "in the last pulse of a merge nothing is sent" if p == start + length - 1 else \
             f"its neighbours in {forests_to(forest)} get it, by {listed('port', to)}"
-        return f"{turn}: it is its turn. In this merge neighbours told it of " \
+        return f"{turn}: it is its turn. In this merge neighbours sent it " \
                f"{listed('colour', sorted(heard))}{barred}; the least that is left is " \
-               f"{self.rounds.chose[p][self.v]}; {told}"
+               f"{self.rounds.chose[p][self.v]}; {sent}"
 
     def forest_of(self, w: int) -> int:
         """The forest of the edge to w."""

@@ -64,10 +64,10 @@ class Words(unittest.TestCase):
         turn = "pulse {} is the turn of the nodes that have colour {} in forest 0 and had merged colour 0 before " \
                "this merge; this node has {} and had 0: {}"
         for v, p, colour, own, rest in (
-            (1, 13, 0, 0, "it is its turn. In this merge neighbours told it of no colour; the least that is left is 0; "
+            (1, 13, 0, 0, "it is its turn. In this merge neighbours sent it no colour; the least that is left is 0; "
                           "its neighbours in forest 0 get it, by port 0"),
             (2, 13, 0, 1, "it isn't its turn, and it sends nothing"),
-            (2, 15, 1, 1, "it is its turn. In this merge neighbours told it of colour 0; the least that is left is 1; "
+            (2, 15, 1, 1, "it is its turn. In this merge neighbours sent it colour 0; the least that is left is 1; "
                           "its neighbours in forest 0 get it, by port 0"),
         ):
             with self.subTest(node=v, pulse=p):

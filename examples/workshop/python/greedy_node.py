@@ -1,4 +1,4 @@
-"""An algorithm of one's own, with a clock: whoever has no higher neighbour left takes the least channel that is
+"""An own algorithm, with a clock: a node that waits for no higher neighbour takes the least channel that is
 free, and says so."""
 from talk import serve
 
@@ -9,7 +9,7 @@ class GreedyNode:
         self.waits, self.taken = set(), set(own["barred"])
 
     def start(self):
-        """In pulse 0 each node tells its identifier. A node without neighbours needs to hear nothing."""
+        """In pulse 0 each node sends its identifier. A node without neighbours waits for nothing."""
         return [f"put {port} name {self.name}" for port in self.ports] or self.choose()
 
     def react(self, lines):

@@ -20,7 +20,7 @@ def answer(lines):
 
 
 def own_data(lines):
-    """What a node is told of itself, by word; `barred` is the set of the channels that are barred to it."""
+    """What a node knows of itself, by word; `barred` is the set of the channels that are barred to it."""
     assert lines[0][:2] == ["workshop", "1"], "another edition of the protocol"
     own = {words[0]: int(words[1]) for words in lines[1:]}
     own["barred"] = {int(channel) for words in lines if words[0] == "barred" for channel in words[2:]}

@@ -18,7 +18,7 @@ class Node:
 
 
 def own_data(lines):
-    """What a node is told, by name; lines of a later edition are passed over."""
+    """What a node knows, by name; lines of a later edition are passed over."""
     told = {name: [int(value) for value in values] for name, *values in lines if name in KNOWN}
     return {name: values[0] for name, values in told.items()} | {"barred": told["barred"][1:]}
 
