@@ -117,27 +117,31 @@ class Points(unittest.TestCase):
 
 
 class ClassFolder(unittest.TestCase):
+    @classmethod
+    def setUpClass(cls):
+        cls.holder = tempfile.TemporaryDirectory()
+        cls.addClassCleanup(cls.holder.cleanup)
+        cls.folder = cls.holder.name
+        install(cls.folder, is_class=True)
+        cls.found = {os.path.relpath(os.path.join(at, name), cls.folder)
+                     for at, _, names in os.walk(cls.folder) for name in names}
+
+    def text(self, path: str) -> str:
+        with open(os.path.join(self.folder, path), encoding="utf-8") as text:
+            return text.read()
+
     def test_no_link_of_a_page_leads_to_what_isn_t_there(self):
         """Those that it has in the repository, to pages of the teacher, are words in the folder of a class."""
-        with tempfile.TemporaryDirectory() as folder:
-            install(folder, is_class=True)
-            count = 0
-            for at, _, names in os.walk(folder):
-                for name in names:
-                    if not name.endswith((".md", ".html")):
-                        continue
-                    with open(os.path.join(at, name), encoding="utf-8") as text:
-                        links = re.findall(r"\]\(([^)#\s]+)|(?:href|src)=\"([^\"#]+)", text.read())
-                    for target in filter(lambda target: ":" not in target, map("".join, links)):
-                        count += 1
-                        with self.subTest(page=name, target=target):
-                            self.assertTrue(os.path.exists(os.path.join(at, target)))
-            self.assertGreater(count, 30)
-            self.assertTrue(os.path.exists(os.path.join(folder, "README.md")))
-            with open(os.path.join(folder, "docs", "learn", "WORKSHOP.md"), encoding="utf-8") as text:
-                words = text.read()
-            self.assertIn("(PROMISES)", words)
-            self.assertIn("[PROTOCOL](PROTOCOL.md)", words)
+        count = 0
+        for path in (path for path in self.found if path.endswith((".md", ".html"))):
+            links = re.findall(r"\]\(([^)#\s]+)|(?:href|src)=\"([^\"#]+)", self.text(path))
+            for target in filter(lambda target: ":" not in target, map("".join, links)):
+                count += 1
+                with self.subTest(page=path, target=target):
+                    self.assertTrue(os.path.exists(os.path.join(self.folder, os.path.dirname(path), target)))
+        self.assertGreater(count, 30)
+        self.assertIn("(PROMISES)", self.text("docs/learn/WORKSHOP.md"))
+        self.assertIn("[PROTOCOL](PROTOCOL.md)", self.text("docs/learn/WORKSHOP.md"))
 
     def test_links_to_what_is_copied_stay(self):
         """Beside it, above it, to a folder, elsewhere, a picture, and to a part of the page itself."""
@@ -148,28 +152,25 @@ class ClassFolder(unittest.TestCase):
             with self.subTest(text):
                 self.assertEqual(class_files.page_for_a_class(text, "docs/learn/A.md", paths), right)
 
-    def test_it_has_no_solution_and_works(self):
-        with tempfile.TemporaryDirectory() as folder:
-            install(folder, is_class=True)
-            found = {os.path.relpath(os.path.join(at, name), folder)
-                     for at, _, names in os.walk(folder) for name in names}
-            for path in ("lab/definitions", "lab/pictures", "lab/transcripts/check.py", "lab/schedules/ruled_node.py",
-                         "examples/workshop/python", "examples/workshop/c", "examples/workshop/mistakes.py", "tests",
-                         "docs/learn/WORKSHOP_ANSWERS.md", "docs/learn/TEACHING.md"):
-                with self.subTest(path):
-                    self.assertTrue(os.path.exists(os.path.join(TOP, path)), "it isn't here either")
-                    self.assertFalse([name for name in found if name.startswith(path)])
-            for name in found:
-                if name.endswith(".py"):
-                    with open(os.path.join(folder, name), encoding="utf-8") as text:
-                        self.assertNotRegex(text.read(), r"def (bit_step|merge|recolour|settle)\(self, t|def bit_step")
-            environment = {"PATH": os.environ["PATH"], "HOME": folder}
-            node = ["python3", "examples/workshop/skeletons/rounds_node.py"]
-            for words, status in ((["workshop", "rounds", "two", "--", *node], 1),
-                                  (["network", "tell", "examples/petersen.col"], 0),
-                                  *(([name, "examples/two.col"], 2) for name in class_files.WITHOUT)):
-                with self.subTest(words[0]):
-                    done = subprocess.run([os.path.join(folder, "bin", words[0]), *words[1:]], cwd=folder,
-                                          env=environment, capture_output=True, text=True, timeout=LIMIT)
-                    self.assertEqual(done.returncode, status, done.stderr)
-                    self.assertNotIn("Traceback", done.stderr)
+    def test_it_has_no_solution(self):
+        for path in ("lab/definitions", "lab/pictures", "lab/transcripts/check.py", "lab/schedules/ruled_node.py",
+                     "examples/workshop/python", "examples/workshop/c", "examples/workshop/mistakes.py", "tests",
+                     "docs/learn/WORKSHOP_ANSWERS.md", "docs/learn/TEACHING.md"):
+            with self.subTest(path):
+                self.assertTrue(os.path.exists(os.path.join(TOP, path)), "it isn't here either")
+                self.assertFalse([name for name in self.found if name.startswith(path)])
+        for path in (path for path in self.found if path.endswith(".py")):
+            self.assertNotRegex(self.text(path), r"def (bit_step|merge|recolour|settle)\(self, t|def bit_step")
+
+    def test_it_works(self):
+        self.assertLessEqual({"README.md", "LICENSE-MIT", "LICENSE-APACHE"}, self.found)
+        environment = {"PATH": os.environ["PATH"], "HOME": self.folder}
+        node = ["python3", "examples/workshop/skeletons/rounds_node.py"]
+        for words, status in ((["workshop", "rounds", "two", "--", *node], 1),
+                              (["network", "tell", "examples/petersen.col"], 0),
+                              *(([name, "examples/two.col"], 2) for name in class_files.WITHOUT)):
+            with self.subTest(words[0]):
+                done = subprocess.run([os.path.join(self.folder, "bin", words[0]), *words[1:]], cwd=self.folder,
+                                      env=environment, capture_output=True, text=True, timeout=LIMIT)
+                self.assertEqual(done.returncode, status, done.stderr)
+                self.assertNotIn("Traceback", done.stderr)
