@@ -1,18 +1,18 @@
 -- From what is known of a network text and of the events behind it to what `events` may answer.
 use Rattle.std.proofs.Common.{◌≡◌, inl, inr, ℕ, Ok, List, subst}
-use Rattle.dimacs_col.specs.Lines.{Line, lines_of}
-use Rattle.dimacs_col.specs.Reading.{Graph, IsFault, IsGraph}
-use Rattle.dimacs_col.specs.declared.fault.ColFault.{ColFault}
+use Rattle.dimacs_col.specs.Lines.{lines_of}
 use Rattle.alpha_core.specs.interference.Net.{IsNetwork, Net}
+use Rattle.alpha_core.specs.node_api.Program.{Program}
+use Rattle.event_machine.specs.State.{State}
 use Rattle.event_machine.specs.Step.{run}
 use Rattle.channel_plan.proofs.Blank.{fault-of, graph-of}
-use Rattle.colour_program.specs.colour_rules.Program.{colouring}
 use Rattle.event_texts.specs.EventLines.{AreNetworkLines, event_words}
 use Rattle.event_texts.specs.Played.{IsFaultOfRun, events_in}
 use Rattle.event_texts.specs.Reader.{IsFaultOfReading}
 use Rattle.event_texts.specs.Reading.{Script, script_of}
-use Rattle.event_texts.specs.StateText.{ColourState, state_text}
+use Rattle.event_texts.specs.StateText.{state_text}
 use Rattle.event_texts.specs.declared.fault.EventFault.{EventFault}
+use Rattle.program_texts.specs.Texts.{ProgramTexts}
 use Rattle.answers.specs.Answers.{IsFaultOfText, ReadsAs}
 use Rattle.answers.specs.EventAnswers.{IsEventsAnswer, IsFaultOfEvents, IsStateReached}
 use Rattle.answers.specs.declared.fault.PlanFault.{PlanFault}
@@ -22,35 +22,38 @@ use Rattle.answers.specs.declared.fault.PlanFault.TheVariants as plan
 abbrev Reads : List ℕ → Net → Type 0
 Reads network net = ReadsAs network (λ read. IsNetwork read × (net ≡ read))
 
-pub fault-network : (input network : List ℕ) (fault : PlanFault) → AreNetworkLines (lines_of input) (lines_of network) → IsFaultOfText network fault →
-    IsFaultOfEvents input fault
-fault-network input network (plan.Col fault) are is = fault-of event_words (lines_of input) (lines_of network) fault are is
-fault-network input network (plan.Net fault) are (graph, reads, is) = (graph, graph-of event_words (lines_of input) (lines_of network) graph are reads, is)
-fault-network input network (plan.Check fault) are is = absurd is
-fault-network input network (plan.Pool fault) are is = absurd is
-fault-network input network (plan.Event fault) are is = absurd is
-fault-network input network (plan.Replay fault) are is = absurd is
-fault-network input network plan.Stopped are is = absurd is
-fault-network input network plan.Memory are is = tt
+module _ {S M E : Type 0} (program : Program S M E) where
+  pub fault-network : (input network : List ℕ) (fault : PlanFault) → AreNetworkLines (lines_of input) (lines_of network) → IsFaultOfText network fault →
+      IsFaultOfEvents program input fault
+  fault-network input network (plan.Col fault) are is = fault-of event_words (lines_of input) (lines_of network) fault are is
+  fault-network input network (plan.Net fault) are (graph, reads, is) = (graph, graph-of event_words (lines_of input) (lines_of network) graph are reads, is)
+  fault-network input network (plan.Check fault) are is = absurd is
+  fault-network input network (plan.Pool fault) are is = absurd is
+  fault-network input network (plan.Event fault) are is = absurd is
+  fault-network input network (plan.Replay fault) are is = absurd is
+  fault-network input network plan.Stopped are is = absurd is
+  fault-network input network plan.Memory are is = tt
 
-pub fault-reading : (input network : List ℕ) (net : Net) (fault : EventFault) → AreNetworkLines (lines_of input) (lines_of network) →
-    Reads network net → IsFaultOfReading (lines_of input) fault → IsFaultOfEvents input (plan.Event fault)
-fault-reading input network net fault are (graph, reads, (ok, same)) is =
-    (graph, graph-of event_words (lines_of input) (lines_of network) graph are reads, (ok, inl is))
+  pub fault-reading : (input network : List ℕ) (net : Net) (fault : EventFault) → AreNetworkLines (lines_of input) (lines_of network) →
+      Reads network net → IsFaultOfReading (lines_of input) fault → IsFaultOfEvents program input (plan.Event fault)
+  fault-reading input network net fault are (graph, reads, (ok, same)) is =
+      (graph, graph-of event_words (lines_of input) (lines_of network) graph are reads, (ok, inl is))
 
-pub fault-run : (input network : List ℕ) (net : Net) (script : Script) (fault : EventFault) → AreNetworkLines (lines_of input) (lines_of network) →
-    Reads network net → script_of (lines_of input) ≡ Ok script → IsFaultOfRun colouring net script fault → IsFaultOfEvents input (plan.Event fault)
-fault-run input network net script fault are (graph, reads, (ok, same)) read is = (
-  graph,
-  graph-of event_words (lines_of input) (lines_of network) graph are reads,
-  (ok, inr (script, read, subst (λ known. IsFaultOfRun colouring known script fault) same is)),
-)
+  pub fault-run : (input network : List ℕ) (net : Net) (script : Script) (fault : EventFault) → AreNetworkLines (lines_of input) (lines_of network) →
+      Reads network net → script_of (lines_of input) ≡ Ok script → IsFaultOfRun program net script fault → IsFaultOfEvents program input (plan.Event fault)
+  fault-run input network net script fault are (graph, reads, (ok, same)) read is = (
+    graph,
+    graph-of event_words (lines_of input) (lines_of network) graph are reads,
+    (ok, inr (script, read, subst (λ known. IsFaultOfRun program known script fault) same is)),
+  )
 
-pub reached : (input network text : List ℕ) (net : Net) (script : Script) (state : ColourState) → AreNetworkLines (lines_of input) (lines_of network) →
-    Reads network net → script_of (lines_of input) ≡ Ok script → run colouring net (events_in script) ≡ Ok state → text ≡ state_text net state →
-    IsEventsAnswer input text
-reached input network text net script state are (graph, reads, (ok, same)) read ran is = (
-  graph,
-  graph-of event_words (lines_of input) (lines_of network) graph are reads,
-  (ok, subst (λ known. IsStateReached known (lines_of input) text) same (script, state, read, ran, is)),
-)
+module _ {S M E : Type 0} (program : Program S M E) (texts : ProgramTexts S) (word_of : M → List ℕ) (number_of : M → ℕ) where
+  pub reached : (input network text : List ℕ) (net : Net) (script : Script) (state : State S M) → AreNetworkLines (lines_of input) (lines_of network) →
+      Reads network net → script_of (lines_of input) ≡ Ok script → run program net (events_in script) ≡ Ok state →
+      text ≡ state_text program texts word_of number_of net state →
+      IsEventsAnswer program texts word_of number_of input text
+  reached input network text net script state are (graph, reads, (ok, same)) read ran is = (
+    graph,
+    graph-of event_words (lines_of input) (lines_of network) graph are reads,
+    (ok, subst (λ known. IsStateReached program texts word_of number_of known (lines_of input) text) same (script, state, read, ran, is)),
+  )

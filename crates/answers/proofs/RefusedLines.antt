@@ -5,10 +5,8 @@ use Rattle.std.specs.declared.vec.Vec.{Vec}
 use Rattle.std.specs.declared.alloc.Global.{Global}
 use Rattle.dimacs_col.specs.Lines.{Line}
 use Rattle.alpha_core.specs.interference.Net.{IsNetwork, Net}
+use Rattle.alpha_core.specs.node_api.Program.{Program}
 use Rattle.event_machine.specs.declared.refused.RunRefused.TheVariants as run
-use Rattle.colour_program.specs.colour_rules.Payload.{Payload}
-use Rattle.colour_program.specs.colour_rules.Program.{colouring}
-use Rattle.colour_program.specs.colour_rules.Words.{payload_from}
 use Rattle.net_core.specs.Replays.{IsReplay, Stops}
 use Rattle.net_core.proofs.Decided.{by-index, decided}
 use Rattle.transcripts.specs.TranscriptText.{Row}
@@ -51,82 +49,8 @@ take-at : {X : Type 0} (before after : List X) → take (length before) (before 
 take-at [] after = refl
 take-at (first ∷ before) after = ap (λ l. first ∷ l) (take-at before after)
 
--- The entries before the refused one, replayed once more, lead to the state in which the entries stop.
-pub says-there : (net : Net) → IsNetwork net → (rows : List (Row Payload)) (numbers : List ℕ) (refused : ReplayRefused) (told : ReplayFault) →
-    (stops : Stops colouring net rows refused) → (is : IsToldAs net rows numbers refused told) →
-    is.words.items ≡ words_text net stops.reached stops.row refused
-says-there net ok rows numbers refused told stops is =
-    let k = length stops.before in
-    let same = some-is k is.index in
-    let place : is.index ≡ k = by-index (λ r. index_of r ≡ Some is.index → is.index ≡ k) k same same same same (none-is k is.index) same stops.reason
-    (ap index_of (sym stops.index) ∙ is.is_index) in
-    let before : take is.index rows ≡ stops.before =
-    ap (λ k. take k rows) place ∙ ap (take k) stops.splits ∙ take-at stops.before (stops.row ∷ stops.after) in
-    let here : Some is.row ≡ Some stops.row =
-    sym is.is_row ∙ ap (λ k. slice_get rows k) place ∙ ap (λ l. slice_get l (length stops.before)) stops.splits
-    ∙ get-at stops.before stops.row stops.after in
-    let row : is.row ≡ stops.row = cc in
-    let state : is.reached ≡ stops.reached =
-    (decided colouring net ok).one_state stops.before is.reached stops.reached
-    (subst (λ l. IsReplay colouring net l is.reached) before is.is_replay) stops.is_replay in
-    is.says ∙ ap (λ s. words_text net s is.row refused) state ∙ ap (λ r. words_text net stops.reached r refused) row
-
-refusal : (net : Net) → IsNetwork net → (lines : List Line) (read : Transcript Payload) (refused : ReplayRefused) (told : ReplayFault)
-    → transcript_in lines ≡ Ok (One read) →
-    Stops colouring net read.1 refused → IsToldAs net read.1 (entry_lines lines) refused told → IsRefusal net lines told
-refusal net ok lines read refused told e stops so =
-    let is = so.is_told in
-    let rows = (entries-have-lines (codes "1") (row_of payload_from) lines read (read-one-behind payload_from lines read e)).rows_are ∙ ap (map (λ x. Some x)) stops.splits in
-    let numbers = entry_lines lines in
-    let line = entry-at (entry_on payload_from lines) numbers stops.before stops.row stops.after rows in
-    let has = by-index (λ r. HasLineOf lines stops.row (fault_at numbers so.words r)) (length stops.before) line line line line tt line stops.reason in
-    record {
-      read = read;
-      refused = refused;
-      is_read = e;
-      stops = stops;
-      words = so.words;
-      says = says-there net ok read.1 numbers refused told stops so;
-      is_told = is;
-      has_line = subst (HasLineOf lines stops.row) (sym (is ∙ ap (fault_at numbers so.words) stops.index)) has;
-    }
-
-by-fault : (net : Net) (lines : List Line) (told : ReplayFault) → (told ≢ fault.Memory → IsRefusal net lines told) → IsFaultOfTranscript net lines told
-by-fault net lines (fault.Syntax n) is = absurd ((is (λ e. cc)).has_line)
-by-fault net lines (fault.NotReady n words) is = inl (is (λ e. cc))
-by-fault net lines (fault.NothingToPut n words) is = inl (is (λ e. cc))
-by-fault net lines (fault.LinkEmpty n words) is = inl (is (λ e. cc))
-by-fault net lines (fault.NoSuch n) is = inl (is (λ e. cc))
-by-fault net lines (fault.WrongWire n words) is = inl (is (λ e. cc))
-by-fault net lines (fault.WrongStamp n) is = inl (is (λ e. cc))
-by-fault net lines (fault.NotWhole n) is = inl (is (λ e. cc))
-by-fault net lines fault.Memory is = tt
-
-pub told-as : (net : Net) (rows : List (Row Payload)) (numbers : List ℕ) (refused : ReplayRefused) (told : ReplayFault) →
-    IsTold net rows numbers refused told → told ≢ fault.Memory → IsToldAs net rows numbers refused told
-told-as net rows numbers refused (fault.Syntax n) so isnt = so
-told-as net rows numbers refused (fault.NotReady n words) so isnt = so
-told-as net rows numbers refused (fault.NothingToPut n words) so isnt = so
-told-as net rows numbers refused (fault.LinkEmpty n words) so isnt = so
-told-as net rows numbers refused (fault.NoSuch n) so isnt = so
-told-as net rows numbers refused (fault.WrongWire n words) so isnt = so
-told-as net rows numbers refused (fault.WrongStamp n) so isnt = so
-told-as net rows numbers refused (fault.NotWhole n) so isnt = so
-told-as net rows numbers refused fault.Memory so isnt = absurd (isnt refl)
-
-pub is-told : (net : Net) (rows : List (Row Payload)) (numbers : List ℕ) (refused : ReplayRefused) (told : ReplayFault) →
-    IsToldAs net rows numbers refused told → IsTold net rows numbers refused told
-is-told net rows numbers refused (fault.Syntax n) so = so
-is-told net rows numbers refused (fault.NotReady n words) so = so
-is-told net rows numbers refused (fault.NothingToPut n words) so = so
-is-told net rows numbers refused (fault.LinkEmpty n words) so = so
-is-told net rows numbers refused (fault.NoSuch n) so = so
-is-told net rows numbers refused (fault.WrongWire n words) so = so
-is-told net rows numbers refused (fault.WrongStamp n) so = so
-is-told net rows numbers refused (fault.NotWhole n) so = so
-is-told net rows numbers refused fault.Memory so = tt
-
-pub not-memory : (numbers : List ℕ) (words : Vec ℕ Global) (refused : ReplayRefused) (index : ℕ) → index_of refused ≡ Some index → refused ≢ replay.Run run.Memory
+pub not-memory : (numbers : List ℕ) (words : Vec ℕ Global) (refused : ReplayRefused) (index : ℕ) → index_of refused ≡ Some index →
+    refused ≢ replay.Run run.Memory
 not-memory numbers words (replay.Run run.Memory) index e = absurd cc
 not-memory numbers words (replay.Run (run.NotReady k)) index e = λ same. cc
 not-memory numbers words (replay.Run (run.NothingToPut k)) index e = λ same. cc
@@ -134,10 +58,92 @@ not-memory numbers words (replay.Run (run.LinkEmpty k)) index e = λ same. cc
 not-memory numbers words (replay.Run (run.NoSuch k)) index e = λ same. cc
 not-memory numbers words (replay.WrongWire k) index e = λ same. cc
 
-pub fault-refused : (net : Net) → IsNetwork net → (lines : List Line) (read : Transcript Payload) (refused : ReplayRefused) (told : ReplayFault) →
-    transcript_in lines ≡ Ok (One read) → (refused ≢ replay.Run run.Memory → Stops colouring net read.1 refused) →
-    IsTold net read.1 (entry_lines lines) refused told → IsFaultOfTranscript net lines told
-fault-refused net ok lines read refused told e stops is =
-    by-fault net lines told (λ no.
-    let so = told-as net read.1 (entry_lines lines) refused told is no in
-    refusal net ok lines read refused told e (stops (not-memory (entry_lines lines) so.words refused so.index so.is_index)) so)
+module _ {S M E : Type 0} (program : Program S M E) (word_of : M → List ℕ) (number_of : M → ℕ) where
+  -- The entries before the refused one, replayed once more, lead to the state in which the entries stop.
+  pub says-there : (net : Net) → IsNetwork net → (rows : List (Row M)) (numbers : List ℕ) (refused : ReplayRefused) (told : ReplayFault) →
+      (stops : Stops program net rows refused) → (is : IsToldAs program word_of number_of net rows numbers refused told) →
+      is.words.items ≡ words_text program word_of number_of net stops.reached stops.row refused
+  says-there net ok rows numbers refused told stops is =
+      let k = length stops.before in
+      let same = some-is k is.index in
+      let place : is.index ≡ k = by-index (λ r. index_of r ≡ Some is.index → is.index ≡ k) k same same same same (none-is k is.index) same stops.reason
+      (ap index_of (sym stops.index) ∙ is.is_index) in
+      let before : take is.index rows ≡ stops.before =
+      ap (λ k. take k rows) place ∙ ap (take k) stops.splits ∙ take-at stops.before (stops.row ∷ stops.after) in
+      let here : Some is.row ≡ Some stops.row =
+      sym is.is_row ∙ ap (λ k. slice_get rows k) place ∙ ap (λ l. slice_get l (length stops.before)) stops.splits
+      ∙ get-at stops.before stops.row stops.after in
+      let row : is.row ≡ stops.row = cc in
+      let state : is.reached ≡ stops.reached =
+      (decided program net ok).one_state stops.before is.reached stops.reached
+      (subst (λ l. IsReplay program net l is.reached) before is.is_replay) stops.is_replay in
+      is.says ∙ ap (λ s. words_text program word_of number_of net s is.row refused) state
+      ∙ ap (λ r. words_text program word_of number_of net stops.reached r refused) row
+
+  pub told-as : (net : Net) (rows : List (Row M)) (numbers : List ℕ) (refused : ReplayRefused) (told : ReplayFault) →
+      IsTold program word_of number_of net rows numbers refused told → told ≢ fault.Memory → IsToldAs program word_of number_of net rows numbers refused told
+  told-as net rows numbers refused (fault.Syntax n) so isnt = so
+  told-as net rows numbers refused (fault.NotReady n words) so isnt = so
+  told-as net rows numbers refused (fault.NothingToPut n words) so isnt = so
+  told-as net rows numbers refused (fault.LinkEmpty n words) so isnt = so
+  told-as net rows numbers refused (fault.NoSuch n) so isnt = so
+  told-as net rows numbers refused (fault.WrongWire n words) so isnt = so
+  told-as net rows numbers refused (fault.WrongStamp n) so isnt = so
+  told-as net rows numbers refused (fault.NotWhole n) so isnt = so
+  told-as net rows numbers refused fault.Memory so isnt = absurd (isnt refl)
+
+  pub is-told : (net : Net) (rows : List (Row M)) (numbers : List ℕ) (refused : ReplayRefused) (told : ReplayFault) →
+      IsToldAs program word_of number_of net rows numbers refused told → IsTold program word_of number_of net rows numbers refused told
+  is-told net rows numbers refused (fault.Syntax n) so = so
+  is-told net rows numbers refused (fault.NotReady n words) so = so
+  is-told net rows numbers refused (fault.NothingToPut n words) so = so
+  is-told net rows numbers refused (fault.LinkEmpty n words) so = so
+  is-told net rows numbers refused (fault.NoSuch n) so = so
+  is-told net rows numbers refused (fault.WrongWire n words) so = so
+  is-told net rows numbers refused (fault.WrongStamp n) so = so
+  is-told net rows numbers refused (fault.NotWhole n) so = so
+  is-told net rows numbers refused fault.Memory so = tt
+
+module _ {S M E : Type 0} (program : Program S M E) (word_of : M → List ℕ) (number_of : M → ℕ) (payload_of : List ℕ → ℕ → Option M) where
+  refusal : (net : Net) → IsNetwork net → (lines : List Line) (read : Transcript M) (refused : ReplayRefused) (told : ReplayFault)
+      → transcript_in payload_of lines ≡ Ok (One read) →
+      Stops program net read.1 refused → IsToldAs program word_of number_of net read.1 (entry_lines lines) refused told →
+      IsRefusal program word_of number_of payload_of net lines told
+  refusal net ok lines read refused told e stops so =
+      let is = so.is_told in
+      let rows = (entries-have-lines (codes "1") (row_of payload_of) lines read (read-one-behind payload_of lines read e)).rows_are
+      ∙ ap (map (λ x. Some x)) stops.splits in
+      let numbers = entry_lines lines in
+      let line = entry-at (entry_on payload_of lines) numbers stops.before stops.row stops.after rows in
+      let has = by-index (λ r. HasLineOf payload_of lines stops.row (fault_at numbers so.words r)) (length stops.before) line line line line tt line
+      stops.reason in
+      record {
+        read = read;
+        refused = refused;
+        is_read = e;
+        stops = stops;
+        words = so.words;
+        says = says-there program word_of number_of net ok read.1 numbers refused told stops so;
+        is_told = is;
+        has_line = subst (HasLineOf payload_of lines stops.row) (sym (is ∙ ap (fault_at numbers so.words) stops.index)) has;
+      }
+
+  by-fault : (net : Net) (lines : List Line) (told : ReplayFault) → (told ≢ fault.Memory → IsRefusal program word_of number_of payload_of net lines told) →
+      IsFaultOfTranscript program word_of number_of payload_of net lines told
+  by-fault net lines (fault.Syntax n) is = absurd ((is (λ e. cc)).has_line)
+  by-fault net lines (fault.NotReady n words) is = inl (is (λ e. cc))
+  by-fault net lines (fault.NothingToPut n words) is = inl (is (λ e. cc))
+  by-fault net lines (fault.LinkEmpty n words) is = inl (is (λ e. cc))
+  by-fault net lines (fault.NoSuch n) is = inl (is (λ e. cc))
+  by-fault net lines (fault.WrongWire n words) is = inl (is (λ e. cc))
+  by-fault net lines (fault.WrongStamp n) is = inl (is (λ e. cc))
+  by-fault net lines (fault.NotWhole n) is = inl (is (λ e. cc))
+  by-fault net lines fault.Memory is = tt
+
+  pub fault-refused : (net : Net) → IsNetwork net → (lines : List Line) (read : Transcript M) (refused : ReplayRefused) (told : ReplayFault) →
+      transcript_in payload_of lines ≡ Ok (One read) → (refused ≢ replay.Run run.Memory → Stops program net read.1 refused) →
+      IsTold program word_of number_of net read.1 (entry_lines lines) refused told → IsFaultOfTranscript program word_of number_of payload_of net lines told
+  fault-refused net ok lines read refused told e stops is =
+      by-fault net lines told (λ no.
+      let so = told-as program word_of number_of net read.1 (entry_lines lines) refused told is no in
+      refusal net ok lines read refused told e (stops (not-memory (entry_lines lines) so.words refused so.index so.is_index)) so)

@@ -1,14 +1,12 @@
 -- The refusal of stamped entries, with its line: from that of `replay_whole`, and from what is told of it.
-use Rattle.std.proofs.Common.{◌≡◌, ◌≢◌, ◌++◌, ◌∷◌, ◌∙◌, ℕ, Some, Ok, List, ap, codes, inr, length, map, refl, slice_index_or, subst, sym}
+use Rattle.std.proofs.Common.{◌≡◌, ◌≢◌, ◌++◌, ◌∷◌, ◌∙◌, ℕ, Option, Some, Ok, List, ap, inr, length, map, refl, subst, sym}
 use Rattle.std.specs.declared.vec.Vec.{Vec}
 use Rattle.std.specs.declared.alloc.Global.{Global}
 use Rattle.std.proofs.lemmas.List.{length-map, map-append}
 use Rattle.dimacs_col.specs.Lines.{Line}
 use Rattle.alpha_core.specs.interference.Net.{IsNetwork, Net}
+use Rattle.alpha_core.specs.node_api.Program.{Program}
 use Rattle.event_machine.specs.declared.refused.RunRefused.TheVariants as run
-use Rattle.colour_program.specs.colour_rules.Payload.{Payload}
-use Rattle.colour_program.specs.colour_rules.Program.{colouring}
-use Rattle.colour_program.specs.colour_rules.Words.{payload_from}
 use Rattle.net_core.specs.Replays.{Stops, at_entry}
 use Rattle.net_core.specs.Whole.{StopsAtEntry, StopsAtStamp, WhyNotWhole}
 use Rattle.net_core.specs.declared.refused.ReplayRefused.{ReplayRefused}
@@ -22,19 +20,19 @@ use Rattle.transcripts.specs.Reading.{StampedTranscript}
 use Rattle.transcripts.specs.TranscriptText.{Row, StampedRow}
 use Rattle.transcripts.proofs.Either.{stamped-have-lines}
 use Rattle.answers.specs.ReplayAnswers.{HasLine, IsEntryTold, IsFaultOfTranscript, IsStampedLine, IsStampedRefusal, IsStampedTold, IsToldAs, bare_rows}
-use Rattle.answers.specs.ReplayAnswers.{fault_at, index_of}
-use Rattle.answers.specs.ReplayAnswers.{first_line_in, last_line_in, last_of, line_at, transcript_in, words_text}
+use Rattle.answers.specs.ReplayAnswers.{fault_at}
+use Rattle.answers.specs.ReplayAnswers.{first_line_in, last_of, line_at, transcript_in}
 use Rattle.answers.specs.declared.replaying.ReplayFault.{ReplayFault}
 use Rattle.answers.specs.declared.replaying.ReplayFault.TheVariants as fault
 use Rattle.answers.proofs.RefusedLines.{entry-at, not-memory, says-there, told-as}
 
-abbrev bare : StampedRow Payload → Row Payload
+abbrev bare : {M : Type 0} → StampedRow M → Row M
 bare row = (row.1, row.2)
 
 -- stamped entries that stop at an entry do so without their stamps
-abbrev stops-bare : (net : Net) (rows : List (StampedRow Payload)) (refused : ReplayRefused) → StopsAtEntry colouring net rows refused →
-    Stops colouring net (bare_rows rows) refused
-stops-bare net rows refused is = record {
+abbrev stops-bare : {S M E : Type 0} (program : Program S M E) (net : Net) (rows : List (StampedRow M)) (refused : ReplayRefused) →
+    StopsAtEntry program net rows refused → Stops program net (bare_rows rows) refused
+stops-bare program net rows refused is = record {
   before = bare_rows is.at.before;
   row = bare is.at.row;
   after = bare_rows is.at.after;
@@ -49,61 +47,52 @@ stops-bare net rows refused is = record {
 inner-is : (r : ReplayRefused) → whole.Replay r ≡ whole.Replay (replay.Run run.Memory) → r ≡ replay.Run run.Memory
 inner-is r same = cc
 
-module _ (net : Net) (ok : IsNetwork net) (lines : List Line) (read : StampedTranscript Payload) (e : transcript_in lines ≡ Ok (Two read)) where
+module _ {S M E : Type 0} (program : Program S M E) (word_of : M → List ℕ) (number_of : M → ℕ) (payload_of : List ℕ → ℕ → Option M)
+    (net : Net) (ok : IsNetwork net) (lines : List Line) (read : StampedTranscript M) (e : transcript_in payload_of lines ≡ Ok (Two read)) where
   -- the line of the entry behind others
-  line-of : (before after : List (StampedRow Payload)) (row : StampedRow Payload) → read.1 ≡ before ++ (row ∷ after) →
-      IsStampedLine lines row (line_at (entry_lines lines) (length before))
+  line-of : (before after : List (StampedRow M)) (row : StampedRow M) → read.1 ≡ before ++ (row ∷ after) →
+      IsStampedLine payload_of lines row (line_at (entry_lines lines) (length before))
   line-of before after row splits =
-      entry-at (stamped_entry_on payload_from lines) (entry_lines lines) before row after
-      ((stamped-have-lines payload_from lines read e).rows_are ∙ ap (map (λ r. Some r)) splits)
+      entry-at (stamped_entry_on payload_of lines) (entry_lines lines) before row after
+      ((stamped-have-lines payload_of lines read e).rows_are ∙ ap (map (λ r. Some r)) splits)
 
-  entry-told : (refused : ReplayRefused) (told : ReplayFault) (stops : StopsAtEntry colouring net read.1 refused) →
-      IsToldAs net (bare_rows read.1) (entry_lines lines) refused told → IsEntryTold net lines read.1 refused stops told
+  entry-told : (refused : ReplayRefused) (told : ReplayFault) (stops : StopsAtEntry program net read.1 refused) →
+      IsToldAs program word_of number_of net (bare_rows read.1) (entry_lines lines) refused told →
+      IsEntryTold program word_of number_of payload_of net lines read.1 refused stops told
   entry-told refused told stops so =
       let numbers = entry_lines lines in
       let row = stops.at.row in
       let line = line-of stops.at.before stops.at.after row stops.at.splits in
-      let has = by-index (λ r. HasLine (IsStampedLine lines row) (fault_at numbers so.words r)) (length stops.at.before) line line line line tt line
+      let has = by-index (λ r. HasLine (IsStampedLine payload_of lines row) (fault_at numbers so.words r)) (length stops.at.before) line line line line tt line
       stops.reason in
       record {
         words = so.words;
-        says = says-there net ok (bare_rows read.1) numbers refused told (stops-bare net read.1 refused stops) so;
+        says = says-there program word_of number_of net ok (bare_rows read.1) numbers refused told (stops-bare program net read.1 refused stops) so;
         is_told = so.is_told;
-        has_line = subst (HasLine (IsStampedLine lines row)) (sym (so.is_told ∙ ap (fault_at numbers so.words) stops.index)) has;
+        has_line = subst (HasLine (IsStampedLine payload_of lines row)) (sym (so.is_told ∙ ap (fault_at numbers so.words) stops.index)) has;
       }
 
   refusal-of : (refused : WholeRefused) (told : ReplayFault) → told ≢ fault.Memory →
-      (refused ≢ whole.Replay (replay.Run run.Memory) → WhyNotWhole colouring net read.1 refused) →
-      IsStampedTold net read.1 (first_line_in lines) (entry_lines lines) refused told → IsStampedRefusal net lines told
+      (refused ≢ whole.Replay (replay.Run run.Memory) → WhyNotWhole program net read.1 refused) →
+      IsStampedTold program word_of number_of net read.1 (first_line_in lines) (entry_lines lines) refused told →
+      IsStampedRefusal program word_of number_of payload_of net lines told
   refusal-of (whole.Replay refused) told isnt why is =
-      let so = told-as net (bare_rows read.1) (entry_lines lines) refused told is isnt in
+      let so = told-as program word_of number_of net (bare_rows read.1) (entry_lines lines) refused told is isnt in
       let stops = why (λ same. not-memory (entry_lines lines) so.words refused so.index so.is_index (inner-is refused same)) in
       record { read = read; refused = whole.Replay refused; is_read = e; why = stops; is_told = entry-told refused told stops so }
   refusal-of (whole.WrongStamp k) told isnt why is =
-      let stops : StopsAtStamp colouring net read.1 k = why (λ same. cc) in
+      let stops : StopsAtStamp program net read.1 k = why (λ same. cc) in
       let here = line-of stops.at.before stops.at.after stops.at.row stops.at.splits in
-      let line = subst (λ i. IsStampedLine lines stops.at.row (line_at (entry_lines lines) i)) (sym stops.index) here in
+      let line = subst (λ i. IsStampedLine payload_of lines stops.at.row (line_at (entry_lines lines) i)) (sym stops.index) here in
       record {
         read = read;
         refused = whole.WrongStamp k;
         is_read = e;
         why = stops;
-        is_told = (is, subst (HasLine (IsStampedLine lines stops.at.row)) (sym is) line);
+        is_told = (is, subst (HasLine (IsStampedLine payload_of lines stops.at.row)) (sym is) line);
       }
   refusal-of whole.NotWhole told isnt why is =
       record { read = read; refused = whole.NotWhole; is_read = e; why = why (λ same. cc); is_told = is }
-
-by-fault : (net : Net) (lines : List Line) (told : ReplayFault) → (told ≢ fault.Memory → IsStampedRefusal net lines told) →
-    ((n : ℕ) → told ≡ fault.Syntax n → ⊥) → IsFaultOfTranscript net lines told
-by-fault net lines (fault.Syntax n) is never = absurd (never n refl)
-by-fault net lines (fault.NotReady n words) is never = inr (is (λ e. cc))
-by-fault net lines (fault.NothingToPut n words) is never = inr (is (λ e. cc))
-by-fault net lines (fault.LinkEmpty n words) is never = inr (is (λ e. cc))
-by-fault net lines (fault.NoSuch n) is never = inr (is (λ e. cc))
-by-fault net lines (fault.WrongWire n words) is never = inr (is (λ e. cc))
-by-fault net lines (fault.WrongStamp n) is never = inr (is (λ e. cc))
-by-fault net lines (fault.NotWhole n) is never = inr (is (λ e. cc))
-by-fault net lines fault.Memory is never = tt
 
 -- no refusal of entries is that of a line
 no-syntax : (numbers : List ℕ) (words : Vec ℕ Global) (refused : ReplayRefused) (n : ℕ) → fault_at numbers words refused ≡ fault.Syntax n → ⊥
@@ -114,17 +103,36 @@ no-syntax numbers words (replay.Run (run.NoSuch k)) n e = absurd cc
 no-syntax numbers words (replay.Run run.Memory) n e = absurd cc
 no-syntax numbers words (replay.WrongWire k) n e = absurd cc
 
-never-syntax : (net : Net) (rows : List (StampedRow Payload)) (first : ℕ) (numbers : List ℕ) (refused : WholeRefused) (told : ReplayFault) (n : ℕ) →
-    IsStampedTold net rows first numbers refused told → told ≡ fault.Syntax n → ⊥
-never-syntax net rows first numbers (whole.Replay refused) told n is e =
-    let so = told-as net (bare_rows rows) numbers refused told is (λ m. let wrong : fault.Syntax n ≡ fault.Memory = sym e ∙ m in cc) in
-    no-syntax numbers so.words refused n (sym so.is_told ∙ e)
-never-syntax net rows first numbers (whole.WrongStamp k) told n is e = let wrong : fault.WrongStamp (line_at numbers k) ≡ fault.Syntax n = sym is ∙ e in absurd cc
-never-syntax net rows first numbers whole.NotWhole told n is e = let wrong : fault.NotWhole (last_of first numbers) ≡ fault.Syntax n = sym is ∙ e in absurd cc
+module _ {S M E : Type 0} (program : Program S M E) (word_of : M → List ℕ) (number_of : M → ℕ) (payload_of : List ℕ → ℕ → Option M) where
+  by-fault : (net : Net) (lines : List Line) (told : ReplayFault) →
+      (told ≢ fault.Memory → IsStampedRefusal program word_of number_of payload_of net lines told) →
+      ((n : ℕ) → told ≡ fault.Syntax n → ⊥) → IsFaultOfTranscript program word_of number_of payload_of net lines told
+  by-fault net lines (fault.Syntax n) is never = absurd (never n refl)
+  by-fault net lines (fault.NotReady n words) is never = inr (is (λ e. cc))
+  by-fault net lines (fault.NothingToPut n words) is never = inr (is (λ e. cc))
+  by-fault net lines (fault.LinkEmpty n words) is never = inr (is (λ e. cc))
+  by-fault net lines (fault.NoSuch n) is never = inr (is (λ e. cc))
+  by-fault net lines (fault.WrongWire n words) is never = inr (is (λ e. cc))
+  by-fault net lines (fault.WrongStamp n) is never = inr (is (λ e. cc))
+  by-fault net lines (fault.NotWhole n) is never = inr (is (λ e. cc))
+  by-fault net lines fault.Memory is never = tt
 
-pub whole-refused : (net : Net) → IsNetwork net → (lines : List Line) (nodes : ℕ) (rows : List (StampedRow Payload)) (refused : WholeRefused) (told : ReplayFault) →
-    transcript_in lines ≡ Ok (Two (nodes, rows)) → (refused ≢ whole.Replay (replay.Run run.Memory) → WhyNotWhole colouring net rows refused) →
-    IsStampedTold net rows (first_line_in lines) (entry_lines lines) refused told → IsFaultOfTranscript net lines told
-whole-refused net ok lines nodes rows refused told e why is =
-    by-fault net lines told (λ isnt. refusal-of net ok lines (nodes, rows) e refused told isnt why is)
-    (λ n. never-syntax net rows (first_line_in lines) (entry_lines lines) refused told n is)
+  never-syntax : (net : Net) (rows : List (StampedRow M)) (first : ℕ) (numbers : List ℕ) (refused : WholeRefused) (told : ReplayFault) (n : ℕ) →
+      IsStampedTold program word_of number_of net rows first numbers refused told → told ≡ fault.Syntax n → ⊥
+  never-syntax net rows first numbers (whole.Replay refused) told n is e =
+      let so = told-as program word_of number_of net (bare_rows rows) numbers refused told is
+      (λ m. let wrong : fault.Syntax n ≡ fault.Memory = sym e ∙ m in cc) in
+      no-syntax numbers so.words refused n (sym so.is_told ∙ e)
+  never-syntax net rows first numbers (whole.WrongStamp k) told n is e =
+      let wrong : fault.WrongStamp (line_at numbers k) ≡ fault.Syntax n = sym is ∙ e in absurd cc
+  never-syntax net rows first numbers whole.NotWhole told n is e =
+      let wrong : fault.NotWhole (last_of first numbers) ≡ fault.Syntax n = sym is ∙ e in absurd cc
+
+  pub whole-refused : (net : Net) → IsNetwork net → (lines : List Line) (nodes : ℕ) (rows : List (StampedRow M)) (refused : WholeRefused)
+      (told : ReplayFault) → transcript_in payload_of lines ≡ Ok (Two (nodes, rows)) →
+      (refused ≢ whole.Replay (replay.Run run.Memory) → WhyNotWhole program net rows refused) →
+      IsStampedTold program word_of number_of net rows (first_line_in lines) (entry_lines lines) refused told →
+      IsFaultOfTranscript program word_of number_of payload_of net lines told
+  whole-refused net ok lines nodes rows refused told e why is =
+      by-fault net lines told (λ isnt. refusal-of program word_of number_of payload_of net ok lines (nodes, rows) e refused told isnt why is)
+      (λ n. never-syntax net rows (first_line_in lines) (entry_lines lines) refused told n is)

@@ -4,41 +4,46 @@ use Rattle.dimacs_col.specs.Lines.{Line, lines_of}
 use Rattle.dimacs_col.specs.Reading.{IsFault}
 use Rattle.alpha_core.specs.interference.Net.{Net, IsNetwork}
 use Rattle.alpha_core.specs.interference.Making.{IsFaultOf}
+use Rattle.alpha_core.specs.node_api.Program.{Program}
+use Rattle.event_machine.specs.State.{State}
 use Rattle.event_machine.specs.Step.{run}
-use Rattle.colour_program.specs.colour_rules.Program.{colouring}
 use Rattle.event_texts.specs.EventLines.{network_lines}
 use Rattle.event_texts.specs.Played.{IsFaultOfRun, events_in}
 use Rattle.event_texts.specs.Reader.{IsFaultOfReading}
 use Rattle.event_texts.specs.Reading.{Script, script_of}
-use Rattle.event_texts.specs.StateText.{ColourState, state_text}
+use Rattle.event_texts.specs.StateText.{state_text}
 use Rattle.event_texts.specs.declared.fault.EventFault.{EventFault}
+use Rattle.program_texts.specs.Texts.{ProgramTexts}
 use Rattle.answers.specs.Answers.{LinesReadAs}
 use Rattle.answers.specs.declared.fault.PlanFault.{PlanFault}
 use Rattle.answers.specs.declared.fault.PlanFault.TheVariants as plan
 
--- the text is that of the state to which the events in the lines lead, from the start of the colouring on the network
-abbrev pub IsStateReached : Net → List Line → List ℕ → Type 0
-IsStateReached net lines text = (script : Script) × (state : ColourState)
-    × (script_of lines ≡ Ok script) × (run colouring net (events_in script) ≡ Ok state) × (text ≡ state_text net state)
+module _ {S M E : Type 0} (program : Program S M E) (texts : ProgramTexts S) (word_of : M → List ℕ)
+    (number_of : M → ℕ) where
+  -- the text is that of the state to which the events in the lines lead, from the start of the program on the network
+  abbrev pub IsStateReached : Net → List Line → List ℕ → Type 0
+  IsStateReached net lines text = (script : Script) × (state : State S M) × (script_of lines ≡ Ok script)
+      × (run program net (events_in script) ≡ Ok state) × (text ≡ state_text program texts word_of number_of net state)
 
--- the answer is the text of the state that the events reach, on the network that stands before them
-abbrev pub IsEventsAnswer : List ℕ → List ℕ → Type 0
-IsEventsAnswer input answer = LinesReadAs (network_lines (lines_of input))
-    (λ net. IsNetwork net × IsStateReached net (lines_of input) answer)
+  -- the answer is the text of the state that the events reach, on the network that stands before them
+  abbrev pub IsEventsAnswer : List ℕ → List ℕ → Type 0
+  IsEventsAnswer input answer = LinesReadAs (network_lines (lines_of input))
+      (λ net. IsNetwork net × IsStateReached net (lines_of input) answer)
 
--- the fault of the events in some lines: of their reading, or else of their run
-abbrev pub IsFaultOfEventLines : Net → List Line → EventFault → Type 0
-IsFaultOfEventLines net lines fault = IsFaultOfReading lines fault
-    ⊎ ((script : Script) × (script_of lines ≡ Ok script) × IsFaultOfRun colouring net script fault)
+module _ {S M E : Type 0} (program : Program S M E) where
+  -- the fault of the events in some lines: of their reading, or else of their run
+  abbrev pub IsFaultOfEventLines : Net → List Line → EventFault → Type 0
+  IsFaultOfEventLines net lines fault = IsFaultOfReading lines fault
+      ⊎ ((script : Script) × (script_of lines ≡ Ok script) × IsFaultOfRun program net script fault)
 
--- the fault of an input of `events`: of the network text before the events, or else of the events
-abbrev pub IsFaultOfEvents : List ℕ → PlanFault → Type 0
-IsFaultOfEvents input (plan.Col fault) = IsFault (network_lines (lines_of input)) fault
-IsFaultOfEvents input (plan.Net fault) = LinesReadAs (network_lines (lines_of input)) (λ net. IsFaultOf net fault)
-IsFaultOfEvents input (plan.Pool fault) = ⊥
-IsFaultOfEvents input (plan.Check fault) = ⊥
-IsFaultOfEvents input (plan.Event fault) = LinesReadAs (network_lines (lines_of input))
-    (λ net. IsNetwork net × IsFaultOfEventLines net (lines_of input) fault)
-IsFaultOfEvents input (plan.Replay fault) = ⊥
-IsFaultOfEvents input plan.Stopped = ⊥
-IsFaultOfEvents input plan.Memory = Unit {0}
+  -- the fault of an input of `events`: of the network text before the events, or else of the events
+  abbrev pub IsFaultOfEvents : List ℕ → PlanFault → Type 0
+  IsFaultOfEvents input (plan.Col fault) = IsFault (network_lines (lines_of input)) fault
+  IsFaultOfEvents input (plan.Net fault) = LinesReadAs (network_lines (lines_of input)) (λ net. IsFaultOf net fault)
+  IsFaultOfEvents input (plan.Pool fault) = ⊥
+  IsFaultOfEvents input (plan.Check fault) = ⊥
+  IsFaultOfEvents input (plan.Event fault) = LinesReadAs (network_lines (lines_of input))
+      (λ net. IsNetwork net × IsFaultOfEventLines net (lines_of input) fault)
+  IsFaultOfEvents input (plan.Replay fault) = ⊥
+  IsFaultOfEvents input plan.Stopped = ⊥
+  IsFaultOfEvents input plan.Memory = Unit {0}

@@ -10,6 +10,7 @@ pub mod dimacs_col
 pub mod interference
 pub mod alpha_core
 pub mod channel_plan
+pub mod colour_program
 pub mod colour_rules
 pub mod colour_laws
 pub mod transcripts

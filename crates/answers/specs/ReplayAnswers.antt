@@ -7,12 +7,11 @@ use Rattle.dimacs_col.specs.Lines.{Line, lines_of}
 use Rattle.dimacs_col.specs.Reading.{IsFault}
 use Rattle.alpha_core.specs.interference.Net.{Net, IsNetwork}
 use Rattle.alpha_core.specs.interference.Making.{IsFaultOf}
+use Rattle.alpha_core.specs.node_api.Program.{Program}
+use Rattle.event_machine.specs.State.{State}
 use Rattle.event_machine.specs.declared.refused.RunRefused.TheVariants as run
-use Rattle.colour_program.specs.colour_rules.Payload.{Payload}
-use Rattle.colour_program.specs.colour_rules.Program.{colouring}
-use Rattle.colour_program.specs.colour_rules.Words.{payload_from}
 use Rattle.event_texts.specs.Missing.{expected_text, missing_text}
-use Rattle.event_texts.specs.StateText.{ColourState, state_text}
+use Rattle.event_texts.specs.StateText.{state_text}
 use Rattle.net_core.specs.Replays.{IsReplay, Stops}
 use Rattle.net_core.specs.Rows.{event_of}
 use Rattle.net_core.specs.declared.refused.ReplayRefused.{ReplayRefused}
@@ -26,31 +25,36 @@ use Rattle.transcripts.specs.Reading.{StampedTranscript, Transcript}
 use Rattle.transcripts.specs.TranscriptText.{Row, StampedRow}
 use Rattle.transcripts.specs.declared.fault.TextFault.{TextFault}
 use Rattle.transcripts.specs.declared.fault.TextFault.TheVariants as text
+use Rattle.program_texts.specs.Texts.{ProgramTexts}
 use Rattle.answers.specs.Answers.{LinesReadAs}
 use Rattle.answers.specs.declared.fault.PlanFault.{PlanFault}
 use Rattle.answers.specs.declared.fault.PlanFault.TheVariants as plan
 use Rattle.answers.specs.declared.replaying.ReplayFault.{ReplayFault}
 use Rattle.answers.specs.declared.replaying.ReplayFault.TheVariants as fault
 
--- the transcript of nodes of the colouring that follows a network, or the number of its first wrong line
-abbrev pub transcript_in : List Line → Result (AnyTranscript Payload) ℕ
-transcript_in lines = any_reading_behind payload_from lines
+-- the transcript that follows a network, or the number of its first wrong line
+abbrev pub transcript_in : {M : Type 0} → (List ℕ → ℕ → Option M) → List Line → Result (AnyTranscript M) ℕ
+transcript_in payload_of lines = any_reading_behind payload_of lines
 
 -- The entries of a transcript are a replay that leads to this state of the network. Those of edition 2 are a whole one:
 -- they have the stamps that the nodes' counters give them, in their order, and the state is whole.
-abbrev pub LeadsTo : Net → AnyTranscript Payload → ColourState → Type 0
-LeadsTo net (One read) state = IsReplay colouring net read.1 state
-LeadsTo net (Two read) state = IsWholeReplay colouring net read.1 state
+abbrev pub LeadsTo : {S M E : Type 0} → Program S M E → Net → AnyTranscript M → State S M → Type 0
+LeadsTo program net (One read) state = IsReplay program net read.1 state
+LeadsTo program net (Two read) state = IsWholeReplay program net read.1 state
 
 -- the entries of the transcript in the lines lead to this state of the network
-abbrev pub IsReplayed : Net → List Line → ColourState → Type 0
-IsReplayed net lines state =
-    (read : AnyTranscript Payload) × (transcript_in lines ≡ Ok read) × LeadsTo net read state
+abbrev pub IsReplayed : {S M E : Type 0} → Program S M E → (List ℕ → ℕ → Option M) → Net → List Line → State S M →
+    Type 0
+IsReplayed program payload_of net lines state =
+    (read : AnyTranscript _) × (transcript_in payload_of lines ≡ Ok read) × LeadsTo program net read state
 
 -- the answer is the text of the state that the transcript leads to, on the network that stands before it
-abbrev pub IsReplayAnswer : List ℕ → List ℕ → Type 0
-IsReplayAnswer input answer = LinesReadAs (network_lines (lines_of input)) (λ net. IsNetwork net
-    × ((state : ColourState) × IsReplayed net (lines_of input) state × (answer ≡ state_text net state)))
+abbrev pub IsReplayAnswer : {S M E : Type 0} → Program S M E → ProgramTexts S → (M → List ℕ) → (M → ℕ) →
+    (List ℕ → ℕ → Option M) → List ℕ → List ℕ → Type 0
+IsReplayAnswer program texts word_of number_of payload_of input answer =
+    LinesReadAs (network_lines (lines_of input)) (λ net. IsNetwork net
+    × ((state : State _ _) × IsReplayed program payload_of net (lines_of input) state
+    × (answer ≡ state_text program texts word_of number_of net state)))
 
 -- the fault of a transcript's text
 abbrev pub fault_of_text : TextFault → ReplayFault
@@ -91,11 +95,6 @@ index_of (replay.Run (run.NoSuch k)) = Some k
 index_of (replay.Run run.Memory) = None
 index_of (replay.WrongWire k) = Some k
 
--- the words behind the refusal of an entry in a state: what its event lacks, or the pulse or wire that it comes to
-abbrev pub words_text : Net → ColourState → Row Payload → ReplayRefused → List ℕ
-words_text net state row (replay.Run refused) = missing_text colouring net state (event_of net row)
-words_text net state row (replay.WrongWire k) = expected_text net state (event_of net row)
-
 -- a fact about the line whose number the refusal of an entry has; out of memory has no number
 abbrev pub HasLine : (ℕ → Type 0) → ReplayFault → Type 0
 HasLine at (fault.Syntax n) = ⊥
@@ -108,95 +107,108 @@ HasLine at (fault.WrongStamp n) = at n
 HasLine at (fault.NotWhole n) = ⊥
 HasLine at fault.Memory = Unit {0}
 
--- the line whose number a refusal has is this entry
-abbrev pub HasLineOf : List Line → Row Payload → ReplayFault → Type 0
-HasLineOf lines row told = HasLine (λ n. entry_on payload_from lines n ≡ Some row) told
+module _ {M : Type 0} (payload_of : List ℕ → ℕ → Option M) where
+  -- the line whose number a refusal has is this entry
+  abbrev pub HasLineOf : List Line → Row M → ReplayFault → Type 0
+  HasLineOf lines row told = HasLine (λ n. entry_on payload_of lines n ≡ Some row) told
 
--- The entries of the transcript of edition 1 in the lines stop, and this is the refusal, with the number of a line in
--- place of the entry's index, and the words for the state in which the entries stop: that line is the entry.
-pub record IsRefusal (net : Net) (lines : List Line) (told : ReplayFault) : Type 0 where
-  pub read : Transcript Payload
-  pub refused : ReplayRefused
-  pub is_read : transcript_in lines ≡ Ok (One read)
-  pub stops : Stops colouring net read.1 refused
-  pub words : Vec ℕ Global
-  pub says : words.items ≡ words_text net stops.reached stops.row refused
-  pub is_told : told ≡ fault_at (entry_lines lines) words refused
-  pub has_line : HasLineOf lines stops.row told
+  -- the line of a number is this entry with its stamp
+  abbrev pub IsStampedLine : List Line → StampedRow M → ℕ → Type 0
+  IsStampedLine lines row n = stamped_entry_on payload_of lines n ≡ Some row
 
--- What a refusal of entries is told as: the entries before the refused one are replayed once more, for the words.
-pub record IsToldAs (net : Net) (rows : List (Row Payload)) (lines : List ℕ) (refused : ReplayRefused)
-    (told : ReplayFault) : Type 0 where
-  pub index : ℕ
-  pub is_index : index_of refused ≡ Some index
-  pub row : Row Payload
-  pub is_row : slice_get rows index ≡ Some row
-  pub reached : ColourState
-  pub is_replay : IsReplay colouring net (take index rows) reached
-  pub words : Vec ℕ Global
-  pub says : words.items ≡ words_text net reached row refused
-  pub is_told : told ≡ fault_at lines words refused
-
--- the same, or memory ran out
-abbrev pub IsTold : Net → List (Row Payload) → List ℕ → ReplayRefused → ReplayFault → Type 0
-IsTold net rows lines refused fault.Memory = Unit {0}
-IsTold net rows lines refused told = IsToldAs net rows lines refused told
-
--- ---- edition 2
--- the entries behind their vertices alone
-abbrev pub bare_rows : List (StampedRow Payload) → List (Row Payload)
+-- the entries of edition 2 behind their vertices alone
+abbrev pub bare_rows : {M : Type 0} → List (StampedRow M) → List (Row M)
 bare_rows rows = map (λ row. (row.1, row.2)) rows
 
--- What a refusal of stamped entries is told as, with the numbers of the first line and of the entries' lines.
-abbrev pub IsStampedTold : Net → List (StampedRow Payload) → ℕ → List ℕ → WholeRefused → ReplayFault → Type 0
-IsStampedTold net rows first numbers (whole.Replay refused) told = IsTold net (bare_rows rows) numbers refused told
-IsStampedTold net rows first numbers (whole.WrongStamp k) told = told ≡ fault.WrongStamp (line_at numbers k)
-IsStampedTold net rows first numbers whole.NotWhole told = told ≡ fault.NotWhole (last_of first numbers)
+-- ---- how the refusal of entries is told
+module _ {S M E : Type 0} (program : Program S M E) (word_of : M → List ℕ) (number_of : M → ℕ) where
+  -- the words behind the refusal of an entry in a state: what its event lacks, or the pulse or wire that it comes to
+  abbrev pub words_text : Net → State S M → Row M → ReplayRefused → List ℕ
+  words_text net state row (replay.Run refused) = missing_text program net state (event_of net row)
+  words_text net state row (replay.WrongWire k) =
+      expected_text program word_of number_of net state (event_of net row)
 
--- the line of a number is this entry with its stamp
-abbrev pub IsStampedLine : List Line → StampedRow Payload → ℕ → Type 0
-IsStampedLine lines row n = stamped_entry_on payload_from lines n ≡ Some row
+  -- What a refusal of entries is told as: the entries before the refused one are replayed once more, for the words.
+  pub record IsToldAs (net : Net) (rows : List (Row M)) (lines : List ℕ) (refused : ReplayRefused)
+      (told : ReplayFault) : Type 0 where
+    pub index : ℕ
+    pub is_index : index_of refused ≡ Some index
+    pub row : Row M
+    pub is_row : slice_get rows index ≡ Some row
+    pub reached : State S M
+    pub is_replay : IsReplay program net (take index rows) reached
+    pub words : Vec ℕ Global
+    pub says : words.items ≡ words_text net reached row refused
+    pub is_told : told ≡ fault_at lines words refused
 
--- the refusal of an entry that isn't possible, or has another pulse or wire, as for edition 1
-pub record IsEntryTold (net : Net) (lines : List Line) (rows : List (StampedRow Payload)) (refused : ReplayRefused)
-    (stops : StopsAtEntry colouring net rows refused) (told : ReplayFault) : Type 0 where
-  pub words : Vec ℕ Global
-  pub says : words.items ≡ words_text net stops.at.reached (stops.at.row.1, stops.at.row.2) refused
-  pub is_told : told ≡ fault_at (entry_lines lines) words refused
-  pub has_line : HasLine (IsStampedLine lines stops.at.row) told
+  -- the same, or memory ran out
+  abbrev pub IsTold : Net → List (Row M) → List ℕ → ReplayRefused → ReplayFault → Type 0
+  IsTold net rows lines refused fault.Memory = Unit {0}
+  IsTold net rows lines refused told = IsToldAs net rows lines refused told
 
--- How the refusal of stamped entries is told: that of an entry with the number of its line, which is the entry; that of
--- the state at the end with the number of the last entry's line.
-abbrev pub IsWholeTold : (net : Net) (lines : List Line) (rows : List (StampedRow Payload)) (refused : WholeRefused)
-    → WhyNotWhole colouring net rows refused → ReplayFault → Type 0
-IsWholeTold net lines rows (whole.Replay refused) why told = IsEntryTold net lines rows refused why told
-IsWholeTold net lines rows (whole.WrongStamp k) why told =
-    (told ≡ fault.WrongStamp (line_at (entry_lines lines) k)) × HasLine (IsStampedLine lines why.at.row) told
-IsWholeTold net lines rows whole.NotWhole why told = told ≡ fault.NotWhole (last_line_in lines)
+  -- What a refusal of stamped entries is told as, with the numbers of the first line and of the entries' lines.
+  abbrev pub IsStampedTold : Net → List (StampedRow M) → ℕ → List ℕ → WholeRefused → ReplayFault → Type 0
+  IsStampedTold net rows first numbers (whole.Replay refused) told = IsTold net (bare_rows rows) numbers refused told
+  IsStampedTold net rows first numbers (whole.WrongStamp k) told = told ≡ fault.WrongStamp (line_at numbers k)
+  IsStampedTold net rows first numbers whole.NotWhole told = told ≡ fault.NotWhole (last_of first numbers)
 
--- The entries of the transcript of edition 2 in the lines aren't a whole replay, and this is the refusal.
-pub record IsStampedRefusal (net : Net) (lines : List Line) (told : ReplayFault) : Type 0 where
-  pub read : StampedTranscript Payload
-  pub refused : WholeRefused
-  pub is_read : transcript_in lines ≡ Ok (Two read)
-  pub why : WhyNotWhole colouring net read.1 refused
-  pub is_told : IsWholeTold net lines read.1 refused why told
+-- ---- the refusal of a transcript
+module _ {S M E : Type 0} (program : Program S M E) (word_of : M → List ℕ) (number_of : M → ℕ)
+    (payload_of : List ℕ → ℕ → Option M) where
+  -- The entries of the transcript of edition 1 in the lines stop, and this is the refusal, with the number of a line in
+  -- place of the entry's index, and the words for the state in which the entries stop: that line is the entry.
+  pub record IsRefusal (net : Net) (lines : List Line) (told : ReplayFault) : Type 0 where
+    pub read : Transcript M
+    pub refused : ReplayRefused
+    pub is_read : transcript_in payload_of lines ≡ Ok (One read)
+    pub stops : Stops program net read.1 refused
+    pub words : Vec ℕ Global
+    pub says : words.items ≡ words_text program word_of number_of net stops.reached stops.row refused
+    pub is_told : told ≡ fault_at (entry_lines lines) words refused
+    pub has_line : HasLineOf payload_of lines stops.row told
 
--- the fault of the transcript in the lines: its first wrong line, or else the refusal of its entries; that memory ran
--- out says nothing
-abbrev pub IsFaultOfTranscript : Net → List Line → ReplayFault → Type 0
-IsFaultOfTranscript net lines fault.Memory = Unit {0}
-IsFaultOfTranscript net lines (fault.Syntax n) = transcript_in lines ≡ Err n
-IsFaultOfTranscript net lines told = IsRefusal net lines told ⊎ IsStampedRefusal net lines told
+  -- the refusal of an entry of edition 2 that isn't possible, or has another pulse or wire, as for edition 1
+  pub record IsEntryTold (net : Net) (lines : List Line) (rows : List (StampedRow M)) (refused : ReplayRefused)
+      (stops : StopsAtEntry program net rows refused) (told : ReplayFault) : Type 0 where
+    pub words : Vec ℕ Global
+    pub says : words.items
+        ≡ words_text program word_of number_of net stops.at.reached (stops.at.row.1, stops.at.row.2) refused
+    pub is_told : told ≡ fault_at (entry_lines lines) words refused
+    pub has_line : HasLine (IsStampedLine payload_of lines stops.at.row) told
 
--- the fault of an input of `replay`: of the network text before the transcript, or else of the transcript
-abbrev pub IsFaultOfReplay : List ℕ → PlanFault → Type 0
-IsFaultOfReplay input (plan.Col fault) = IsFault (network_lines (lines_of input)) fault
-IsFaultOfReplay input (plan.Net fault) = LinesReadAs (network_lines (lines_of input)) (λ net. IsFaultOf net fault)
-IsFaultOfReplay input (plan.Pool fault) = ⊥
-IsFaultOfReplay input (plan.Check fault) = ⊥
-IsFaultOfReplay input (plan.Event fault) = ⊥
-IsFaultOfReplay input (plan.Replay fault) = LinesReadAs (network_lines (lines_of input))
-    (λ net. IsNetwork net × IsFaultOfTranscript net (lines_of input) fault)
-IsFaultOfReplay input plan.Stopped = ⊥
-IsFaultOfReplay input plan.Memory = Unit {0}
+  -- How the refusal of stamped entries is told: that of an entry with the number of its line, which is the entry; that
+  -- of the state at the end with the number of the last entry's line.
+  abbrev pub IsWholeTold : (net : Net) (lines : List Line) (rows : List (StampedRow M)) (refused : WholeRefused)
+      → WhyNotWhole program net rows refused → ReplayFault → Type 0
+  IsWholeTold net lines rows (whole.Replay refused) why told = IsEntryTold net lines rows refused why told
+  IsWholeTold net lines rows (whole.WrongStamp k) why told =
+      (told ≡ fault.WrongStamp (line_at (entry_lines lines) k))
+      × HasLine (IsStampedLine payload_of lines why.at.row) told
+  IsWholeTold net lines rows whole.NotWhole why told = told ≡ fault.NotWhole (last_line_in lines)
+
+  -- The entries of the transcript of edition 2 in the lines aren't a whole replay, and this is the refusal.
+  pub record IsStampedRefusal (net : Net) (lines : List Line) (told : ReplayFault) : Type 0 where
+    pub read : StampedTranscript M
+    pub refused : WholeRefused
+    pub is_read : transcript_in payload_of lines ≡ Ok (Two read)
+    pub why : WhyNotWhole program net read.1 refused
+    pub is_told : IsWholeTold net lines read.1 refused why told
+
+  -- the fault of the transcript in the lines: its first wrong line, or else the refusal of its entries; that memory ran
+  -- out says nothing
+  abbrev pub IsFaultOfTranscript : Net → List Line → ReplayFault → Type 0
+  IsFaultOfTranscript net lines fault.Memory = Unit {0}
+  IsFaultOfTranscript net lines (fault.Syntax n) = transcript_in payload_of lines ≡ Err n
+  IsFaultOfTranscript net lines told = IsRefusal net lines told ⊎ IsStampedRefusal net lines told
+
+  -- the fault of an input of `replay`: of the network text before the transcript, or else of the transcript
+  abbrev pub IsFaultOfReplay : List ℕ → PlanFault → Type 0
+  IsFaultOfReplay input (plan.Col fault) = IsFault (network_lines (lines_of input)) fault
+  IsFaultOfReplay input (plan.Net fault) = LinesReadAs (network_lines (lines_of input)) (λ net. IsFaultOf net fault)
+  IsFaultOfReplay input (plan.Pool fault) = ⊥
+  IsFaultOfReplay input (plan.Check fault) = ⊥
+  IsFaultOfReplay input (plan.Event fault) = ⊥
+  IsFaultOfReplay input (plan.Replay fault) = LinesReadAs (network_lines (lines_of input))
+      (λ net. IsNetwork net × IsFaultOfTranscript net (lines_of input) fault)
+  IsFaultOfReplay input plan.Stopped = ⊥
+  IsFaultOfReplay input plan.Memory = Unit {0}

@@ -1,9 +1,13 @@
 -- The answer that shows the rounds of a network.
 use Rattle.std.specs.Prelude.{◌≡◌, ℕ, List}
 use Rattle.alpha_core.specs.interference.Net.{IsNetwork}
+use Rattle.alpha_core.specs.node_api.Program.{Program}
+use Rattle.program_texts.specs.Texts.{ProgramTexts}
 use Rattle.round_texts.specs.RoundsText.{rounds_text}
 use Rattle.answers.specs.Answers.{ReadsAs}
 
--- the answer is the text of the synchronous run of the colouring on the network that the input describes
-abbrev pub IsRoundsAnswer : List ℕ → List ℕ → Type 0
-IsRoundsAnswer input answer = ReadsAs input (λ net. IsNetwork net × (answer ≡ rounds_text net))
+-- the answer is the text of the synchronous run of a program on the network that the input describes
+abbrev pub IsRoundsAnswer : {S M E : Type 0} → Program S M E → ProgramTexts S → (M → List ℕ) → (M → ℕ) → List ℕ →
+    List ℕ → Type 0
+IsRoundsAnswer program texts word_of number_of input answer =
+    ReadsAs input (λ net. IsNetwork net × (answer ≡ rounds_text program texts word_of number_of net))

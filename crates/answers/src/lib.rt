@@ -10,6 +10,9 @@
 //! let plan = plain_bytes(alloc, text)?;       // "plan", "1 2", "2 3", "3 1", a line each
 //! ```
 //!
+//! `events_bytes`, `replay_bytes` and `rounds_bytes` are for any program that has a `ProgramText`; the others are the
+//! colouring's.
+//!
 //! A text has at most 20,000 vertices and 400,000 edges, and a vertex at most 1,023 neighbours; more is
 //! a fault. Vertex v has the identifier of its line `i`, and without one v.
 #![tactic(auto)]
@@ -40,6 +43,7 @@ pub use dimacs_col::ColFault;
 pub use event_texts::EventFault;
 pub use net_core::{ReplayRefused, WholeRefused, replay, replay_whole};
 pub use pool::PoolFault;
+pub use program_texts::ProgramText;
 pub use transcripts::{
     TextFault, Transcript, push_entries, push_first_line, push_stamped_row, read_any,
     read_transcript, stamped_text, transcript_text,

@@ -2,7 +2,6 @@
 
 ghost use Rattle.std.specs.Prelude.{◌≡◌, ℕ, IfOk, IfErr, IfSome, Ok};
 ghost use Rattle.dimacs_col.specs.Lines.{lines_of};
-ghost use Rattle.colour_program.specs.colour_rules.Program.{colouring};
 ghost use Rattle.net_core.specs.Replays.{IsReplay};
 ghost use Rattle.net_core.specs.Whole.{IsWholeReplay};
 ghost use Rattle.transcripts.specs.Editions.{One, Two};
@@ -12,13 +11,13 @@ ghost use Rattle.answers.specs.ReplayAnswers.{first_line_in, index_of, last_of, 
 
 use crate::answer::network_of_text;
 use crate::fault::PlanFault;
-use alpha_core::Network;
+use alpha_core::{Network, NodeProgram, PayloadText};
 use channel_plan::text_start;
-use colour_program::{Colouring, Payload};
 use entries::Entry;
 use event_machine::{NetState, RunRefused};
 use event_texts::{expected_words, missing_words, text_of_state};
 use net_core::{ReplayRefused, WholeRefused, event_of, replay, replay_whole};
+use program_texts::ProgramText;
 use std::alloc::{AllocError, Global};
 use transcripts::{TextFault, Transcript, entry_lines, network_text, read_any_behind_network};
 
@@ -113,13 +112,14 @@ fn index_of(refused: ReplayRefused) -> Option<usize>
 }
 
 // The words behind the refusal of an entry in a state.
-fn words_of(
+fn words_of<P: NodeProgram>(
     alloc: Global,
-    state: &NetState<Colouring>,
-    row: &(u32, Entry<Payload>),
+    state: &NetState<P>,
+    row: &(u32, Entry<P::Payload>),
     refused: ReplayRefused,
 ) -> Result<Vec<u8>, AllocError>
-    ensures { IfOk result (λ words. words.items ≡ words_text state.now.net state.now.state row.now refused) }
+    ensures { IfOk result (λ words. words.items
+        ≡ words_text P.program P.Payload.word_of P.Payload.number_of state.now.net state.now.state row.now refused) }
 {
     match (event_of(state.network(), row), refused) {
         (None, _) => Ok(Vec::new(alloc)),
@@ -129,14 +129,14 @@ fn words_of(
 }
 
 // The refusal of entries, with its line, and words for the state that the entries before it lead to.
-fn told(
+fn told<P: NodeProgram>(
     alloc: Global,
     network: &Network,
-    rows: &[(u32, Entry<Payload>)],
+    rows: &[(u32, Entry<P::Payload>)],
     lines: &[usize],
     refused: ReplayRefused,
 ) -> ReplayFault
-    ensures { IsTold network.now rows.now lines.now refused result }
+    ensures { IsTold P.program P.Payload.word_of P.Payload.number_of network.now rows.now lines.now refused result }
 {
     let Some(index) = index_of(refused) else {
         return ReplayFault::Memory;
@@ -144,7 +144,7 @@ fn told(
     let Some(row) = rows.get(index) else {
         return ReplayFault::Memory;
     };
-    let Ok(state) = replay::<Colouring>(alloc, network, &rows[..index]) else {
+    let Ok(state) = replay::<P>(alloc, network, &rows[..index]) else {
         return ReplayFault::Memory;
     };
     match words_of(alloc, &state, row, refused) {
@@ -153,33 +153,34 @@ fn told(
     }
 }
 
-// The state of the nodes of the colouring after the entries of a transcript of edition 1.
-fn replayed_entries(
+// The state of the nodes after the entries of a transcript of edition 1.
+fn replayed_entries<P: NodeProgram>(
     alloc: Global,
     network: &Network,
     input: &[u8],
-    rows: &[(u32, Entry<Payload>)],
-) -> Result<NetState<Colouring>, ReplayFault>
+    rows: &[(u32, Entry<P::Payload>)],
+) -> Result<NetState<P>, ReplayFault>
     ensures net { IfOk result (λ view. view.net ≡ network.now) }
-    ensures ok { IfOk result (λ view. IsReplay colouring network.now rows.now view.state) }
-    ensures fault { IfErr result (λ told. (nodes : ℕ) → transcript_in (lines_of input.now) ≡ Ok (One (nodes, rows.now))
-        → IsFaultOfTranscript network.now (lines_of input.now) told) }
+    ensures ok { IfOk result (λ view. IsReplay P.program network.now rows.now view.state) }
+    ensures fault { IfErr result (λ told. (nodes : ℕ)
+        → transcript_in P.Payload.payload_of (lines_of input.now) ≡ Ok (One (nodes, rows.now)) → IsFaultOfTranscript
+        P.program P.Payload.word_of P.Payload.number_of P.Payload.payload_of network.now (lines_of input.now) told) }
 {
     network.is_network();
-    match replay::<Colouring>(alloc, network, rows) {
+    match replay::<P>(alloc, network, rows) {
         Ok(state) => Ok(state),
         Err(refused) => {
             let lines = entry_lines(alloc, input)?;
-            Err(told(alloc, network, rows, lines.as_slice(), refused))
+            Err(told::<P>(alloc, network, rows, lines.as_slice(), refused))
         }
     }
 }
 
 // The entries behind their vertices alone.
-fn bare_rows(
+fn bare_rows<T: PayloadText>(
     alloc: Global,
-    rows: &[(u64, u32, Entry<Payload>)],
-) -> Result<Vec<(u32, Entry<Payload>)>, AllocError>
+    rows: &[(u64, u32, Entry<T>)],
+) -> Result<Vec<(u32, Entry<T>)>, AllocError>
     ensures { IfOk result (λ bare. bare.items ≡ bare_rows rows.now) }
 {
     let mut bare = Vec::new(alloc);
@@ -209,19 +210,20 @@ fn last_of(other: usize, numbers: &[usize]) -> usize
 
 // The refusal of stamped entries, with the number of a line, and words as of edition 1. `first` is the number of the
 // transcript's first line.
-fn stamped_told(
+fn stamped_told<P: NodeProgram>(
     alloc: Global,
     network: &Network,
-    rows: &[(u64, u32, Entry<Payload>)],
+    rows: &[(u64, u32, Entry<P::Payload>)],
     first: usize,
     lines: &[usize],
     refused: WholeRefused,
 ) -> ReplayFault
-    ensures { IsStampedTold network.now rows.now first lines.now refused result }
+    ensures { IsStampedTold P.program P.Payload.word_of P.Payload.number_of network.now rows.now first lines.now refused
+        result }
 {
     match refused {
         WholeRefused::Replay(refused) => match bare_rows(alloc, rows) {
-            Ok(bare) => told(alloc, network, bare.as_slice(), lines, refused),
+            Ok(bare) => told::<P>(alloc, network, bare.as_slice(), lines, refused),
             Err(_) => ReplayFault::Memory,
         },
         WholeRefused::WrongStamp(k) => ReplayFault::WrongStamp(line_at(lines, k)),
@@ -229,48 +231,51 @@ fn stamped_told(
     }
 }
 
-// The state of the nodes of the colouring after the entries of a transcript of edition 2.
-fn replayed_whole(
+// The state of the nodes after the entries of a transcript of edition 2.
+fn replayed_whole<P: NodeProgram>(
     alloc: Global,
     network: &Network,
     input: &[u8],
-    rows: &[(u64, u32, Entry<Payload>)],
-) -> Result<NetState<Colouring>, ReplayFault>
+    rows: &[(u64, u32, Entry<P::Payload>)],
+) -> Result<NetState<P>, ReplayFault>
     ensures net { IfOk result (λ view. view.net ≡ network.now) }
-    ensures ok { IfOk result (λ view. IsWholeReplay colouring network.now rows.now view.state) }
-    ensures fault { IfErr result (λ told. (nodes : ℕ) → transcript_in (lines_of input.now) ≡ Ok (Two (nodes, rows.now))
-        → IsFaultOfTranscript network.now (lines_of input.now) told) }
+    ensures ok { IfOk result (λ view. IsWholeReplay P.program network.now rows.now view.state) }
+    ensures fault { IfErr result (λ told. (nodes : ℕ)
+        → transcript_in P.Payload.payload_of (lines_of input.now) ≡ Ok (Two (nodes, rows.now)) → IsFaultOfTranscript
+        P.program P.Payload.word_of P.Payload.number_of P.Payload.payload_of network.now (lines_of input.now) told) }
 {
     network.is_network();
-    match replay_whole::<Colouring>(alloc, network, rows) {
+    match replay_whole::<P>(alloc, network, rows) {
         Ok(state) => Ok(state),
         Err(refused) => {
             let lines = entry_lines(alloc, input)?;
             let Some(first) = first_line_in(input) else {
                 return Err(ReplayFault::Memory);
             };
-            Err(stamped_told(alloc, network, rows, first, lines.as_slice(), refused))
+            Err(stamped_told::<P>(alloc, network, rows, first, lines.as_slice(), refused))
         }
     }
 }
 
-// The state of the nodes of the colouring after the entries of the transcript that follows a network text.
-fn replayed(
+// The state of the nodes after the entries of the transcript that follows a network text.
+fn replayed<P: NodeProgram>(
     alloc: Global,
     network: &Network,
     input: &[u8],
-) -> Result<NetState<Colouring>, ReplayFault>
+) -> Result<NetState<P>, ReplayFault>
     ensures net { IfOk result (λ view. view.net ≡ network.now) }
-    ensures ok { IfOk result (λ view. IsReplayed network.now (lines_of input.now) view.state) }
-    ensures fault { IfErr result (IsFaultOfTranscript network.now (lines_of input.now)) }
+    ensures ok { IfOk result (λ view.
+        IsReplayed P.program P.Payload.payload_of network.now (lines_of input.now) view.state) }
+    ensures fault { IfErr result (IsFaultOfTranscript P.program P.Payload.word_of P.Payload.number_of
+        P.Payload.payload_of network.now (lines_of input.now)) }
 {
-    match read_any_behind_network::<Payload>(alloc, input)? {
+    match read_any_behind_network::<P::Payload>(alloc, input)? {
         Transcript::One(_, rows) => replayed_entries(alloc, network, input, rows.as_slice()),
         Transcript::Two(_, rows) => replayed_whole(alloc, network, input, rows.as_slice()),
     }
 }
 
-/// The state of the nodes of the colouring after the entries of a transcript, as `events_bytes` writes it: the
+/// The state of the nodes of a program after the entries of a transcript, as `events_bytes` writes it: the
 /// input is a DIMACS text, and then a transcript, which begins at the first line whose first field is
 /// `transcript`. The entries are played in the order of their lines. Those of edition 2 have to have the stamps of
 /// their nodes' counters, in their order, and to lead to a whole state.
@@ -281,11 +286,13 @@ fn replayed(
 /// pulse or wire, or, of edition 2, another stamp than its node comes to, or comes too late; if there is none, of
 /// edition 2, `Replay` with the last line if the state isn't whole. Lines count from the first of the input. Any call
 /// may instead fail for lack of memory: `ReplayFault::Memory` or as `forest_bytes`.
-pub fn replay_bytes(alloc: Global, input: &[u8]) -> Result<Vec<u8>, PlanFault>
-    ensures ok { IfOk result (λ text. IsReplayAnswer input.now text.items) }
-    ensures fault { IfErr result (IsFaultOfReplay input.now) }
+pub fn replay_bytes<P: ProgramText>(alloc: Global, input: &[u8]) -> Result<Vec<u8>, PlanFault>
+    ensures ok { IfOk result (λ text. IsReplayAnswer P.program P.texts P.Payload.word_of P.Payload.number_of
+        P.Payload.payload_of input.now text.items) }
+    ensures fault { IfErr result (IsFaultOfReplay P.program P.Payload.word_of P.Payload.number_of
+        P.Payload.payload_of input.now) }
 {
     let network = network_of_text(alloc, network_text(input))?;
-    let state = replayed(alloc, &network, input)?;
+    let state = replayed::<P>(alloc, &network, input)?;
     Ok(text_of_state(alloc, &state)?)
 }

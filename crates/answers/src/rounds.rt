@@ -6,18 +6,20 @@ ghost use Rattle.answers.specs.RoundAnswers.{IsRoundsAnswer};
 
 use crate::answer::network_of_text;
 use crate::fault::PlanFault;
+use program_texts::ProgramText;
 use round_texts::rounds_text;
 use std::alloc::Global;
 
-/// The synchronous run of the colouring on the network that a DIMACS text describes: of each pulse the colours or the
-/// choices of the nodes, and what they send.
+/// The synchronous run of a program on the network that a DIMACS text describes: of each pulse what the program says of
+/// the nodes, and what they send.
 ///
 /// # Errors
 /// As of `forest_bytes`.
-pub fn rounds_bytes(alloc: Global, input: &[u8]) -> Result<Vec<u8>, PlanFault>
-    ensures ok { IfOk result (λ text. IsRoundsAnswer input.now text.items) }
+pub fn rounds_bytes<P: ProgramText>(alloc: Global, input: &[u8]) -> Result<Vec<u8>, PlanFault>
+    ensures ok { IfOk result (λ text.
+        IsRoundsAnswer P.program P.texts P.Payload.word_of P.Payload.number_of input.now text.items) }
     ensures fault { IfErr result (IsFaultOfText input.now) }
 {
     let network = network_of_text(alloc, input)?;
-    Ok(rounds_text(alloc, &network)?)
+    Ok(rounds_text::<P>(alloc, &network)?)
 }

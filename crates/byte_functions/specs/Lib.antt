@@ -3,6 +3,8 @@ pub mod Transcripts
 pub mod Merge
 pub mod Colours
 pub mod answers
+pub mod colour_program
+pub mod colour_rules
 pub mod interference
 pub mod pool
 pub mod gather_laws

@@ -33,7 +33,7 @@ pub use workers::plan_bytes;
 
 // What crates above name of lower ones.
 pub use answers::{
-    Colouring, Long, Network, Payload, PoolFault, ReplayRefused, WholeRefused, Wire,
+    Colouring, Long, Network, Payload, PoolFault, ProgramText, ReplayRefused, WholeRefused, Wire,
     read_transcript, replay, replay_whole, stamped_text,
 };
 pub use node_pool::{Gate, OpenGate, Options, Outcome, run_workers};

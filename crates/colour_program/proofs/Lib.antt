@@ -1,2 +1,3 @@
 mod Pulses
+mod Sizes
 pub mod colour_rules

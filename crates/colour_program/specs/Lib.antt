@@ -1,2 +1,3 @@
+pub mod ColoursText
 pub mod colour_rules
 pub mod colour_laws

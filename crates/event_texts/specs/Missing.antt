@@ -5,15 +5,14 @@ use Rattle.std.specs.List.{range_with_len}
 use Rattle.alpha_core.specs.interference.Net.{Net, degree_of, neighbour_of}
 use Rattle.alpha_core.specs.node_api.Program.{Program, last_pulse_on}
 use Rattle.alpha_core.specs.View.{Port, View, is_halted, port_at}
+use Rattle.alpha_core.specs.declared.wire.Wire.{Wire}
 use Rattle.event_machine.specs.declared.event.Event.{Event}
 use Rattle.event_machine.specs.declared.event.Event.TheVariants.{Pulse, Put, Take}
 use Rattle.event_machine.specs.State.{State, link_to, node_of}
 use Rattle.event_machine.specs.Step.{has_port, is_vertex}
-use Rattle.colour_program.specs.colour_rules.Program.{colouring}
-use Rattle.event_texts.specs.StateText.{ColourState, ColourWire, colour_wire_text}
 use Rattle.event_texts.specs.declared.missing.Lack.{Lack}
 use Rattle.event_texts.specs.declared.missing.Lack.TheVariants.{Ack, Safe}
-use Rattle.wire_texts.specs.WireText.{numbered}
+use Rattle.wire_texts.specs.WireText.{numbered, wire_text}
 
 -- a port at which a wire of the node's pulse is still to come: its payload's acknowledgement, or the neighbour's safe
 abbrev pub lacks : {M : Type 0} → Lack → Port M → Bool
@@ -69,17 +68,20 @@ missing_text program net state (Put v i) =
 missing_text program net state (Take v i) =
     if has_port net v i then numbered (codes ": link from ") (neighbour_of net v i) ++ numbered (codes " to ") v else []
 
--- a wire that an event would have carried
-abbrev pub expected_wire : Option ColourWire → List ℕ
-expected_wire None = []
-expected_wire (Some wire) = codes ": expected" ++ colour_wire_text wire
+module _ {M : Type 0} (word_of : M → List ℕ) (number_of : M → ℕ) where
+  -- a wire that an event would have carried
+  abbrev pub expected_wire : Option (Wire M) → List ℕ
+  expected_wire None = []
+  expected_wire (Some wire) = codes ": expected" ++ wire_text word_of number_of wire
 
 -- The words behind an entry of another pulse or wire: the pulse or wire that its event comes to.
-abbrev pub expected_text : Net → ColourState → Event → List ℕ
-expected_text net state (Pulse v) =
-    if is_vertex net v then numbered (codes ": expected pulse ") ((node_of colouring net state v).view.pulse + 1)
+abbrev pub expected_text : {S M E : Type 0} → Program S M E → (M → List ℕ) → (M → ℕ) → Net → State S M → Event →
+    List ℕ
+expected_text program word_of number_of net state (Pulse v) =
+    if is_vertex net v then numbered (codes ": expected pulse ") ((node_of program net state v).view.pulse + 1)
     else []
-expected_text net state (Put v i) =
-    if has_port net v i then expected_wire (slice_get (port_at (node_of colouring net state v).view i).out 0) else []
-expected_text net state (Take v i) =
-    if has_port net v i then expected_wire (slice_get (link_to net state.links v i).held 0) else []
+expected_text program word_of number_of net state (Put v i) =
+    if has_port net v i
+    then expected_wire word_of number_of (slice_get (port_at (node_of program net state v).view i).out 0) else []
+expected_text program word_of number_of net state (Take v i) =
+    if has_port net v i then expected_wire word_of number_of (slice_get (link_to net state.links v i).held 0) else []

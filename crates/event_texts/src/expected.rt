@@ -4,15 +4,14 @@ ghost use Rattle.std.specs.Prelude.{◌≡◌, ◌++◌, IfOk};
 ghost use Rattle.event_texts.specs.Missing.{expected_text, expected_wire};
 
 use crate::missing::{has_port, is_vertex};
-use alpha_core::Wire;
-use colour_program::{Colouring, Payload};
+use alpha_core::{NodeProgram, PayloadText, Wire};
 use event_machine::{Event, NetState};
 use std::alloc::{AllocError, Global};
 use wire_texts::{push_numbered, push_wire};
 
 // A wire, if there is one, as the one that was expected.
-fn wire_words(alloc: Global, wire: Option<Wire<Payload>>) -> Result<Vec<u8>, AllocError>
-    ensures { IfOk result (λ text. text.items ≡ expected_wire wire) }
+fn wire_words<T: PayloadText>(alloc: Global, wire: Option<Wire<T>>) -> Result<Vec<u8>, AllocError>
+    ensures { IfOk result (λ text. text.items ≡ expected_wire T.word_of T.number_of wire) }
 {
     let mut text = Vec::new(alloc);
     if let Some(wire) = wire {
@@ -28,12 +27,13 @@ fn wire_words(alloc: Global, wire: Option<Wire<Payload>>) -> Result<Vec<u8>, All
 /// # Errors
 ///
 /// If memory is refused.
-pub fn expected_words(
+pub fn expected_words<P: NodeProgram>(
     alloc: Global,
-    state: &NetState<Colouring>,
+    state: &NetState<P>,
     event: Event,
 ) -> Result<Vec<u8>, AllocError>
-    ensures { IfOk result (λ text. text.items ≡ expected_text state.now.net state.now.state event) }
+    ensures { IfOk result (λ text. text.items
+        ≡ expected_text P.program P.Payload.word_of P.Payload.number_of state.now.net state.now.state event) }
 {
     state.is_simulation();
     let net = state.network();

@@ -2,7 +2,8 @@
 //!
 //! A text of events has a line for each: `pulse V`, `put V PORT` or `take V PORT`. The command `events` of
 //! `byte_functions` cuts its input by `network_text`, and calls `read_events`, `play` and
-//! `text_of_state`. An event that isn't possible is refused with words for what it lacks (`specs/Missing.antt`).
+//! `text_of_state`, which are for any program. An event that isn't possible is refused with words for what it lacks
+//! (`specs/Missing.antt`).
 //!
 //! ```
 //! let input = b"p edge 2 1\ne 1 2\nput 1 0\n";

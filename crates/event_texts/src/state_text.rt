@@ -2,35 +2,41 @@
 
 ghost use Rattle.std.specs.Prelude.{◌≡◌, ◌++◌, ◌<◌, IfOk, flat_map};
 ghost use Rattle.alpha_core.specs.interference.Net.{IsVertex, degree_of, neighbour_of};
+ghost use Rattle.alpha_core.specs.node_api.Program.{last_pulse_on};
 ghost use Rattle.event_machine.specs.State.{link_at, node_of};
-ghost use Rattle.colour_program.specs.colour_rules.Program.{colouring};
-ghost use Rattle.event_texts.specs.StateText.{colour_wire_text, link_text, links_text, node_text, state_text};
+ghost use Rattle.event_texts.specs.StateText.{link_text, links_text, node_text, state_text};
+ghost use Rattle.wire_texts.specs.WireText.{wire_text};
 
-use alpha_core::{Memory, Wire};
-use colour_program::{Colouring, Payload};
+use alpha_core::{Memory, NodeProgram, PayloadText, Wire};
 use event_machine::NetState;
+use program_texts::ProgramText;
 use std::alloc::{AllocError, Global};
 use wire_texts::{push_numbered, push_wire};
 
 // Appends the line of a vertex's node.
-fn push_node(text: &mut Vec<u8>, state: &NetState<Colouring>, v: u32) -> Result<(), AllocError>
+fn push_node<P: ProgramText>(
+    text: &mut Vec<u8>,
+    state: &NetState<P>,
+    v: u32,
+) -> Result<(), AllocError>
     requires vertex { IsVertex state.now.net v }
-    ensures { IfOk result (λ _. text.new.items ≡ text.old.items
-        ++ node_text state.now.net v (node_of colouring state.now.net state.now.state v)) }
+    ensures { IfOk result (λ _. text.new.items ≡ text.old.items ++ node_text P.texts
+        (last_pulse_on P.program state.now.net) v (node_of P.program state.now.net state.now.state v)) }
 {
     let node = state.node(v);
     push_numbered(text, b"node ", u128::from(v))?;
     push_numbered(text, b" pulse ", u128::from(node.pulse_number()))?;
     if node.halted() {
-        push_numbered(text, b" channel ", u128::from(node.program().colour()) + 1)?;
+        node.program().push_result(text)?;
     }
     text.push(b'\n')?;
     Ok(())
 }
 
 // Appends wires, with a space before each word.
-fn push_wires(text: &mut Vec<u8>, wires: &[Wire<Payload>]) -> Result<(), AllocError>
-    ensures { IfOk result (λ _. text.new.items ≡ text.old.items ++ flat_map colour_wire_text wires.now) }
+fn push_wires<T: PayloadText>(text: &mut Vec<u8>, wires: &[Wire<T>]) -> Result<(), AllocError>
+    ensures { IfOk result (λ _. text.new.items ≡ text.old.items
+        ++ flat_map (wire_text T.word_of T.number_of) wires.now) }
 {
     for wire in wires {
         push_wire(text, *wire)?;
@@ -39,16 +45,17 @@ fn push_wires(text: &mut Vec<u8>, wires: &[Wire<Payload>]) -> Result<(), AllocEr
 }
 
 // Appends the line of the link out of a vertex by a port.
-fn push_link(
+fn push_link<P: NodeProgram>(
     text: &mut Vec<u8>,
-    state: &NetState<Colouring>,
+    state: &NetState<P>,
     v: u32,
     port: u32,
 ) -> Result<(), AllocError>
     requires vertex { IsVertex state.now.net v }
     requires port { port < degree_of state.now.net v }
     ensures { IfOk result (λ _. text.new.items ≡ text.old.items
-        ++ link_text v (neighbour_of state.now.net v port) (link_at state.now.state.links v port)) }
+        ++ link_text P.Payload.word_of P.Payload.number_of v (neighbour_of state.now.net v port)
+        (link_at state.now.state.links v port)) }
 {
     let (taken, held) = state.link(v, port);
     push_numbered(text, b"link ", u128::from(v))?;
@@ -60,9 +67,14 @@ fn push_link(
 }
 
 // Appends the lines of the links out of a vertex, by port.
-fn push_links(text: &mut Vec<u8>, state: &NetState<Colouring>, v: u32) -> Result<(), AllocError>
+fn push_links<P: NodeProgram>(
+    text: &mut Vec<u8>,
+    state: &NetState<P>,
+    v: u32,
+) -> Result<(), AllocError>
     requires vertex { IsVertex state.now.net v }
-    ensures { IfOk result (λ _. text.new.items ≡ text.old.items ++ links_text state.now.net state.now.state v) }
+    ensures { IfOk result (λ _. text.new.items ≡ text.old.items
+        ++ links_text P.Payload.word_of P.Payload.number_of state.now.net state.now.state v) }
 {
     for port in 0..state.network().degree(v) {
         push_link(text, state, v, port)?;
@@ -70,14 +82,15 @@ fn push_links(text: &mut Vec<u8>, state: &NetState<Colouring>, v: u32) -> Result
     Ok(())
 }
 
-/// The text of a state: for each vertex, ascending, `node V pulse P`, and behind the last pulse its channel;
+/// The text of a state: for each vertex, ascending, `node V pulse P`, and behind the last pulse the result of its node;
 /// then, for each link out of it, by port, `link V W taken N` and the wires that it holds, oldest first.
 ///
 /// # Errors
 ///
 /// If memory is refused.
-pub fn text_of_state(alloc: Global, state: &NetState<Colouring>) -> Result<Vec<u8>, Memory>
-    ensures text { IfOk result (λ text. text.items ≡ state_text state.now.net state.now.state) }
+pub fn text_of_state<P: ProgramText>(alloc: Global, state: &NetState<P>) -> Result<Vec<u8>, Memory>
+    ensures text { IfOk result (λ text. text.items
+        ≡ state_text P.program P.texts P.Payload.word_of P.Payload.number_of state.now.net state.now.state) }
 {
     let mut text = Vec::new(alloc);
     for i in 0..state.network().nodes() {

@@ -1,3 +1,2 @@
 pub mod PutsText
-pub mod ColoursText
 pub mod RoundsText

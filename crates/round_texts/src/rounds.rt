@@ -2,93 +2,74 @@
 
 ghost use Rattle.std.specs.Prelude.{◌≡◌, ◌≤◌, ◌++◌, IfOk};
 ghost use Rattle.alpha_core.specs.interference.Net.{IsVertex};
-ghost use Rattle.alpha_core.specs.node_api.Program.{last_pulse_on, sizes_of};
-ghost use Rattle.colour_program.specs.colour_rules.Node.{IsPhase, phase_of};
-ghost use Rattle.colour_program.specs.colour_rules.Program.{colouring};
-ghost use Rattle.round_texts.specs.RoundsText.{head_line, pulse_line, pulse_text, rounds_text, vertex_text};
+ghost use Rattle.alpha_core.specs.node_api.Program.{last_pulse_on};
+ghost use Rattle.round_texts.specs.RoundsText.{pulse_line, pulse_text, rounds_text, vertex_text};
 
-use crate::colours::{push_node, push_phase};
 use crate::puts::push_puts;
-use alpha_core::{Memory, Network, NodeProgram};
-use colour_program::{Colouring, Phase, Schedule};
-use number_rows::push_row;
+use alpha_core::{Memory, Network};
+use program_texts::ProgramText;
 use std::alloc::{AllocError, Global};
 use sync_rounds::Rounds;
 use wire_texts::push_numbered;
 
-// Appends the first line. Its edition is 2 where a vertex has a bar, for the merging then goes by Δ and the bars.
-fn push_head(text: &mut Vec<u8>, net: &Network) -> Result<(), AllocError>
-    ensures { IfOk result (λ _. text.new.items ≡ text.old.items ++ head_line net.now) }
+// Appends the line of a pulse.
+fn push_pulse_line<P: ProgramText>(
+    text: &mut Vec<u8>,
+    net: &Network,
+    pulse: u32,
+) -> Result<(), AllocError>
+    ensures { IfOk result (λ _. text.new.items ≡ text.old.items ++ pulse_line P.texts net.now pulse) }
 {
-    text.extend_from_slice(b"rounds ")?;
-    let nodes = u64::from(net.nodes());
-    let degree = u64::from(net.greatest_degree());
-    let bars = u64::from(net.greatest_bars());
-    let forests = u64::from(net.forest_count());
-    let last = u64::from(Colouring::last_pulse(net));
-    if bars == 0 {
-        push_row(text, &[1, nodes, degree, forests, last])
-    } else {
-        push_row(text, &[2, nodes, degree, bars, forests, last])
-    }
-}
-
-// Appends the line of a pulse, and returns its phase.
-fn push_pulse_line(text: &mut Vec<u8>, net: &Network, pulse: u32) -> Result<Phase, AllocError>
-    ensures text { IfOk result (λ _. text.new.items ≡ text.old.items ++ pulse_line net.now pulse) }
-    ensures phase { IfOk result (λ phase. phase ≡ phase_of (sizes_of net.now) pulse) }
-    ensures real { IfOk result (IsPhase (sizes_of net.now)) }
-{
-    let schedule = Schedule::of(net);
-    let phase = schedule.phase(pulse);
     push_numbered(text, b"pulse ", u128::from(pulse))?;
-    push_phase(text, &schedule, phase)?;
+    P::push_phase(text, net, pulse)?;
     text.push(b'\n')?;
-    Ok(phase)
+    Ok(())
 }
 
 // Appends the lines of a vertex.
-fn push_vertex(
+fn push_vertex<P: ProgramText>(
     text: &mut Vec<u8>,
-    phase: Phase,
-    rounds: &Rounds<'_, Colouring>,
+    rounds: &Rounds<'_, P>,
     v: u32,
 ) -> Result<(), AllocError>
     requires vertex { IsVertex rounds.now.net v }
-    requires phase { phase ≡ phase_of (sizes_of rounds.now.net) rounds.now.pulse }
-    requires real { IsPhase (sizes_of rounds.now.net) phase }
-    ensures { IfOk result (λ _. text.new.items ≡ text.old.items ++ vertex_text rounds.now.net rounds.now.pulse v) }
+    ensures { IfOk result (λ _. text.new.items ≡ text.old.items
+        ++ vertex_text P.program P.texts P.Payload.word_of P.Payload.number_of rounds.now.net rounds.now.pulse v) }
 {
-    push_node(text, phase, v, rounds.node(v).node())?;
+    rounds
+        .node(v)
+        .push_lines(text, rounds.network(), rounds.pulse(), v)?;
     push_puts(text, rounds.network(), rounds.pulse(), v, rounds.outbox(v))
 }
 
 // Appends the lines of a pulse.
-fn push_pulse(text: &mut Vec<u8>, rounds: &Rounds<'_, Colouring>) -> Result<(), AllocError>
-    ensures { IfOk result (λ _. text.new.items ≡ text.old.items ++ pulse_text rounds.now.net rounds.now.pulse) }
+fn push_pulse<P: ProgramText>(text: &mut Vec<u8>, rounds: &Rounds<'_, P>) -> Result<(), AllocError>
+    ensures { IfOk result (λ _. text.new.items ≡ text.old.items
+        ++ pulse_text P.program P.texts P.Payload.word_of P.Payload.number_of rounds.now.net rounds.now.pulse) }
 {
-    let phase = push_pulse_line(text, rounds.network(), rounds.pulse())?;
+    push_pulse_line::<P>(text, rounds.network(), rounds.pulse())?;
     for i in 0..rounds.network().nodes() {
-        push_vertex(text, phase, rounds, i + 1)?;
+        push_vertex(text, rounds, i + 1)?;
     }
     Ok(())
 }
 
-/// The synchronous run of the colouring on a network: `rounds 1 N DELTA U R`, or `rounds 2 N DELTA BARS U R`
-/// where a vertex has a bar, and then for each pulse 0 to R a line
-/// `pulse P PHASE`, and behind it for each vertex its colours or its choice, and what it sends.
+/// The synchronous run of a program on a network: the program's first line, and then for each pulse 0 to the last a line
+/// `pulse P` with the program's words for it, and behind it for each vertex what the program says of its node, and
+/// what the node sends.
 ///
 /// # Errors
 ///
 /// If memory is refused.
-pub fn rounds_text(alloc: Global, net: &Network) -> Result<Vec<u8>, Memory>
-    ensures text { IfOk result (λ text. text.items ≡ rounds_text net.now) }
+pub fn rounds_text<P: ProgramText>(alloc: Global, net: &Network) -> Result<Vec<u8>, Memory>
+    ensures text { IfOk result (λ text. text.items
+        ≡ rounds_text P.program P.texts P.Payload.word_of P.Payload.number_of net.now) }
 {
     let mut text = Vec::new(alloc);
-    push_head(&mut text, net)?;
-    let mut rounds = Rounds::<Colouring>::start(alloc, net)?;
+    P::push_head(&mut text, net)?;
+    let mut rounds = Rounds::<P>::start(alloc, net)?;
     push_pulse(&mut text, &rounds)?;
-    for _done in 0..Colouring::last_pulse(net) {
+    for _done in 0..P::last_pulse(net) {
         rounds.step();
         push_pulse(&mut text, &rounds)?;
     }

@@ -5,8 +5,8 @@ ghost use Rattle.command_line.specs.Asked.{IsInRange};
 ghost use Rattle.serving.specs.Answers.{MayAnswer};
 
 use byte_functions::{
-    OpenGate, PlanFault, check_bytes, events_bytes, forest_bytes, plain_bytes, plan_bytes,
-    replay_bytes, rounds_bytes, transcript_bytes,
+    Colouring, OpenGate, PlanFault, check_bytes, events_bytes, forest_bytes, plain_bytes,
+    plan_bytes, replay_bytes, rounds_bytes, transcript_bytes,
 };
 use command_line::Request;
 use std::alloc::Global;
@@ -36,8 +36,8 @@ pub fn answer_bytes<T: Threads + Wait + Sync>(
             transcript_bytes(rt, alloc, input, options, edition, &OpenGate)
         }
         Request::Check => check_bytes(alloc, input),
-        Request::Events => events_bytes(alloc, input),
-        Request::Replay => replay_bytes(alloc, input),
-        Request::Rounds => rounds_bytes(alloc, input),
+        Request::Events => events_bytes::<Colouring>(alloc, input),
+        Request::Replay => replay_bytes::<Colouring>(alloc, input),
+        Request::Rounds => rounds_bytes::<Colouring>(alloc, input),
     }
 }

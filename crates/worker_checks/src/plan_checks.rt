@@ -3,7 +3,7 @@
 use crate::meeting::Meeting;
 use crate::node_pool_checks::PULSES;
 use crate::runs::BY_TWO;
-use byte_functions::{Edition, plan_bytes, replay_bytes, transcript_bytes};
+use byte_functions::{Colouring, Edition, plan_bytes, replay_bytes, transcript_bytes};
 use std::alloc::Global;
 use std::sync::Wait;
 use std::thread::Threads;
@@ -33,7 +33,7 @@ fn is_replayed(alloc: Global, transcript: &[u8]) -> bool {
     text.extend_from_slice(TRIANGLE).is_ok()
         && text.extend_from_slice(transcript).is_ok()
         && transcript.starts_with(b"transcript 2 3\n")
-        && replay_bytes(alloc, &text).is_ok()
+        && replay_bytes::<Colouring>(alloc, &text).is_ok()
 }
 
 // Whether two workers make a transcript through a gate that is replayed.

@@ -4,4 +4,4 @@ use Rattle.answers.proofs.replaying.bare_rows.Given as goal
 
 -- the entries so far, without their stamps
 abbrev pub invariant-loop-row : goal.invariant-loop-row
-invariant-loop-row l = l.bare.items ≡ bare_rows (take l.row-index l.rows)
+invariant-loop-row g l = l.bare.items ≡ bare_rows (take l.row-index l.rows)

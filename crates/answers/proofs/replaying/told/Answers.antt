@@ -4,10 +4,12 @@ use Rattle.answers.proofs.RefusedLines.{get-here, is-told}
 use Rattle.answers.proofs.replaying.told.Goals as goal
 
 pub returns-in-Ok-words_of : goal.returns-in-Ok-words_of
-returns-in-Ok-words_of c =
+returns-in-Ok-words_of g c =
+    let program = g.P.NodeProgram.program in
+    let m = g.P.Payload.PayloadText in
     let row = c.in-Some-get.row.now in
     let reached = c.in-Ok.state.state in
-    is-told c.args.network.now c.args.rows.now c.args.lines.now c.args.refused c.fault_at.result
+    is-told program m.word_of m.number_of c.args.network.now c.args.rows.now c.args.lines.now c.args.refused c.fault_at.result
     (record {
       index = c.in-Some.index;
       is_index = sym c.index_of.ensures ∙ c.in-Some.is;
@@ -16,6 +18,6 @@ returns-in-Ok-words_of c =
       reached = reached;
       is_replay = c.in-Ok.ensures.accepts;
       words = c.in-Ok-words_of.words;
-      says = c.in-Ok-words_of.ensures ∙ ap (λ net. words_text net reached row c.args.refused) c.in-Ok.ensures.net;
+      says = c.in-Ok-words_of.ensures ∙ ap (λ net. words_text program m.word_of m.number_of net reached row c.args.refused) c.in-Ok.ensures.net;
       is_told = c.fault_at.ensures;
     })

@@ -1,6 +1,6 @@
-use Rattle.std.proofs.Common.{◌≡◌, ◌+◌, ◌++◌, [], arith}
+use Rattle.std.proofs.Common.{◌≡◌, ◌+◌, ◌++◌, [], ℕ, List, arith}
 use Rattle.event_machine.specs.State.{node_of}
-use Rattle.colour_program.specs.colour_rules.Program.{colouring}
+use Rattle.alpha_core.specs.node_api.Program.{last_pulse_on}
 use Rattle.event_texts.specs.StateText.{links_text, node_text}
 use Rattle.wire_texts.proofs.Ranges.{behind, texts-more}
 use Rattle.std.proofs.Common.{◌∙◌, ap}
@@ -10,29 +10,33 @@ use Rattle.event_texts.proofs.Told.{at_end, err_says}
 use Rattle.event_texts.proofs.state_text.text_of_state.Goals as goal
 
 pub loop-i-preserved : goal.loop-i-preserved
-loop-i-preserved c =
+loop-i-preserved g c =
     let state = c.args.state.now in
+    let program = g.P.NodeProgram.program in
+    let words = g.P.Payload.PayloadText in
     let v = c.loop-i.i + 1 in
-    let node = node_text state.net v (node_of colouring state.net state.state v) in
-    let links = links_text state.net state.state v in
+    let node_line : ℕ → List ℕ = λ k. node_text g.P.ProgramText.texts (last_pulse_on program state.net) k (node_of program state.net state.state k) in
+    let link_lines : ℕ → List ℕ = links_text words.word_of words.number_of state.net state.state in
     let same : 1 + c.loop-i.i ≡ v = omega arith in
-    texts-more (λ k. node_text state.net k (node_of colouring state.net state.state k) ++ links_text state.net state.state k)
+    texts-more (λ k. node_line k ++ link_lines k)
     1 c.loop-i.i v [] c.loop-i.text.items c.push_links.new.text.items same c.loop-i.invariant
-    (behind c.loop-i.text.items node links c.push_node.new.text.items c.push_links.new.text.items c.in_ok-push_node.ensures c.in_ok-push_links.ensures)
+    (behind c.loop-i.text.items (node_line v) (link_lines v) c.push_node.new.text.items c.push_links.new.text.items c.in_ok-push_node.ensures c.in_ok-push_links.ensures)
 
 pub returns : goal.returns
-returns c =
+returns g c =
     let state = c.args.state.now in
+    let program = g.P.NodeProgram.program in
+    let words = g.P.Payload.PayloadText in
     record {
       text = c.loop-i.invariant
-          ∙ ap (λ n. flat_map (λ v. node_text state.net v (node_of colouring state.net state.state v) ++ links_text state.net state.state v)
-          (range_with_len 1 n))
+          ∙ ap (λ n. flat_map (λ v. node_text g.P.ProgramText.texts (last_pulse_on program state.net) v (node_of program state.net state.state v)
+          ++ links_text words.word_of words.number_of state.net state.state v) (range_with_len 1 n))
           (at_end c.loop-i.i c.nodes-i-end.result (count_of state.net) c.loop-i.auto.i-end c.loop-i-test.false
           (c.nodes-i-end.ensures.count ∙ ap count_of c.network.ensures.network));
     }
 
 pub returns-in_err-push_node : goal.returns-in_err-push_node
-returns-in_err-push_node c = record { text = err_says _ _ c.from_residual.result c.from_residual.ensures.1 }
+returns-in_err-push_node g c = record { text = err_says _ _ c.from_residual.result c.from_residual.ensures.1 }
 
 pub returns-in_err-push_links : goal.returns-in_err-push_links
-returns-in_err-push_links c = record { text = err_says _ _ c.from_residual-in_err-push_links.result c.from_residual-in_err-push_links.ensures.1 }
+returns-in_err-push_links g c = record { text = err_says _ _ c.from_residual-in_err-push_links.result c.from_residual-in_err-push_links.ensures.1 }

@@ -4,9 +4,12 @@ use Rattle.wire_texts.proofs.Ranges.{texts-more}
 use Rattle.round_texts.proofs.rounds.push_pulse.Goals as goal
 
 pub loop-i-preserved : goal.loop-i-preserved
-loop-i-preserved c =
+loop-i-preserved g c =
     let at = c.args.rounds.now in
     let v = c.loop-i.i + 1 in
+    let texts = g.P.ProgramText.texts in
+    let words = g.P.Payload.PayloadText in
     let same : 1 + c.loop-i.i ≡ v = omega arith in
-    texts-more (vertex_text at.net at.pulse) 1 c.loop-i.i v (c.args.text.now.items ++ pulse_line at.net at.pulse) c.loop-i.text.items
+    texts-more (vertex_text g.P.NodeProgram.program texts words.word_of words.number_of at.net at.pulse) 1 c.loop-i.i v
+    (c.args.text.now.items ++ pulse_line texts at.net at.pulse) c.loop-i.text.items
     c.push_vertex.new.text.items same c.loop-i.invariant c.in_ok-push_vertex.ensures

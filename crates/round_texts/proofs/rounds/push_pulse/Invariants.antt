@@ -4,5 +4,8 @@ use Rattle.round_texts.specs.RoundsText.{pulse_line, vertex_text}
 use Rattle.round_texts.proofs.rounds.push_pulse.Given as goal
 
 abbrev pub invariant-loop-i : goal.invariant-loop-i
-invariant-loop-i l = l.text.items
-    ≡ (l.fn.text.items ++ pulse_line l.rounds.net l.rounds.pulse) ++ flat_map (vertex_text l.rounds.net l.rounds.pulse) (range_with_len 1 l.i)
+invariant-loop-i g l =
+    let words = g.P.Payload.PayloadText in
+    l.text.items
+    ≡ (l.fn.text.items ++ pulse_line g.P.ProgramText.texts l.rounds.net l.rounds.pulse)
+    ++ flat_map (vertex_text g.P.NodeProgram.program g.P.ProgramText.texts words.word_of words.number_of l.rounds.net l.rounds.pulse) (range_with_len 1 l.i)

@@ -1,12 +1,15 @@
 use Rattle.std.proofs.Common.{◌≡◌, ◌∙◌, ◌+◌, ◌++◌, ap, arith}
 use Rattle.sync_rounds.specs.Rounds.{AtPulse}
-use Rattle.round_texts.specs.RoundsText.{head_line, pulse_text}
+use Rattle.round_texts.specs.RoundsText.{pulse_text}
 use Rattle.wire_texts.proofs.Ranges.{texts-more}
 use Rattle.round_texts.proofs.rounds.rounds_text.Goals as goal
 
 pub loop-done-preserved : goal.loop-done-preserved
-loop-done-preserved c =
+loop-done-preserved g c =
     let net = c.args.net.now in
+    let texts = g.P.ProgramText.texts in
+    let words = g.P.Payload.PayloadText in
+    let pulse_lines = pulse_text g.P.NodeProgram.program texts words.word_of words.number_of in
     let p = c.loop-done._done + 1 in
     let next : AtPulse = record { net = net; pulse = p } in
     let step : AtPulse → AtPulse = λ at. record { net = at.net; pulse = at.pulse + 1 } in
@@ -14,7 +17,7 @@ loop-done-preserved c =
     let same : 0 + p ≡ p = omega arith in
     record {
       rounds = is_next;
-      text = texts-more (pulse_text net) 0 p p (head_line net) c.loop-done.text.items c.push_pulse-in-loop-done.new.text.items same
+      text = texts-more (pulse_lines net) 0 p p (texts.head net) c.loop-done.text.items c.push_pulse-in-loop-done.new.text.items same
           c.loop-done.invariant.text (c.in_ok-push_pulse-2.ensures
-          ∙ ap (λ (at : AtPulse). c.loop-done.text.items ++ pulse_text at.net at.pulse) is_next);
+          ∙ ap (λ (at : AtPulse). c.loop-done.text.items ++ pulse_lines at.net at.pulse) is_next);
     }

@@ -1,7 +1,7 @@
 use Rattle.std.proofs.Common.{◌≡◌, ◌+◌, arith}
-use Rattle.round_texts.specs.ColoursText.{colour_text}
+use Rattle.colour_program.specs.ColoursText.{colour_text}
 use Rattle.wire_texts.proofs.Ranges.{texts-more}
-use Rattle.round_texts.proofs.colours.push_colours.Goals as goal
+use Rattle.colour_program.proofs.colours_text.push_colours.Goals as goal
 
 pub loop-forest-preserved : goal.loop-forest-preserved
 loop-forest-preserved c =

@@ -1,11 +1,15 @@
-//! The colouring's own lines.
+//! The colouring's texts: the first line of its rounds, its phases, colours and choices, and the channel of a node.
 
 ghost use Rattle.std.specs.Prelude.{◌≡◌, ◌<◌, ◌++◌, IfOk};
-ghost use Rattle.colour_program.specs.colour_rules.Node.{IsPhase};
-ghost use Rattle.round_texts.specs.ColoursText.{choice_text, colour_text, colours_text, node_text, phase_text};
-ghost use Rattle.round_texts.specs.ColoursText.{reduction_text};
+ghost use Rattle.colour_laws.specs.colour_rules.Node.{IsPhase};
+ghost use Rattle.colour_program.specs.ColoursText.{choice_text, colour_text, colours_text, node_text, phase_text};
+ghost use Rattle.colour_program.specs.ColoursText.{reduction_text};
 
-use colour_program::{ColourNode, Phase, Reduction, Schedule};
+use crate::colouring::Colouring;
+use colour_laws::{ColourNode, Phase, Reduction, Schedule};
+use node_api::{Network, NodeProgram};
+use number_rows::push_row;
+use program_texts::ProgramText;
 use std::alloc::AllocError;
 use wire_texts::push_numbered;
 
@@ -19,16 +23,8 @@ fn push_reduction(text: &mut Vec<u8>, reduction: Reduction) -> Result<(), AllocE
     }
 }
 
-/// Appends the words of a phase, a space before each.
-///
-/// # Errors
-///
-/// If a growth is refused.
-pub(crate) fn push_phase(
-    text: &mut Vec<u8>,
-    schedule: &Schedule,
-    phase: Phase,
-) -> Result<(), AllocError>
+// Appends the words of a phase, a space before each.
+fn push_words(text: &mut Vec<u8>, schedule: &Schedule, phase: Phase) -> Result<(), AllocError>
     ensures { IfOk result (λ _. text.new.items ≡ text.old.items ++ phase_text schedule.now phase) }
 {
     match phase {
@@ -75,17 +71,8 @@ fn push_choice(text: &mut Vec<u8>, v: u32, node: &ColourNode) -> Result<(), Allo
     Ok(())
 }
 
-/// Appends what is said of a node after a pulse of this phase.
-///
-/// # Errors
-///
-/// If a growth is refused.
-pub(crate) fn push_node(
-    text: &mut Vec<u8>,
-    phase: Phase,
-    v: u32,
-    node: &ColourNode,
-) -> Result<(), AllocError>
+// Appends what is said of a node after a pulse of this phase.
+fn push_node(text: &mut Vec<u8>, phase: Phase, v: u32, node: &ColourNode) -> Result<(), AllocError>
     requires real { IsPhase node.now.sizes phase }
     ensures { IfOk result (λ _. text.new.items ≡ text.old.items ++ node_text phase v node.now) }
 {
@@ -93,5 +80,52 @@ pub(crate) fn push_node(
         Phase::Seed | Phase::Work(_) => push_colours(text, v, node),
         Phase::Merge(forest, step) if node.chose_at(forest, step) => push_choice(text, v, node),
         _ => Ok(()),
+    }
+}
+
+impl ProgramText for Colouring {
+    ghost use Rattle.colour_program.specs.ColoursText.{colouring_named, colouring_texts};
+
+    ghost texts = { colouring_texts };
+
+    ghost named = { colouring_named };
+
+    fn name() -> &'static str {
+        "colouring"
+    }
+
+    // The edition is 2 where a vertex has a bar, for the merging then goes by Δ and the bars.
+    fn push_head(text: &mut Vec<u8>, net: &Network) -> Result<(), AllocError> {
+        text.extend_from_slice(b"rounds ")?;
+        let nodes = u64::from(net.nodes());
+        let degree = u64::from(net.greatest_degree());
+        let bars = u64::from(net.greatest_bars());
+        let forests = u64::from(net.forest_count());
+        let last = u64::from(Colouring::last_pulse(net));
+        if bars == 0 {
+            push_row(text, &[1, nodes, degree, forests, last])
+        } else {
+            push_row(text, &[2, nodes, degree, bars, forests, last])
+        }
+    }
+
+    fn push_phase(text: &mut Vec<u8>, net: &Network, pulse: u32) -> Result<(), AllocError> {
+        let schedule = Schedule::of(net);
+        push_words(text, &schedule, schedule.phase(pulse))
+    }
+
+    fn push_lines(
+        &self,
+        text: &mut Vec<u8>,
+        _net: &Network,
+        pulse: u32,
+        v: u32,
+    ) -> Result<(), AllocError> {
+        let node = self.node();
+        push_node(text, node.phase(pulse), v, node)
+    }
+
+    fn push_result(&self, text: &mut Vec<u8>) -> Result<(), AllocError> {
+        push_numbered(text, b" channel ", u128::from(self.colour()) + 1)
     }
 }
