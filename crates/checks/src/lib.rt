@@ -27,6 +27,10 @@ mod forests_checks;
 #[cfg(test)]
 mod full_counters;
 #[cfg(test)]
+mod layers_checks;
+#[cfg(test)]
+mod leader_checks;
+#[cfg(test)]
 mod link_alone;
 #[cfg(test)]
 mod link_queue_checks;

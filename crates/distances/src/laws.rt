@@ -1,0 +1,12 @@
+//! What holds of distances in every network. Each law is the contract of a function that does nothing.
+
+ghost use Rattle.std.specs.Prelude.{ℕ, ◌<◌};
+ghost use Rattle.node_api.specs.interference.Net.{Net, IsNetwork, IsVertex, count_of};
+ghost use Rattle.distances.specs.Distance.{IsDistance, IsReached};
+
+/// A vertex that is reached has a distance, which is less than the number of nodes: a shortest way passes no vertex
+/// twice.
+pub fn reached_vertices_have_distances()
+    ensures distance { (net : Net) → IsNetwork net → (v w : ℕ) → IsVertex net v → IsReached net v w
+        → (d : ℕ) × IsDistance net v w d × (d < count_of net) }
+{}

@@ -1,0 +1,4 @@
+pub mod Heard
+pub mod Steps
+pub mod Rounds
+pub mod Reached

@@ -1,0 +1,47 @@
+-- What is still to be heard (`rest`) stays the same from payload to payload, so at the end the first port is what is heard.
+use Rattle.std.proofs.Common.{◌≡◌, ℕ, ◌-◌, Ok, Err, ap, sym, ◌∙◌, arith}
+use Rattle.std.specs.Prelude.{Option, Some, Result, IsTrue, false, drop}
+use Rattle.std.specs.Option.{option_or}
+use Rattle.node_api.specs.Boxes.{fold_rest}
+use Rattle.node_api.specs.declared.program.Refused.{Refused}
+use Rattle.node_api.proofs.Reading.{fold_rest-read, fold_rest-end}
+use Rattle.layers.specs.declared.rules.TheConstants.{WRONG_HOPS}
+use Rattle.layers.specs.Layering.{and_heard}
+use Rattle.layers.proofs.Heard.{heard-right, heard-wrong, refused-stays}
+use Rattle.layers.proofs.hearing.first_port.Goals as goal
+
+pub returns-then-from-clause-heard : goal.returns-then-from-clause-heard
+returns-then-from-clause-heard c =
+    let pulse = c.args.pulse in
+    let after = c.next-hops.new.self in
+    let port : ℕ = after.cursor - 1 in
+    let same : c.sender.result ≡ port = omega (arith, c.sender.ensures.port) in
+    let refusal : ℕ → Result (Option ℕ) Refused = λ k. Err (record { rule = WRONG_HOPS; port = Some k }) in
+    sym (sym c.loop-inbox.invariant.rest
+    ∙ (fold_rest-read (and_heard pulse) c.loop-inbox.inbox c.next-hops.result after (Ok c.loop-inbox.first) c.next-hops.ensures.reads
+    ∙ (ap (λ (r : Result (Option ℕ) Refused). fold_rest (and_heard pulse) r after)
+    (heard-wrong pulse port c.loop-inbox.first c.next-hops.result (λ e. c.if-from.true (omega (arith, c.from.ensures, c.from-in-loop-inbox.ensures))))
+    ∙ (refused-stays pulse after.cursor (record { rule = WRONG_HOPS; port = Some port }) (drop after.cursor after.slots)
+    ∙ ap refusal (sym same)))))
+
+pub loop-inbox-preserved : goal.loop-inbox-preserved
+loop-inbox-preserved c =
+    let pulse = c.args.pulse in
+    let after = c.next-hops.new.self in
+    let port : ℕ = after.cursor - 1 in
+    let same : c.sender.result ≡ port = omega (arith, c.sender.ensures.port) in
+    record {
+      same = c.next-hops.ensures.reads.same ∙ c.loop-inbox.invariant.same;
+      rest = ap (λ (first : Option ℕ). fold_rest (and_heard pulse) (Ok first) after)
+          (c.or-first.ensures ∙ ap (λ (k : ℕ). option_or c.loop-inbox.first (Some k)) same)
+          ∙ (ap (λ (r : Result (Option ℕ) Refused). fold_rest (and_heard pulse) r after)
+          (sym (heard-right pulse port c.loop-inbox.first c.next-hops.result (omega (arith, c.if-from.false, c.from.ensures, c.from-in-loop-inbox.ensures))))
+          ∙ (sym (fold_rest-read (and_heard pulse) c.loop-inbox.inbox c.next-hops.result after (Ok c.loop-inbox.first) c.next-hops.ensures.reads)
+          ∙ c.loop-inbox.invariant.rest));
+    }
+
+pub returns-clause-heard : goal.returns-clause-heard
+returns-clause-heard c =
+    sym (fold_rest-end (and_heard c.args.pulse) c.loop-inbox.inbox (Ok c.loop-inbox.first)
+    (λ h. let e : IsTrue false = c.loop-inbox-test.ensures.more.1 h in (cc)))
+    ∙ c.loop-inbox.invariant.rest

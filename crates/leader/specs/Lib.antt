@@ -1,0 +1,6 @@
+pub mod Elector
+pub mod Election
+pub mod ElectionLaws
+pub mod Words
+pub mod Component
+pub mod Texts
