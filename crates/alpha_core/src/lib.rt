@@ -8,7 +8,7 @@
 //! `specs/Table.antt`. What the synchronous run sends over a link is `stream` of `specs/Streams.antt`, and
 //! `Legal` lists of wires are those that begin it.
 //!
-//! `alpha_laws` proves what such nodes keep of their links, `event_machine` plays a network of them event by
+//! `alpha_laws` proves what such nodes keep of their links, `net_core` plays a network of them event by
 //! event, and `link_rule` and `link_queue` carry their wires.
 //!
 //! ```text

@@ -4,7 +4,7 @@
 //!
 //! `Simulates` of `specs/Simulates.antt` is the claim, one field for each of its words; `NodeFits` of
 //! `specs/Fits.antt` says when one node fits the lists of its links. `Kept` of `specs/Kept.antt` is what
-//! each node keeps by itself. `event_machine` cites the laws for lists of events. `specs/Counts.antt` counts wires and
+//! each node keeps by itself. `net_core` cites the laws for lists of events. `specs/Counts.antt` counts wires and
 //! events; `specs/Progress.antt` says what such nodes can still do, and where they end.
 //!
 //! ```text

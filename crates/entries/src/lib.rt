@@ -2,7 +2,7 @@
 //!
 //! `actor` writes a node's own entries into an `Entries`, each with its stamp (`Counter` of `alpha_core`). It takes 20
 //! bytes an entry and the bytes of a payload where there is one. The 20 bytes lie in blocks that are never moved.
-//! `net_core` plays lists of entries, and `transcripts` writes them as text and reads them.
+//! `replay` plays lists of entries, and `transcripts` writes them as text and reads them.
 //!
 //! ```text
 //! let mut entries = Entries::new(alloc);

@@ -5,7 +5,7 @@
 //! stamp of its put. So a take has a greater stamp than the put of its wire.
 //!
 //! `specs/Stamps.antt` has the stamps of one node's entries, `specs/Merged.antt` those of all nodes in one list.
-//! `order` makes that list; `replay` of `net_core` plays it.
+//! `order` makes that list; `replay` plays it.
 //!
 //! ```text
 //! let lists = [..];                            // the stamped entries of node v in place v - 1

@@ -18,7 +18,7 @@
 //! whole input, and `read_any_behind_network` one of either edition; `network_text` is what stands before it.
 //!
 //! Nodes, vertices and pulses that are read are below 2^32, stamps below 2^64, numbers of payloads below 2^128. Whether
-//! a vertex is there, and whether a stamp is right, is for `net_core` to say.
+//! a vertex is there, and whether a stamp is right, is for `replay` to say.
 #![tactic(auto)]
 
 mod behind;
