@@ -1,2 +1,3 @@
 pub mod Colours
 pub mod Edge
+pub mod Stamped

@@ -3,13 +3,18 @@
 ghost use Rattle.std.specs.Prelude.{◌≡◌, IsOk, length, ℕ};
 ghost use Rattle.alpha_laws.specs.interference.Net.{IsNetwork, Net};
 ghost use Rattle.alpha_laws.specs.Counts.{events_of_run};
+ghost use Rattle.alpha_laws.specs.Laws.{OnEveryNetwork};
+ghost use Rattle.alpha_laws.specs.node_api.Program.{Program};
 ghost use Rattle.sync_rounds.specs.Spread.{spread};
 ghost use Rattle.colour_laws.specs.colour_rules.Program.{colouring};
 ghost use Rattle.event_machine.specs.Laws.{RunsAreExact, RunsSimulate};
 ghost use Rattle.event_machine.specs.Step.{run};
 ghost use Rattle.async_colour_laws.specs.Coloured.{HaltedAreColoured, HaltedOutcomesAreColoured, HaltedRunsAreColoured};
 ghost use Rattle.async_colour_laws.specs.Coloured.{MaximalRunsAreColoured};
+ghost use Rattle.async_colour_laws.specs.Stamped.{StampsAreBounded, StampsFit};
 ghost use Rattle.async_colour_laws.specs.Small.{EndsWhole, EndsWithTheGreatest, edge, whole_run};
+
+use colour_laws::laws::last_pulse_is_limited;
 
 /// If all nodes of the colouring have halted, each has its colour of the definition; so neighbours differ,
 /// each colour is 0 to the span, and none is barred at its node. The first clause holds of whatever ran the nodes,
@@ -37,6 +42,19 @@ pub fn runs_of_the_greatest()
     ensures simulate { (last : ℕ) (net : Net) → IsNetwork net → RunsSimulate (spread last) net }
     ensures exact { (last : ℕ) (net : Net) → IsNetwork net → RunsAreExact (spread last) net }
 {}
+
+/// No stamp of a stamped replay, so none that the nodes of an outcome have given, passes the number of events that a
+/// whole run of the program on this network has.
+pub fn stamps_are_bounded<S, M, E>()
+    ensures law { (program : Program S M E) → OnEveryNetwork program (StampsAreBounded program) }
+{}
+
+/// On every network within the limits, no stamp of a stamped replay of the colouring comes to 2^64.
+pub fn stamps_of_the_colouring_fit()
+    ensures law { (net : Net) → IsNetwork net → StampsFit net }
+{
+    last_pulse_is_limited();
+}
 
 /// A small run meets all premises, and halts: the two nodes of an edge end with the greater identifier. It has 18
 /// events, which is as many as any run of this program there can have, and its state is whole.

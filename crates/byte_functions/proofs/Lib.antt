@@ -1,4 +1,5 @@
 mod Working
+mod Ran
 mod Recording
 mod Keys
 mod TopKeys

@@ -1,13 +1,17 @@
 -- The faults of runs of worker threads.
-use Rattle.std.specs.Prelude.{ℕ, List}
+use Rattle.std.specs.Prelude.{ℕ, Bool, List, Result, Ok, Err, if◌then◌else◌}
 use Rattle.answers.specs.dimacs_col.Lines.{lines_of}
 use Rattle.answers.specs.dimacs_col.Reading.{IsFault}
-use Rattle.answers.specs.interference.Net.{IsNetwork}
+use Rattle.answers.specs.interference.Net.{Net, IsNetwork}
 use Rattle.answers.specs.interference.Making.{IsFaultOf}
 use Rattle.node_pool.specs.run_options.Ranges.{AreInRange}
 use Rattle.node_pool.specs.run_options.Options.{Options}
+use Rattle.node_pool.specs.gather_laws.Outcome.{Outcome, IsOutcome, is_whole}
 use Rattle.answers.specs.pool.PoolFault.{PoolFault}
 use Rattle.answers.specs.pool.PoolFault.TheVariants as pool
+use Rattle.answers.specs.colour_rules.Node as colour
+use Rattle.answers.specs.colour_rules.Payload.{Payload}
+use Rattle.answers.specs.colour_rules.Program.{colouring}
 use Rattle.answers.specs.Answers.{ReadsAs}
 use Rattle.answers.specs.declared.fault.PlanFault.{PlanFault}
 use Rattle.answers.specs.declared.fault.PlanFault.TheVariants as plan
@@ -19,6 +23,21 @@ IsFaultOfPool options pool.Memory = AreInRange options
 IsFaultOfPool options pool.Spawn = AreInRange options
 IsFaultOfPool options pool.StampFull = AreInRange options
 IsFaultOfPool options pool.BadOptions = AreInRange options → ⊥
+
+-- what a run of workers returns that run the nodes of the colouring: an outcome, or its fault
+abbrev pub Ran : Type 0
+Ran = Result (Outcome colour.Node Payload) PoolFault
+
+-- What such a run may return.
+abbrev pub MayRun : Net → Options → Bool → Ran → Type 0
+MayRun net options transcript (Ok outcome) =
+    AreInRange options × IsOutcome colouring net options.capacity transcript outcome
+MayRun net options transcript (Err fault) = IsFaultOfPool options fault
+
+-- What is returned of a run: its fault, or that it stopped if its outcome isn't whole, or else its outcome.
+abbrev pub whole_after : {S M : Type 0} → Result (Outcome S M) PoolFault → Result (Outcome S M) PlanFault
+whole_after (Err fault) = Err (plan.Pool fault)
+whole_after (Ok outcome) = if is_whole outcome then Ok outcome else Err plan.Stopped
 
 -- The fault of a run in which not every node was done. When a run is stopped isn't promised.
 abbrev pub IsFaultOfRun : Options → PlanFault → Type 0

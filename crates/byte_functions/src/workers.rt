@@ -5,16 +5,34 @@ ghost use Rattle.node_pool.specs.run_options.Ranges.{AreInRange};
 ghost use Rattle.answers.specs.colour_rules.Program.{colouring};
 ghost use Rattle.node_pool.specs.gather_laws.Outcome.{IsOutcome, is_whole};
 ghost use Rattle.answers.specs.Answers.{IsPlainAnswer};
-ghost use Rattle.byte_functions.specs.Workers.{IsFaultOfRun, IsFaultOfWorkers};
+ghost use Rattle.byte_functions.specs.Workers.{IsFaultOfRun, IsFaultOfWorkers, MayRun, Ran, whole_after};
 
 use crate::plan_text::text_of_nodes;
 use answers::laws::colours_are_proper;
 use answers::{Colouring, Network, Payload, PlanFault, Refused, network_of_text};
 use async_colour_laws::laws::halted_nodes_are_coloured;
-use node_pool::{Gate, Options, Outcome, run_workers, whole_outcomes_are_complete};
+use node_pool::{Gate, Options, Outcome, PoolFault, run_workers, whole_outcomes_are_complete};
 use std::alloc::Global;
 use std::sync::Wait;
 use std::thread::Threads;
+
+// What a run left, if that is whole.
+fn unless_stopped(
+    ran: Result<Outcome<Colouring>, PoolFault>,
+) -> Result<Outcome<Colouring>, PlanFault>
+    ensures whole { result ≡ whole_after ran }
+{
+    match ran {
+        Err(fault) => Err(PlanFault::Pool(fault)),
+        Ok(outcome) => {
+            if outcome.is_whole() {
+                Ok(outcome)
+            } else {
+                Err(PlanFault::Stopped)
+            }
+        }
+    }
+}
 
 /// What workers leave that run the nodes of the colouring until all are done, with a transcript or without, whatever
 /// the options say of it.
@@ -34,6 +52,7 @@ pub(crate) fn whole_run<G: Gate + Sync, R: Threads + Wait + Sync>(
     ensures whole { IfOk result (λ outcome. is_whole outcome ≡ true) }
     ensures in_range { IfOk result (λ _. AreInRange options) }
     ensures fault { IfErr result (IsFaultOfRun options) }
+    ensures of_run { (ran : Ran) × MayRun network.now options transcript ran × (result ≡ whole_after ran) }
 {
     let run = Options {
         workers: options.workers,
@@ -41,11 +60,7 @@ pub(crate) fn whole_run<G: Gate + Sync, R: Threads + Wait + Sync>(
         turns: options.turns,
         transcript,
     };
-    let outcome = run_workers::<Colouring, G, R>(rt, alloc, network, run, gate)?;
-    if !outcome.is_whole() {
-        return Err(PlanFault::Stopped);
-    }
-    Ok(outcome)
+    unless_stopped(run_workers::<Colouring, G, R>(rt, alloc, network, run, gate))
 }
 
 /// The channel plan of the network that a DIMACS text describes, as `plain_bytes` gives it. The nodes find their

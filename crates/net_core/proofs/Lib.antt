@@ -5,4 +5,5 @@ pub mod Replayed
 pub mod WholeReplays
 pub mod Decided
 pub mod Ones
+pub mod Counted
 pub mod event_machine

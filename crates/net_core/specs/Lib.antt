@@ -3,4 +3,5 @@ pub mod Rows
 pub mod Replays
 pub mod Laws
 pub mod Whole
+pub mod Counted
 pub mod event_machine

@@ -1,7 +1,9 @@
 //! What holds of every list of entries. Each law is a function that does nothing: its contract is the law.
 
+ghost use Rattle.alpha_laws.specs.interference.Net.{Net};
 ghost use Rattle.alpha_laws.specs.node_api.Program.{Program};
 ghost use Rattle.alpha_laws.specs.Laws.{OnEveryNetwork};
+ghost use Rattle.net_core.specs.Counted.{StampsAreCounted};
 ghost use Rattle.net_core.specs.Laws.{ReplaysAreExact};
 ghost use Rattle.net_core.specs.Whole.{WholeReplaysAreExact};
 
@@ -15,4 +17,10 @@ pub fn replays_are_exact<S, M, E>()
 /// has memory for.
 pub fn whole_replays_are_exact<S, M, E>()
     ensures law { (program : Program S M E) → OnEveryNetwork program (WholeReplaysAreExact program) }
+{}
+
+/// No stamp passes the number of events: in a stamped replay the stamp of each entry is at most the number of entries,
+/// and each is of one event.
+pub fn stamps_are_counted<S, M, E>()
+    ensures law { (program : Program S M E) (net : Net) → StampsAreCounted program net }
 {}

@@ -5,12 +5,13 @@ ghost use Rattle.pool.specs.actor.Tables.{tables_of};
 ghost use Rattle.outcomes.specs.gather_laws.Outcome.{IsOutcome};
 ghost use Rattle.pool.specs.declared.fault.PoolFault.TheVariants.{BadOptions};
 ghost use Rattle.run_options.specs.Ranges.{AreInRange};
+ghost use Rattle.node_pool.specs.Ends.{full_after};
 ghost use Rattle.node_pool.specs.Makes.{AreMade};
 
 use crate::making::{Made, make_links};
 use crate::starting::start_nodes;
 use outcomes::{Network, NodeProgram, Outcome, gathered, some_full};
-use pool::{Gate, Links, PoolFault, Wiring, run_nodes};
+use pool::{Gate, Links, Node, PoolFault, Wiring, run_nodes};
 use run_options::{MAX_CAPACITY, MAX_WORKERS, Options};
 use std::alloc::Global;
 use std::marker::Brand;
@@ -25,6 +26,17 @@ fn are_in_range(options: Options) -> bool
         && options.workers <= MAX_WORKERS
         && 1 <= options.capacity
         && options.capacity <= MAX_CAPACITY
+}
+
+// Whether a node set a wire aside since the stamp of its take would be too great: that is the fault of the run.
+fn unless_full<J: Wiring, P: NodeProgram>(nodes: &Vec<Node<J, P>>) -> Result<(), PoolFault>
+    ensures full { result ≡ full_after tt (map (λ n. n.aside) nodes.now.items) }
+    ensures fault { IfErr result (λ fault. fault ≢ BadOptions) }
+{
+    if some_full(nodes) {
+        return Err(PoolFault::StampFull);
+    }
+    Ok(())
 }
 
 // Runs nodes over the links that were made, whose queues the run has picked.
@@ -58,9 +70,7 @@ fn run_made<J: Wiring + Send + Sync, P: NodeProgram, G: Gate + Sync, R: Threads 
         options.workers,
         options.turns,
     )?;
-    if some_full(&nodes) {
-        return Err(PoolFault::StampFull);
-    }
+    unless_full(&nodes)?;
     Ok(gathered(rt, alloc, net, links.into_rows(), nodes)?)
 }
 

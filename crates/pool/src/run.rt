@@ -4,7 +4,7 @@ ghost use Rattle.std.specs.Prelude.{◌≡◌, ◌≢◌, ◌<◌, ◌≤◌, Al
 ghost use Rattle.actor.specs.interference.Net.{vertices};
 ghost use Rattle.crossbeam_deque.specs.Handles.{stealer_deque, worker_deque};
 ghost use Rattle.worker_deques.specs.deque_rule.Deques.{deque_of};
-ghost use Rattle.pool.specs.declared.fault.PoolFault.TheVariants.{BadOptions, Spawn};
+ghost use Rattle.pool.specs.declared.fault.PoolFault.TheVariants.{BadOptions, Spawn, StampFull};
 
 use crate::fault::PoolFault;
 use crate::looks::{Crew, work};
@@ -95,6 +95,7 @@ fn start_all<
         ≡ map stealer_deque thieves.now.items) desks.items }
     ensures desks { IfOk result (λ hs. map (λ h. h.promise.0.value) hs.items ≡ desks.items) }
     ensures fault { IfErr result (λ fault. fault ≢ BadOptions) }
+    ensures no_stamp { IfErr result (λ fault. fault ≢ StampFull) }
 {
     let mut children = Vec::with_capacity(alloc, desks.len())?;
     let mut worker = 0;
@@ -175,6 +176,7 @@ pub fn run_nodes<J: Wiring + Send + Sync, P: NodeProgram, G: Gate + Sync, R: Thr
             ensures guests { IfOk result (λ done. map (λ d. map (λ g. deque_of g.pass) d.guests.items) done.items
                 ≡ map (λ d. map (λ g. deque_of g.pass) d.guests.items) desks.items) }
             ensures fault { IfErr result (λ fault. fault ≢ BadOptions) }
+            ensures no_stamp { IfErr result (λ fault. fault ≢ StampFull) }
         {
             let children = start_all(scope, rt, alloc, crew, thieves, desks, turns)?;
             join_all(rt, crew.signals, children)

@@ -1,5 +1,9 @@
 //! Serving the words that the system gives.
 
+ghost use Rattle.std.specs.Prelude.{ℕ, List};
+ghost use Rattle.serving.specs.Serve.{ServesWords};
+ghost use Rattle.serving.specs.Streams.{reading, writing};
+
 use crate::serving::{refuse_memory, serve};
 use crate::words::serve_all;
 use command_line::Program;
@@ -19,7 +23,7 @@ fn arguments<T: Env + AllocGlobal>(rt: &T) -> io::Result<Vec<String>> {
 /// Serves the command of a program that the system's words name, and returns the status of the program. `main` gives
 /// standard input, output and errors.
 ///
-/// `serve_all` has the contract. That the words and the streams are handed on as they are is only tested.
+/// It serves some words as `serve` does. That these are the system's words is only tested.
 pub fn serve_process<T, R: Source, W: Sink, E: Sink>(
     rt: &T,
     program: Program,
@@ -29,6 +33,10 @@ pub fn serve_process<T, R: Source, W: Sink, E: Sink>(
 ) -> u8
 where
     T: Threads + Wait + Sync + Env + AllocGlobal,
+    ensures served { (words : List (List ℕ)) × ServesWords program words
+        (reading R.remaining R.faults R.reads_left input.old input.new)
+        (writing W.contents W.faults output.old output.new)
+        (writing E.contents E.faults errors.old errors.new) result }
 {
     let alloc = rt.alloc();
     match arguments(rt) {

@@ -1,7 +1,10 @@
-use Rattle.std.proofs.Common.{◌≤◌, map, sym, ◌∙◌, subst}
-use Rattle.std.specs.Prelude.{All}
+use Rattle.std.proofs.Common.{◌≡◌, ◌≤◌, Bool, true, false, if◌then◌else◌, Ok, Err, map, refl, sym, ◌∙◌, subst}
+use Rattle.std.specs.Prelude.{All, Result}
 use Rattle.pool.specs.link_queue.Ends.{link_capacity}
+use Rattle.outcomes.specs.Full.{some_full}
 use Rattle.outcomes.specs.gather_laws.Outcome.{IsOutcome}
+use Rattle.pool.specs.declared.fault.PoolFault.{PoolFault}
+use Rattle.pool.specs.declared.fault.PoolFault.TheVariants.{StampFull}
 use Rattle.node_pool.specs.Makes.{AreMade}
 use Rattle.node_pool.proofs.MadeRows.{made_are_new, made_within}
 use Rattle.node_pool.proofs.run.run_made.Goals as goal
@@ -14,6 +17,17 @@ start_nodes-requires-clause-ends g c κs within =
     let are_made = subst (λ net. AreMade net capacity (map (λ row. row.items) made.links.items) (map (λ row. row.items) made.puts.items)
     (map (λ row. row.items) made.takes.items)) (sym c.requires.network) c.requires.made in
     made_are_new g.J.Wiring.net capacity _ _ _ g.J.Wiring.tables (sym c.requires.tables) are_made
+
+-- nothing is reported only if no wire was set aside for its stamp
+not_full : {A : Type 0} (done x : A) (told : Result A PoolFault) (full : Bool) → told ≡ (if full then Err StampFull else Ok done) → told ≡ Ok x
+    → full ≡ false
+not_full done x told true e is = let no = sym e ∙ is in absurd cc
+not_full done x told false e is = refl
+
+pub gathered-requires-clause-stamps : goal.gathered-requires-clause-stamps
+gathered-requires-clause-stamps g c κs within =
+    not_full (tt {0}) (tt {0}) c.unless_full.result (some_full (map (λ n. n.aside) c.in_ok-nodes-2.nodes.items))
+    c.unless_full.ensures.full c.in_ok-unless_full.was
 
 -- the links that are gathered are those that the nodes used
 pub gathered-requires-clause-tables : goal.gathered-requires-clause-tables

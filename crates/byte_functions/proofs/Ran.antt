@@ -1,0 +1,66 @@
+-- What is returned of a run of workers.
+use Rattle.std.proofs.Common.{◌≡◌, Bool, true, false, refl}
+use Rattle.std.specs.Prelude.{if◌then◌else◌, IfErr, IfOk, Result, Ok, Err}
+use Rattle.answers.specs.interference.Net.{Net}
+use Rattle.node_pool.specs.run_options.Ranges.{AreInRange}
+use Rattle.node_pool.specs.run_options.Options.{Options}
+use Rattle.node_pool.specs.gather_laws.Outcome.{Outcome, IsOutcome, is_whole}
+use Rattle.answers.specs.pool.PoolFault.{PoolFault}
+use Rattle.answers.specs.pool.PoolFault.TheVariants as pool
+use Rattle.answers.specs.colour_rules.Payload.{Payload}
+use Rattle.answers.specs.colour_rules.Node as colour
+use Rattle.answers.specs.colour_rules.Program.{colouring}
+use Rattle.answers.specs.declared.fault.PlanFault.TheVariants as plan
+use Rattle.byte_functions.specs.Workers.{IsFaultOfRun, MayRun, Ran, whole_after}
+use Rattle.byte_functions.proofs.Working.{pool-fault}
+
+abbrev Left : Type 0
+Left = Outcome colour.Node Payload
+
+pub may-run : (net : Net) (o : Options) (t : Bool) (ran : Ran) → IfOk ran (λ _. AreInRange o)
+    → IfOk ran (λ outcome. IsOutcome colouring net o.capacity t outcome) → IfErr ran (λ fault. fault ≡ pool.BadOptions → AreInRange o → ⊥)
+    → ((AreInRange o → ⊥) → ran ≡ Err pool.BadOptions) → MayRun net o t ran
+may-run net o t (Ok outcome) range is only first = (range, is)
+may-run net o t (Err fault) range is only first = pool-fault o fault only (λ out. let e = first out in cc)
+
+pub ok-maps : {A B : Type 0} {X Y : A → Type 0} (r : Result A B) → ((a : A) → X a → Y a) → IfOk r X → IfOk r Y
+ok-maps (Ok a) f x = f a x
+ok-maps (Err b) f x = tt
+
+pub err-maps : {A B : Type 0} {X Y : B → Type 0} (r : Result A B) → ((b : B) → X b → Y b) → IfErr r X → IfErr r Y
+err-maps (Ok a) f x = tt
+err-maps (Err b) f x = f b x
+
+if-whole : (P : Left → Type 0) (outcome : Left) (whole : Bool) → P outcome
+    → IfOk (if whole then Ok outcome else Err plan.Stopped) P
+if-whole P outcome true is = is
+if-whole P outcome false is = tt
+
+is-whole : (outcome : Left) (whole : Bool) → is_whole outcome ≡ whole
+    → IfOk (if whole then Ok outcome else Err plan.Stopped) (λ left. is_whole left ≡ true)
+is-whole outcome true is = is
+is-whole outcome false is = tt
+
+if-stopped : (o : Options) (outcome : Left) (whole : Bool) → AreInRange o
+    → IfErr (if whole then Ok outcome else Err plan.Stopped) (IsFaultOfRun o)
+if-stopped o outcome true range = tt
+if-stopped o outcome false range = range
+
+pub whole-outcome : (net : Net) (o : Options) (t : Bool) (ran : Ran) → MayRun net o t ran
+    → IfOk (whole_after ran) (λ outcome. IsOutcome colouring net o.capacity t outcome)
+whole-outcome net o t (Ok outcome) may = if-whole (IsOutcome colouring net o.capacity t) outcome (is_whole outcome) may.1
+whole-outcome net o t (Err fault) may = tt
+
+pub whole-is : (ran : Ran) → IfOk (whole_after ran) (λ outcome. is_whole outcome ≡ true)
+whole-is (Ok outcome) = is-whole outcome (is_whole outcome) refl
+whole-is (Err fault) = tt
+
+pub whole-range : (net : Net) (o : Options) (t : Bool) (ran : Ran) → MayRun net o t ran
+    → IfOk (whole_after ran) (λ _. AreInRange o)
+whole-range net o t (Ok outcome) may = if-whole (λ _. AreInRange o) outcome (is_whole outcome) may.0
+whole-range net o t (Err fault) may = tt
+
+pub whole-fault : (net : Net) (o : Options) (t : Bool) (ran : Ran) → MayRun net o t ran
+    → IfErr (whole_after ran) (IsFaultOfRun o)
+whole-fault net o t (Ok outcome) may = if-stopped o outcome (is_whole outcome) may.0
+whole-fault net o t (Err fault) may = may

@@ -1,0 +1,13 @@
+-- How great the stamps of a replay can be.
+use Rattle.std.specs.Prelude.{◌≤◌, All, List, length}
+use Rattle.alpha_laws.specs.interference.Net.{Net}
+use Rattle.alpha_laws.specs.node_api.Program.{Program}
+use Rattle.event_machine.specs.State.{State}
+use Rattle.stamps.specs.Merged.{StampedRow}
+use Rattle.net_core.specs.Whole.{IsStampedReplay}
+
+-- No stamp of a stamped replay passes the number of its entries, so that of its events.
+abbrev pub StampsAreCounted : {S M E : Type 0} → Program S M E → Net → Type 0
+StampsAreCounted {S} {M} program net =
+    (rows : List (StampedRow M)) (last : State S M) → IsStampedReplay program net rows last
+    → All (λ row. row.0 ≤ length rows) rows
