@@ -12,7 +12,7 @@ pub true-or-false : (b : Bool) → (b ≡ true) ⊎ (b ≡ false)
 true-or-false true = inl refl
 true-or-false false = inr refl
 
--- before the last pulse it sends at that of its distance alone
+-- before the last pulse it sends at the pulse of its distance alone
 pub sends-due : (p : ℕ) (s : Layered) → p < s.last → is_due s.layer p ≡ true → sends p s ≡ replicate s.degree (Some (record { 0 = p }))
 sends-due p s early due = grind (arith, nat_tests)
 

@@ -13,7 +13,7 @@ pub enum Layer {
     Unreached,
     /// The node is the root.
     Root,
-    /// The root is so many links away, and this port, from 0, leads one link closer.
+    /// How many links lead to the root, and the port, from 0, that leads one link closer.
     Away(u32, u32),
 }
 
