@@ -8,6 +8,7 @@ MODULES = {
     "prove": "prove",
     "prove-crate": "prove_crate",
     "install": "install",
+    "new-program": "new_program",
     "pack": "pack",
     "paths": "paths",
     "promises": "promises",

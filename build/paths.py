@@ -12,7 +12,7 @@ import argparse
 import os
 
 TOP = os.path.dirname(os.path.dirname(os.path.abspath(__file__)))
-MOST = 500
+MOST = 600
 
 
 def words_of_lines():

@@ -42,12 +42,13 @@ class Command:
     @property
     def usage(self):
         """Its usage as a refusal has it."""
-        return f"{self.program} {self.name}{' [OPTIONS]' if self.options else ''}"
+        has_options = self.options or self.program == "forestplay"
+        return f"{self.program} {self.name}{' [OPTIONS]' if has_options else ''}"
 
 
 COMMANDS = (
     Command("forestplan", "forests", TRIANGLE, "forests 3 2|0 1 2|0 2 3|1 1 3|",
-            odd="p edge 3 3|i 2 7|b 3 1|e 1 2|e 1 3|e 2 3|", share=28, is_reader=True),
+            odd="p edge 3 3|i 2 7|b 3 1|e 1 2|e 1 3|e 2 3|", share=25, is_reader=True),
     Command("forestplan", "plain", TRIANGLE, "plan|1 2|2 3|3 1|", odd="c|p col 2 1|e 1 2|i 1 5|b 2 1|", share=3),
     Command("forestplan", "plan", TRIANGLE, "plan|1 2|2 3|3 1|", odd="p edge 2 1|b 1 2|e 2 1|b 2 1|", share=3,
             options=("workers", "capacity", "turns"), words=("--workers", "2")),
@@ -67,6 +68,10 @@ COMMANDS = (
     Command("forestplay", "rounds", ALONE,
             "rounds 1 1 0 0 12|" + "".join(f"pulse {p} {step}|" for p, step in enumerate(STEPS)),
             odd="p edge 1 0|n 1|i 1 9|b 1 1|", share=3),
+    # 30 is 12 + 3 U (D + B + 1), with U = D = 2 and B = 0.
+    Command("forestplay", "run", TRIANGLE,
+            "node 1 pulse 30 channel 2|node 2 pulse 30 channel 3|node 3 pulse 30 channel 1|",
+            odd="p edge 2 1|b 1 2|e 2 1|", share=3, options=("workers", "capacity", "turns"), words=("--workers", "2")),
 )
 PROGRAM_OF = {command.name: command.program for command in COMMANDS}
 # The programs, each with the name of its help text.
@@ -115,6 +120,7 @@ SCRIPTS = (
     Script("workshop", ("--help",), "", r"usage: workshop [^\0]*"),
     Script("install", ("--help",), "", r"usage: install [^\0]*", is_installed=False),
     Script("pack", ("--help",), "", r"usage: pack FOLDER [^\0]*", is_installed=False),
+    Script("new-program", ("--help",), "", r"usage: new-program NAME[^\0]*", is_installed=False),
     Script("vendor", ("--help",), "", r"usage: vendor DIR CRATE [^\0]*", is_installed=False),
     Script("wrong-bodies", ("--help",), "", r"usage: wrong-bodies [^\0]*", is_installed=False),
 )

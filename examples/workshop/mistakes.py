@@ -158,11 +158,27 @@ ALPHA = {
         "        self.go_on()                            # a `close` asks for nothing\n",
         '        if kind == "close":\n            raise SystemExit\n        self.go_on()\n'),
     "no_channel": Mistake(
-        "the channel isn't said", '            self.answer.append(f"channel {self.program.channel()}")\n', ""),
+        "the channel isn't said", "            self.answer.append(self.program.result())\n", ""),
 }
 
-FILES = {"colouring.py": COLOURING, "alpha_node.py": ALPHA}
-MISTAKES = COLOURING | ALPHA
+# Of the layers: for a node of either kind.
+LAYERS = {
+    "layers_again": Mistake(
+        "it sends its layer in every pulse, and not once",
+        "        if self.layer is not None or not inbox:\n",
+        "        if self.layer is not None:\n            return self.to_all() if p < self.last else {}\n"
+        "        if not inbox:\n"),
+    "layers_last": Mistake(
+        "it goes by the last message that comes, and not by the first",
+        "if self.layer is not None or not inbox:", "if self.layer == 0 or not inbox:"),
+    "layers_port": Mistake(
+        "it forgets by which port the message came",
+        "        self.by = min(inbox)\n        self.layer = inbox[self.by][1] + 1",
+        "        self.layer = inbox[min(inbox)][1] + 1"),
+}
+
+FILES = {"colouring.py": COLOURING, "alpha_node.py": ALPHA, "layers.py": LAYERS}
+MISTAKES = COLOURING | ALPHA | LAYERS
 
 
 def write(folder, names=MISTAKES):

@@ -2,6 +2,10 @@
 by their definitions (docs/claim/DEFINITIONS.md), slow and plain. What a caller may only do wrong (a wire that is
 refused, an event that isn't possible) raises `Refused`.
 
+The node under alpha, the network and the synchronous run are of any program: a class with `name`, `last_pulse(net)`,
+the node of a vertex `(net, v)`, and of a node `greet()`, `next(pulse, inbox)` and `result()`, as `Colouring` has them.
+lab/definitions/programs.py has them all.
+
 A vertex is a number from 1. Its ports are numbers from 0: port 0 goes to its neighbour with the least number. A pulse
 is a number from 0, a forest and a colour too.
 
@@ -41,6 +45,9 @@ class Colouring:
     `colours[f]` is the node's colour in forest f, `before[f]` the one before the last shift. `merged` is its colour in
     the forests merged so far, `old` the one before this merge, and `chosen` has what neighbours chose in this merge."""
 
+    name = "colouring"
+    last_pulse = staticmethod(last_pulse)
+
     id: int
     degree: int
     span: int
@@ -77,6 +84,10 @@ class Colouring:
         if pulse <= 12:
             return self.work(pulse, inbox)
         return self.merge(pulse - 13, inbox)
+
+    def result(self) -> str:
+        """What it has found after the last pulse, in the words of a state."""
+        return f"channel {self.merged + 1}"
 
     def orient(self, inbox: list[Slot]) -> list[Slot]:
         """Pulse 1: the higher neighbours, by ascending identifier, are the parents in forests 0, 1, 2 and so on."""
@@ -130,11 +141,11 @@ def bit_step(own: int, parent: int | None) -> int:
     return 2 * i + (own >> i & 1)
 
 
-def synchronous_run(net: Network) -> dict[int, Colouring]:
-    """The nodes after the last pulse, all pulses being made at once."""
-    nodes = {v: Colouring(net, v) for v in net.neighbours}
+def synchronous_run(net: Network, program: type = Colouring) -> dict:
+    """The nodes of a program after the last pulse, all pulses being made at once."""
+    nodes = {v: program(net, v) for v in net.neighbours}
     sent = {v: nodes[v].greet() for v in nodes}
-    for pulse in range(1, last_pulse(net) + 1):
+    for pulse in range(1, program.last_pulse(net) + 1):
         inboxes = {v: [sent[w][ports_of(net, w).index(v)] for w in ports_of(net, v)] for v in nodes}
         sent = {v: nodes[v].next(pulse, inboxes[v]) for v in nodes}
     return nodes
@@ -165,17 +176,16 @@ class Port:
 
 
 class AlphaNode:
-    """A node under synchroniser alpha, of the colouring or of another program with `greet` and `next`: `pulse_number`
-    is 0 to `last`, and `said` means that it has said safe for this pulse."""
+    """A node of a program under synchroniser alpha: `pulse_number` is 0 to `last`, and `said` means that it has said
+    safe for this pulse."""
 
-    program: Colouring
     last: int
     ports: list[Port]
     pulse_number: int
     said: bool
 
-    def __init__(self, net: Network, v: int, program=None):
-        self.program, self.last = program or Colouring(net, v), last_pulse(net)
+    def __init__(self, net: Network, v: int, program: type = Colouring):
+        self.program, self.last = program(net, v), program.last_pulse(net)
         self.ports = [Port() for _ in net.neighbours[v]]
         self.pulse_number, self.said = 0, False
         self.enter(self.program.greet())
@@ -260,10 +270,10 @@ class NetState:
     nodes: dict[int, AlphaNode]
     link: dict[tuple[int, int], list[Wire]]
 
-    def __init__(self, net: Network):
+    def __init__(self, net: Network, program: type = Colouring):
         self.neighbours = {v: ports_of(net, v) for v in net.neighbours}
         self.port_to = {(v, w): port for v, ws in self.neighbours.items() for port, w in enumerate(ws)}
-        self.nodes = {v: AlphaNode(net, v) for v in net.neighbours}
+        self.nodes = {v: AlphaNode(net, v, program) for v in net.neighbours}
         self.link = {(v, port): [] for (v, _), port in self.port_to.items()}
 
     def link_to(self, v: int, port: int) -> list[Wire]:

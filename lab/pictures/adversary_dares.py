@@ -3,6 +3,8 @@
 A dare is {"kind", "words", "answer"} and what the page needs to see that it is won: `apart` has `pairs` and `least`,
 `plan` the round's `plan`, `few` a `node` and the fewest events `best`, `wrong` nothing. What is counted are takes and
 pulses; a put is made by itself."""
+from lab.definitions.nodes import Colouring
+from lab.pictures.adversary_table import found
 from lab.pictures.schedules_space import fault_words
 
 
@@ -74,16 +76,24 @@ def apart_dare(seen):
     }
 
 
+def plan_in(space):
+    """What the nodes find in the rounds: their channels, or the words of another program."""
+    if space.program is Colouring:
+        return [space.rounds.colours[v] + 1 for v in space.vertices]
+    return [space.rounds.results[v] for v in space.vertices]
+
+
 def plan_dare(seen):
     space = seen.space
-    plan = [space.rounds.colours[v] + 1 for v in space.vertices]
+    plan = plan_in(space)
     other = [space.depth[s] for s in space.ends if space.is_whole(space.states[s])
-             and [node.colour + 1 for node in space.nodes(s).values()] != plan]
-    answer = f"Yes, with {events(min(other))}." if other else seen.none("have all halted with other channels")
+             and [found(node) for node in space.nodes(s).values()] != plan]
+    what = "channels" if space.program is Colouring else "results"
+    answer = f"Yes, with {events(min(other))}." if other else seen.none(f"have all halted with other {what}")
     return {
         "kind": "plan",
         "plan": plan,
-        "words": f"Have them all halt with other channels than {', '.join(map(str, plan))}.",
+        "words": f"Have them all halt with other {what} than {', '.join(map(str, plan))}.",
         "answer": answer,
     }
 

@@ -5,11 +5,12 @@ import json
 import os
 import re
 
-from lab.definitions.nodes import wire_words
-from lab.pictures.adversary_dares import dares_of
+from lab.definitions.nodes import Colouring, wire_words
+from lab.pictures.adversary_dares import dares_of, plan_in
 from lab.pictures.adversary_table import table_of
 from lab.pictures.palette import WIRES, channel_hue, text_on
 from lab.pictures.places import circle, fit, gap
+from lab.pictures.program_rounds import is_own
 from lab.pictures.schedules_space import left_out_words, title_of
 from lab.pictures.svg import escaped, shown
 
@@ -56,15 +57,25 @@ def about(space):
             else f" The table goes as far as {space.depth[space.expanded - 1]} takes and pulses."
         )
         return f"{left_out_words(space.without)} Choose what comes next, and try to make something go wrong.{reach}"
-    plan = ", ".join(str(space.rounds.colours[v] + 1) for v in space.vertices)
+    plan = ("channels " if space.program is Colouring else "") + ", ".join(map(str, plan_in(space)))
     return (
         "Choose what comes next: every order of events is in this page. Whatever you choose, after "
-        f"{space.depth[space.ends[0]]} takes and pulses all have halted, with channels {plan}."
+        f"{space.depth[space.ends[0]]} takes and pulses all have halted, with {plan}."
     )
 
 
+def option(program):
+    """What names a program on a command line."""
+    if program is Colouring:
+        return ""
+    return f" --program {program.file if is_own(program) else program.name}"
+
+
 def play_words(network, space):
-    words = f"Store the list as list.events, and type (cat {network.name}.col; cat list.events) | bin/forestplay events"
+    if is_own(space.program):
+        return "What the list comes to, as `forestplay events` writes it of the programs that it knows:"
+    words = (f"Store the list as list.events, and type (cat {network.name}.col; cat list.events) | "
+             f"bin/forestplay events{option(space.program)}")
     if space.without:
         return (
             f"{words}. It keeps all rules, so it names the line of the first event that can happen here alone; "
@@ -75,11 +86,12 @@ def play_words(network, space):
 
 def transcript_words(network, space):
     """How the list becomes the transcript of its run."""
-    name = network.name
-    words = (f"Store the list as list.events, and type bin/simulate {name}.col --events list.events > "
+    name, program = network.name, option(space.program)
+    judge = f"bin/check-transcript {name}.col list.transcript{program}" if is_own(space.program) else (
+        f"(cat {name}.col; cat list.transcript) | bin/forestplay replay{program}")
+    words = (f"Store the list as list.events, and type bin/simulate {name}.col --events list.events{program} > "
              f"list.transcript. Once all have halted (or with --to-the-end, which plays the rest) "
-             f"(cat {name}.col; cat list.transcript) | bin/forestplay replay accepts it. bin/picture run and watch "
-             "draw it, halted or not.")
+             f"{judge} accepts it. bin/picture run and watch draw it, halted or not.")
     return words + " An event that can happen here alone is refused there, with its line." * bool(space.without)
 
 

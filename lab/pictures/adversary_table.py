@@ -2,7 +2,8 @@
 number.
 
   phases    what a node does at each pulse, from 0
-  nodes     for each node, ascending: `values`, a row each of [pulse, words, channel or 0, 1 if it made a pulse with a
+  nodes     for each node, ascending: `values`, a row each of [pulse, words, channel (of another program the words
+            of what it has found) or 0, 1 if it made a pulse with a
             wrong inbox, what it holds in words, for which safes it waits besides in words], and `column`, which of
             them it has in each state
   links     for each link: `from`, `to`, `put` and `take`, the ports of the two, `contents`, lists of numbers of
@@ -72,7 +73,12 @@ def besides_words(space, v, node, value):
 
 
 def node_row(node, last, *words):
-    return [node.pulse, node_words(node), node.colour + 1 if node.pulse == last else 0, int(node.wrong), *words]
+    return [node.pulse, node_words(node), found(node) if node.pulse == last else 0, int(node.wrong), *words]
+
+
+def found(node):
+    """What a node has found at the end: its channel, or the words of another program."""
+    return node.result if node.colour is None else node.colour + 1
 
 
 def held_words(value, neighbours):

@@ -7,10 +7,17 @@ from lab.definitions.nodes import AlphaNode, Refused, wire_words
 
 
 class Sends:
-    """A program that sends what the rounds have, whatever it gets: `sends[pulse][neighbour]` is a payload."""
+    """A program that sends what the rounds have, whatever it gets: `sends[pulse][neighbour]` is a payload. It is its
+    own node, since each vertex sends other things."""
 
-    def __init__(self, neighbours, sends):
-        self.neighbours, self.sends = neighbours, sends
+    def __init__(self, neighbours, sends, last):
+        self.neighbours, self.sends, self.last = neighbours, sends, last
+
+    def __call__(self, _net, _v):
+        return self
+
+    def last_pulse(self, _net):
+        return self.last
 
     def greet(self):
         return self.next(0, None)
@@ -22,9 +29,9 @@ class Sends:
 class LedNode(AlphaNode):
     """A node of a network; an entry that it can't make is refused with the words that say why."""
 
-    def __init__(self, net, v, neighbours, sends):
+    def __init__(self, net, v, neighbours, sends, last):
         self.port_to = dict(zip(neighbours, range(len(neighbours))))
-        super().__init__(net, v, Sends(neighbours, sends))
+        super().__init__(net, v, Sends(neighbours, sends, last))
 
     def level(self, w):
         """How far the port to w has got beyond the node's own pulse: (safes, whether the next payload is here)."""

@@ -6,18 +6,24 @@ import re
 import sys
 
 from lab import programs
+from lab.definitions.nodes import Colouring
+from lab.definitions.programs import add_program, program_at
 from lab.networks.network_text import read_network, stem
 from lab.networks.plan_text import read_plan
 from lab.pictures import (
     adversary_page, automaton_picture, bits_picture, broken_picture, forests_picture, map_picture, matrix_picture,
-    overview_picture, plan_picture, player_page, rounds_picture, run_picture, schedules_picture, schedules_space,
-    tally_picture, timing_picture, watch_page, why_picture, wrong_run,
+    overview_picture, plan_picture, player_page, program_picture, rounds_picture, run_picture, schedules_picture,
+    schedules_space, tally_picture, timing_picture, watch_page, why_picture, wrong_run,
 )
 from lab.pictures.places import note
+from lab.pictures.program_player import ProgramFilm
+from lab.pictures.program_rounds import ProgramRounds, is_own, read_program_rounds
 from lab.pictures.rounds import read_rounds
 from lab.pictures.sizes import MANY_WIRES, check_run, check_size, last_pulse, least_wires
 from lab.pictures.transcripts import read_transcript
+from lab.schedules.reading import network_of
 from lab.schedules.rules import OF_ROUNDS as RULES_OF_ROUNDS, OF_SCHEDULES
+from lab.schedules.simulate import played, text_of_rows
 from lab.wrong import Wrong
 
 HELP = """\
@@ -170,6 +176,8 @@ KINDS = {
     ),
 }
 OF_SPACE = ("schedules", "adversary")
+# Those that draw any program.
+OF_PROGRAMS = ("rounds", "player", "run", "overview", "node", "tally", "schedules", "adversary")
 OF_PLAN, OF_ROUNDS, OF_RUN = (
     ("plan", "matrix"),
     ("forests", "rounds", "bits", "why", "player"),
@@ -232,11 +240,14 @@ def usage_of(name):
 
 def add_options(kind, name):
     """A stored text in place of the program's, and the other options of the kind."""
+    if name in OF_PROGRAMS:
+        add_program(kind)
     if name in OF_SPACE:
         return add_space_options(kind, name)
     if name == "map":
         return None
     if name == "watch":
+        add_program(kind)
         kind.add_argument("transcripts", metavar="TRANSCRIPT", nargs="*", help="a stored run, or two of them")
         return kind.add_argument("--pulses", type=pulses, metavar="A..B", help="these pulses alone")
     if name == "broken":
@@ -251,6 +262,8 @@ def add_options(kind, name):
     if name in ("forests", "rounds"):
         kind.add_argument("--forests", type=pulses, metavar="A..B", help="these forests alone, counted from 0")
         kind.add_argument("--forest", dest="forests", type=one, metavar="F", help="this forest alone")
+    if name == "rounds":
+        kind.add_argument("--pulses", type=pulses, metavar="A..B", help="these pulses alone, of another program")
     if name == "bits":
         kind.add_argument("--forest", type=int, metavar="F", help="one forest, counted from 0")
     if name in ("bits", "node", "why"):
@@ -300,19 +313,41 @@ def told(given, network, network_text):
         return file_text(stored(given))
     if given.kind in OF_PLAN:
         return programs.text_of("forestplan", ["plain"], network_text)
+    program = program_of(given)
     if given.kind in OF_ROUNDS or tallies_rounds(given, network):
-        return programs.text_of("forestplay", ["rounds"], network_text)
-    if check_run(given.kind, network):
-        note(f"a run of {network.name} has more than {least_wires(network):,} wires, so its text takes a while")
+        return programs.text_of("forestplay", ["rounds", *words_of(program)], network_text)
+    if check_run(given.kind, network, program):
+        wires = least_wires(network, program)
+        note(f"a run of {network.name} has more than {wires:,} wires, so its text takes a while")
     options = [
         f"--{name}={value}" for name, value in (("workers", given.workers), ("capacity", given.capacity)) if value
     ]
-    return programs.text_of("forestplan", ["transcript", *options], network_text)
+    return run_text(program, network, network_text, options)
+
+
+def run_text(program, network, network_text, options=()):
+    """The transcript of a run: by threads of a proved program, by seed of one from a file."""
+    if program is Colouring:
+        return programs.text_of("forestplan", ["transcript", *options], network_text)
+    if is_own(program):
+        return text_of_rows(network.nodes, played(network_of(network), program=program))
+    return programs.text_of("forestplay", ["run", "--transcript", *words_of(program), *options], network_text)
+
+
+def program_of(given):
+    """The program that the nodes run."""
+    return program_at(getattr(given, "program", Colouring.name))
+
+
+def words_of(program):
+    """The option of a proved program that names it."""
+    return [] if program is Colouring else ["--program", program.name]
 
 
 def tallies_rounds(given, network):
     """Whether the wires are counted by the rounds: a run would be long, and each has as many."""
-    return given.kind == "tally" and not given.text and (given.rounds or least_wires(network) > MANY_WIRES)
+    return given.kind == "tally" and not given.text and (
+        given.rounds or least_wires(network, program_of(given)) > MANY_WIRES)
 
 
 def name_of(given, network):
@@ -348,6 +383,9 @@ def drawn(given):
         return map_picture.draw(network)
     if given.kind in OF_SPACE:
         return drawn_space(given, network)
+    program = program_of(given)
+    if given.kind in ("rounds", "player") and program is not Colouring:
+        return drawn_program(given, network, network_text, program)
     text = told(given, network, network_text.encode())
     name = name_of(given, network)
     if given.kind in OF_PLAN:
@@ -356,12 +394,14 @@ def drawn(given):
     if given.kind in OF_ROUNDS:
         return drawn_rounds(given, read_rounds(text, name, network))
     if tallies_rounds(given, network):
-        counts = tally_picture.counts_by(read_rounds(text, name, network))
+        read = read_rounds(text, name, network) if program is Colouring else (
+            read_program_rounds(text, name, network, program))
+        counts = tally_picture.counts_by(read)
         return tally_picture.draw(network, network.name, counts, given.pulses, by_rounds=True)
     wrong = None
     if given.kind == "run" and given.wrong:
-        text, wrong = wrong_run.cut(text, name, network)
-    run = read_transcript(text, name, network, None if wrong else until_of(given, network))
+        text, wrong = wrong_run.cut(text, name, network, program)
+    run = read_transcript(text, name, network, None if wrong else until_of(given, network), program)
     run.name = stem(given.text) if given.text and given.text != "-" and not given.title else network.name
     return drawn_run(given, run, wrong)
 
@@ -372,7 +412,7 @@ def until_of(given, network):
         return None
     if given.pulses:
         return given.pulses[1]
-    last = last_pulse(network)
+    last = last_pulse(network, program_of(given))
     if given.kind == "run":
         return run_picture.usual(network, last)[1]
     if given.kind == "overview":
@@ -389,14 +429,16 @@ def drawn_watch(given):
     network_text = file_text(given.network)
     network = named(given, read_network(network_text, path_of(given)))
     check_size(given.kind, network)
+    program = program_of(given)
     if not files:
-        if check_run(given.kind, network):
-            note(f"a run of {network.name} has more than {least_wires(network):,} wires, so its text takes a while")
-        text = programs.text_of("forestplan", ["transcript"], network_text.encode())
-        return watch_page.draw([watch_page.Run(network.name, network, text, given.pulses)])
+        if check_run(given.kind, network, program):
+            wires = least_wires(network, program)
+            note(f"a run of {network.name} has more than {wires:,} wires, so its text takes a while")
+        return watch_page.draw([watch_page.Run(network.name, network, run_text(program, network, network_text.encode()),
+                                               given.pulses, program)])
     names = ["standard input" if file == "-" else file for file in files]
     return watch_page.draw([
-        watch_page.Run(name, network, file_text(file), given.pulses) for name, file in zip(names, files)
+        watch_page.Run(name, network, file_text(file), given.pulses, program) for name, file in zip(names, files)
     ])
 
 
@@ -410,11 +452,27 @@ def drawn_broken(given):
 
 def drawn_space(given, network):
     space = schedules_space.space_of(
-        network, given.kind, given.without, given.kind == "adversary" or given.events is not None
+        network, given.kind, given.without, given.kind == "adversary" or given.events is not None, program_of(given)
     )
     if given.kind == "schedules":
         return schedules_picture.draw(network, space, given.events, given.run and file_text(given.run))
     return adversary_page.draw_table(space) if given.text else adversary_page.draw(network, space)
+
+
+def drawn_program(given, network, network_text, program):
+    """The rounds of another program than the colouring; those of the proved ones are read from their text."""
+    if is_own(program) and not given.text:
+        rounds = ProgramRounds(network, network.identifiers, program)
+    else:
+        text = told(given, network, network_text.encode())
+        rounds = read_program_rounds(text, name_of(given, network), network, program)
+    if given.kind == "rounds":
+        if given.forests:
+            raise Wrong(f"{program.name} has no forests")
+        return program_picture.draw(rounds, given.pulses)
+    if given.frame is None:
+        return player_page.draw(rounds, ProgramFilm)
+    return player_page.draw_frame(rounds, given.frame, ProgramFilm)
 
 
 def drawn_rounds(given, rounds):

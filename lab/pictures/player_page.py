@@ -126,9 +126,10 @@ SCRIPT = """(function () {
 })();""".replace("SIZE", str(SIZE))
 
 
-def draw(rounds):
-    """The page: a frame for each pulse, or of very many merges for those in which some node chooses."""
-    film = Film(rounds)
+def draw(rounds, kind=None):
+    """The page: a frame for each pulse, or of very many merges for those in which some node chooses. `kind` is the film
+    of another program than the colouring."""
+    film = (kind or Film)(rounds)
     frames = []
     for number, pulse in enumerate(film.scenes()):
         caption, said = film.caption(pulse)
@@ -152,14 +153,14 @@ def draw(rounds):
         choice=choice,
         script=SCRIPT,
         shared=f'<svg width="0" height="0" style="position:absolute">{film.shared()}</svg>',
-        legend=legend(),
+        legend=film.legend(),
         click=" A click on a forest enlarges it." if has_choice else "",
     )
 
 
-def draw_frame(rounds, number):
+def draw_frame(rounds, number, kind=None):
     """One frame alone, as SVG."""
-    film = Film(rounds)
+    film = (kind or Film)(rounds)
     scenes = film.scenes()
     if not 0 <= number < len(scenes):
         raise Wrong(f"{rounds.network.name} has frames 0 to {len(scenes) - 1}")
@@ -225,6 +226,8 @@ class Film:
         if not rounds.forests:
             # Nothing is merged, so each node keeps its first colour.
             self.merged[rounds.last] = dict(rounds.first)
+
+    legend = staticmethod(legend)
 
     def scenes(self):
         """The pulse of each frame, ascending."""

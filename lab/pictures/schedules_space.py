@@ -4,6 +4,7 @@ is refused here, in a sentence."""
 import re
 import sys
 
+from lab.definitions.nodes import Colouring
 from lab.schedules.explore import MOST_MERGED, MOST_ROW
 from lab.schedules.reading import network_of
 from lab.schedules.ruled_rounds import RuledRounds, smallest
@@ -32,17 +33,17 @@ class CutSpace(Space):
                 del self.faults[key]
 
 
-def space_of(network, kind, without=(), beyond=False):
-    """The space of a network that was read. With a rule left out it goes on after what goes wrong if `beyond`, up to
-    the first of the numbers of `BROKEN_STATES` within which something does."""
+def space_of(network, kind, without=(), beyond=False, program=Colouring):
+    """The space of a network that was read, whose nodes run a program. With a rule left out it goes on after what goes
+    wrong if `beyond`, up to the first of the numbers of `BROKEN_STATES` within which something does."""
     if without and beyond:
         for limit in BROKEN_STATES:
-            space = CutSpace(network_of(network), without, limit, beyond=True, progress=progress)
+            space = CutSpace(network_of(network), without, limit, beyond=True, progress=progress, program=program)
             if space.faults or not space.is_cut:
                 break
         return space
     try:
-        return Space(network_of(network), without, MAX_STATES + 1, progress=progress)
+        return Space(network_of(network), without, MAX_STATES + 1, progress=progress, program=program)
     except TooMany:
         raise Wrong(
             f"{kind} draws at most {MAX_STATES:,} states, and {network.name} has more: leave out an edge or a node"

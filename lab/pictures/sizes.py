@@ -1,4 +1,6 @@
 """Up to which number of nodes each kind is a picture, and which kind to use above it; and how many wires a run has."""
+from lab.definitions.nodes import Colouring
+from lab.schedules.reading import network_of
 from lab.wrong import Wrong, at_most
 
 NODES = {
@@ -30,22 +32,24 @@ def check_size(kind, network):
 MANY_WIRES, MOST_WIRES = 50_000, 4_000_000
 
 
-def last_pulse(network):
-    """The last pulse of a network."""
+def last_pulse(network, program=Colouring):
+    """The last pulse of a program on a network."""
+    if program is not Colouring:
+        return program.last_pulse(network_of(network))
     names = network.identifiers
     forests = max((sum(names[w] > names[v] for w in ws) for v, ws in network.neighbours.items()), default=0)
     return 12 + 3 * forests * network.channels
 
 
-def least_wires(network):
+def least_wires(network, program=Colouring):
     """The wires of a whole run without the two for each payload: a safe for each pulse but the last, each edge and each
     end, and a close for each edge and each end."""
-    return 2 * len(network.edges) * (last_pulse(network) + 1)
+    return 2 * len(network.edges) * (last_pulse(network, program) + 1)
 
 
-def check_run(kind, network):
+def check_run(kind, network, program=Colouring):
     """Refuses a run whose text would take too long, before it is asked for; returns whether it takes a while."""
-    wires = least_wires(network)
+    wires = least_wires(network, program)
     if wires > MOST_WIRES:
         raise Wrong(
             f"{kind} draws a run of at most {MOST_WIRES:,} wires, and one of {network.name} has more than {wires:,}: "

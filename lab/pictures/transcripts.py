@@ -9,10 +9,10 @@ A text of edition 2 has its order, and a stamp with each entry, which is its pla
 stamp is the one that Lamport's clock gives, and each node can make its entries: they are replayed node by node, too."""
 from functools import lru_cache
 
-from lab.definitions.nodes import Refused, wire_words
+from lab.definitions.nodes import Colouring, Refused, wire_words
 from lab.networks.network_text import fields_of, whole
-from lab.pictures.colouring import Rounds
 from lab.pictures.led_node import LedNode, defined
+from lab.pictures.program_rounds import rounds_of
 from lab.wrong import Wrong, wrong_line
 
 # Texts of more lines are read only as far as the pulses that are drawn depend on them: AHEAD pulses further at first,
@@ -78,25 +78,26 @@ def window_of(name, greatest, pulses):
 
 
 @lru_cache(1 << 16)
-def wire_of(fields):
-    """(kind, pulse, payload) of the words of a wire, or None."""
+def wire_of(fields, is_colouring=True):
+    """(kind, pulse, payload) of the words of a wire, or None. The payloads are the colouring's, or have any word."""
     if fields == ("close",):
         return "close", None, None
     if len(fields) == 2 and fields[0] in ("ack", "safe") and whole(fields[1]) is not None:
         return fields[0], whole(fields[1]), None
-    if len(fields) == 4 and fields[0] == "payload" and fields[2] in PAYLOADS and None not in map(whole, fields[1::2]):
-        return "payload", whole(fields[1]), (fields[2], whole(fields[3]))
+    if len(fields) == 4 and fields[0] == "payload" and None not in map(whole, fields[1::2]):
+        if fields[2] in PAYLOADS if is_colouring else fields[2].isalpha():
+            return "payload", whole(fields[1]), (fields[2], whole(fields[3]))
     return None
 
 
-def entry_of(name, line, fields, network):
+def entry_of(name, line, fields, network, is_colouring=True):
     """The entry of a line."""
     vertex, kind = whole(fields[0]), fields[1] if len(fields) > 1 else ""
     if vertex not in network.vertices:
         raise wrong_line(name, line, f"`{fields[0]}` is no node of {network.name}")
     if kind == "pulse" and len(fields) == 3 and whole(fields[2]) is not None:
         return Entry(line, vertex, kind, None, None, whole(fields[2]))
-    wire = wire_of(tuple(fields[3:]))
+    wire = wire_of(tuple(fields[3:]), is_colouring)
     if kind not in ("put", "take") or wire is None:
         raise wrong_line(name, line, f"`{' '.join(fields)[:60]}` is no entry of a transcript (X1)")
     if whole(fields[2]) not in network.neighbours[vertex]:
@@ -104,11 +105,11 @@ def entry_of(name, line, fields, network):
     return Entry(line, vertex, kind, whole(fields[2]), wire, wire[1])
 
 
-def stamped_entry_of(name, line, fields, network):
+def stamped_entry_of(name, line, fields, network, is_colouring=True):
     """The entry of a line of edition 2, with its stamp as its place in time."""
     if whole(fields[0]) is None or len(fields) < 2:
         raise wrong_line(name, line, f"`{' '.join(fields)[:60]}` is no entry of a transcript (X1)")
-    entry = entry_of(name, line, fields[1:], network)
+    entry = entry_of(name, line, fields[1:], network, is_colouring)
     entry.x = whole(fields[0])
     return entry
 
@@ -116,7 +117,7 @@ def stamped_entry_of(name, line, fields, network):
 READERS = {"1": entry_of, "2": stamped_entry_of}
 
 
-def read_entries(text, name, network, stop=None):
+def read_entries(text, name, network, stop=None, is_colouring=True):
     """The edition, and the entries of each node in its order; with `stop`, those before it begins that pulse."""
     entries, edition, stopped = {v: [] for v in network.vertices}, None, set()
     for line, raw in enumerate(text.split("\n"), 1):
@@ -126,7 +127,7 @@ def read_entries(text, name, network, stop=None):
         if not fields:
             continue
         if edition:
-            entry = READERS[str(edition)](name, line, fields, network)
+            entry = READERS[str(edition)](name, line, fields, network, is_colouring)
             if entry.kind == "pulse" and entry.pulse == stop:
                 stopped.add(fields[edition - 1])
             else:
@@ -274,28 +275,28 @@ def is_whole(run):
 def nodes_of(run):
     """A fresh node for each vertex, to be replayed."""
     sends, net = sends_of(run.rounds), run.rounds.net
-    return {v: LedNode(net, v, run.network.neighbours[v], sends[v]) for v in run.network.vertices}
+    return {v: LedNode(net, v, run.network.neighbours[v], sends[v], run.last) for v in run.network.vertices}
 
 
-def read_transcript(text, name, network, until=None):
-    """The run that a transcript records, or what is wrong with it. Of a long text, with `until`, only what the pulses
-    up to that one depend on is read."""
+def read_transcript(text, name, network, until=None, program=Colouring):
+    """The run of a program that a transcript records, or what is wrong with it. Of a long text, with `until`, only what
+    the pulses up to that one depend on is read."""
     if until is not None and text.count("\n") > LONG_TEXT:
         ahead = AHEAD
         while ahead <= network.nodes + AHEAD:
-            run = run_of(text, name, network, until + 1 + ahead)
+            run = run_of(text, name, network, until + 1 + ahead, program)
             if all(until + 1 in run.ticks(v) or until >= run.last for v in network.vertices):
                 return run
             ahead *= 4
-    return run_of(text, name, network)
+    return run_of(text, name, network, None, program)
 
 
-def run_of(text, name, network, stop=None):
-    edition, entries = read_entries(text, name, network, stop)
+def run_of(text, name, network, stop, program):
+    edition, entries = read_entries(text, name, network, stop, program is Colouring)
     identifiers = identifiers_of(network, entries)
     if len(set(identifiers.values())) < network.nodes:
         raise Wrong(f"{name}: two nodes have one identifier")
-    run = Run(network, name, entries, Rounds(network, identifiers), edition)
+    run = Run(network, name, entries, rounds_of(network, identifiers, program), edition)
     if stop is not None and stop <= run.last:
         run.read_to = stop
     match(entries, name, run.last, run.read_to is not None)

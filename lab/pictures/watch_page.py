@@ -7,7 +7,7 @@ import json
 import os
 import re
 
-from lab.definitions.nodes import NetState, Refused, entry_words, make, wire_words
+from lab.definitions.nodes import Colouring, NetState, Refused, entry_words, make, wire_words
 from lab.pictures.marks import label_boxes, label_margin, label_of
 from lab.pictures.palette import WIRES, channel_hue, is_ring, text_on
 from lab.pictures.places import bends, label_places, middle, moved, places_of, spaced
@@ -66,7 +66,14 @@ def look_of(state, v):
     early = [(payload_words(port.early), w) for w, port in ports if port.early]
     early += [("safe", w) for w, port in ports if port.early_safe]
     return {"p": p, "s": int(node.said), "e": int(node.drained()), "w": waits, "h": has, "k": early,
-            "c": node.program.merged + 1 if has_chosen(node) else 0}
+            "c": found(node)}
+
+
+def found(node):
+    """Its channel once it has chosen one, or 0; of another program than the colouring the words of what it has found."""
+    if not isinstance(node.program, Colouring):
+        return node.program.result()
+    return node.program.merged + 1 if has_chosen(node) else 0
 
 
 def payload_words(payload):
@@ -86,14 +93,15 @@ def has_chosen(node):
 class Run:
     """The entries of a transcript that are shown, the wires among them, and the nodes before the first one."""
 
-    def __init__(self, name, network, text, pulses=None):
+    def __init__(self, name, network, text, pulses=None, program=Colouring):
+        self.program = program
         self.name, self.network, self.net = name, network, network_of(network)
         self.moments, self.flights, self.at_pulse = [], [], {v: {0: 0} for v in network.vertices}
         self.last_stamp, self.is_cut = 0, False
         self.read(text, pulses)
 
     def read(self, text, pulses):
-        state, clock = NetState(self.net), Clock(self.net.neighbours)
+        state, clock = NetState(self.net, self.program), Clock(self.net.neighbours)
         self.last = state.nodes[1].last
         self.start = {v: look_of(state, v) for v in self.net.neighbours}
         every = []
@@ -122,7 +130,7 @@ class Run:
     def ordered(self, text):
         """The entries in an order that is a run: as they stand in edition 2, and else as one is found."""
         try:
-            head, entries = read(text.encode())
+            head, entries = read(text.encode(), self.program.name)
         except WrongEntry as why:
             raise Wrong(f"{self.name} {why}") from None
         if head.nodes != self.network.nodes:
@@ -130,14 +138,14 @@ class Run:
                         f"{self.network.nodes} (Nodes)")
         if head.edition == 2:
             return entries
-        found = find_order(self.net, entries)
-        if found.left:
-            first = min((left[-1] for left in found.left.values()), key=lambda entry: entry.line)
+        order = find_order(self.net, entries, self.program)
+        if order.left:
+            first = min((left[-1] for left in order.left.values()), key=lambda entry: entry.line)
             raise Wrong(f"{self.name} line {first.line}: {words(first)}, which can't come in any order "
                         "(bin/check-transcript says more)")
         clock = Clock(self.net.neighbours)
         rows = [(clock.next(entry.kind, entry.vertex, entry.neighbour), entry.vertex, at, entry)
-                for at, entry in enumerate(found.made)]
+                for at, entry in enumerate(order.made)]
         return [entry for *_, entry in sorted(rows, key=lambda row: row[:3])]
 
     def cut(self, every, pulses):

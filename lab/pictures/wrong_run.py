@@ -2,7 +2,9 @@
 it."""
 from dataclasses import dataclass
 
+from lab.definitions.nodes import Colouring
 from lab.pictures.palette import WIRES, WRONG
+from lab.pictures.program_rounds import is_own
 from lab.pictures.transcripts import READERS, Entry
 from lab.networks.network_text import fields_of
 from lab.workshop.judge import Verdict, network_text, verdict_of
@@ -23,12 +25,14 @@ class WrongEntry:
         return self.entry.vertex
 
 
-def cut(text: str, name: str, network) -> tuple[str, WrongEntry | None]:
+def cut(text: str, name: str, network, program: type) -> tuple[str, WrongEntry | None]:
     """The text before its first wrong entry, and that entry; the whole text and None if the judge finds nothing
     wrong."""
+    if is_own(program):
+        raise Wrong(f"--wrong asks the proved judge, which doesn't know {program.name}")
     if [field for field in fields_of(text.lstrip().split("\n", 1)[0]) if field][:2] != ["transcript", "2"]:
         raise Wrong(f"{name}: --wrong needs a transcript of edition 2, whose lines have an order")
-    verdict = verdict_of(network_text(network), text)
+    verdict = verdict_of(network_text(network), text, program.name)
     if verdict.name is None:
         return text, None
     if verdict.name == "NotWhole":
@@ -38,7 +42,7 @@ def cut(text: str, name: str, network) -> tuple[str, WrongEntry | None]:
     if verdict.name in ("X1", "NoSuch"):
         raise Wrong(f"{name} line {line}: `{' '.join(fields)[:60]}` is no entry of a run of {network.name} "
                     f"({verdict.name})")
-    entry = READERS["2"](name, line, fields, network)
+    entry = READERS["2"](name, line, fields, network, program is Colouring)
     return "\n".join(lines[:line - 1]) + "\n", WrongEntry(words_on(line, fields, verdict), entry)
 
 

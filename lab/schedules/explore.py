@@ -4,6 +4,8 @@ import argparse
 import sys
 from collections import Counter
 
+from lab.definitions.nodes import Colouring
+from lab.definitions.programs import add_program, program_at
 from lab.schedules import ruled_rounds
 from lab.schedules.reading import network_at
 from lab.schedules.rules import ALL, OF_FORESTS, OF_ROUNDS, OF_SCHEDULES, table
@@ -45,6 +47,10 @@ refused with the rules safes or fifo left out.
 
 This is Python over slow definitions, written from the project's pages. It is tested,
 and not proved.
+
+With --program the nodes run another program: leader, layers, or a file of your own with
+the functions greet, next and result (docs/learn/OWN_ALGORITHM.md). The file is run as it
+is, with your rights.
 
 Examples:
   bin/explore examples/triangle.col
@@ -95,6 +101,7 @@ def command_line():
     words.add_argument("--reduce", action="store_true",
                        help="take a safe or a close that comes next on its link at once and alone: far fewer states")
     words.add_argument("--puts", action="store_true", help="count puts as events of their own, made at any time")
+    add_program(words)
     return words
 
 
@@ -104,6 +111,8 @@ def main(words):
     of_rounds = bool(given.without) and set(given.without) <= set(OF_ROUNDS)
     if given.network is None and not of_rounds:
         line.error("NETWORK is missing")
+    if of_rounds and given.program != Colouring.name:
+        line.error(f"only the colouring has the rules {','.join(OF_ROUNDS)}")
     if of_rounds and (given.events or given.puts or given.reduce):
         rules = ",".join(OF_SCHEDULES)
         line.error(f"the rounds have no events: --events, --puts and --reduce are for the rules {rules}")
@@ -177,7 +186,8 @@ def searched(given, net):
         sys.stderr.flush()
 
     try:
-        return Space(net, given.without, given.limit, given.puts, False, progress if show else None, given.reduce)
+        return Space(net, given.without, given.limit, given.puts, False, progress if show else None, given.reduce,
+                     program_at(given.program))
     except TooMany:
         raise Wrong(f"there are more than {given.limit:,} states: use --limit for more, "
                     f"at some {BYTES_A_STATE} bytes each") from None
@@ -193,7 +203,7 @@ def whole_text(given, name, space):
     pulses = sum(node.pulse for node in space.nodes(space.ends[0]).values())
     rest = space.depth[space.ends[0]] - pulses
     kinds = f"{rest // 2:,} puts, {rest // 2:,} takes" if space.puts else f"{rest:,} takes"
-    channels = [" ".join(str(node.colour + 1) for node in space.nodes(s).values()) for s in space.ends]
+    found = [results_words(space.nodes(s)) for s in space.ends]
     return "".join(
         f"{line}\n"
         for line in [
@@ -203,10 +213,16 @@ def whole_text(given, name, space):
             REDUCED if space.reduce else
             f"neighbours at most {space.farthest} pulse{'s' * (space.farthest != 1)} apart, "
             f"at most {space.most_wires} wires of a link under way",
-            f"{'one end' if len(channels) == 1 else f'{len(channels)} ends'}: "
-            f"channels {' or '.join(dict.fromkeys(channels))}",
+            f"{'one end' if len(found) == 1 else f'{len(found)} ends'}: {' or '.join(dict.fromkeys(found))}",
         ]
     ) + refused_words(given.without)
+
+
+def results_words(nodes):
+    """What nodes have found: `channels 2 3 1` of the colouring, and of another program each node's words."""
+    if all(node.colour is not None for node in nodes.values()):
+        return f"channels {' '.join(str(node.colour + 1) for node in nodes.values())}"
+    return ", ".join(f"{v} {node.result}" for v, node in nodes.items())
 
 
 def rounded(number):

@@ -1,19 +1,21 @@
-"""A node under the synchroniser with rules left out, and the rounds that it should simulate. rules.OF_SCHEDULES
-has the rules; `fifo` is one of the links, so it is in space.py.
+"""A node under the synchroniser with rules left out, and the rounds that it should simulate, of any program.
+rules.OF_SCHEDULES has the rules; `fifo` is one of the links, so it is in space.py.
 
-What a pulse does with an inbox that no round has is the program's own matter: it refuses a payload that isn't due, and
-a missing one that is (docs/claim/DEFINITIONS.md, refusals of the colouring), and goes on otherwise."""
+What a pulse does with an inbox that no round has is the program's own matter. The colouring refuses a payload that
+isn't due, and a missing one that is (docs/claim/DEFINITIONS.md, refusals of the colouring), and goes on otherwise. A
+program of one's own goes on with any."""
 import copy
 
-from lab.definitions.nodes import AlphaNode, Colouring, Refused, last_pulse, ports_of
+from lab.definitions.nodes import AlphaNode, Colouring, Refused, ports_of
+from lab.definitions.own_program import OwnNode
 
 
 class RuledNode(AlphaNode):
     """`wrong` says that it has made a pulse with another inbox than the round's."""
 
-    def __init__(self, net, v, without):
+    def __init__(self, net, v, without, program=Colouring):
         self.without, self.wrong = frozenset(without), False
-        super().__init__(net, v)
+        super().__init__(net, v, program)
 
     def settle(self):
         if "acks" in self.without:
@@ -58,24 +60,16 @@ class RuledNode(AlphaNode):
         node.ports = [copy.copy(port) for port in self.ports]
         for port in node.ports:
             port.out = list(port.out)
-        node.program = copy.copy(self.program)
-        for name in ("roles", "colours", "before", "chosen"):
-            setattr(node.program, name, copy.copy(getattr(self.program, name)))
+        node.program = copied_program(self.program)
         return node
 
     def key(self):
         """Equal for equal nodes of one vertex."""
-        program = self.program
         return (
             self.pulse_number,
             self.said,
             self.wrong,
-            tuple(program.roles),
-            tuple(program.colours),
-            tuple(program.before),
-            program.old,
-            program.merged,
-            frozenset(program.chosen),
+            key_of_program(self.program),
             tuple(
                 (port.waits, port.safe, port.early_safe, port.closed, port.present, port.early, tuple(port.out))
                 for port in self.ports
@@ -83,19 +77,41 @@ class RuledNode(AlphaNode):
         )
 
 
-class Rounds:
-    """The synchronous run: `inbox[v, p]` of each vertex and pulse from 1, and the last pulse."""
+def copied_program(program):
+    """A copy that changes apart from the node of a program."""
+    if isinstance(program, OwnNode):
+        return program.copied()
+    node = copy.copy(program)
+    for name, value in vars(program).items():
+        if isinstance(value, (list, set)):
+            setattr(node, name, copy.copy(value))
+    return node
 
-    def __init__(self, net):
-        self.net, self.last = net, last_pulse(net)
+
+def key_of_program(program):
+    """Equal for equal nodes of one vertex; by its fields, of which lists and sets hold plain values."""
+    if isinstance(program, OwnNode):
+        return program.key()
+    return tuple(tuple(value) if isinstance(value, list) else frozenset(value) if isinstance(value, set) else value
+                 for value in vars(program).values())
+
+
+class Rounds:
+    """The synchronous run of a program: `inbox[v, p]` of each vertex and pulse from 1, the last pulse, and what each
+    node has found after it."""
+
+    def __init__(self, net, program=Colouring):
+        self.net, self.last = net, program.last_pulse(net)
         self.ports = {v: ports_of(net, v) for v in net.neighbours}
-        nodes = {v: Colouring(net, v) for v in net.neighbours}
+        nodes = {v: program(net, v) for v in net.neighbours}
         sent, self.inbox = {v: nodes[v].greet() for v in nodes}, {}
         for p in range(1, self.last + 1):
             for v in nodes:
                 self.inbox[v, p] = [sent[w][self.ports[w].index(v)] for w in self.ports[v]]
             sent = {v: nodes[v].next(p, self.inbox[v, p]) for v in nodes}
-        self.colours = {v: node.merged for v, node in nodes.items()}
+        self.results = {v: node.result() for v, node in nodes.items()}
+        # Of the colouring alone.
+        self.colours = {v: getattr(node, "merged", None) for v, node in nodes.items()}
 
     def fault(self, v, p, inbox):
         """How an inbox differs from the round's, at the first port at which it does; None if it doesn't."""
@@ -113,6 +129,13 @@ def payload_words(payload):
 
 
 def program_refuses(program, pulse, inbox):
+    """Whether a node's program refuses an inbox."""
+    if isinstance(program, Colouring):
+        return colouring_refuses(program, pulse, inbox)
+    return not isinstance(program, OwnNode) and program.refuses(pulse, inbox)
+
+
+def colouring_refuses(program, pulse, inbox):
     """Whether the colouring refuses an inbox: what is due and missing, or not due, or a value that can't be. (A role is
     None before pulse 2, or the way and the forest.)"""
     kinds = {None if slot is None else slot[0] for slot in inbox}

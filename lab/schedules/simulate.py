@@ -5,9 +5,10 @@ import re
 import sys
 from collections import deque
 
-from lab.definitions.nodes import NetState, Refused, missing_words, wire_words
-from lab.schedules.policies import POLICIES, Step, policy_of
+from lab.definitions.nodes import Colouring, NetState, Refused, missing_words, wire_words
+from lab.definitions.programs import add_program, program_at
 from lab.networks.fields import shown
+from lab.schedules.policies import POLICIES, Step, policy_of
 from lab.schedules.reading import network_at, text_at
 from lab.transcripts.stamps import Clock, unfinished
 from lab.wrong import Wrong, wrong_line
@@ -47,8 +48,13 @@ bin/check-transcript, bin/picture and `bin/forestplay replay` read it. NETWORK i
 the DIMACS format, or - for standard input. 4,500 entries (petersen) take half a second,
 and half a million one to several minutes.
 
+With --program the nodes run another program: leader, layers, or a file of your own with
+the functions greet, next and result (docs/learn/OWN_ALGORITHM.md). The file is run as it
+is, with your rights.
+
 This is Python over slow definitions, written from the project's pages. It is tested,
-and not proved. `forestplay replay`, which is, accepts what it writes.
+and not proved. `forestplay replay`, which is, accepts what it writes of its three
+programs, if it is given the same --program.
 
 Status: 0 done, 1 the network or the list can't be read, an event isn't possible, or the
 network hasn't the slow edge (one line on standard error says why), 2 the command line
@@ -79,8 +85,8 @@ class Player:
     """A run on its way. `steps[v]` are the steps that are possible at v; beside each list of wires is when each was
     added to it, by the number of steps made."""
 
-    def __init__(self, net):
-        self.state, self.now, self.rows = NetState(net), 0, []
+    def __init__(self, net, program=Colouring):
+        self.state, self.now, self.rows = NetState(net, program), 0, []
         self.clock = Clock(net.neighbours)
         links = list(self.state.link)
         self.out_since, self.link_since = {at: deque() for at in links}, {at: deque() for at in links}
@@ -150,10 +156,10 @@ def edges_of(net):
     return sorted(tuple(sorted(edge)) for edge in net.number)
 
 
-def played(net, policy="random", seed="1", slow=(), lazy=(), player=None):
-    """The rows (stamp, vertex, line) of a run of a network of the definitions, in the order in which they were made;
-    `player` may be on its way."""
-    player = player or Player(net)
+def played(net, policy="random", seed="1", slow=(), lazy=(), player=None, program=Colouring):
+    """The rows (stamp, vertex, line) of a run of a program on a network of the definitions, in the order in which they
+    were made; `player` may be on its way."""
+    player = player or Player(net, program)
     chooser = policy_of(policy, sorted(net.neighbours), edges_of(net), seed)
     player.play(Held(chooser, slow, lazy) if slow or lazy else chooser)
     return player.rows
@@ -176,9 +182,9 @@ def events_of(text, name):
         yield (line, pulse, int(node), None) if pulse else (line, kind, int(v), int(port))
 
 
-def played_by_list(net, path):
+def played_by_list(net, path, program=Colouring):
     """The player after the events of a file, or of standard input."""
-    player, name = Player(net), "standard input" if path == "-" else path
+    player, name = Player(net, program), "standard input" if path == "-" else path
     player.play_events(events_of(text_at(path), name), name)
     return player
 
@@ -209,6 +215,7 @@ def command_line():
                        help="what this node does waits, whatever the policy is; may be given again")
     words.add_argument("--events", metavar="LIST", help="play this list of events, a file or - for standard input")
     words.add_argument("--to-the-end", action="store_true", help="after the events of LIST the policy plays the rest")
+    add_program(words)
     return words
 
 
@@ -224,9 +231,10 @@ def check_names(name, net, given):
 
 def rows_asked(net, given):
     """The rows of the run that the command line asks for; a list that ends early is said."""
+    program = program_at(given.program)
     if not given.events:
-        return played(net, given.policy, given.seed, given.slow, given.lazy)
-    player = played_by_list(net, given.events)
+        return played(net, given.policy, given.seed, given.slow, given.lazy, program=program)
+    player = played_by_list(net, given.events, program)
     if given.to_the_end:
         return played(net, given.policy, given.seed, given.slow, given.lazy, player)
     if left := next(unfinished(player.state), None):

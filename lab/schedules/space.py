@@ -3,7 +3,8 @@
     from space import Space, TooMany
     space = Space(net, without=("safes",), limit=200_000)
 
-`net` is a network of the definitions (definitions.network_of makes one of what the pictures read). A put is made as
+`net` is a network of the definitions (definitions.network_of makes one of what the pictures read), and `program` what
+its nodes run. A put is made as
 soon as it can be, so that a state has no wires that wait to be put; `puts=True` counts puts apart, as events of their
 own. `without` has rules of rules.OF_SCHEDULES. With a rule left out the search ends at the first event that goes wrong,
 which a shortest list of events leads to; `beyond=True` goes on, from wherever the program doesn't refuse. More than
@@ -22,8 +23,8 @@ neighbours are apart and how much a link holds don't.
     space.event(e)        an Event: kind (take, pulse, put), v, port, w (the neighbour there), wire (in words), place
                           (how many wires of the link it overtakes); str(event) is its line for `forestplay events`
     space.nodes(s)        {v: Node}: pulse, stage (asks, safe, ready, last, whole), waits (what it waits for, as (wire,
-                          w)), wrong (it has made a pulse with another inbox than the round's), colour (merged so far),
-                          phase
+                          w)), wrong (it has made a pulse with another inbox than the round's), colour (merged so far)
+                          and phase, of the colouring alone, and result (what it has found so far, in words)
     space.wires(s)        {(v, w): [wire, ..]}, what each link holds, in words, the one that comes next first
     space.ends            the states in which nothing is possible
     space.faults          {(s, e): what goes wrong in words}, e being the event's number in steps(s); and {(s, None):
@@ -43,13 +44,13 @@ import time
 from array import array
 from collections import namedtuple
 
-from lab.definitions.nodes import Refused, wire_words
+from lab.definitions.nodes import Colouring, Refused, wire_words
 from lab.schedules.ruled_node import Rounds, RuledNode, program_refuses
 
 PHASES = ["greet", "orient", "seed"] + ["step"] * 4 + ["shift", "drop"] * 3
 REFUSED = 2 ** 32 - 1
 
-Node = namedtuple("Node", "pulse stage waits wrong colour phase")
+Node = namedtuple("Node", "pulse stage waits wrong colour phase result")
 
 
 class Event(namedtuple("Event", "kind v port w wire place")):
@@ -66,10 +67,11 @@ class TooMany(Exception):
 
 
 class Space:
-    def __init__(self, net, without=(), limit=1_000_000, puts=False, beyond=False, progress=None, reduce=False):
+    def __init__(self, net, without=(), limit=1_000_000, puts=False, beyond=False, progress=None, reduce=False,
+                 program=Colouring):
         self.net, self.without, self.limit, self.puts, self.beyond = net, tuple(without), limit, puts, beyond
-        self.reduce = reduce
-        self.rounds = Rounds(net)
+        self.reduce, self.program = reduce, program
+        self.rounds = Rounds(net, program)
         self.vertices, self.ports, self.last = sorted(net.neighbours), self.rounds.ports, self.rounds.last
         self.links = [(v, w) for v in self.vertices for w in self.ports[v]]
         self.slot = {link: k for k, link in enumerate(self.links, len(self.vertices))}
@@ -195,7 +197,7 @@ class Space:
     def start(self):
         state = [0] * (len(self.vertices) + len(self.links))
         for a, v in enumerate(self.vertices):
-            state[a], gone = self.after(a, RuledNode(self.net, v, self.without))
+            state[a], gone = self.after(a, RuledNode(self.net, v, self.without, self.program))
             for slot, wires in gone:
                 state[slot] = self.with_wires(0, wires)
         return tuple(state)
@@ -299,9 +301,12 @@ class Space:
         else:
             waits = [] if "safes" in self.without else [(f"safe {p}", w) for w, port in ports if not port.safe]
             stage = "safe" if waits else "ready"
-        return Node(p, stage, waits, node.wrong, node.program.merged, self.phase(p))
+        colour = getattr(node.program, "merged", None)
+        return Node(p, stage, waits, node.wrong, colour, self.phase(p), node.program.result())
 
     def phase(self, p):
+        if self.program is not Colouring:
+            return ""
         if p < 13:
             return PHASES[p]
         forest, step = divmod(p - 13, 3 * (self.net.span + 1))
@@ -404,7 +409,7 @@ class Space:
 
     def start_unput(self):
         for v in self.vertices:
-            node = RuledNode(self.net, v, self.without)
+            node = RuledNode(self.net, v, self.without, self.program)
             node.v = v
             yield node
 

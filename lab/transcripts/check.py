@@ -10,7 +10,8 @@ import sys
 from collections import namedtuple
 
 from lab.definitions.colours import fields_of, network_of
-from lab.definitions.nodes import named, wire_words
+from lab.definitions.nodes import Colouring, named, wire_words
+from lab.definitions.programs import add_program, program_at
 from lab.networks.network_text import read_network
 from lab.transcripts.reading import Wrong, read_to_fault, words
 from lab.transcripts.rules import Standing, rule_of, stuck_words
@@ -63,7 +64,7 @@ Example:
 Found = namedtuple("Found", "made nodes left refusals")
 
 
-def find_order(net, entries):
+def find_order(net, entries, program=Colouring):
     """Makes the next entry of any node as long as one is possible.
 
     If any order of all entries is a run, this finds one. The entries of a node come in a given order, so what the node
@@ -78,7 +79,7 @@ def find_order(net, entries):
     own, strays = {v: [] for v in net.neighbours}, {}
     for entry in entries:
         (own[entry.vertex] if entry.vertex in own else strays.setdefault(entry.vertex, [])).append(entry)
-    search = Search(net, {v: [entry.text for entry in own[v]] for v in own})
+    search = Search(net, {v: [entry.text for entry in own[v]] for v in own}, program)
     left = {v: own[v][node.at :][::-1] for v, node in search.nodes.items()} | {
         v: lost[::-1] for v, lost in strays.items()
     }
@@ -202,19 +203,20 @@ def check_nodes(net, line, nodes):
         raise Wrong(line, "Nodes", f"the transcript has {nodes} nodes, the network {len(net.neighbours)}")
 
 
-def whole_run(net, text):
-    """The lines of the entries in the order found, and the verdict on a transcript of a network; or `Wrong`."""
-    return run_as_it_stands(net, text) or run_read_with_care(net, text)
+def whole_run(net, text, program=Colouring):
+    """The lines of the entries in the order found, and the verdict on a transcript of a program on a network; or
+    `Wrong`."""
+    return run_as_it_stands(net, text, program) or run_read_with_care(net, text, program)
 
 
-def run_as_it_stands(net, text):
+def run_as_it_stands(net, text, program):
     """The same for most transcripts of runs: lines are compared with what the nodes do, byte for byte.
     None if they aren't a whole run so; then they have to be read with care."""
     head, *lines = text.split(b"\n")
     if lines[-1:] != [b""]:
         return None
     if head == b"transcript 2 %d" % len(net.neighbours):
-        nodes = stamped_as_it_stands(net, lines[:-1])
+        nodes = stamped_as_it_stands(net, lines[:-1], program)
         return None if nodes is None else (range(2, len(lines) + 1), verdict(nodes))
     if head != b"transcript 1 %d" % len(net.neighbours):
         return None
@@ -229,7 +231,7 @@ def run_as_it_stands(net, text):
         its_entries.append(entry)
         its_lines.append(line)
     try:
-        search = Search(net, {int(v): entries for v, (entries, _) in own.items()})
+        search = Search(net, {int(v): entries for v, (entries, _) in own.items()}, program)
     except (IndexError, ValueError):
         return None
     if not search.is_whole():
@@ -237,12 +239,12 @@ def run_as_it_stands(net, text):
     return search.made({int(v): numbers for v, (_, numbers) in own.items()}), verdict(search.nodes)
 
 
-def run_read_with_care(net, text):
-    head, entries, fault = read_to_fault(text)
+def run_read_with_care(net, text, program=Colouring):
+    head, entries, fault = read_to_fault(text, program.name)
     check_nodes(net, head.line, head.nodes)
     if head.edition == 2:
-        check_stamped(net, head, entries, fault)
-    found = find_order(net, entries)
+        check_stamped(net, head, entries, fault, program)
+    found = find_order(net, entries, program)
     if fault:
         raise first_fault(found, fault)
     if found.left:
@@ -319,6 +321,7 @@ def words_of_command():
     words.add_argument("network", metavar="NETWORK.col", help="a network that `forestplan` reads without a fault")
     words.add_argument("transcript", nargs="?", metavar="TRANSCRIPT",
                        help="a file, or - for standard input; default: -")
+    add_program(words)
     return words
 
 
@@ -329,11 +332,12 @@ def main(words):
     try:
         net = network_in(bytes_of(given.network), given.network)
         text = bytes_of(given.transcript)
+        program = program_at(given.program)
     except (OSError, WrongNetwork) as failed:
         print(f"check-transcript: {failed}", file=sys.stderr)
         return 2
     try:
-        made, said = whole_run(net, text)
+        made, said = whole_run(net, text, program)
     except Wrong as wrong:
         print(wrong, file=sys.stderr)
         return 1

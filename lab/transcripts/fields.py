@@ -1,10 +1,21 @@
 """The fields of an entry of a transcript, and which of them is wrong if a line isn't one."""
 import functools
 
-# The word of each payload of the colouring, and the bound of its number.
-PAYLOADS = {b"hello": 2**128, b"label": 2**16, b"colour": 2**128, b"chosen": 2**16}
+# The words of the payloads of each proved program, and the bound of each one's number. Another program's payloads have
+# any word of small letters.
+PAYLOADS = {"colouring": {b"hello": 2**128, b"label": 2**16, b"colour": 2**128, b"chosen": 2**16},
+            "leader": {b"leader": 2**128}, "layers": {b"hops": 2**32}}
 KINDS = (b"pulse", b"put", b"take")
 WIRES = {b"payload": 4, b"ack": 2, b"safe": 2, b"close": 1}
+
+
+def bound_of(program, word):
+    """The bound of a payload's number; `ValueError` if the program has no such payload."""
+    if program not in PAYLOADS and word.isalpha() and word.islower() and word.isascii():
+        return 2**128
+    if word not in PAYLOADS.get(program, ()):
+        raise ValueError
+    return PAYLOADS[program][word]
 
 
 @functools.lru_cache(maxsize=2**16)
@@ -29,7 +40,7 @@ def no_number(field, what, bound=2**32):
     return None
 
 
-def why_no_entry(fields, edition):
+def why_no_entry(fields, edition, program):
     """Of the fields of a line that is no entry."""
     if edition == 2:
         wrong = no_number(fields[0], "stamp", 2**64)
@@ -45,10 +56,10 @@ def why_no_entry(fields, edition):
         return no_number(fields[2], "pulse") if len(fields) == 3 else "`pulse` is followed by one number"
     if len(fields) < 4:
         return f"{shown(fields[1])} is followed by a neighbour and a wire"
-    return no_number(fields[2], "neighbour") or why_no_wire(fields[3:])
+    return no_number(fields[2], "neighbour") or why_no_wire(fields[3:], program)
 
 
-def why_no_wire(fields):
+def why_no_wire(fields, program):
     """Of the fields of a wire."""
     if fields[0] not in WIRES:
         return f"{shown(fields[0])} is no wire, which are {', '.join(wire.decode() for wire in WIRES)}"
@@ -57,6 +68,14 @@ def why_no_wire(fields):
     wrong = no_number(fields[1], "pulse") if len(fields) > 1 else None
     if wrong or fields[0] != b"payload":
         return wrong
-    if fields[2] not in PAYLOADS:
-        return f"{shown(fields[2])} is no payload, which are {', '.join(word.decode() for word in PAYLOADS)}"
-    return no_number(fields[3], fields[2].decode(), PAYLOADS[fields[2]])
+    try:
+        bound = bound_of(program, fields[2])
+    except ValueError:
+        return f"{shown(fields[2])} is no payload{', '.join(payloads_words(program))}"
+    return no_number(fields[3], fields[2].decode(), bound)
+
+
+def payloads_words(program):
+    """What the payloads of a program are."""
+    words = [word.decode() for word in PAYLOADS.get(program, ())]
+    return [f", which are {words[0]}", *words[1:]] if len(words) > 1 else [f", which is {words[0]}"] if words else [""]

@@ -4,7 +4,7 @@ from collections import namedtuple
 
 from lab.definitions.colours import fields_of
 from lab.definitions.nodes import wire_words
-from lab.transcripts.fields import PAYLOADS, number, why_no_entry
+from lab.transcripts.fields import bound_of, number, why_no_entry
 
 # `kind` is Pulse, Put or Take; `what` is the number of the pulse, or the wire, as lab/definitions/nodes.py has it. A
 # pulse has no neighbour. `text` is the line as the search takes it, without the stamp; `stamp` is in edition 2 alone.
@@ -23,10 +23,10 @@ class Wrong(Exception):
 
 
 @functools.lru_cache(maxsize=2**16)
-def wire_of(*fields):
+def wire_of(program, *fields):
     match fields:
-        case [b"payload", pulse, word, of_word] if word in PAYLOADS:
-            return "Payload", number(pulse), (word.decode().title(), number(of_word, PAYLOADS[word]))
+        case [b"payload", pulse, word, of_word]:
+            return "Payload", number(pulse), (word.decode().title(), number(of_word, bound_of(program, word)))
         case [b"ack", pulse]:
             return "Ack", number(pulse)
         case [b"safe", pulse]:
@@ -41,43 +41,43 @@ def words_of_wire(wire):
     return wire_words(wire).encode()
 
 
-def entry_of(line, fields):
+def entry_of(line, fields, program):
     match fields:
         case [vertex, b"pulse", pulse]:
             v, p = number(vertex), number(pulse)
             return Entry(line, v, "Pulse", None, p, b"%d pulse %d" % (v, p))
         case [vertex, b"put" | b"take" as kind, neighbour, *of_wire]:
-            v, w, wire = number(vertex), number(neighbour), wire_of(*of_wire)
+            v, w, wire = number(vertex), number(neighbour), wire_of(program, *of_wire)
             return Entry(line, v, kind.decode().title(), w, wire, b"%d %s %d %s" % (v, kind, w, words_of_wire(wire)))
     raise ValueError
 
 
-def stamped_entry_of(line, fields):
-    return entry_of(line, fields[1:])._replace(stamp=number(fields[0], 2**64))
+def stamped_entry_of(line, fields, program):
+    return entry_of(line, fields[1:], program)._replace(stamp=number(fields[0], 2**64))
 
 
 READERS = {1: entry_of, 2: stamped_entry_of}
 
 
-def read(text):
-    """The first line, and the entries in the order of the text."""
-    head, entries, fault = read_to_fault(text)
+def read(text, program="colouring"):
+    """The first line, and the entries in the order of the text, with the payloads of the program of this name."""
+    head, entries, fault = read_to_fault(text, program)
     if fault:
         raise fault
     return head, entries
 
 
-def read_to_fault(text):
+def read_to_fault(text, program="colouring"):
     """The first line, the entries before the first line that isn't one, and that line's fault, or None."""
     lines, entries = text.split(b"\n"), []
     head = head_of(lines)
     for line, raw in enumerate(lines[head.line:], head.line + 1):
         try:
             if fields := fields_of(raw):
-                entries.append(READERS[head.edition](line, fields))
+                entries.append(READERS[head.edition](line, fields, program))
         except ValueError:
             cut = ", and no line feed after it (is the text cut?)" if line == len(lines) else ""
-            return head, entries, Wrong(line, "X1", f"not an entry: {why_no_entry(fields, head.edition)}{cut}")
+            return head, entries, Wrong(line, "X1", f"not an entry: {why_no_entry(fields, head.edition, program)}{cut}")
     return head, entries, None
 
 

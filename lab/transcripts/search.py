@@ -4,7 +4,7 @@ the same, slow and plain.
 
 An entry is its line, as b"1 put 2 safe 3", with one space between fields and no zeros before a number; so a wire is
 compared as bytes, as b"safe 3"."""
-from lab.definitions.nodes import Colouring, last_pulse, ports_of
+from lab.definitions.nodes import Colouring, ports_of
 
 
 class Port:
@@ -25,8 +25,8 @@ class Node:
     the port if it waits there for a wire. `due` counts the acknowledgements that are due, `unsafe` the ports whose safe
     of this pulse wasn't taken, `payloads` those sent."""
 
-    def __init__(self, net, v, own):
-        self.vertex, self.program, self.last = v, Colouring(net, v), last_pulse(net)
+    def __init__(self, net, v, own, program):
+        self.vertex, self.program, self.last = v, program(net, v), program.last_pulse(net)
         self.ports = {b"%d" % w: Port(self, w) for w in ports_of(net, v)}
         self.all_ports = list(self.ports.values())
         self.own, self.at, self.refusal, self.stuck_at = own, 0, None, None
@@ -129,8 +129,8 @@ class Search:
     """Of the entries of each vertex: `nodes` has the nodes after those that can be made, and `steps` (vertex, first,
     end) says whose entries were made in which order."""
 
-    def __init__(self, net, own):
-        self.nodes = {v: Node(net, v, own.get(v, [])) for v in net.neighbours}
+    def __init__(self, net, own, program=Colouring):
+        self.nodes = {v: Node(net, v, own.get(v, []), program) for v in net.neighbours}
         for v, node in self.nodes.items():
             for port in node.all_ports:
                 port.mate = self.nodes[port.neighbour].ports[b"%d" % v]

@@ -2,7 +2,7 @@
 clock. It is written from the pages in docs/ alone."""
 from collections import deque
 
-from lab.definitions.nodes import NetState, Refused, entry_words, make, missing_words, wire_words
+from lab.definitions.nodes import Colouring, NetState, Refused, entry_words, make, missing_words, wire_words
 from lab.transcripts.reading import Wrong, words
 from lab.transcripts.rules import Standing, rule_of, stuck_words
 from lab.transcripts.search import Search
@@ -26,12 +26,12 @@ class Clock:
         return stamp + 1
 
 
-def check_stamped(net, head, entries, fault=None):
+def check_stamped(net, head, entries, fault=None, program=Colouring):
     """Makes the entries one by one in their order; raises the first fault. Each entry has to be possible with what it
     says, its stamp has to be the one that the clock gives, and it has to come after the entry before it by stamp and
     then by vertex. At the end every node has to be through, and every link empty. With `fault` the entries end there,
     at a line that isn't an entry."""
-    state, clock, last = NetState(net), Clock(net.neighbours), None
+    state, clock, last = NetState(net, program), Clock(net.neighbours), None
     for entry in entries:
         try:
             make(state, entry)
@@ -104,7 +104,7 @@ def unfinished(state):
 KINDS = {b"pulse": "Pulse", b"put": "Put", b"take": "Take"}
 
 
-def stamped_as_it_stands(net, lines):
+def stamped_as_it_stands(net, lines, program=Colouring):
     """The nodes after the lines of a whole run with right stamps; None if they aren't one byte for byte; then they
     have to be read with care.
 
@@ -125,7 +125,7 @@ def stamped_as_it_stands(net, lines):
         own[v].append(entry)
         last = due, v
     try:
-        search = Search(net, own)
+        search = Search(net, own, program)
     except (IndexError, ValueError):
         return None
     return search.nodes if search.is_whole() else None

@@ -9,10 +9,10 @@ from lab.workshop.first_message import own_data
 from lab.workshop.judge import Entry, verdict_on
 from lab.workshop.links import Links
 from lab.workshop.nodes import Nodes
+from lab.workshop.results import COLOURING, FORMS, result_of
 from lab.workshop.right_rounds import RightRounds
 from lab.workshop.wires import pulse_of, wire_of
 
-FORMS = "`put PORT WIRE`, `pulse P`, `channel CHANNEL`"
 PATIENCE = 1.0              # seconds that programs have to end at the end of their input
 
 
@@ -24,14 +24,14 @@ class Stop(NamedTuple):
 
 
 class AlphaRun:
-    """`entries` in the order in which they happened; `channels[v]`, what v said; `stop`, the node that gave no
-    answer."""
+    """`entries` in the order in which they happened; `results[v]`, what v said that it has found; `stop`, the node that
+    gave no answer."""
 
     def __init__(self, rounds: RightRounds, policy: Policy):
         self.rounds, self.network, self.policy = rounds, rounds.network, policy
         self.links, self.counters = Links(self.network), dict.fromkeys(self.network.vertices, 0)
         self.entries: list[Entry] = []
-        self.channels: dict[int, int] = {}
+        self.results: dict[int, str] = {}
         self.stop: Stop | None = None
 
     def play(self, nodes: Nodes) -> None:
@@ -62,25 +62,27 @@ class AlphaRun:
 
     def if_late(self) -> None:
         """A program may hang because of what went wrong before: then there is no need to wait for it."""
-        if verdict_on(self.network, self.in_order()).is_about_an_entry:
+        if verdict_on(self.network, self.in_order(), self.rounds.program).is_about_an_entry:
             raise Fault("silent", "it didn't answer, and something was wrong before")
 
     def answered(self, v: int, line: str) -> None:
+        program = self.rounds.program
+        forms = ", ".join(["`put PORT WIRE`", "`pulse P`", *FORMS[program]])
         match line.split():
             case ["pulse", pulse]:
                 self.write(v, f"pulse {pulse_of(line, pulse)}")
-            case ["channel", channel] if is_number(channel):
-                self.channels[v] = int(channel)
             case ["put", port, *wire] if is_number(port):
                 w = self.network.neighbours[v][port_of(line, port, len(self.rounds.ports[v]))]
-                words = wire_of(line, wire)
+                words = wire_of(line, wire, program)
                 self.write(v, f"put {w} {words}")
                 self.links.put(v, w, words, self.counters[v])
-            case ["colour" | "chose", *_]:
-                raise Fault("garbage", f"{shown(line)} is a line of rounds alone; the lines of alpha are {FORMS} and "
+            case ["colour" | "chose", *_] if program == COLOURING:
+                raise Fault("garbage", f"{shown(line)} is a line of rounds alone; the lines of alpha are {forms} and "
                                        "`end`")
+            case fields if result := result_of(program, fields):
+                self.results[v] = result
             case _:
-                raise no_such_line(line, FORMS)
+                raise no_such_line(line, forms)
 
     def write(self, v: int, words: str, after: int = 0) -> None:
         self.counters[v] = 1 + max(self.counters[v], after)

@@ -4,8 +4,9 @@ from lab.transcripts.rules import rule_of, rules_of_dues
 from lab.workshop.alpha_run import AlphaRun
 from lab.workshop.findings import Finding
 from lab.workshop.judge import Entry, Verdict, verdict_on
+from lab.workshop.results import FORMS
 from lab.workshop.why_alpha import At, at_node, hints, right_words, with_port
-from lab.workshop.why_rounds import Why
+from lab.workshop.why_rounds import why_of
 
 MOST_STUCK, MOST_WAITING = 4, 6
 
@@ -14,14 +15,14 @@ def finding_of(run: AlphaRun) -> Finding | None:
     """What isn't right in a run that was played, or None. What comes first in the run counts: a program that ends
     because of a wrong step before gets the verdict on that step."""
     entries = run.in_order()
-    verdict = verdict_on(run.network, entries)
+    verdict = verdict_on(run.network, entries, run.rounds.program)
     if verdict.is_about_an_entry:
         return wrong_entry(run, entries, verdict)
     if run.stop:
         return no_answer(run, entries)
     if verdict.name == "NotWhole":
         return stuck(run, entries, verdict)
-    return wrong_channel(run)
+    return wrong_result(run)
 
 
 def wrong_entry(run: AlphaRun, entries: list[Entry], verdict: Verdict) -> Finding:
@@ -75,12 +76,13 @@ def why_due(at: At) -> str:
     return rules_of_dues(at)
 
 
-def wrong_channel(run: AlphaRun) -> Finding | None:
-    """Of a run that is right and whole: the first node that said another channel."""
-    for v, channel in run.rounds.channels.items():
-        if run.channels.get(v) != channel:
-            said = f"it said channel {run.channels[v]}" if v in run.channels else "it never said `channel C`"
-            lines = [("where", f"node {v}, at its end"), ("wrong", said), ("right", f"channel {channel}"),
-                     ("why", Why(run.rounds, v).of_channel())]
+def wrong_result(run: AlphaRun) -> Finding | None:
+    """Of a run that is right and whole: the first node that said another channel, or another result."""
+    form = " or ".join(FORMS[run.rounds.program])
+    for v, result in run.rounds.results.items():
+        if run.results.get(v) != result:
+            said = f"it said {run.results[v]}" if v in run.results else f"it never said {form}"
+            lines = [("where", f"node {v}, at its end"), ("wrong", said), ("right", result),
+                     ("why", why_of(run.rounds, v).of_result())]
             return Finding("result", v, run.rounds.last, lines)
     return None

@@ -11,6 +11,7 @@ from lab.schedules.policies import POLICIES
 from lab.workshop.chance import Chance
 from lab.workshop.findings import Finding
 from lab.workshop.open_run import League
+from lab.workshop.results import COLOURING
 from lab.wrong import Wrong
 
 # Each mistake of the colouring that can be caught shows on most4 or rest3, and each of the synchroniser on alone4.
@@ -67,21 +68,25 @@ def random_network(name: str, nodes: int, chance: Chance) -> Network:
     return Network(name, nodes, chance.some_of(pairs, min(len(pairs), nodes - 1 + chance.below(nodes + 2))), {})
 
 
-def varied(network: Network, chance: Chance) -> Network:
-    """The same edges with other identifiers, and sometimes with other bars."""
+def varied(network: Network, chance: Chance, program: str) -> Network:
+    """The same edges with other identifiers; for the colouring also sometimes with other bars, and for the layers with
+    identifier 1, their root, at one node in most networks."""
     vertices, how = list(network.vertices), chance.one_of(["own", "mixed", "sparse", "long"])
     names = {"own": lambda: [network.identifiers[v] for v in vertices],
              "mixed": lambda: chance.some_of(vertices, len(vertices)),
              "sparse": lambda: chance.some_of(range(max(100, 4 * len(vertices))), len(vertices)),
              "long": lambda: [chance.long_number() for _ in vertices]}[how]()
+    if program == "layers" and 1 not in names and chance.happens(0.8):
+        names[chance.below(len(names))] = 1
     bars = network.bars
-    if network.degree and chance.happens(0.4):
+    if program == COLOURING and network.degree and chance.happens(0.4):
         channels = range(1, network.degree + 2)
         bars = {v: chance.some_of(channels, 1 + chance.below(2)) for v in vertices if chance.happens(0.3)}
     return Network(network.name, network.nodes, network.edges, {}, {}, dict(zip(vertices, names)), bars)
 
 
-def cases_of(networks: list[str], policies: list[str], runs: int, seed: str, only: int | None = None) -> list[Case]:
+def cases_of(networks: list[str], policies: list[str], runs: int, seed: str, only: int | None = None,
+             program: str = COLOURING) -> list[Case]:
     """All runs, or number `only` of them. Each network has its own identifiers in the first run, and varied ones
     later. The policies change from network to network, and for each network from run to run: so a hundred runs play
     all ten, and ten for each network play each on it once. Smaller networks come first."""
@@ -94,7 +99,7 @@ def cases_of(networks: list[str], policies: list[str], runs: int, seed: str, onl
         chance, at = Chance(own_seed), number % len(networks)
         network = network_of(networks[at], chance)
         if number >= len(networks):
-            network = varied(network, chance)
+            network = varied(network, chance, program)
         cases.append(Case(number, network, policies[(number // len(networks) + at) % len(policies)], own_seed))
     return sorted(cases, key=lambda case: (case.network.nodes, len(case.network.edges), case.number))
 

@@ -11,7 +11,8 @@ COPIED = (
     "docs/learn/WORKSHOP.md", "docs/pictures",
     "examples", "lab/__init__.py", "lab/__main__.py", "lab/door.py", "lab/door.sh", "lab/programs.py",
     "lab/version.py", "lab/watch.py", "lab/wrong.py", "lab/networks", "lab/workshop",
-    "lab/schedules/__init__.py", "lab/schedules/policies.py", "lab/transcripts/__init__.py", "lab/transcripts/rules.py",
+    "lab/schedules/__init__.py", "lab/schedules/policies.py",
+    "lab/transcripts/__init__.py", "lab/transcripts/fields.py", "lab/transcripts/rules.py",
 )
 # Of these folders, what stays with the teacher.
 LEFT_OUT = (

@@ -11,6 +11,7 @@ from lab.networks.network_text import Network
 from lab.networks.texts import Made, text_of
 from lab.programs import TOP
 from lab.workshop.findings import NoVerdict
+from lab.workshop.results import COLOURING
 
 # No run has such a pulse, so an entry that names it is refused, and the judge says what would be possible.
 IMPOSSIBLE = (1 << 32) - 1
@@ -53,7 +54,7 @@ NO_NODES = "p edge 0 0\n"
 
 
 @functools.cache
-def program(name: str) -> str:
+def path_of(name: str) -> str:
     """A proved program. In the repository its script is called once, which builds it if need be, and says so."""
     door = os.path.join(TOP, "bin", name)
     try:
@@ -66,9 +67,15 @@ def program(name: str) -> str:
     return built if os.access(built, os.X_OK) else door
 
 
-def ask(name: str, command: str, text: str) -> tuple[int, str, str]:
-    """(status, standard output, standard error) of a proved program on a text."""
-    done = subprocess.run([program(name), command], input=text, capture_output=True, text=True)
+def words_of(program: str) -> list[str]:
+    """The words by which a command learns what the nodes run."""
+    return [] if program == COLOURING else ["--program", program]
+
+
+def ask(name: str, command: str, text: str, program: str = COLOURING) -> tuple[int, str, str]:
+    """(status, standard output, standard error) of a proved program on a text; `program` is what the nodes run."""
+    words = [path_of(name), command, *words_of(program)]
+    done = subprocess.run(words, input=text, capture_output=True, text=True)
     return done.returncode, done.stdout, done.stderr.strip()
 
 
@@ -82,13 +89,13 @@ def transcript_text(nodes: int, entries: list[Entry]) -> str:
     return "".join(line + "\n" for line in lines)
 
 
-def verdict_on(network: Network, entries: list[Entry]) -> Verdict:
+def verdict_on(network: Network, entries: list[Entry], program: str) -> Verdict:
     """The judge's verdict on entries in this order."""
-    return verdict_of(network_text(network), transcript_text(network.nodes, entries))
+    return verdict_of(network_text(network), transcript_text(network.nodes, entries), program)
 
 
-def verdict_of(network: str, transcript: str) -> Verdict:
-    status, _, line = ask("forestplay", "replay", network + transcript)
+def verdict_of(network: str, transcript: str, program: str = COLOURING) -> Verdict:
+    status, _, line = ask("forestplay", "replay", network + transcript, program)
     if status == 0:
         return Verdict()
     found = re.fullmatch(r"forestplay: (\w+) line (\d+)(?:: (.*))?", line)
@@ -97,13 +104,13 @@ def verdict_of(network: str, transcript: str) -> Verdict:
     return Verdict(found[1], int(found[2]) - network.count("\n") - 2, found[3] or "", line)
 
 
-def due_at(network: Network, entries: list[Entry], v: int) -> Due:
+def due_at(network: Network, entries: list[Entry], v: int, program: str) -> Due:
     """What node v can do after these entries. The machine is asked by entries that can't be right: it refuses each,
     and says what would be possible there."""
     before = "".join([f"transcript 1 {network.nodes}\n", *(f"{u} {words}\n" for _, u, words in entries)])
 
     def refusal_of(words):
-        return verdict_of(network_text(network), f"{before}{v} {words}\n")
+        return verdict_of(network_text(network), f"{before}{v} {words}\n", program)
 
     pulse = refusal_of(f"pulse {IMPOSSIBLE}")
     can = pulse.words.removeprefix("expected ") if pulse.name == "WrongWire" else None

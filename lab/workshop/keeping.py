@@ -7,7 +7,7 @@ import tempfile
 from lab.programs import TOP
 from lab.workshop.alpha_run import AlphaRun
 from lab.workshop.cases import Case
-from lab.workshop.judge import network_text, transcript_text
+from lab.workshop.judge import network_text, transcript_text, words_of
 from lab.workshop.open_run import OpenRun
 from lab.workshop.report import described
 from lab.workshop.rounds_run import RoundsRun
@@ -49,16 +49,17 @@ def puts_of(run: RoundsRun) -> list[str]:
 def repeat(case: Case, folder: str) -> list[str]:
     """Commands that give the verdict again, for the folder in which the workshop was called. The folder of a class has
     no check-transcript."""
+    words = "" if isinstance(case.run, OpenRun) else "".join(f" {word}" for word in words_of(case.run.rounds.program))
     doors = os.path.join(TOP, "bin")
     folder, door = shlex.quote(folder), shlex.quote(min(os.path.relpath(doors), doors, key=len))
     has_check = os.path.exists(os.path.join(TOP, "lab", "transcripts", "check.py"))
     match case.run:
         case AlphaRun():
-            return [f"  cat {folder}/network.col {folder}/run.transcript | {door}/forestplay replay",
-                    *[f"  {door}/check-transcript {folder}/network.col {folder}/run.transcript"] * has_check]
+            return [f"  cat {folder}/network.col {folder}/run.transcript | {door}/forestplay replay{words}",
+                    *[f"  {door}/check-transcript {folder}/network.col {folder}/run.transcript{words}"] * has_check]
         case OpenRun():
             return [f"  cat {folder}/network.col {folder}/plan | {door}/forestplan check"]
-    return [f"  {door}/forestplay rounds < {folder}/network.col | grep ' put ' > {folder}/right.puts",
+    return [f"  {door}/forestplay rounds{words} < {folder}/network.col | grep ' put ' > {folder}/right.puts",
             f"  diff {folder}/said.puts {folder}/right.puts"]
 
 
@@ -75,7 +76,7 @@ def draw(case: Case, file: str) -> str | None:
             with open(path, "w", encoding="ascii") as out:
                 out.write(text)
         command = [os.path.join(TOP, "bin", "picture"), "run", network, "--transcript", run, "--wrong",
-                   "--pulses", f"{max(0, last - 1)}..{last}"]
+                   "--pulses", f"{max(0, last - 1)}..{last}", *words_of(case.run.rounds.program)]
         done = subprocess.run(command, capture_output=True, text=True)
     if done.returncode:
         return done.stderr.strip().replace(run, "the run")

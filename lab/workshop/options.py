@@ -2,8 +2,10 @@
 import argparse
 
 from lab.schedules.policies import POLICIES
+from lab.transcripts.fields import PAYLOADS
 from lab.workshop.cases import NETWORKS
 from lab.workshop.open_run import MOST_PULSES
+from lab.workshop.results import COLOURING, program_of
 
 HELP = """\
 Runs programs that students write as the nodes of a network, and has the proved
@@ -33,6 +35,7 @@ network, 3 there is no verdict (the judge or a command can't be run).
 
 Examples:
   bin/workshop rounds triangle -- python3 my_node.py
+  bin/workshop rounds --program layers path5 -- python3 my_node.py
   bin/workshop alpha --runs 200 --seed 7 -- ./my_node
   bin/workshop alpha petersen --policies newest --keep DIR -- ./anna -- python3 ben.py
 """
@@ -45,6 +48,8 @@ def command_line() -> argparse.ArgumentParser:
     words.add_argument("assignment", choices=["rounds", "alpha", "open"],
                        help="with a clock, without one, or your own algorithm")
     words.add_argument("networks", nargs="*", metavar="NETWORK", help=f"default: {NETWORKS.replace(',', ' ')}")
+    words.add_argument("--program", metavar="P",
+                       help=f"of rounds and alpha, what nodes do: {', '.join(PAYLOADS)}; default: {COLOURING}")
     words.add_argument("--runs", type=count, metavar="N",
                        help="the number of runs; default: 1 for each NETWORK, or 100")
     words.add_argument("--seed", default="1", help="whatever is by chance comes from it; default: 1")
@@ -83,13 +88,16 @@ def seconds(text: str) -> float:
 
 
 def parsed(words: list[str]) -> argparse.Namespace:
-    """The options, with `commands`, `policies` and `runs` as the runs need them."""
+    """The options, with `commands`, `program`, `policies` and `runs` as the runs need them."""
     at = words.index("--") if "--" in words else len(words)
     line = command_line()
     options = line.parse_intermixed_args(words[:at])
     options.commands = split(words[at + 1:])
     if not options.commands:
         line.error("there is no command after `--`")
+    if options.assignment == "open" and options.program:
+        line.error("--program is of rounds and alpha")
+    options.program = program_of(options.program or COLOURING)
     if options.assignment != "alpha" and (options.policies or options.picture):
         line.error("--policies and --picture are of alpha alone")
     options.policies = (options.policies or ",".join(POLICIES)).split(",") if options.assignment == "alpha" else [""]

@@ -10,6 +10,7 @@ from lab.workshop.findings import Fault, Finding, NoVerdict
 from lab.workshop.limits import files_for, limits_of
 from lab.workshop.nodes import Nodes
 from lab.workshop.open_run import OpenRun
+from lab.workshop.results import COLOURING
 from lab.workshop.right_rounds import RightRounds
 from lab.workshop.rounds_run import RoundsRun
 
@@ -21,9 +22,9 @@ class Player:
     """Plays cases of an assignment with the students' commands."""
 
     def __init__(self, assignment: str, commands: list[list[str]], timeout: float, megabytes: int,
-                 is_shared: bool, most_pulses: int):
+                 is_shared: bool, most_pulses: int, program: str = COLOURING):
         self.assignment, self.commands, self.timeout, self.megabytes = assignment, commands, timeout, megabytes
-        self.is_shared, self.most_pulses = is_shared, most_pulses
+        self.is_shared, self.most_pulses, self.program = is_shared, most_pulses, program
 
     def nodes(self, network: Network) -> Nodes:
         programs = len(self.commands) if self.is_shared else network.nodes
@@ -41,13 +42,13 @@ class Player:
         return case.finding is None
 
     def rounds(self, case: Case) -> Finding | None:
-        case.run = RoundsRun(RightRounds(case.network))
+        case.run = RoundsRun(RightRounds(case.network, self.program))
         with self.nodes(case.network) as nodes:
             return case.run.play(nodes)
 
     def alpha(self, case: Case) -> Finding | None:
         policy = policy_of(case.policy, case.network.vertices, case.network.edges, case.seed)
-        case.run = AlphaRun(RightRounds(case.network), policy)
+        case.run = AlphaRun(RightRounds(case.network, self.program), policy)
         with self.nodes(case.network) as nodes:
             case.run.play(nodes)
         return finding_of(case.run)

@@ -1,6 +1,7 @@
 """What the workshop prints: a table of right runs, a league, the case that isn't right; or all of it for a program."""
 import sys
 import time
+from argparse import Namespace
 
 from lab.workshop.cases import Case
 
@@ -83,8 +84,7 @@ def report(cases: list[Case], shown: Case | None, seconds: float) -> list[str]:
     return lines
 
 
-def as_json(assignment: str, commands: list[list[str]], seed: str, cases: list[Case], shown: Case | None,
-            seconds: float) -> dict:
+def as_json(options: Namespace, cases: list[Case], shown: Case | None, seconds: float) -> dict:
     """For an autograder. `workshop` is the edition of this form."""
     def one(case):
         found, row = case.finding, {"case": case.number, "network": case.network.name, "nodes": case.network.nodes}
@@ -96,6 +96,8 @@ def as_json(assignment: str, commands: list[list[str]], seed: str, cases: list[C
         elif case.league:
             row |= case.league._asdict()
         return row
-    return {"workshop": EDITION, "assignment": assignment, "commands": commands, "seed": seed, "runs": len(cases),
-            "right": sum(case.finding is None for case in cases), "seconds": round(seconds, 2),
-            "cases": [one(case) for case in cases], "shown": described(shown) if shown else None}
+    program = {} if options.assignment == "open" else {"program": options.program}
+    return {"workshop": EDITION, "assignment": options.assignment, **program, "commands": options.commands,
+            "seed": options.seed, "runs": len(cases), "right": sum(case.finding is None for case in cases),
+            "seconds": round(seconds, 2), "cases": [one(case) for case in cases],
+            "shown": described(shown) if shown else None}

@@ -1,49 +1,55 @@
-"""The rounds of a network, as `forestplay rounds` writes them, in tables; and the plan of `forestplan plain`."""
+"""The rounds of a network, as `forestplay rounds` writes them, in tables; of the colouring also the plan of `forestplan
+plain`."""
 from lab.networks.network_text import Network
 from lab.workshop.findings import NoVerdict
 from lab.workshop.judge import ask, network_text
+from lab.workshop.results import COLOURING
 
 
 class RightRounds:
-    """Of each pulse p: `phase[p]`, its words; `puts[p][v][w]`, the word and number that v sends to w; `heard[p][v]`,
-    v's inbox by port; `colours[p][v]`, v's colour in each forest after it, and `chose[p][v]`, where there are any.
-    `channels[v]` is v's channel, `ports[v][w]` v's port to w. A whole run without a clock has `events` entries."""
+    """Of each pulse p: `phase[p]`, its words, which the colouring alone has; `puts[p][v][w]`, the word and number that
+    v sends to w; `heard[p][v]`, v's inbox by port; `colours[p][v]`, v's colour in each forest after it, and
+    `chose[p][v]`, where there are any. `results[v]` is what v has found, in words, `ports[v][w]` v's port to w.
+    `forests` is None if the program isn't the colouring. A whole run without a clock has `events` entries."""
 
-    def __init__(self, network: Network):
-        self.network = network
+    def __init__(self, network: Network, program: str = COLOURING):
+        self.network, self.program = network, program
         self.ports = {v: {w: port for port, w in enumerate(network.neighbours[v])} for v in network.vertices}
-        self.phase, self.puts, self.colours, self.chose = [], [], [], []
-        head, *lines = self.asked("forestplay", "rounds").splitlines()
-        self.forests, self.last = map(int, head.split()[-2:])
+        self.phase, self.puts, self.colours, self.chose, self.results = [], [], [], [], {}
+        head, *lines = self.asked("forestplay", "rounds", program).splitlines()
+        forests, last = map(int, head.split()[-2:])
+        self.forests, self.last = forests if program == COLOURING else None, last
         for line in lines:
             self.read(line.split(" "))
         self.heard = self.inboxes()
-        plan = self.asked("forestplan", "plain").splitlines()[1:]
-        self.channels = {int(v): int(channel) for v, channel in map(str.split, plan)}
+        if program == COLOURING:
+            plan = self.asked("forestplan", "plain").splitlines()[1:]
+            self.results = {int(v): f"channel {channel}" for v, channel in map(str.split, plan)}
         payloads = sum(len(to) for by in self.puts for to in by.values())
         wires = 2 * payloads + 2 * len(network.edges) * (self.last + 1)
         self.events = network.nodes * self.last + 2 * wires
 
-    def asked(self, name: str, command: str) -> str:
-        status, text, why = ask(name, command, network_text(self.network))
+    def asked(self, name: str, command: str, program: str = COLOURING) -> str:
+        status, text, why = ask(name, command, network_text(self.network), program)
         if status:
             raise NoVerdict(f"{name} {command} refuses {self.network.name}: {why}")
         return text
 
     def read(self, fields: list[str]) -> None:
         """Adds a line of the rounds."""
-        if fields[0] == "pulse":
-            self.phase.append(fields[2:])
-            for table in (self.puts, self.colours, self.chose):
-                table.append({})
-            return
-        v, what = int(fields[0]), fields[1]
-        if what == "put":
-            self.puts[-1].setdefault(v, {})[int(fields[2])] = " ".join(fields[5:])
-        elif what == "colour":
-            self.colours[-1].setdefault(v, []).append(int(fields[3]))
-        else:
-            self.chose[-1][v] = int(fields[2])
+        match fields:
+            case ["pulse", _, *phase]:
+                self.phase.append(phase)
+                for table in (self.puts, self.colours, self.chose):
+                    table.append({})
+            case [v, "put", w, "payload", _, *words]:
+                self.puts[-1].setdefault(int(v), {})[int(w)] = " ".join(words)
+            case [v, "colour", _, colour]:
+                self.colours[-1].setdefault(int(v), []).append(int(colour))
+            case [v, "chose", colour]:
+                self.chose[-1][int(v)] = int(colour)
+            case [v, *result]:
+                self.results[int(v)] = " ".join(result)
 
     def inboxes(self) -> list[dict[int, dict[int, str]]]:
         heard = [{v: {} for v in self.network.vertices} for _ in range(self.last + 2)]
@@ -52,6 +58,10 @@ class RightRounds:
                 for w, words in to.items():
                     heard[p + 1][w][self.ports[w][v]] = words
         return heard
+
+    def pulse_words(self, p: int) -> str:
+        """`pulse 3 (step)`; a program without phases has `pulse 3`."""
+        return f"pulse {p}" + (f" ({' '.join(self.phase[p])})" if self.phase[p] else "")
 
     def heard_words(self, v: int, p: int) -> str:
         """What a node's neighbours sent it for the inbox of a pulse from 1 on, as a sentence."""

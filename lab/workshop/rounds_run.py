@@ -6,19 +6,21 @@ from lab.workshop.answers import is_number, no_such_line, port_of, shown
 from lab.workshop.findings import Fault, Finding, listed
 from lab.workshop.first_message import own_data
 from lab.workshop.nodes import Nodes
+from lab.workshop.results import COLOURING, FORMS, result_of
 from lab.workshop.right_rounds import RightRounds
-from lab.workshop.why_rounds import Why
+from lab.workshop.why_rounds import Rule, Why, why_of
 
-FORMS = "`put PORT WORD NUMBER`, `colour FOREST COLOUR`, `chose COLOUR`, `channel CHANNEL`"
+PUT, COLOURS = "`put PORT WORD NUMBER`", ["`colour FOREST COLOUR`", "`chose COLOUR`"]
 PATIENCE = 1.0              # seconds that programs have to end at the end of their input
 MOST_NAMED = 8
 
 
 class Said:
-    """What a node said in a pulse: `puts[port]`, `colours[forest]`, and `chose` and `channel` if it said them."""
+    """What a node said in a pulse: `puts[port]`, `colours[forest]`, and `chose` and `result` if it said them. The lines
+    `colour` and `chose` are of the colouring alone."""
 
-    def __init__(self, lines: list[str], degree: int):
-        self.puts, self.colours, self.chose, self.channel = {}, {}, None, None
+    def __init__(self, lines: list[str], degree: int, program: str):
+        self.puts, self.colours, self.chose, self.result, self.program = {}, {}, None, None, program
         for line in lines:
             self.read(line, line.split(), degree)
 
@@ -29,14 +31,18 @@ class Said:
                 if at in self.puts:
                     raise Fault("garbage", f"{shown(line)} is a second payload by this port in one pulse")
                 self.puts[at] = f"{word} {int(number)}"
-            case ["colour", forest, colour] if is_number(forest) and is_number(colour):
+            case ["colour", forest, colour] if self.is_coloured() and is_number(forest) and is_number(colour):
                 self.colours[int(forest)] = int(colour)
-            case ["chose", colour] if is_number(colour):
+            case ["chose", colour] if self.is_coloured() and is_number(colour):
                 self.chose = int(colour)
-            case ["channel", channel] if is_number(channel):
-                self.channel = int(channel)
+            case _ if result := result_of(self.program, fields):
+                self.result = result
             case _:
-                raise no_such_line(line, FORMS)
+                forms = [PUT, *COLOURS * self.is_coloured(), *FORMS[self.program]]
+                raise no_such_line(line, ", ".join(forms))
+
+    def is_coloured(self) -> bool:
+        return self.program == COLOURING
 
 
 class RoundsRun:
@@ -64,20 +70,21 @@ class RoundsRun:
 
     def compare(self, p: int, v: int, answer: list[str] | Fault) -> Finding | None:
         """The first difference of an answer from what is right."""
-        where = ("where", f"node {v}, pulse {p} ({' '.join(self.rounds.phase[p])})")
+        where = ("where", f"node {v}, {self.rounds.pulse_words(p)}")
+        phase = "".join(self.rounds.phase[p][:1])
         try:
             if isinstance(answer, Fault):
                 raise answer
-            said = self.said[p][v] = Said(answer, len(self.rounds.ports[v]))
+            said = self.said[p][v] = Said(answer, len(self.rounds.ports[v]), self.rounds.program)
         except Fault as fault:
             lines = [where, self.came(p, v), ("wrong", fault.words), ("right", self.right_puts(p, v))]
-            return Finding(fault.kind, v, p, lines, way=self.rounds.phase[p][0])
+            return Finding(fault.kind, v, p, lines, way=phase)
         found = self.difference(p, v, said)
         if found is None:
             return None
         wrong, right, why = found
-        lines = [where, self.came(p, v), ("wrong", wrong), ("right", right), ("why", why(Why(self.rounds, v)))]
-        return Finding("differs", v, p, lines, way=f"{self.rounds.phase[p][0]} {kind_of(wrong, right)}")
+        lines = [where, self.came(p, v), ("wrong", wrong), ("right", right), ("why", why(why_of(self.rounds, v)))]
+        return Finding("differs", v, p, lines, way=f"{phase} {kind_of(wrong, right)}")
 
     def came(self, p: int, v: int) -> tuple[str, str]:
         if p == 0:
@@ -92,7 +99,7 @@ class RoundsRun:
         return "; ".join(said[:MOST_NAMED]) + "; .." * (len(said) > MOST_NAMED) if said else \
             "nothing is sent in this pulse"
 
-    def difference(self, p: int, v: int, said: Said) -> tuple[str, str, Callable[[Why], str]] | None:
+    def difference(self, p: int, v: int, said: Said) -> tuple[str, str, Callable[[Why | Rule], str]] | None:
         """(what it said, what is right, why), the last as a question."""
         for forest, colour in enumerate(self.rounds.colours[p].get(v, [])):
             if said.colours.get(forest, colour) != colour:
@@ -108,17 +115,16 @@ class RoundsRun:
                 w = self.network.neighbours[v][port]
                 wrong = put_words(port, said.puts.get(port))
                 return wrong, put_words(port, right.get(port)), lambda why: why.of_port(p, w)
-        channel = self.rounds.channels[v]
-        if p == self.rounds.last and said.channel != channel:
-            wrong = "no line `channel C`" if said.channel is None else f"channel {said.channel}"
-            return wrong, f"channel {channel}", Why.of_channel
+        result = self.rounds.results[v]
+        if p == self.rounds.last and said.result != result:
+            return said.result or f"no line {' or '.join(FORMS[said.program])}", result, lambda why: why.of_result()
         return None
 
 
 def kind_of(wrong: str, right: str) -> str:
-    """What differs: `channel`, `chose`, or the word of a payload."""
-    fields = (right if right.startswith("put") else wrong).split()
-    return fields[2] if fields[0] == "put" else "channel" if "channel" in right else fields[0]
+    """What differs: the word of a payload, `colour`, `chose`, or the first word of a result."""
+    fields = (wrong if right.startswith("no") else right).split()
+    return fields[2] if fields[0] == "put" else fields[0]
 
 
 def put_words(port: int, words: str | None) -> str:

@@ -6,7 +6,7 @@ from lab.transcripts.rules import Standing
 from lab.workshop.findings import listed
 from lab.workshop.judge import Entry, due_at
 from lab.workshop.right_rounds import RightRounds
-from lab.workshop.why_rounds import Why
+from lab.workshop.why_rounds import why_of
 
 SO_FAR = 8
 MOST_EARLY, MOST_PULSES = 3, 8
@@ -20,7 +20,7 @@ class At(Standing):
     v: int
 
     def why_payload(self, link: int) -> str:
-        return Why(self.rounds, self.v).of_port(self.pulse, self.rounds.network.neighbours[self.v][link])
+        return why_of(self.rounds, self.v).of_port(self.pulse, self.rounds.network.neighbours[self.v][link])
 
     def has_payload_due(self) -> bool:
         return any(wire.startswith("payload") for wire in self.puts.values())
@@ -31,7 +31,7 @@ class At(Standing):
 
 def at_node(rounds: RightRounds, before: list[Entry], v: int) -> At:
     """Asks the machine what v can do after these entries, all of which are right."""
-    due = due_at(rounds.network, before, v)
+    due = due_at(rounds.network, before, v, rounds.program)
     pulse = sum(1 for _, u, words in before if u == v and words.startswith("pulse"))
     puts = {rounds.ports[v][w]: wire for w, wire in due.puts.items() if wire}
     lacks = by_ports(rounds, v, due.lacks)

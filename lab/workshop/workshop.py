@@ -18,9 +18,9 @@ REFUSED, NO_VERDICT = 2, 3
 
 
 def main(words: list[str]) -> int:
-    options = parsed(words)
-    INTERRUPTS.install()
     try:
+        options = parsed(words)
+        INTERRUPTS.install()
         return run(options)
     except Wrong as why:
         return failed(why, REFUSED)
@@ -40,8 +40,8 @@ def failed(why, status: int) -> int:
 def run(options) -> int:
     start = time.monotonic()
     player = Player(options.assignment, options.commands, options.timeout, options.memory, options.one_process,
-                    options.most_pulses)
-    cases = cases_of(options.networks, options.policies, options.runs, options.seed, options.case)
+                    options.most_pulses, options.program)
+    cases = cases_of(options.networks, options.policies, options.runs, options.seed, options.case, options.program)
     cases = player.play_all(cases, options.first, Progress())
     shown = min((case for case in cases if case.finding), key=Case.size, default=None)
     if shown and len(cases) > 1:
@@ -49,8 +49,8 @@ def run(options) -> int:
     seconds = time.monotonic() - start
     if options.keep:
         keep(shown or cases[-1], options.keep)
-    write(json.dumps(as_json(options.assignment, options.commands, options.seed, cases, shown, seconds))
-          if options.json else "\n".join(report(cases, shown, seconds)))
+    write(json.dumps(as_json(options, cases, shown, seconds)) if options.json else
+          "\n".join(report(cases, shown, seconds)))
     if options.picture and (why := draw(shown or cases[-1], options.picture)):
         print(f"workshop: there is no picture: {why}", file=sys.stderr)
     return 1 if shown else 0

@@ -40,6 +40,7 @@ def runs():
         (["plan", "--workers", "64"], TRIANGLE),
         (["transcript", "--workers", "1"], CIRCLE),
         (["transcript", "--workers", "4"], CIRCLE),
+        (["run", "--workers", "4"], CIRCLE),
     ]
 
 
@@ -93,7 +94,7 @@ def answer_within(program, front, data, limit):
 
 def allowed(name, words, data):
     """Whether an answer is the right one, or the line of what was refused."""
-    is_threaded = words[0] in ("plan", "transcript")
+    is_threaded = words[0] in ("plan", "transcript", "run")
     refusals = [
         (4, b"", f"{name}: {line}\n".encode()) for line in (["memory", "threads"] if is_threaded else ["memory"])
     ]

@@ -33,7 +33,7 @@ def members():
     """The fields of each record of specs/, and the ghost fields and fields of each struct of src/, by its name."""
     found = {}
     for path in glob.glob(os.path.join(TOP, "crates", "*", "specs", "**", "*.antt"), recursive=True):
-        for name, body in re.findall(r"^\s*(?:pub )?record (\w+)\b(.*?)(?=^\S|\Z)", text_of(path), re.M | re.S):
+        for name, body in re.findall(r"^\s*(?:pub )?record (\w+)\b(.*?)(?=^\s*pub record |^\S|\Z)", text_of(path), re.M | re.S):
             found.setdefault(name, set()).update(re.findall(r"^\s+pub (\w+)\b", body, re.M))
     for path in glob.glob(os.path.join(TOP, "crates", "*", "src", "**", "*.rt"), recursive=True):
         for name, body in re.findall(r"^\s*(?:pub )?(?:struct|trait) (\w+)\b(.*?)^\}", text_of(path), re.M | re.S):

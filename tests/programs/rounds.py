@@ -26,6 +26,16 @@ WORKERS = (1, 2, 4)
 MOST = 400
 EDGE = "p edge 2 1|e 1 2|"
 TRIANGLE = "p edge 3 3|e 1 2|e 1 3|e 2 3|"
+FOUR = "p edge 4 6|e 1 2|e 1 3|e 1 4|e 2 3|e 2 4|e 3 4|"
+# A network text, the first line of its rounds, and the colours of all nodes after the merge of each forest, by hand.
+# The last pulse is 12 + 3 U (D + B + 1): of the star 12 + 3 * 1024, of two nodes without an edge 12.
+MERGES = [
+    ("four nodes that are all neighbours", FOUR, "rounds 1 4 3 3 48", [(0, 1, 0, 1), (2, 1, 0, 2), (1, 2, 0, 3)]),
+    ("a triangle with a bar", TRIANGLE + "b 3 1|", "rounds 2 3 2 1 2 36", [(0, 2, 1), (0, 2, 1)]),
+    ("two nodes with bars", "p edge 2 0|b 1 1|b 1 2|b 2 2|", "rounds 2 2 0 2 0 12", []),
+    ("the greatest star", "p edge 1024 1023|" + "".join(f"e {v} 1024|" for v in range(1, 1024)),
+     "rounds 1 1024 1023 1 3084", [(0,) * 1023 + (1,)]),
+]
 # A network text for each kind of fault, and what is said of it.
 FAULTS = [
     ("", "F1"),
@@ -115,7 +125,26 @@ def networks():
     return all_of
 
 
+def merges_of(rounds):
+    """The colours that nodes chose, by the forest of the merge, each row by ascending node."""
+    chosen, forest = {}, None
+    for line in rounds.decode().splitlines():
+        words = line.split()
+        if words[0] == "pulse":
+            forest = int(words[3]) if words[2] == "merge" else None
+        elif words[1] == "chose":
+            chosen.setdefault(forest, {})[int(words[0])] = int(words[2])
+    return [tuple(chosen[f][v] for v in sorted(chosen[f])) for f in sorted(chosen)]
+
+
 class Rounds(Case):
+    def test_merges(self):
+        """The last pulse, and the colours after each merge."""
+        for name, data, head, merges in MERGES:
+            done = run_program(PLAY, ["rounds"], text(data))
+            self.note(f"the first line of {name}", done.stdout.startswith(head.encode() + b"\n"), done.stdout[:80])
+            self.note(f"the merges of {name}", merges_of(done.stdout) == merges, merges_of(done.stdout)[:3])
+
     def test_texts(self):
         for name, data, wanted in [
             ("an edge", EDGE, EDGE_TEXT),
@@ -128,8 +157,6 @@ class Rounds(Case):
             self.note(f"the definition of {name}", got == text(wanted), got)
             done = run_program(PLAY, ["rounds"], text(data))
             self.expect(f"the rounds of {name}", done, 0, text(wanted), b"")
-        done = run_program(PLAY, ["rounds"], text(TRIANGLE + "b 3 1|"))
-        self.note("the last pulse of a triangle with a bar", done.stdout.startswith(b"rounds 2 3 2 1 2 36\n"), done)
         for name, data in networks().items():
             net = network_of(data)
             wanted = rounds_text(net)

@@ -281,5 +281,12 @@ def transcript(rows):
     return b"transcript 2 0\n"
 
 
+def run(rows):
+    """Each node ends at the last pulse of the rounds, with the channel that `plain` prints."""
+    last = rounds(rows).split(b"\n")[0].split()[-1].decode()
+    ends = [row.split() for row in plain(rows).decode().splitlines()[1:]]
+    return "".join(f"node {v} pulse {last} channel {channel}\n" for v, channel in ends).encode()
+
+
 ANSWERS = {"forests": forests, "plain": plain, "plan": plain, "transcript": transcript, "check": check,
-           "events": events, "replay": replay, "rounds": rounds}
+           "events": events, "replay": replay, "rounds": rounds, "run": run}

@@ -10,6 +10,7 @@ from lab.networks.network_text import Network
 from lab.workshop.cases import Case, network_of
 from lab.workshop.chance import Chance
 from lab.workshop.playing import Player
+from lab.workshop.results import COLOURING
 from tests import TOP
 
 DOOR = os.path.join(TOP, "bin", "workshop")
@@ -30,9 +31,10 @@ def network(name: str) -> Network:
 
 
 def played(assignment: str, name: str | Network, *commands: list[str], policy: str = "random", seed: str = "1",
-           timeout: float = 20.0, is_shared: bool = False, most_pulses: int = 1000) -> Case:
+           timeout: float = 20.0, is_shared: bool = False, most_pulses: int = 1000,
+           program: str = COLOURING) -> Case:
     """One run, in this process."""
-    player = Player(assignment, list(commands), timeout, 2048, is_shared, most_pulses)
+    player = Player(assignment, list(commands), timeout, 2048, is_shared, most_pulses, program)
     case = Case(0, network(name) if isinstance(name, str) else name, policy, seed)
     player.play(case)
     return case

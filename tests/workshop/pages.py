@@ -10,7 +10,8 @@ import unittest
 
 from build.install import install
 from lab.schedules.policies import POLICIES
-from lab.workshop import answers, cases, class_files, last_errors, limits, options, wires
+from lab.transcripts.fields import PAYLOADS
+from lab.workshop import answers, cases, class_files, last_errors, limits, options
 from tests import TOP
 from tests.workshop.base import EXAMPLES, LIMIT, call, python
 from tests.workshop.mistakes import MISTAKES
@@ -81,7 +82,7 @@ class Pages(unittest.TestCase):
         for name in POLICIES:
             with self.subTest(name):
                 self.assertIn(f"`{name}`", page("WORKSHOP.md"))
-        for name in wires.NUMBERS:
+        for name in map(bytes.decode, PAYLOADS["colouring"]):
             with self.subTest(name):
                 self.assertIn(f"`{name}`", page("PROTOCOL.md"))
 

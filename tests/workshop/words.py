@@ -72,7 +72,7 @@ class Words(unittest.TestCase):
         ):
             with self.subTest(node=v, pulse=p):
                 self.assertEqual(Why(rounds, v).of_choice(p), turn.format(p, colour, own, rest))
-        self.assertEqual(rounds.channels, {1: 1, 2: 2})
+        self.assertEqual(rounds.results, {1: "channel 1", 2: "channel 2"})
 
 
 # What comes to node 1 of the row: its port 0 is to node 2, and port 1 to node 3. A pulse by pulse, in words.

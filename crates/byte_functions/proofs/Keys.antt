@@ -101,6 +101,10 @@ module _ {M : Type 0} where
     others = λ s i ne. sum_by-IsPermutation (λ k. number (is_key s i k)) old new same;
   }
 
+  -- without lists there are no keys
+  pub no_keys : (lists : List (List (StampedEntry M))) (keys : List Key) → lists ≡ [] → keys ≡ [] → IsHeap key_cmp keys → AreKeys lists keys
+  no_keys lists keys none empty heap = record { once = λ s i. rw (none, empty) refl; heap = heap }
+
   -- a list more, with its key
   pub keys_more : (lists : List (List (StampedEntry M))) (list : List (StampedEntry M)) (old new : List Key) → AreKeys lists old
       → IsKeyAdded list (length lists) old new → IsHeap key_cmp new → AreKeys (lists ++ (list ∷ [])) new

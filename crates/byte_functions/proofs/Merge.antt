@@ -11,6 +11,7 @@ use Rattle.std.proofs.Math.ListN.{get_or-eq_default}
 use Rattle.stamps.specs.entries.Entry.{Entry}
 use Rattle.stamps.specs.Stamps.{StampedEntry, Rises}
 use Rattle.stamps.specs.Merged.{StampedRow, AreOrdered, IsMerge, Precedes, entries_at, list_of}
+use Rattle.answers.specs.transcripts.TranscriptText.{stamped_transcript_of}
 use Rattle.byte_functions.specs.Merge.{IsTaken, NoneLeft}
 use Rattle.stamps.proofs.Growing.{ordered_push}
 use Rattle.stamps.proofs.Lists.{entry_here, entry_other}
@@ -147,3 +148,8 @@ module _ {M : Type 0} where
       let all = sum_by-set {X = List (StampedEntry M)} length old i taken.behind [] taken.within in
       let was : length (get_or old i []) ≡ suc (length taken.behind) = ap length taken.was in
       subst (λ l. sum_by length l < sum_by length old) (sym taken.is) (omega (arith, all, was))
+
+-- a text has the lines of rows that are taken of these lists, behind the first line of so many nodes
+abbrev pub HasMerged : {M : Type 0} → (M → List ℕ) → (M → ℕ) → List (List (StampedEntry M)) → List (List (StampedEntry M)) → ℕ → List ℕ → Type 0
+HasMerged {M} word_of number_of wrote lefts count text =
+    (rows : List (StampedRow M)) × IsMerging wrote lefts rows × (text ≡ stamped_transcript_of word_of number_of count rows)

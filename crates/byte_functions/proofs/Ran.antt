@@ -7,21 +7,10 @@ use Rattle.node_pool.specs.run_options.Options.{Options}
 use Rattle.node_pool.specs.gather_laws.Outcome.{Outcome, IsOutcome, is_whole}
 use Rattle.answers.specs.pool.PoolFault.{PoolFault}
 use Rattle.answers.specs.pool.PoolFault.TheVariants as pool
-use Rattle.answers.specs.colour_rules.Payload.{Payload}
-use Rattle.answers.specs.colour_rules.Node as colour
-use Rattle.answers.specs.colour_rules.Program.{colouring}
+use Rattle.program_texts.specs.node_api.Program.{Program}
 use Rattle.answers.specs.declared.fault.PlanFault.TheVariants as plan
 use Rattle.byte_functions.specs.Workers.{IsFaultOfRun, MayRun, Ran, whole_after}
 use Rattle.byte_functions.proofs.Working.{pool-fault}
-
-abbrev Left : Type 0
-Left = Outcome colour.Node Payload
-
-pub may-run : (net : Net) (o : Options) (t : Bool) (ran : Ran) → IfOk ran (λ _. AreInRange o)
-    → IfOk ran (λ outcome. IsOutcome colouring net o.capacity t outcome) → IfErr ran (λ fault. fault ≡ pool.BadOptions → AreInRange o → ⊥)
-    → ((AreInRange o → ⊥) → ran ≡ Err pool.BadOptions) → MayRun net o t ran
-may-run net o t (Ok outcome) range is only first = (range, is)
-may-run net o t (Err fault) range is only first = pool-fault o fault only (λ out. let e = first out in cc)
 
 pub ok-maps : {A B : Type 0} {X Y : A → Type 0} (r : Result A B) → ((a : A) → X a → Y a) → IfOk r X → IfOk r Y
 ok-maps (Ok a) f x = f a x
@@ -31,36 +20,41 @@ pub err-maps : {A B : Type 0} {X Y : B → Type 0} (r : Result A B) → ((b : B)
 err-maps (Ok a) f x = tt
 err-maps (Err b) f x = f b x
 
-if-whole : (P : Left → Type 0) (outcome : Left) (whole : Bool) → P outcome
+if-whole : {S M : Type 0} (P : Outcome S M → Type 0) (outcome : Outcome S M) (whole : Bool) → P outcome
     → IfOk (if whole then Ok outcome else Err plan.Stopped) P
 if-whole P outcome true is = is
 if-whole P outcome false is = tt
 
-is-whole : (outcome : Left) (whole : Bool) → is_whole outcome ≡ whole
+is-whole : {S M : Type 0} (outcome : Outcome S M) (whole : Bool) → is_whole outcome ≡ whole
     → IfOk (if whole then Ok outcome else Err plan.Stopped) (λ left. is_whole left ≡ true)
 is-whole outcome true is = is
 is-whole outcome false is = tt
 
-if-stopped : (o : Options) (outcome : Left) (whole : Bool) → AreInRange o
+if-stopped : {S M : Type 0} (o : Options) (outcome : Outcome S M) (whole : Bool) → AreInRange o
     → IfErr (if whole then Ok outcome else Err plan.Stopped) (IsFaultOfRun o)
 if-stopped o outcome true range = tt
 if-stopped o outcome false range = range
 
-pub whole-outcome : (net : Net) (o : Options) (t : Bool) (ran : Ran) → MayRun net o t ran
-    → IfOk (whole_after ran) (λ outcome. IsOutcome colouring net o.capacity t outcome)
-whole-outcome net o t (Ok outcome) may = if-whole (IsOutcome colouring net o.capacity t) outcome (is_whole outcome) may.1
-whole-outcome net o t (Err fault) may = tt
-
-pub whole-is : (ran : Ran) → IfOk (whole_after ran) (λ outcome. is_whole outcome ≡ true)
+pub whole-is : {S M : Type 0} (ran : Ran S M) → IfOk (whole_after ran) (λ outcome. is_whole outcome ≡ true)
 whole-is (Ok outcome) = is-whole outcome (is_whole outcome) refl
 whole-is (Err fault) = tt
 
-pub whole-range : (net : Net) (o : Options) (t : Bool) (ran : Ran) → MayRun net o t ran
-    → IfOk (whole_after ran) (λ _. AreInRange o)
-whole-range net o t (Ok outcome) may = if-whole (λ _. AreInRange o) outcome (is_whole outcome) may.0
-whole-range net o t (Err fault) may = tt
+module _ {S M E : Type 0} (program : Program S M E) (net : Net) (o : Options) (t : Bool) where
+  pub may-run : (ran : Ran S M) → IfOk ran (λ _. AreInRange o)
+      → IfOk ran (λ outcome. IsOutcome program net o.capacity t outcome) → IfErr ran (λ fault. fault ≡ pool.BadOptions → AreInRange o → ⊥)
+      → ((AreInRange o → ⊥) → ran ≡ Err pool.BadOptions) → MayRun program net o t ran
+  may-run (Ok outcome) range is only first = (range, is)
+  may-run (Err fault) range is only first = pool-fault o fault only (λ out. let e = first out in cc)
 
-pub whole-fault : (net : Net) (o : Options) (t : Bool) (ran : Ran) → MayRun net o t ran
-    → IfErr (whole_after ran) (IsFaultOfRun o)
-whole-fault net o t (Ok outcome) may = if-stopped o outcome (is_whole outcome) may.0
-whole-fault net o t (Err fault) may = may
+  pub whole-outcome : (ran : Ran S M) → MayRun program net o t ran
+      → IfOk (whole_after ran) (λ outcome. IsOutcome program net o.capacity t outcome)
+  whole-outcome (Ok outcome) may = if-whole (IsOutcome program net o.capacity t) outcome (is_whole outcome) may.1
+  whole-outcome (Err fault) may = tt
+
+  pub whole-range : (ran : Ran S M) → MayRun program net o t ran → IfOk (whole_after ran) (λ _. AreInRange o)
+  whole-range (Ok outcome) may = if-whole (λ _. AreInRange o) outcome (is_whole outcome) may.0
+  whole-range (Err fault) may = tt
+
+  pub whole-fault : (ran : Ran S M) → MayRun program net o t ran → IfErr (whole_after ran) (IsFaultOfRun o)
+  whole-fault (Ok outcome) may = if-stopped o outcome (is_whole outcome) may.0
+  whole-fault (Err fault) may = may

@@ -9,9 +9,7 @@ use Rattle.node_pool.specs.run_options.Options.{Options}
 use Rattle.node_pool.specs.gather_laws.Outcome.{Outcome, IsOutcome, is_whole}
 use Rattle.answers.specs.pool.PoolFault.{PoolFault}
 use Rattle.answers.specs.pool.PoolFault.TheVariants as pool
-use Rattle.answers.specs.colour_rules.Node as colour
-use Rattle.answers.specs.colour_rules.Payload.{Payload}
-use Rattle.answers.specs.colour_rules.Program.{colouring}
+use Rattle.program_texts.specs.node_api.Program.{Program}
 use Rattle.answers.specs.Answers.{ReadsAs}
 use Rattle.answers.specs.declared.fault.PlanFault.{PlanFault}
 use Rattle.answers.specs.declared.fault.PlanFault.TheVariants as plan
@@ -24,18 +22,18 @@ IsFaultOfPool options pool.Spawn = AreInRange options
 IsFaultOfPool options pool.StampFull = AreInRange options
 IsFaultOfPool options pool.BadOptions = AreInRange options → ⊥
 
--- what a run of workers returns that run the nodes of the colouring: an outcome, or its fault
-abbrev pub Ran : Type 0
-Ran = Result (Outcome colour.Node Payload) PoolFault
+-- what a run of workers returns that run nodes with states S and payloads M: an outcome, or its fault
+abbrev pub Ran : Type 0 → Type 0 → Type 0
+Ran S M = Result (Outcome S M) PoolFault
 
--- What such a run may return.
-abbrev pub MayRun : Net → Options → Bool → Ran → Type 0
-MayRun net options transcript (Ok outcome) =
-    AreInRange options × IsOutcome colouring net options.capacity transcript outcome
-MayRun net options transcript (Err fault) = IsFaultOfPool options fault
+-- What such a run of a program may return.
+abbrev pub MayRun : {S M E : Type 0} → Program S M E → Net → Options → Bool → Ran S M → Type 0
+MayRun program net options transcript (Ok outcome) =
+    AreInRange options × IsOutcome program net options.capacity transcript outcome
+MayRun program net options transcript (Err fault) = IsFaultOfPool options fault
 
 -- What is returned of a run: its fault, or that it stopped if its outcome isn't whole, or else its outcome.
-abbrev pub whole_after : {S M : Type 0} → Result (Outcome S M) PoolFault → Result (Outcome S M) PlanFault
+abbrev pub whole_after : {S M : Type 0} → Ran S M → Result (Outcome S M) PlanFault
 whole_after (Err fault) = Err (plan.Pool fault)
 whole_after (Ok outcome) = if is_whole outcome then Ok outcome else Err plan.Stopped
 

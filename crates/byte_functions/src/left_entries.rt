@@ -3,33 +3,31 @@
 ghost use Rattle.std.specs.Prelude.{◌≡◌, ◌∷◌, [], MatchOption, true};
 ghost use Rattle.byte_functions.specs.Merge.{starts_at};
 
-use answers::Payload;
 use stamps::{Entry, StampedIter};
 use std::marker::Model;
 
 /// The entries that a node has left, by value, seen as their list. The first of them is read ahead, so that its stamp
 /// is known while it is left.
 #[derive(Drop)]
-pub struct LeftEntries<'a> {
-    first: Option<(u64, Entry<Payload>)>,
-    behind: StampedIter<'a, Payload>,
+pub struct LeftEntries<'a, T> {
+    first: Option<(u64, Entry<T>)>,
+    behind: StampedIter<'a, T>,
 }
 
-impl<'a> Model for LeftEntries<'a> {
+impl<'a, T> Model for LeftEntries<'a, T> {
     ghost use Rattle.std.specs.Prelude.{List};
-    ghost use Rattle.answers.specs.colour_rules.Payload.{Payload};
     ghost use Rattle.stamps.specs.Stamps.{StampedEntry};
 
-    ghost Value = { List (StampedEntry Payload) };
+    ghost Value = { List (StampedEntry T) };
 
     ghost use Rattle.byte_functions.specs.Merge.{list_from};
 
     ghost view = { λ left. list_from left.first left.behind };
 }
 
-impl<'a> LeftEntries<'a> {
+impl<'a, T: Copy> LeftEntries<'a, T> {
     /// These entries.
-    pub fn new(mut behind: StampedIter<'a, Payload>) -> LeftEntries<'a>
+    pub fn new(mut behind: StampedIter<'a, T>) -> LeftEntries<'a, T>
         ensures { result ≡ behind.entry }
     {
         let first = behind.next();
@@ -47,7 +45,7 @@ impl<'a> LeftEntries<'a> {
     }
 
     /// Takes the first, if there is one.
-    pub fn take(&mut self) -> Option<(u64, Entry<Payload>)>
+    pub fn take(&mut self) -> Option<(u64, Entry<T>)>
         ensures { MatchOption result (self.old ≡ []) (λ first. self.old ≡ first ∷ self.new) }
     {
         let next = self.behind.next();

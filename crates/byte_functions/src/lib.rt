@@ -3,9 +3,9 @@
 //! another program calls the same functions.
 //!
 //! `serving` calls `forest_bytes`, `plain_bytes`, `plan_bytes`, `transcript_bytes`, `check_bytes`, `events_bytes`,
-//! `replay_bytes` or `rounds_bytes` for a command, and `fault_report` if they fail. The two that run worker threads,
-//! `plan_bytes` and `transcript_bytes`, are here; the others are in `answers`, which is proved beside the worker
-//! threads.
+//! `replay_bytes`, `rounds_bytes` or `run_bytes` for a command, and `fault_report` if they fail. The three that run
+//! worker threads, `plan_bytes`, `transcript_bytes` and `run_bytes`, are here; the others are in `answers`, which is
+//! proved beside the worker threads. `transcript_bytes` and `run_bytes` are for any program of nodes.
 //!
 //! ```
 //! let text = b"p edge 3 3\ne 1 2\ne 1 3\ne 2 3\n";
@@ -16,6 +16,7 @@
 //! a fault. Vertex v has the identifier of its line `i`, and without one v.
 #![tactic(auto)]
 
+mod ends;
 pub mod laws;
 mod left_entries;
 mod merged;
@@ -28,6 +29,7 @@ pub use answers::{
     FaultReport, PlanFault, ReplayFault, check_bytes, events_bytes, fault_report, forest_bytes,
     plain_bytes, replay_bytes, rounds_bytes,
 };
+pub use ends::run_bytes;
 pub use transcript::transcript_bytes;
 pub use workers::plan_bytes;
 

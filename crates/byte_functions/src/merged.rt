@@ -6,7 +6,8 @@ ghost use Rattle.stamps.specs.Stamps.{Rises};
 ghost use Rattle.byte_functions.specs.Transcripts.{IsMergedText, stamped_of};
 
 use crate::merging::Merging;
-use answers::{Colouring, Memory, Payload, push_stamped_row, stamped_text};
+use alpha_laws::NodeProgram;
+use answers::{Memory, push_stamped_row, stamped_text};
 use node_pool::Actor;
 use std::alloc::Global;
 
@@ -15,17 +16,19 @@ use std::alloc::Global;
 ///
 /// # Errors
 /// If memory ran out.
-pub fn merged_text(
+pub fn merged_text<P: NodeProgram>(
     alloc: Global,
     count: u32,
-    actors: Vec<Actor<Colouring>>,
+    actors: Vec<Actor<P>>,
 ) -> Result<Vec<u8>, Memory>
     requires count { length actors.items ≡ count }
     requires rising { All Rises (map stamped_of (map gathered_of actors.items)) }
-    ensures { IfOk result (λ text. IsMergedText count (map gathered_of actors.items) text.items) }
+    ensures { IfOk result (λ text.
+        IsMergedText P.Payload.word_of P.Payload.number_of count (map gathered_of actors.items) text.items) }
 {
     // The first line alone.
-    let mut text = stamped_text::<Payload>(alloc, count, &[])?;
+    let none = Vec::new(alloc);
+    let mut text = stamped_text::<P::Payload>(alloc, count, none.as_slice())?;
     let mut merging = Merging::new(alloc, actors.as_slice())?;
     while let Some(row) = merging.take() {
         push_stamped_row(&mut text, &row)?;

@@ -7,7 +7,7 @@ ghost use Rattle.byte_functions.specs.Merge.{AreKeys, IsKeyAdded, IsTaken, NoneL
 ghost use Rattle.byte_functions.specs.Transcripts.{stamped_of};
 
 use crate::left_entries::LeftEntries;
-use answers::{Colouring, Payload};
+use alpha_laws::{NodeProgram, PayloadText};
 use node_pool::Actor;
 use stamps::Entry;
 use std::alloc::{AllocError, Global};
@@ -21,15 +21,19 @@ type Keys = BinaryHeap<Reverse<(u64, usize)>>;
 /// The entries that nodes have left, which are taken in the order of their stamps and then of the vertices. To take one
 /// takes time by the logarithm of the number of nodes.
 #[derive(Drop)]
-pub struct Merging<'a> {
+pub struct Merging<'a, T> {
     // Those of each node.
-    lefts: Vec<LeftEntries<'a>>,
+    lefts: Vec<LeftEntries<'a, T>>,
     // The stamp of the first of them, for each node that has some left.
     keys: Keys,
 }
 
 // Adds the key of a node, if it has entries left.
-fn push_key(keys: &mut Keys, left: &LeftEntries<'_>, index: usize) -> Result<(), AllocError>
+fn push_key<T: Copy>(
+    keys: &mut Keys,
+    left: &LeftEntries<'_, T>,
+    index: usize,
+) -> Result<(), AllocError>
     ensures added { OnOk result (IsKeyAdded left.now index (heap_items keys.old) (heap_items keys.new)) }
     ensures heap { OnOk result (KeepsHeap key_cmp (heap_items keys.old) (heap_items keys.new)) }
 {
@@ -40,7 +44,7 @@ fn push_key(keys: &mut Keys, left: &LeftEntries<'_>, index: usize) -> Result<(),
 }
 
 // Puts the key of a node in the place of the one on top, or takes that off if the node has no entry left.
-fn replace_top(keys: &mut Keys, left: &LeftEntries<'_>, index: usize)
+fn replace_top<T: Copy>(keys: &mut Keys, left: &LeftEntries<'_, T>, index: usize)
     requires { 0 < heap_len keys.old }
     ensures replaced { IsKeyAdded left.now index (drop 1 (heap_items keys.old)) (heap_items keys.new) }
     ensures heap { KeepsHeap key_cmp (heap_items keys.old) (heap_items keys.new) }
@@ -55,12 +59,15 @@ fn replace_top(keys: &mut Keys, left: &LeftEntries<'_>, index: usize)
     }
 }
 
-impl<'a> Merging<'a> {
+impl<'a, T: PayloadText> Merging<'a, T> {
     /// All entries of these nodes.
     ///
     /// # Errors
     /// If memory ran out.
-    pub fn new(alloc: Global, actors: &'a [Actor<Colouring>]) -> Result<Merging<'a>, AllocError>
+    pub fn new<P: NodeProgram<Payload = T>>(
+        alloc: Global,
+        actors: &'a [Actor<P>],
+    ) -> Result<Merging<'a, T>, AllocError>
         ensures lefts { IfOk result (λ merging. merging.lefts.items ≡ map stamped_of (map gathered_of actors.now)) }
         ensures keys { IfOk result (λ merging. AreKeys merging.lefts.items (heap_items merging.keys)) }
     {
@@ -75,7 +82,7 @@ impl<'a> Merging<'a> {
     }
 
     /// Takes the least entry, if there is one, behind its stamp and the vertex of its node.
-    pub fn take(&mut self) -> Option<(u64, u32, Entry<Payload>)>
+    pub fn take(&mut self) -> Option<(u64, u32, Entry<T>)>
         requires few { length self.old.lefts.items < 2 ^ 32 }
         requires keys { AreKeys self.old.lefts.items (heap_items self.old.keys) }
         ensures keys { AreKeys self.new.lefts.items (heap_items self.new.keys) }

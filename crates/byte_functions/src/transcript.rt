@@ -9,9 +9,8 @@ ghost use Rattle.byte_functions.specs.Workers.{IsFaultOfWorkers};
 
 use crate::merged::merged_text;
 use crate::workers::whole_run;
-use answers::{
-    Colouring, Memory, Payload, PlanFault, Refused, network_of_text, push_entries, push_first_line,
-};
+use alpha_laws::NodeProgram;
+use answers::{Memory, PlanFault, Refused, network_of_text, push_entries, push_first_line};
 use node_pool::{Actor, Gate, Options, whole_outcomes_replay};
 use run_options::Edition;
 use std::alloc::Global;
@@ -19,12 +18,13 @@ use std::sync::Wait;
 use std::thread::Threads;
 
 // The transcript of nodes, each of which is dropped with its entries once its lines are written.
-fn text_of_actors(
+fn text_of_actors<P: NodeProgram>(
     alloc: Global,
     count: u32,
-    actors: Vec<Actor<Colouring>>,
+    actors: Vec<Actor<P>>,
 ) -> Result<Vec<u8>, Memory>
-    ensures { IfOk result (λ text. text.items ≡ entries_text count (map gathered_of actors.items)) }
+    ensures { IfOk result (λ text.
+        text.items ≡ entries_text P.Payload.word_of P.Payload.number_of count (map gathered_of actors.items)) }
 {
     let mut text = Vec::new(alloc);
     push_first_line(&mut text, count)?;
@@ -38,15 +38,16 @@ fn text_of_actors(
 }
 
 // The transcript of nodes in an edition.
-fn text_in(
+fn text_in<P: NodeProgram>(
     alloc: Global,
     edition: Edition,
     count: u32,
-    actors: Vec<Actor<Colouring>>,
+    actors: Vec<Actor<P>>,
 ) -> Result<Vec<u8>, Memory>
     requires count { length actors.items ≡ count }
     requires rising { All Rises (map stamped_of (map gathered_of actors.items)) }
-    ensures { IfOk result (λ text. IsTextIn edition count (map gathered_of actors.items) text.items) }
+    ensures { IfOk result (λ text.
+        IsTextIn P.Payload.word_of P.Payload.number_of edition count (map gathered_of actors.items) text.items) }
 {
     match edition {
         Edition::One => text_of_actors(alloc, count, actors),
@@ -54,17 +55,17 @@ fn text_in(
     }
 }
 
-/// The transcript of a run on the network that a DIMACS text describes: what each node put, took and did until its
-/// colour was found. In edition 1 it has the entries of each node in its own order, vertex by vertex; in edition 2 all
-/// entries in the order of their stamps and then of their vertices, which is a run that `replay_bytes` accepts. The run
-/// is that of `plan_bytes`, but has a transcript, whatever the options say. With more than one worker two calls may
+/// The transcript of a run of a program on the network that a DIMACS text describes: what each node put, took and did
+/// until its last pulse. In edition 1 it has the entries of each node in its own order, vertex by vertex; in edition 2
+/// all entries in the order of their stamps and then of their vertices, which is a run that `replay_bytes` accepts. The
+/// run is that of `plan_bytes`, but has a transcript, whatever the options say. With more than one worker two calls may
 /// give different transcripts.
 ///
 /// It is not promised that the call returns, nor that any number of turns is enough.
 ///
 /// # Errors
 /// As of `plan_bytes`.
-pub fn transcript_bytes<G: Gate + Sync, R: Threads + Wait + Sync>(
+pub fn transcript_bytes<P: NodeProgram, G: Gate + Sync, R: Threads + Wait + Sync>(
     rt: &R,
     alloc: Global,
     input: &[u8],
@@ -72,14 +73,15 @@ pub fn transcript_bytes<G: Gate + Sync, R: Threads + Wait + Sync>(
     edition: Edition,
     gate: &G,
 ) -> Result<Vec<u8>, PlanFault>
-    ensures ok { IfOk result (λ text. IsTranscriptAnswer edition input.now text.items) }
+    ensures ok { IfOk result (λ text.
+        IsTranscriptAnswer P.program P.Payload.word_of P.Payload.number_of edition input.now text.items) }
     ensures in_range { IfOk result (λ _. AreInRange options) }
     ensures fault { IfErr result (IsFaultOfWorkers options input.now) }
 {
-    whole_outcomes_replay::<Colouring, Payload, Refused>();
+    whole_outcomes_replay::<P, P::Payload, Refused>();
     let network = network_of_text(alloc, input)?;
     network.is_network();
-    let outcome = whole_run(rt, alloc, &network, options, true, gate)?;
+    let outcome = whole_run::<P, G, R>(rt, alloc, &network, options, true, gate)?;
     let count = network.nodes();
     // The text takes the room of what it doesn't speak of any more.
     drop(network);

@@ -2,12 +2,12 @@
 
 ghost use Rattle.std.specs.Prelude.{◌≡◌, true, IfOk, IfErr};
 ghost use Rattle.node_pool.specs.run_options.Ranges.{AreInRange};
-ghost use Rattle.answers.specs.colour_rules.Program.{colouring};
 ghost use Rattle.node_pool.specs.gather_laws.Outcome.{IsOutcome, is_whole};
 ghost use Rattle.answers.specs.Answers.{IsPlainAnswer};
 ghost use Rattle.byte_functions.specs.Workers.{IsFaultOfRun, IsFaultOfWorkers, MayRun, Ran, whole_after};
 
 use crate::plan_text::text_of_nodes;
+use alpha_laws::NodeProgram;
 use answers::laws::colours_are_proper;
 use answers::{Colouring, Network, Payload, PlanFault, Refused, network_of_text};
 use async_colour_laws::laws::halted_nodes_are_coloured;
@@ -17,9 +17,9 @@ use std::sync::Wait;
 use std::thread::Threads;
 
 // What a run left, if that is whole.
-fn unless_stopped(
-    ran: Result<Outcome<Colouring>, PoolFault>,
-) -> Result<Outcome<Colouring>, PlanFault>
+fn unless_stopped<P: NodeProgram>(
+    ran: Result<Outcome<P>, PoolFault>,
+) -> Result<Outcome<P>, PlanFault>
     ensures whole { result ≡ whole_after ran }
 {
     match ran {
@@ -34,25 +34,26 @@ fn unless_stopped(
     }
 }
 
-/// What workers leave that run the nodes of the colouring until all are done, with a transcript or without, whatever
+/// What workers leave that run the nodes of a program until all are done, with a transcript or without, whatever
 /// the options say of it.
 ///
 /// # Errors
 /// `Pool` with the fault of the run; `Stopped` if not every node was done within the turns.
-pub(crate) fn whole_run<G: Gate + Sync, R: Threads + Wait + Sync>(
+pub(crate) fn whole_run<P: NodeProgram, G: Gate + Sync, R: Threads + Wait + Sync>(
     rt: &R,
     alloc: Global,
     network: &Network,
     options: Options,
     transcript: bool,
     gate: &G,
-) -> Result<Outcome<Colouring>, PlanFault>
+) -> Result<Outcome<P>, PlanFault>
     ensures outcome { IfOk result
-        (λ outcome. IsOutcome colouring network.now options.capacity transcript outcome) }
+        (λ outcome. IsOutcome P.program network.now options.capacity transcript outcome) }
     ensures whole { IfOk result (λ outcome. is_whole outcome ≡ true) }
     ensures in_range { IfOk result (λ _. AreInRange options) }
     ensures fault { IfErr result (IsFaultOfRun options) }
-    ensures of_run { (ran : Ran) × MayRun network.now options transcript ran × (result ≡ whole_after ran) }
+    ensures of_run { (ran : Ran P P.Payload)
+        × MayRun P.program network.now options transcript ran × (result ≡ whole_after ran) }
 {
     let run = Options {
         workers: options.workers,
@@ -60,7 +61,7 @@ pub(crate) fn whole_run<G: Gate + Sync, R: Threads + Wait + Sync>(
         turns: options.turns,
         transcript,
     };
-    unless_stopped(run_workers::<Colouring, G, R>(rt, alloc, network, run, gate))
+    unless_stopped(run_workers::<P, G, R>(rt, alloc, network, run, gate))
 }
 
 /// The channel plan of the network that a DIMACS text describes, as `plain_bytes` gives it. The nodes find their
@@ -88,6 +89,6 @@ pub fn plan_bytes<G: Gate + Sync, R: Threads + Wait + Sync>(
     whole_outcomes_are_complete::<Colouring, Payload, Refused>();
     halted_nodes_are_coloured();
     let network = network_of_text(alloc, input)?;
-    let outcome = whole_run(rt, alloc, &network, options, false, gate)?;
+    let outcome = whole_run::<Colouring, G, R>(rt, alloc, &network, options, false, gate)?;
     Ok(text_of_nodes(alloc, outcome.actors())?)
 }

@@ -1,3 +1,4 @@
+pub mod Greeting
 pub mod LinkRows
 pub mod OnePort
 pub mod Rising

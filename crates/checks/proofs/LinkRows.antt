@@ -191,6 +191,14 @@ pub front_legal : {S M E : Type 0} (program : Program S M E) (name : Option Link
 front_legal program name front rest whole e legal n is =
     legal-front _ _ _ front rest (subst (λ l. IsLegalOn program n l) (sym e) (legal n is))
 
+-- what is put begins a legal list of the link
+pub legal_begin : {S M E : Type 0} (program : Program S M E) (link : LinkName) (front rest whole put : List (Wire M)) (name : Option LinkName)
+    → IsLegalOn program link whole → front ++ rest ≡ whole → put ≡ front → name ≡ Some link → LegalFor (IsLegalOn program) name put
+legal_begin program link front rest whole put name legal e is named n at =
+    let same : link ≡ n = cc in
+    let here : IsLegalOn program link front = legal-front _ _ _ front rest (subst (λ l. IsLegalOn program link l) (sym e) legal) in
+    subst (λ m. IsLegalOn program m put) same (subst (λ l. IsLegalOn program link l) (sym is) here)
+
 -- what is put after n pulses begins the whole
 pub echoes_front : (best n last : ℕ) → n ≤ last → (rest : List (Wire Best)) × (echoes best n ++ rest ≡ echoes best last)
 echoes_front best n zero le = ([], append-nil _ ∙ ap (echoes best) (let e : n ≡ 0 = omega arith in e))
@@ -238,7 +246,7 @@ abbrev first_wires : List (Wire Best)
 first_wires = Payload 0 (record { 0 = 1 }) ∷ Safe 0 ∷ []
 
 -- a payload of pulse 0 and its safe begin every stream that has one
-first_round : {M : Type 0} (top : ℕ) (sent other : ℕ → Option M) (x : M) → 1 ≤ top → sent 0 ≡ Some x → Legal top sent other (Payload 0 x ∷ Safe 0 ∷ [])
+pub first_round : {M : Type 0} (top : ℕ) (sent other : ℕ → Option M) (x : M) → 1 ≤ top → sent 0 ≡ Some x → Legal top sent other (Payload 0 x ∷ Safe 0 ∷ [])
 first_round {M} top sent other x le is = record {
   wires =
       let more = rounds_begin sent top 1 top le in
@@ -255,15 +263,11 @@ first_round {M} top sent other x le is = record {
     none (a ∷ b ∷ []) ys e = cc
     none (a ∷ b ∷ c ∷ xs) ys e = cc
 
-first_legal : IsLegalOn (spread 1) (name_of pair_net 1 0) first_wires
+pub first_legal : IsLegalOn (spread 1) (name_of pair_net 1 0) first_wires
 first_legal = first_round 1 (sends (spread 1) pair_net 1 2) (sends (spread 1) pair_net 2 1) (record { 0 = 1 }) (omega arith) (first_sent 0 (omega arith))
 
 -- a beginning of them, under the link's name
 pub first_front : (front rest put : List (Wire Best)) (name : Option LinkName) → front ++ rest ≡ first_wires → put ≡ front →
     name ≡ Some (name_of pair_net 1 0)
     → LegalFor (IsLegalOn (spread 1)) name put
-first_front front rest put name e is named n at =
-    let same : name_of pair_net 1 0 ≡ n = cc in
-    let here : IsLegalOn (spread 1) (name_of pair_net 1 0) front =
-    legal-front _ _ _ front rest (subst (λ l. IsLegalOn (spread 1) (name_of pair_net 1 0) l) (sym e) first_legal) in
-    subst (λ m. IsLegalOn (spread 1) m put) same (subst (λ l. IsLegalOn (spread 1) (name_of pair_net 1 0) l) (sym is) here)
+first_front front rest put name = legal_begin (spread 1) (name_of pair_net 1 0) front rest first_wires put name first_legal

@@ -2,13 +2,13 @@
 //! with each allocation refused in turn. What memory was refused to is tried again, as is every call here that isn't
 //! refused.
 
-ghost use Rattle.std.specs.Prelude.{◌≡◌, IfOk};
+ghost use Rattle.std.specs.Prelude.{◌≡◌};
 ghost use Rattle.alpha_core.specs.interference.Net.{count_of, degree_of};
 
-use crate::networks::{edge, network};
+use crate::net_core_checks::run_all;
+use crate::networks::edge;
 use alpha_core::{Memory, Network};
 use event_machine::{Event, NetState, RunRefused, StepRefused};
-use net_core::run;
 use std::alloc::Global;
 use sync_rounds::Greatest;
 
@@ -120,14 +120,6 @@ fn a_state_goes_on_after_a_refused_growth(rt: HostRuntime) {
     );
 }
 
-// Runs the events.
-fn run_all(alloc: Global, net: &Network, events: &[Event]) -> Result<Pair, RunRefused>
-    requires two { count_of net.now ≡ 2 }
-    ensures two { IfOk result (λ view. count_of view.net ≡ 2) }
-{
-    run(alloc, net, events)
-}
-
 // Whether the nodes end as they should; nothing if memory was refused.
 fn runs(alloc: Global, net: &Network) -> Option<bool>
     requires two { count_of net.now ≡ 2 }
@@ -145,68 +137,4 @@ fn a_list_runs_again_after_a_refused_growth(rt: HostRuntime) {
     assert!(rt; net.nodes() == 2);
     let ran = runs(rt.alloc(), &net);
     assert!(rt; ran == Some(true) || ran.is_none() && runs(rt.alloc(), &net) == Some(true));
-}
-
-// On the triangle: all greetings, acknowledgements and safes are put, and node 1 has taken one safe of two.
-static ONE_SAFE_OF_TWO: [Event; 32] = [
-    Event::Put(1, 0),
-    Event::Put(1, 1),
-    Event::Put(2, 0),
-    Event::Put(2, 1),
-    Event::Put(3, 0),
-    Event::Put(3, 1),
-    Event::Take(1, 0),
-    Event::Take(1, 1),
-    Event::Take(2, 0),
-    Event::Take(2, 1),
-    Event::Take(3, 0),
-    Event::Take(3, 1),
-    Event::Put(1, 0),
-    Event::Put(1, 1),
-    Event::Put(2, 0),
-    Event::Put(2, 1),
-    Event::Put(3, 0),
-    Event::Put(3, 1),
-    Event::Take(1, 0),
-    Event::Take(1, 1),
-    Event::Take(2, 0),
-    Event::Take(2, 1),
-    Event::Take(3, 0),
-    Event::Take(3, 1),
-    Event::Put(1, 0),
-    Event::Put(1, 1),
-    Event::Put(2, 0),
-    Event::Put(2, 1),
-    Event::Put(3, 0),
-    Event::Put(3, 1),
-    Event::Take(1, 0),
-    Event::Pulse(1),
-];
-
-fn is_refused(alloc: Global, net: &Network, events: &[Event], refused: RunRefused) -> bool {
-    match run::<Greatest<1>>(alloc, net, events) {
-        Ok(_) => false,
-        Err(why) => why == refused,
-    }
-}
-
-#[test]
-fn run_names_the_first_event_that_is_not_possible(rt: HostRuntime) {
-    let alloc: Global = rt.alloc();
-    let triangle = network(alloc, &[1, 2, 3], &[(1, 2), (1, 3), (2, 3)]).expect(&rt, "network");
-    let waits = [Event::Put(1, 0), Event::Pulse(1)];
-    assert!(rt;
-        is_refused(
-            alloc,
-            &triangle,
-            &[Event::Take(1, 0)],
-            RunRefused::LinkEmpty(0)
-        )
-    );
-    assert!(rt; is_refused(alloc, &triangle, &waits, RunRefused::NotReady(1)));
-    assert!(rt; is_refused(alloc, &triangle, &[Event::Pulse(4)], RunRefused::NoSuch(0)));
-    assert!(rt; is_refused(alloc, &triangle, &ONE_SAFE_OF_TWO, RunRefused::NotReady(31)));
-    let pair = edge(alloc).expect(&rt, "network");
-    let twice = [Event::Put(1, 0), Event::Put(1, 0)];
-    assert!(rt; is_refused(alloc, &pair, &twice, RunRefused::NothingToPut(1)));
 }

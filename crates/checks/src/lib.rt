@@ -27,6 +27,8 @@ mod forests_checks;
 #[cfg(test)]
 mod full_counters;
 #[cfg(test)]
+mod heard;
+#[cfg(test)]
 mod layers_checks;
 #[cfg(test)]
 mod leader_checks;
@@ -36,6 +38,8 @@ mod link_alone;
 mod link_queue_checks;
 #[cfg(test)]
 mod link_threads;
+#[cfg(test)]
+mod net_core_checks;
 #[cfg(test)]
 mod networks;
 #[cfg(test)]

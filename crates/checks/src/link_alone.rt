@@ -1,25 +1,27 @@
-//! Links of capacity 1 in one thread, at `Greatest`. What owns a link and its ends does nothing else, since each place
+//! Links of capacity 1 in one thread. What owns a link and its ends does nothing else, since each place
 //! at which they may be dropped costs proof.
 
-ghost use Rattle.std.specs.Prelude.{◌≡◌};
-ghost use Rattle.link_rule.specs.Legal.{name_of};
+ghost use Rattle.std.specs.Prelude.{◌≡◌, [], ◌∷◌};
+ghost use Rattle.alpha_core.specs.declared.wire.Wire.{Wire};
+ghost use Rattle.link_rule.specs.Legal.{IsLegalOn, name_of};
 ghost use Rattle.link_queue.specs.Ends.{IsNewPutEnd, IsPutEndOf, IsTakeEndOf, StaysPutEnd, StaysTakeEnd, put_name};
 ghost use Rattle.link_queue.specs.Ends.{take_name};
 ghost use Rattle.checks.specs.LinkRows.{pair_net};
 
-use alpha_core::{Memory, Network, Stamped, Wire};
+use alpha_core::{Memory, Network, NodeProgram, Stamped, Wire};
 use link_queue::{Full, Link, MeetRefused, Met, PutEnd, TakeEnd};
 use std::alloc::Global;
 use std::sync::Wait;
 use sync_rounds::{Best, Greatest};
 
-// Whether the takes behind a full link return what is due: the first wire, nothing, and the second wire.
-fn are_due(
-    taken: Option<Stamped<Best>>,
-    none: Option<Stamped<Best>>,
-    taken_again: Option<Stamped<Best>>,
+// Whether the takes after a full link return what is due: the first wire, nothing, and the second wire.
+fn are_due<T: Copy + Eq>(
+    payload: T,
+    taken: Option<Stamped<T>>,
+    none: Option<Stamped<T>>,
+    taken_again: Option<Stamped<T>>,
 ) -> bool {
-    let (payload, safe) = (Wire::Payload(0, Best(1)), Wire::Safe(0));
+    let (payload, safe) = (Wire::Payload(0, payload), Wire::Safe(0));
     taken
         == Some(Stamped {
             stamp: 1,
@@ -34,19 +36,21 @@ fn are_due(
 }
 
 // A put, a put that finds the link full, a take, a take that finds it empty, a put, a take; whether each returns what
-// is due.
-fn steps_of<R: Wait>(
+// is due, and the link stays open.
+fn steps_of<P: NodeProgram, R: Wait>(
     rt: &R,
-    link: &Link<Greatest<1>>,
-    put_end: &mut PutEnd<Greatest<1>>,
-    take_end: &mut TakeEnd<Greatest<1>>,
+    link: &Link<P>,
+    put_end: &mut PutEnd<P>,
+    take_end: &mut TakeEnd<P>,
+    payload: P::Payload,
 ) -> bool
     requires put_end { IsNewPutEnd link.now put_end.old (name_of pair_net 1 0) }
     requires take_end { IsTakeEndOf link.now take_end.old }
+    requires legal { IsLegalOn P.program (name_of pair_net 1 0) (Wire.Payload 0 payload ∷ Wire.Safe 0 ∷ []) }
     ensures put_end { StaysPutEnd link.now put_end.old put_end.new }
     ensures take_end { StaysTakeEnd link.now take_end.old take_end.new }
 {
-    let (stamp, wire) = (1, Wire::Payload(0, Best(1)));
+    let (stamp, wire) = (1, Wire::Payload(0, payload));
     match link.put(rt, put_end, Stamped { stamp, wire }) {
         Ok(()) => (),
         Err(_) => return false,
@@ -63,16 +67,16 @@ fn steps_of<R: Wait>(
     let none = link.take(rt, take_end);
     let put_again = link.put(rt, put_end, safe).is_ok();
     let taken_again = link.take(rt, take_end);
-    full == safe && put_again && are_due(taken, none, taken_again)
+    full == safe && put_again && are_due(payload, taken, none, taken_again) && !put_end.is_closed()
 }
 
 /// How many wires a link holds when its ends meet.
-pub fn held_at_the_end<const D: u32, R: Wait>(
+pub fn held_at_the_end<P: NodeProgram, R: Wait>(
     rt: &R,
     alloc: Global,
-    link: Link<Greatest<D>>,
-    put_end: PutEnd<Greatest<D>>,
-    take_end: TakeEnd<Greatest<D>>,
+    link: Link<P>,
+    put_end: PutEnd<P>,
+    take_end: TakeEnd<P>,
 ) -> Result<usize, Memory>
     requires put_end { IsPutEndOf link put_end }
     requires take_end { IsTakeEndOf link take_end }
@@ -84,16 +88,19 @@ pub fn held_at_the_end<const D: u32, R: Wait>(
     }
 }
 
-/// Whether the steps of a new link return what is due; then the ends meet, and how many wires the link holds.
-pub fn one_after_another<R: Wait>(
+/// Whether the steps of a new link, out of vertex 1 and with this payload, return what is due; then the ends meet, and
+/// how many wires the link holds.
+pub fn one_after_another<P: NodeProgram, R: Wait>(
     rt: &R,
     alloc: Global,
     network: &Network,
+    payload: P::Payload,
 ) -> Result<(bool, usize), Memory>
     requires network { network.now ≡ pair_net }
+    requires legal { IsLegalOn P.program (name_of pair_net 1 0) (Wire.Payload 0 payload ∷ Wire.Safe 0 ∷ []) }
 {
-    let (link, mut put_end, mut take_end) = Link::<Greatest<1>>::new(alloc, network, 1, 0, 1)?;
-    let are_due = steps_of(rt, &link, &mut put_end, &mut take_end);
+    let (link, mut put_end, mut take_end) = Link::<P>::new(alloc, network, 1, 0, 1)?;
+    let are_due = steps_of(rt, &link, &mut put_end, &mut take_end, payload);
     let held = held_at_the_end(rt, alloc, link, put_end, take_end)?;
     Ok((are_due, held))
 }

@@ -6,13 +6,14 @@ ghost use Rattle.checks.specs.LinkRows.{pair_net};
 use crate::link_alone::{met_again, one_after_another};
 use crate::link_threads::hand_over;
 use alpha_core::{NetFault, Network, Stamped, Wire, bars_fit, edges_fit};
+use colour_program::{Colouring, Long, Payload};
 use link_rule::StreamCheck;
 use run_options::MAX_CAPACITY;
 use std::alloc::Global;
 use std::process::Abort;
 use std::sync::Wait;
 use std::thread::Threads;
-use sync_rounds::Best;
+use sync_rounds::{Best, Greatest};
 
 fn pair(rt: &impl Abort, alloc: Global) -> Result<Network, NetFault>
     ensures { IfOk result (λ net. net ≡ pair_net) }
@@ -51,10 +52,25 @@ fn passes_what_is_due(check: &mut StreamCheck) -> bool {
     true
 }
 
+// Whether one thread puts and takes what it should on a link of `Greatest`, and on one of the colouring.
+fn greatest_is_handed_over<R: Wait>(rt: &R, alloc: Global, network: &Network) -> bool
+    requires network { network.now ≡ pair_net }
+{
+    one_after_another::<Greatest<1>, _>(rt, alloc, network, Best(1)) == Ok((true, 0))
+}
+
+fn a_greeting_is_handed_over<R: Wait>(rt: &R, alloc: Global, network: &Network) -> bool
+    requires network { network.now ≡ pair_net }
+{
+    let hello = Payload::Hello(Long::new(1));
+    one_after_another::<Colouring, _>(rt, alloc, network, hello) == Ok((true, 0))
+}
+
 #[test]
 fn one_thread_puts_and_takes(rt: HostRuntime) {
     let network = pair(&rt, rt.alloc()).expect(&rt, "network");
-    assert!(rt; one_after_another(&rt, rt.alloc(), &network) == Ok((true, 0)));
+    assert!(rt; greatest_is_handed_over(&rt, rt.alloc(), &network));
+    assert!(rt; a_greeting_is_handed_over(&rt, rt.alloc(), &network));
     assert!(rt; passes_what_is_due(&mut StreamCheck::new(1)));
 }
 

@@ -21,7 +21,7 @@ use std::thread;
 use std::thread::Threads;
 use sync_rounds::{Best, Greatest};
 
-const TRIES: u32 = 100_000_000;
+const TRIES: u32 = 1_000_000;
 
 // Tries to put a wire with its stamp; whether it was put.
 fn put_one<const D: u32, R: Wait>(
@@ -74,7 +74,7 @@ fn put_round<const D: u32, R: Wait>(
     put_one(rt, link, end, stamp + 3, Wire::Safe(pulse))
 }
 
-// Puts the whole list, with the stamps from 1 on; whether all of it was put.
+// Puts the whole list, with the stamps from 1 on; whether all of it was put, and its last wire closed the link.
 fn put_all<const D: u32, R: Wait>(
     rt: &R,
     link: &Link<Greatest<D>>,
@@ -91,8 +91,10 @@ fn put_all<const D: u32, R: Wait>(
             return (end, false);
         }
     }
+    let was_open = !end.is_closed();
     let done = put_one(rt, link, &mut end, 3 * u64::from(D) + 1, Wire::Close);
-    (end, done)
+    let is_closed = end.is_closed();
+    (end, was_open && done && is_closed)
 }
 
 // Tries to take a wire.

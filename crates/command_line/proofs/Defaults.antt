@@ -94,7 +94,8 @@ first_passes low high bound (t ∷ ts) kinds some lt =
     (t, n, refl, below, leb-true _ _ between.0, most)
 
 module _ (parser_at : Text → ValueParser) where
-  row_found : (id : Text) (rows : List Row) → has_row id rows ≡ true → AllPassed parser_at rows
+  -- an option that has a row has a first value, which passed
+  pub row_found : (id : Text) (rows : List Row) → has_row id rows ≡ true → AllPassed parser_at rows
       → (r : Row) × (find (λ x. bytes_eq x.id id) rows ≡ Some r) × (bytes_eq r.id id ≡ true) × Passed parser_at r
   row_found id [] h all = cc
   row_found id (x ∷ xs) h all = go (bytes_eq x.id id) refl h (λ k. row_found id xs k all.1)

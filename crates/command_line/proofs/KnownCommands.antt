@@ -1,7 +1,8 @@
 -- The command line computes, and each of its commands has a request, if clap finds no fault.
-use Rattle.std.proofs.Common.{◌≡◌, ◌≢◌, ◌⊎◌, inl, inr, subst, sym, refl, ap, ap₂, ◌∙◌, cond}
+use Rattle.std.proofs.Common.{◌≡◌, ◌≢◌, ◌⊎◌, inl, inr, ⊎_elim, subst, sym, refl, ap, ap₂, ◌∙◌, cond}
 use Rattle.std.proofs.Common.{Bool, true, false, List, [], ◌∷◌, Option, Some, None, is_some, find, option_map, codes}
 use Rattle.std.specs.List.{AllByRecursion}
+use Rattle.std.specs.Prelude.{option_and_then}
 use Rattle.std.specs.Option.{option_map_or}
 use Rattle.clap.specs.Walk.{Row, Text, answers_to, nothing_held, rows_after, stop_after, walk_from}
 use Rattle.clap.specs.Simple.{Shape, argument_words, built, entered, label_of, names_of, is_simple, rows_at, subcommand_of}
@@ -10,17 +11,26 @@ use Rattle.clap.specs.Kinds.{IsAmong, Kinds}
 use Rattle.clap.specs.declared.error.kind.ErrorKind.{ErrorKind}
 use Rattle.clap.specs.declared.error.kind.ErrorKind.TheVariants.{DisplayHelp, OutOfMemory}
 use Rattle.clap.proofs.OnLiterals.{clap_on_literals}
+use Rattle.run_options.specs.declared.Options.{Options}
 use Rattle.command_line.specs.Line.{line}
+use Rattle.command_line.specs.NodePrograms.{NamesNoProgram, program_with, shown_of}
 use Rattle.command_line.specs.RunOptions.{edition_of, options_of}
 use Rattle.command_line.proofs.Passing.{split}
+use Rattle.command_line.proofs.Played.{HasWord, play_found, play_rules}
+use Rattle.command_line.proofs.Played as both
 use Rattle.command_line.proofs.RunOptions.{run_found, run_rules, transcript_found, transcript_rules}
-use Rattle.command_line.specs.Asked.{IsDeclinedBy, IsInRange, MayDecline, choice_of, named, request_of, transcript_with, unless_at_fault}
+use Rattle.command_line.specs.Asked.{FoundNamesNoProgram, IsDeclinedBy, IsInRange, IsRefusal, MayDecline}
+use Rattle.command_line.specs.Asked.{IsPlayInRange, choice_of, has_transcript, named, played}
+use Rattle.command_line.specs.Asked.{request_of, run_of, transcript_with, unless_at_fault}
+use Rattle.command_line.specs.declared.programs.NodeProgramName.{NodeProgramName}
 use Rattle.command_line.specs.declared.program.Program.{Program}
 use Rattle.command_line.specs.declared.program.Program.TheVariants.{Forestplan, Forestplay}
 use Rattle.command_line.specs.declared.request.Declined.{Declined}
 use Rattle.command_line.specs.declared.request.Declined.TheVariants as given
 use Rattle.command_line.specs.declared.request.Request.{Request}
-use Rattle.command_line.specs.declared.request.Request.TheVariants.{Check, Events, Forests, Plain, Plan, Replay, Rounds, Transcript}
+use Rattle.command_line.specs.declared.request.Request.TheVariants.{Check, Forests, Plain, Plan, Play, Transcript}
+use Rattle.command_line.specs.declared.request.Play.{Play as Played}
+use Rattle.command_line.specs.declared.request.Play.TheVariants.{Events, Replay, Rounds, Run}
 
 pub line_is_free : (program : Program) → is_simple_and_free (line program) ≡ true
 unfolding clap_on_literals
@@ -39,20 +49,28 @@ line_wants_a_command Forestplay = refl
 abbrev pub IsGood : Option Request → Type 0
 IsGood asked = (request : Request) × (asked ≡ Some request) × IsInRange request
 
+-- rows have a request, or their word names no program of nodes
+abbrev IsKnown : Option Request → List Row → Type 0
+IsKnown asked rows = IsGood asked ⊎ ((asked ≡ None) × NamesNoProgram rows)
+
+abbrev pub IsKnownChoice : Option (Text × List Row) → Type 0
+IsKnownChoice found = IsGood (choice_of found) ⊎ ((choice_of found ≡ None) × FoundNamesNoProgram found)
+
 abbrev HasRequest : Shape → Type 0
-HasRequest s = (words : List Text) → level_fault s [] nothing_held words false [] ≡ [] → IsGood (named s.name (rows_after s.rules [] words))
+HasRequest s = (words : List Text) → level_fault s [] nothing_held words false [] ≡ []
+    → IsKnown (named s.name (rows_after s.rules [] words)) (rows_after s.rules [] words)
 
 found : (test : Shape → Bool) (ws : List Text) (xs : List Shape) → AllByRecursion HasRequest xs
     → option_map_or (λ s. level_fault s [] nothing_held ws false []) (find test xs) [] ≡ []
-    → is_some (option_map (λ s. rows_at s ws) (find test xs)) ≡ true → IsGood (choice_of (option_map (λ s. rows_at s ws) (find test xs)))
+    → is_some (option_map (λ s. rows_at s ws) (find test xs)) ≡ true → IsKnownChoice (option_map (λ s. rows_at s ws) (find test xs))
 found test ws [] all none h = cc
 found test ws (x ∷ xs) all none h = go (test x) none h (found test ws xs all.1)
   where
     go : (b : Bool) → option_map_or (λ s. level_fault s [] nothing_held ws false []) (cond b (Some x) (find test xs)) [] ≡ []
         → is_some (option_map (λ s. rows_at s ws) (cond b (Some x) (find test xs))) ≡ true
         → (option_map_or (λ s. level_fault s [] nothing_held ws false []) (find test xs) [] ≡ []
-        → is_some (option_map (λ s. rows_at s ws) (find test xs)) ≡ true → IsGood (choice_of (option_map (λ s. rows_at s ws) (find test xs))))
-        → IsGood (choice_of (option_map (λ s. rows_at s ws) (cond b (Some x) (find test xs))))
+        → is_some (option_map (λ s. rows_at s ws) (find test xs)) ≡ true → IsKnownChoice (option_map (λ s. rows_at s ws) (find test xs)))
+        → IsKnownChoice (option_map (λ s. rows_at s ws) (cond b (Some x) (find test xs)))
     go true none h rest = all.0 ws none
     go false none h rest = rest none h
 
@@ -61,7 +79,7 @@ plan_has_request : (s : Shape) → s.name ≡ codes "plan" → s.rules ≡ run_r
 plan_has_request s name rules words none =
     let found = run_found s words rules none false in
     let good : IsGood (named (codes "plan") (rows_after s.rules [] words)) = (Plan found.0, ap (option_map Plan) found.1, found.2) in
-    subst (λ t. IsGood (named t (rows_after s.rules [] words))) (sym name) good
+    inl (subst (λ t. IsGood (named t (rows_after s.rules [] words))) (sym name) good)
 
 transcript_has_request : (s : Shape) → s.name ≡ codes "transcript" → s.rules ≡ transcript_rules → HasRequest s
 transcript_has_request s name rules words none =
@@ -70,27 +88,57 @@ transcript_has_request s name rules words none =
     let asked : transcript_with (options_of true rows) (edition_of rows) ≡ Some (Transcript found.0.0 found.1.0) =
     ap₂ transcript_with found.0.1 found.1.1 in
     let good : IsGood (named (codes "transcript") rows) = (Transcript found.0.0 found.1.0, asked, found.0.2) in
-    subst (λ t. IsGood (named t (rows_after s.rules [] words))) (sym name) good
+    inl (subst (λ t. IsGood (named t (rows_after s.rules [] words))) (sym name) good)
+
+-- what is asked of the program of rows, if their word names one
+by_word : (play : Played) (rows : List Row) → HasWord rows → IsPlayInRange play → IsKnown (played play rows) rows
+by_word play rows has range = go (program_with has.0) refl
+  where
+    make : NodeProgramName → Request
+    make program = Play program play
+
+    go : (o : Option NodeProgramName) → program_with has.0 ≡ o → IsKnown (played play rows) rows
+    go None e = inr (ap (option_map make) (ap (option_and_then program_with) has.1 ∙ e), (has.0, has.1, e))
+    go (Some p) e = inl (make p, ap (option_map make) (ap (option_and_then program_with) has.1 ∙ e), range)
+
+play_has_request : (s : Shape) (play : Played) → s.rules ≡ play_rules → IsPlayInRange play
+    → ((rows : List Row) → named s.name rows ≡ played play rows) → HasRequest s
+play_has_request s play rules range names words none =
+    let rows = rows_after s.rules [] words in
+    subst (λ asked. IsKnown asked rows) (sym (names rows)) (by_word play rows (play_found s words rules none) range)
+
+run_has_request : (s : Shape) → s.rules ≡ both.run_rules → ((rows : List Row) → named s.name rows ≡ run_of rows) → HasRequest s
+run_has_request s rules names words none =
+    let rows = rows_after s.rules [] words in
+    let found = both.run_found s words rules none in
+    let options = found.1 (has_transcript (shown_of rows)) in
+    let run : Option Options → Option Request = λ given. option_and_then (λ o. played (Run o (shown_of rows)) rows) given in
+    subst (λ asked. IsKnown asked rows) (sym (names rows ∙ ap run options.1)) (by_word (Run options.0 (shown_of rows)) rows found.0 options.2)
 
 -- a command that was entered is one of those listed
 pub entered_known : (program : Program) (stop : Option (Text × List Text)) → entered_fault (built (line program)) stop ≡ []
-    → is_some (entered (built (line program)) stop) ≡ true → IsGood (choice_of (entered (built (line program)) stop))
+    → is_some (entered (built (line program)) stop) ≡ true → IsKnownChoice (entered (built (line program)) stop)
 entered_known program None none h = cc
 entered_known Forestplan (Some p) none h = found (λ x. answers_to p.0 (label_of x)) p.1 (built (line Forestplan)).subs (
-  (λ words e. (Forests, refl, tt)),
+  (λ words e. inl (Forests, refl, tt)),
   (
-    (λ words e. (Plain, refl, tt)),
-    (plan_has_request _ refl refl, (transcript_has_request _ refl refl, ((λ words e. (Check, refl, tt)), tt))),
+    (λ words e. inl (Plain, refl, tt)),
+    (plan_has_request _ refl refl, (transcript_has_request _ refl refl, ((λ words e. inl (Check, refl, tt)), tt))),
   ),
 ) none h
-entered_known Forestplay (Some p) none h = found (λ x. answers_to p.0 (label_of x)) p.1 (built (line Forestplay)).subs
-    ((λ words e. (Events, refl, tt)), ((λ words e. (Replay, refl, tt)), ((λ words e. (Rounds, refl, tt)), tt))) none h
+entered_known Forestplay (Some p) none h = found (λ x. answers_to p.0 (label_of x)) p.1 (built (line Forestplay)).subs (
+  play_has_request _ Events refl tt (λ rows. refl),
+  (
+    play_has_request _ Replay refl tt (λ rows. refl),
+    (play_has_request _ Rounds refl tt (λ rows. refl), (run_has_request _ refl (λ rows. refl), tt)),
+  ),
+) none h
 
 out_of_memory_is_no_help : OutOfMemory ≢ DisplayHelp
 out_of_memory_is_no_help same = cc
 
 pub known : (program : Program) (words : List Text) → fault_of (line program) words ≡ [] → is_some (subcommand_of (line program) words) ≡ true
-    → IsGood (choice_of (subcommand_of (line program) words))
+    → IsKnownChoice (subcommand_of (line program) words)
 known program words none h =
     let whole = built (line program) in
     let stop = stop_after whole.top.rules (names_of whole) (argument_words (line program) words) in
@@ -106,11 +154,29 @@ pub in_range : (program : Program) (words : List Text) (r : Request) → fault_o
     → IsInRange r
 in_range program words r none e = go (subcommand_of (line program) words) (known program words none) e
   where
-    go : (o : Option (Text × List Row)) → (is_some o ≡ true → IsGood (choice_of o)) → choice_of o ≡ Some r → IsInRange r
-    go None good same = cc
-    go (Some p) good same =
-        let is = good refl in
-        subst IsInRange (some_is_same is.0 r (sym is.1 ∙ same)) is.2
+    go : (o : Option (Text × List Row)) → (is_some o ≡ true → IsKnownChoice o) → choice_of o ≡ Some r → IsInRange r
+    go None known same = cc
+    go (Some p) known same = ⊎_elim
+        (λ is. subst IsInRange (some_is_same is.0 r (sym is.1 ∙ same)) is.2)
+        (λ no. let both : None ≡ Some r = sym no.0 ∙ same in cc)
+        (known refl)
+
+-- if they ask for nothing, and clap finds no fault, they name no program of nodes
+pub unnamed : (program : Program) (words : List Text) (with : Declined) → fault_of (line program) words ≡ []
+    → is_some (subcommand_of (line program) words) ≡ true → choice_of (subcommand_of (line program) words) ≡ None → IsRefusal with
+    → MayDecline program words with
+unnamed program words (given.Help text) none there nothing is = absurd is
+unnamed program words (given.Refused text) none there nothing is = (
+  ap (λ (ks : Kinds). unless_at_fault ks (choice_of (subcommand_of (line program) words))) none ∙ nothing,
+  inr (
+    none,
+    ⊎_elim
+        (λ good. let both : None ≡ Some good.0 = sym nothing ∙ good.1 in cc)
+        (λ no. no.1)
+        (known program words none there),
+  ),
+)
+unnamed program words given.Memory none there nothing is = tt
 
 pub taken : (program : Program) (words : List Text) (r : Request) → fault_of (line program) words ≡ [] → choice_of (subcommand_of (line program) words) ≡ Some r
     → request_of program words ≡ Some r
@@ -130,5 +196,5 @@ declined program words kind (given.Help text) (inl memory) is = absurd (out_of_m
 declined program words kind (given.Help text) (inr among) is =
     (refused program words kind among, subst (λ k. IsAmong k (fault_of (line program) words)) is among)
 declined program words kind (given.Refused text) (inl memory) is = absurd (is.1 memory)
-declined program words kind (given.Refused text) (inr among) is = (refused program words kind among, (kind, is.0, among))
+declined program words kind (given.Refused text) (inr among) is = (refused program words kind among, inl (kind, is.0, among))
 declined program words kind given.Memory has is = tt

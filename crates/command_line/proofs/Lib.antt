@@ -3,6 +3,7 @@ mod Entered
 mod KnownCommands
 mod Numbers
 mod Passing
+mod Played
 mod RunOptions
 mod Used
 mod Walked

@@ -1,5 +1,5 @@
 -- Rows of values that passed the parsers of their options, and what adding to them keeps.
-use Rattle.std.proofs.Common.{◌≡◌, ◌∙◌, ◌||◌, ◌++◌, ◌⊎◌, Bool, true, false, List, [], ◌∷◌, Some, inl, inr, is_some, arith, cond, find, length, refl, sym, ap}
+use Rattle.std.proofs.Common.{◌≡◌, ◌∙◌, ◌||◌, ◌++◌, ◌==◌, ◌⊎◌, Bool, true, false, List, [], ◌∷◌, Some, inl, inr, is_some, arith, cond, find, length, refl, sym, ap}
 use Rattle.std.proofs.Common.{subst}
 use Rattle.std.specs.Prelude.{IfSome, slice_get}
 use Rattle.std.specs.List.{AllByRecursion}
@@ -11,8 +11,9 @@ use Rattle.clap.specs.Facts.{parser_of_value, unwrap_or_range}
 use Rattle.clap.specs.Kinds.{Kinds, or_else, range_kinds, request_kinds, values_kinds}
 use Rattle.clap.specs.Walk.{Row, Rule, Text, action_of, at_row, default_rows, has_row, is_empty, more_values, reading_by, used, used_as, values_or_missing}
 use Rattle.clap.specs.Walk.{with_default, with_values, without}
-use Rattle.clap.specs.Faults.{action_fault, default_fault, given_default_fault, use_fault, values_fault}
-use Rattle.clap.specs.declared.builder.action.ArgAction.TheVariants.{Help, Set}
+use Rattle.clap.specs.Faults.{action_fault, default_fault, given_default_fault, set_fault, use_fault, values_fault}
+use Rattle.clap.specs.declared.error.kind.ErrorKind.TheVariants.{WrongNumberOfValues}
+use Rattle.clap.specs.declared.builder.action.ArgAction.TheVariants.{Help, Set, SetTrue}
 use Rattle.clap.specs.declared.builder.value_parser.ValueParser.{ValueParser}
 use Rattle.clap.specs.declared.builder.value_parser.Reading.{Reading}
 use Rattle.clap.specs.declared.parser.matches.ValueSource.{ValueSource}
@@ -32,6 +33,13 @@ more_kinds p (x ∷ xs) ys e f =
 more_first : (xs ys : List Text) → is_some (slice_get xs 0) ≡ true → is_some (slice_get (xs ++ ys) 0) ≡ true
 more_first [] ys e = cc
 more_first (x ∷ xs) ys e = refl
+
+no_value : (xs : List Text) → range_kinds 0 0 (length xs) ≡ [] → xs ≡ []
+no_value [] e = refl
+no_value (x ∷ xs) e =
+    let never : (0 == length (x ∷ xs)) ≡ false = ne_eqb 0 (length (x ∷ xs)) (λ none. omega (arith, none)) in
+    let bad : cond false [] (WrongNumberOfValues ∷ []) ≡ [] = subst (λ b. cond b [] (WrongNumberOfValues ∷ []) ≡ []) never e in
+    cc
 
 one_value : (a : Rule) (xs : List Text) → range_kinds 1 1 (length xs) ≡ [] → (is_some (slice_get xs 0) ≡ true) × (values_or_missing a xs ≡ xs)
 one_value a [] e = cc
@@ -54,10 +62,14 @@ at_row_all P id change missing (r ∷ rs) all step end = go (bytes_eq r.id id) r
 -- ---- with the parser that each option has
 
 module _ (parser_at : Text → ValueParser) where
-  -- an option with one value, or the call for help
+  -- a flag without a value, whose use counts as one
+  abbrev pub IsFlag : Rule → Type 0
+  IsFlag a = (action_of a ≡ SetTrue) × (a.range ≡ Some (record { start_inclusive = 0; end_inclusive = 0 })) × (is_some (slice_get a.missing 0) ≡ true)
+
+  -- an option with one value, the call for help, or a flag
   abbrev pub Expected : Rule → Type 0
   Expected a = (a.ignore_case ≡ false) × (parser_of_value a.parser ≡ parser_at a.id)
-      × (((action_of a ≡ Set) × (a.range ≡ Some (record { start_inclusive = 1; end_inclusive = 1 }))) ⊎ (action_of a ≡ Help))
+      × (((action_of a ≡ Set) × (a.range ≡ Some (record { start_inclusive = 1; end_inclusive = 1 }))) ⊎ ((action_of a ≡ Help) ⊎ IsFlag a))
 
   -- a row with a first value, whose values passed
   abbrev pub Passed : Row → Type 0
@@ -80,6 +92,13 @@ module _ (parser_at : Text → ValueParser) where
   passes a values ex none =
       subst (λ i. values_kinds i (parser_at a.id) values ≡ []) ex.0 (subst (λ p. values_kinds a.ignore_case p values ≡ []) ex.1 none)
 
+  -- a use with values that passed, in place of what was there
+  replaced : (again : Bool) (a : Rule) (values : List Text) (rows : List Row) → Expected a → set_fault again a values rows ≡ []
+      → is_some (slice_get values 0) ≡ true → AllPassed rows → AllPassed (with_values a.id (reading_by a) CommandLine values (without a.id rows))
+  replaced again a values rows ex none some all =
+      let others = at_row_all Passed a.id (λ _. []) [] rows all (λ r e p. tt) tt in
+      added a.id (reading_by a) CommandLine values (without a.id rows) others (passes a values ex (split _ _ none).1) (ap reading_of ex.1) some
+
   pub used_all : (again : Bool) (a : Rule) (values : List Text) (rows : List Row) → Expected a → use_fault again a values rows ≡ [] → AllPassed rows
       → AllPassed (used a values rows)
   used_all again a values rows ex none all = elim ex.2 [
@@ -88,13 +107,24 @@ module _ (parser_at : Text → ValueParser) where
         let range : range_kinds 1 1 (length values) ≡ [] =
         subst (λ r. range_kinds (unwrap_or_range r).start_inclusive (unwrap_or_range r).end_inclusive (length values) ≡ []) set.1 parts.0 in
         let one = one_value a values range in
-        let fault = subst (λ x. action_fault x again a (values_or_missing a values) rows ≡ []) set.0 parts.1 in
-        let none_of : values_fault a values ≡ [] = subst (λ vs. values_fault a vs ≡ []) one.1 (split _ _ fault).1 in
-        let others = at_row_all Passed a.id (λ _. []) [] rows all (λ r e p. tt) tt in
-        let more = added a.id (reading_by a) CommandLine values (without a.id rows) others (passes a values ex none_of) (ap reading_of ex.1) one.0 in
+        let fault : set_fault again a (values_or_missing a values) rows ≡ [] =
+        subst (λ x. action_fault x again a (values_or_missing a values) rows ≡ []) set.0 parts.1 in
+        let more = replaced again a values rows ex (subst (λ vs. set_fault again a vs rows ≡ []) one.1 fault) one.0 all in
         subst (λ x. AllPassed (used_as x a.id (reading_by a) (values_or_missing a values) rows)) (sym set.0)
         (subst (λ vs. AllPassed (with_values a.id (reading_by a) CommandLine vs (without a.id rows))) (sym one.1) more)
-    | inr help ↦ subst (λ x. AllPassed (used_as x a.id (reading_by a) (values_or_missing a values) rows)) (sym help) all
+    | inr other ↦ elim other [
+      | inl help ↦ subst (λ x. AllPassed (used_as x a.id (reading_by a) (values_or_missing a values) rows)) (sym help) all
+      | inr flag ↦
+          let parts = split _ _ none in
+          let range : range_kinds 0 0 (length values) ≡ [] =
+          subst (λ r. range_kinds (unwrap_or_range r).start_inclusive (unwrap_or_range r).end_inclusive (length values) ≡ []) flag.1 parts.0 in
+          let given : values_or_missing a values ≡ a.missing = ap (values_or_missing a) (no_value values range) in
+          let fault : set_fault again a (values_or_missing a values) rows ≡ [] =
+          subst (λ x. action_fault x again a (values_or_missing a values) rows ≡ []) flag.0 parts.1 in
+          let more = replaced again a a.missing rows ex (subst (λ vs. set_fault again a vs rows ≡ []) given fault) flag.2 all in
+          subst (λ x. AllPassed (used_as x a.id (reading_by a) (values_or_missing a values) rows)) (sym flag.0)
+          (subst (λ vs. AllPassed (with_values a.id (reading_by a) CommandLine vs (without a.id rows))) (sym given) more)
+    ]
   ]
 
   pub default_all : (a : Rule) (rows : List Row) → Expected a → default_fault rows a ≡ [] → AllPassed rows → AllPassed (with_default rows a)

@@ -18,12 +18,13 @@ use Rattle.command_line.proofs.Passing.{AllPassed, Expected}
 use Rattle.command_line.proofs.Walked.{level_all}
 
 -- the parser of each option
-abbrev parser_at : Text → ValueParser
+abbrev pub parser_at : Text → ValueParser
 parser_at id =
     cond (bytes_eq id (codes "workers")) (vp.Unsigned 1 MAX_WORKERS)
     (cond (bytes_eq id (codes "capacity")) (vp.Unsigned 1 MAX_CAPACITY)
     (cond (bytes_eq id (codes "turns")) (vp.Unsigned 0 MAX_TURNS)
-    (cond (bytes_eq id (codes "edition")) (vp.Unsigned 1 MAX_EDITION) vp.String)))
+    (cond (bytes_eq id (codes "edition")) (vp.Unsigned 1 MAX_EDITION)
+    (cond (bytes_eq id (codes "transcript")) vp.Bool vp.String))))
 
 -- the rules of a command with the options of a run, once it is built; and those of a transcript
 abbrev pub run_rules : List Rule
@@ -33,20 +34,20 @@ abbrev pub transcript_rules : List Rule
 transcript_rules = filled_from 1 ((with_edition (with_run_options (new_app (codes "transcript")))).top.rules ++ help_rule ∷ [])
 
 run_expected : AllByRecursion (Expected parser_at) run_rules
-run_expected = ((refl, refl, inl (refl, refl)), ((refl, refl, inl (refl, refl)), ((refl, refl, inl (refl, refl)), ((refl, refl, inr refl), tt))))
+run_expected = ((refl, refl, inl (refl, refl)), ((refl, refl, inl (refl, refl)), ((refl, refl, inl (refl, refl)), ((refl, refl, inr (inl refl)), tt))))
 
 transcript_expected : AllByRecursion (Expected parser_at) transcript_rules
 transcript_expected = (
   (refl, refl, inl (refl, refl)),
-  ((refl, refl, inl (refl, refl)), ((refl, refl, inl (refl, refl)), ((refl, refl, inl (refl, refl)), ((refl, refl, inr refl), tt)))),
+  ((refl, refl, inl (refl, refl)), ((refl, refl, inl (refl, refl)), ((refl, refl, inl (refl, refl)), ((refl, refl, inr (inl refl)), tt)))),
 )
 
 -- ---- from rows that have the options
 module _ (rows : List Row) (all : AllPassed parser_at rows) where
-  abbrev HasOptions : Bool → Type 0
+  abbrev pub HasOptions : Bool → Type 0
   HasOptions transcript = (o : Options) × (options_of transcript rows ≡ Some o) × AreInRange o
 
-  with_options : has_row (codes "workers") rows ≡ true → has_row (codes "capacity") rows ≡ true → has_row (codes "turns") rows ≡ true
+  pub with_options : has_row (codes "workers") rows ≡ true → has_row (codes "capacity") rows ≡ true → has_row (codes "turns") rows ≡ true
       → (transcript : Bool) → HasOptions transcript
   with_options has_workers has_capacity has_turns transcript =
       let workers = number_found parser_at rows (codes "workers") 1 MAX_WORKERS (2 ^ 32) has_workers all refl (omega arith) in
@@ -64,24 +65,28 @@ module _ (rows : List Row) (all : AllPassed parser_at rows) where
 
 -- ---- the rows that come by default
 module _ (before : List Row) where
-  abbrev one : List Row
+  abbrev pub one : List Row
   one = with_default before (filled workers_rule)
 
-  abbrev two : List Row
+  abbrev pub two : List Row
   two = with_default one (filled capacity_rule)
 
-  abbrev three : List Row
+  abbrev pub three : List Row
   three = with_default two (filled turns_rule)
 
-  has_workers : has_row (codes "workers") three ≡ true
+  pub has_workers : has_row (codes "workers") three ≡ true
   has_workers = default_keeps (filled turns_rule) (codes "workers") two
       (default_keeps (filled capacity_rule) (codes "workers") one (default_comes (filled workers_rule) before refl))
 
-  has_capacity : has_row (codes "capacity") three ≡ true
+  pub has_capacity : has_row (codes "capacity") three ≡ true
   has_capacity = default_keeps (filled turns_rule) (codes "capacity") two (default_comes (filled capacity_rule) one refl)
 
-  has_turns : has_row (codes "turns") three ≡ true
+  pub has_turns : has_row (codes "turns") three ≡ true
   has_turns = default_comes (filled turns_rule) two refl
+
+  -- what was there stays
+  pub keep : (k : Text) → has_row k before ≡ true → has_row k three ≡ true
+  keep k h = default_keeps (filled turns_rule) k two (default_keeps (filled capacity_rule) k one (default_keeps (filled workers_rule) k before h))
 
   -- with the edition
   abbrev four : List Row

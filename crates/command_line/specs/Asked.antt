@@ -1,6 +1,6 @@
 -- What the words of a command line ask for.
-use Rattle.std.specs.Prelude.{◌≡◌, ◌≢◌, List, [], ◌∷◌, Option, Some, None}
-use Rattle.std.specs.Prelude.{false, true, if◌then◌else◌, codes, option_and_then}
+use Rattle.std.specs.Prelude.{◌≡◌, ◌≢◌, ◌⊎◌, List, [], ◌∷◌, Option, Some, None}
+use Rattle.std.specs.Prelude.{Bool, false, true, if◌then◌else◌, codes, option_and_then}
 use Rattle.std.specs.Prelude.{option_map}
 use Rattle.std.specs.Str.{bytes_eq}
 use Rattle.clap.specs.Words.{Row, Text, fault_of, subcommand_of}
@@ -11,18 +11,36 @@ use Rattle.run_options.specs.Ranges.{AreInRange}
 use Rattle.run_options.specs.declared.Edition.{Edition}
 use Rattle.run_options.specs.declared.Options.{Options}
 use Rattle.command_line.specs.Line.{line}
+use Rattle.command_line.specs.NodePrograms.{NamesNoProgram, program_of, shown_of}
 use Rattle.command_line.specs.RunOptions.{edition_of, options_of}
 use Rattle.command_line.specs.declared.program.Program.{Program}
+use Rattle.command_line.specs.declared.programs.Shown.{Shown}
+use Rattle.command_line.specs.declared.programs.Shown.TheVariants as shown
 use Rattle.command_line.specs.declared.request.Declined.{Declined}
 use Rattle.command_line.specs.declared.request.Declined.TheVariants as declined
 use Rattle.command_line.specs.declared.request.Request.{Request}
-use Rattle.command_line.specs.declared.request.Request.TheVariants.{Check, Events, Forests, Plain, Plan, Replay, Rounds}
-use Rattle.command_line.specs.declared.request.Request.TheVariants.{Transcript}
+use Rattle.command_line.specs.declared.request.Request.TheVariants.{Check, Forests, Plain, Plan, Play, Transcript}
+use Rattle.command_line.specs.declared.request.Play.{Play as Played}
+use Rattle.command_line.specs.declared.request.Play.TheVariants.{Events, Replay, Rounds, Run}
 
 -- a transcript with options and an edition, if both are there
 abbrev pub transcript_with : Option Options → Option Edition → Option Request
 transcript_with options edition =
     option_and_then (λ given. option_map (λ form. Transcript given form) edition) options
+
+-- whether a run has a transcript
+abbrev pub has_transcript : Shown → Bool
+has_transcript shown.States = false
+has_transcript shown.Transcript = true
+
+-- what nodes are asked to do, if there is a program of the name that is given
+abbrev pub played : Played → List Row → Option Request
+played play rows = option_map (λ program. Play program play) (program_of rows)
+
+-- the same of a run, if its options are there
+abbrev pub run_of : List Row → Option Request
+run_of rows = option_and_then (λ options. played (Run options (shown_of rows)) rows)
+    (options_of (has_transcript (shown_of rows)) rows)
 
 -- what the command of a name asks for, given the values of its options; each command is a line
 abbrev pub named : Text → List Row → Option Request
@@ -32,15 +50,22 @@ named name rows =
     else if bytes_eq name (codes "plan") then option_map Plan (options_of false rows)
     else if bytes_eq name (codes "transcript") then transcript_with (options_of true rows) (edition_of rows)
     else if bytes_eq name (codes "check") then Some Check
-    else if bytes_eq name (codes "events") then Some Events
-    else if bytes_eq name (codes "replay") then Some Replay
-    else if bytes_eq name (codes "rounds") then Some Rounds
+    else if bytes_eq name (codes "events") then played Events rows
+    else if bytes_eq name (codes "replay") then played Replay rows
+    else if bytes_eq name (codes "rounds") then played Rounds rows
+    else if bytes_eq name (codes "run") then run_of rows
     else None
 
--- a run of workers has options in range
+-- a run of a program has options in range
+abbrev pub IsPlayInRange : Played → Type 0
+IsPlayInRange (Run options show) = AreInRange options
+IsPlayInRange _ = Unit {0}
+
+-- and so has every run of workers
 abbrev pub IsInRange : Request → Type 0
 IsInRange (Plan options) = AreInRange options
 IsInRange (Transcript options edition) = AreInRange options
+IsInRange (Play program play) = IsPlayInRange play
 IsInRange _ = Unit {0}
 
 -- what the command that was found asks for
@@ -61,9 +86,16 @@ request_of program words =
 abbrev pub AskForHelp : Program → List Text → Type 0
 AskForHelp program words = IsAmong DisplayHelp (fault_of (line program) words)
 
--- clap's first fault in the words is any other
+-- the command that was found names no program of nodes
+abbrev pub FoundNamesNoProgram : Option (Text × List Row) → Type 0
+FoundNamesNoProgram None = ⊥
+FoundNamesNoProgram (Some command) = NamesNoProgram command.1
+
+-- clap's first fault in the words is any other; or it finds none, and the words name no program of nodes
 abbrev pub AreRefused : Program → List Text → Type 0
-AreRefused program words = (kind : ErrorKind) × (kind ≢ DisplayHelp) × IsAmong kind (fault_of (line program) words)
+AreRefused program words =
+    ((kind : ErrorKind) × (kind ≢ DisplayHelp) × IsAmong kind (fault_of (line program) words))
+    ⊎ ((fault_of (line program) words ≡ []) × FoundNamesNoProgram (subcommand_of (line program) words))
 
 -- what the words, which ask for no command, are declined with
 abbrev pub MayDecline : Program → List Text → Declined → Type 0
@@ -76,3 +108,9 @@ abbrev pub IsDeclinedBy : ErrorKind → Declined → Type 0
 IsDeclinedBy kind (declined.Help text) = kind ≡ DisplayHelp
 IsDeclinedBy kind (declined.Refused text) = (kind ≢ DisplayHelp) × (kind ≢ OutOfMemory)
 IsDeclinedBy kind declined.Memory = Unit {0}
+
+-- what a program that isn't known becomes
+abbrev pub IsRefusal : Declined → Type 0
+IsRefusal (declined.Help text) = ⊥
+IsRefusal (declined.Refused text) = Unit {0}
+IsRefusal declined.Memory = Unit {0}

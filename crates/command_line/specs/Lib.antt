@@ -1,3 +1,4 @@
 pub mod Asked
 pub mod Line
+pub mod NodePrograms
 pub mod RunOptions

@@ -1,6 +1,7 @@
 -- The command lines in clap's own words: a program, and its commands.
 use Rattle.std.specs.Prelude.{true, codes}
 use Rattle.clap.specs.Words.{App, Text, new_app, with_subcommand}
+use Rattle.command_line.specs.NodePrograms.{with_program, with_transcript}
 use Rattle.command_line.specs.RunOptions.{with_edition, with_run_options}
 use Rattle.command_line.specs.declared.program.Program.{Program}
 use Rattle.command_line.specs.declared.program.Program.TheVariants.{Forestplan, Forestplay}
@@ -39,12 +40,21 @@ abbrev pub with_plan_commands : App → App
 with_plan_commands program =
     with_subcommand (with_worker_commands (with_network_commands program)) (new_app (codes "check")).top
 
--- the commands for lessons, each a line; none has options
+-- a command for lessons, which plays a program
+abbrev pub play_command : Text → App
+play_command name = with_program (new_app name)
+
+-- the command for lessons that runs workers, which has their options too
+abbrev pub run_command : App
+run_command = with_transcript (with_run_options (play_command (codes "run")))
+
+-- the commands for lessons, each a line
 abbrev pub with_play_commands : App → App
 with_play_commands program =
-    let with_events : App = with_subcommand program (new_app (codes "events")).top in
-    let with_replay : App = with_subcommand with_events (new_app (codes "replay")).top in
-    with_subcommand with_replay (new_app (codes "rounds")).top
+    let with_events : App = with_subcommand program (play_command (codes "events")).top in
+    let with_replay : App = with_subcommand with_events (play_command (codes "replay")).top in
+    let with_rounds : App = with_subcommand with_replay (play_command (codes "rounds")).top in
+    with_subcommand with_rounds run_command.top
 
 -- the whole command line of a program
 abbrev pub line : Program → App

@@ -239,6 +239,10 @@ pub const TURNS: &'static str = "How often a worker looks for a node";
 
 pub const EDITION: &'static str = "The form: 2 with stamps, 1 without";
 
+pub const PROGRAM: &'static str = "colouring, leader or layers";
+
+pub const SHOW_TRANSCRIPT: &'static str = "Print the transcript, not the last states";
+
 pub const CHECK: Help = Help {
     about: "Checks a channel plan of a graph",
     long_about: "Checks a channel plan of a graph.
@@ -281,17 +285,25 @@ pub const FORESTPLAY: Help = Help {
     long_about: "Plays what nodes do to find a channel plan, for lessons.
 
 The program reads a graph from standard input, whose vertices are the nodes, and
-after it, except for `rounds`, what happens; it writes where this leads. A fault
-of the input is one line on standard error, a refused command line is several, and
-standard output then stays empty. If a write fails, standard output holds a
-beginning of the answer.",
+after it, except for `rounds` and `run`, what happens; it writes where this leads.
+A fault of the input is one line on standard error, a refused command line is
+several, and standard output then stays empty. If a write fails, standard output
+holds a beginning of the answer.
+
+With --program NAME the nodes of any command run another program:
+  colouring  finds the channel of each node, as `forestplan plain` prints it;
+             without --program it is this one
+  leader     finds the greatest identifier among the nodes that paths lead to
+  layers     finds how many edges lead to the node of identifier 1, and the port
+             of the first of them",
     format: "The graph is read as forestplan reads it, with the same faults, reported as
 `forestplay: F6 line 2`: see `forestplan --help`.
 
-Status: 0 done, 1 input refused, 2 command line refused, 4 memory ran out, or
-the input could not be read or the output not written (`forestplay: stream`). The
-last also comes if the reader of the output leaves before its end, as `| head`
-does: then nothing is wrong.
+Status: 0 done, 1 input refused, 2 command line refused, 3 the turns of `run` were
+used up, 4 memory ran out, a thread could not be started, a stamp would be too
+great, or the input could not be read or the output not written (`forestplay:
+stream`). The last also comes if the reader of the output leaves before its end,
+as `| head` does: then nothing is wrong.
 
 Example: node 1 of two greets the other
   printf 'p edge 2 1\\ne 1 2\\nput 1 0\\n' | forestplay events",
@@ -301,11 +313,11 @@ pub const EVENTS: Help = Help {
     about: "Plays events, and prints where they lead",
     long_about: "Plays events, and prints where they lead.
 
-The nodes look for the channels that `forestplan plain` prints, but without a
-common clock, by Awerbuch's synchroniser alpha. At the start each node is at
-pulse 0, and has a greeting for each neighbour in the out-list of the
-neighbour's port. An event is a step of one node; events are played in the order
-of their lines.",
+The nodes look for the channels that `forestplan plain` prints, or run another
+program, but without a common clock, by Awerbuch's synchroniser alpha. At the
+start each node is at pulse 0, and what it sends there to a neighbour is in the
+out-list of the neighbour's port. An event is a step of one node; events are
+played in the order of their lines.",
     format: "Input: a graph in the DIMACS format, as `p edge NODES EDGES` and then `e V W`, and
 then events, a line each:
   pulse V              node V makes its next pulse
@@ -316,7 +328,10 @@ the first line whose first field is one of the three words. From there empty
 lines are skipped, and lines whose first field begins with c.
 
 Output, for each node V, ascending, a line each:
-  node V pulse P           its pulse; at its last one followed by ` channel C`
+  node V pulse P           its pulse; at its last one followed by its result:
+                           `channel C`, `leader ID`, `layer N by PORT`, or for
+                           the node of identifier 1 `layer 0`, and for one that
+                           no path leads to `layer none`
   link V W taken N WIRES   for each neighbour W, ascending: the number of wires
                            that W has taken from this link, and the wires that
                            wait on it, the oldest first, as
@@ -350,12 +365,12 @@ pub const REPLAY: Help = Help {
     about: "Replays a transcript, and prints where it leads",
     long_about: "Replays a transcript, and prints where it leads.
 
-`forestplan transcript` writes what each node did in a run of worker threads. Such
-entries, whoever wrote them, are played here in the order of their lines, by the
-machine that plays events. Nothing is taken on trust: each entry has to be
-possible, and its pulse or wire has to be the one that the node comes to there. In
-edition 2 each stamp has to be right too, and all nodes have to be done at the
-end.",
+`forestplan transcript` and `forestplay run --transcript` write what each node did
+in a run of worker threads. Such entries, whoever wrote them, are played here in
+the order of their lines, by the machine that plays events. Nothing is taken on
+trust: each entry has to be possible, and its pulse or wire has to be the one that
+the node comes to there. In edition 2 each stamp has to be right too, and all
+nodes have to be done at the end.",
     format: "Input: a graph in the DIMACS format, as `p edge NODES EDGES` and then `e V W`, and
 then a transcript, a line each:
   transcript 2 NODES   the first line
@@ -405,10 +420,10 @@ pub const ROUNDS: Help = Help {
     about: "Prints the rounds in which the nodes find their channels",
     long_about: "Prints the rounds in which the nodes find their channels.
 
-The nodes look for the channels that `forestplan plain` prints, and all make a
-pulse at once: a node reads what its neighbours sent at the pulse before, and
-sends at this one. Nodes without a common clock send the very same payloads,
-whatever the threads do: see `forestplan transcript`.",
+The nodes look for the channels that `forestplan plain` prints, or run another
+program, and all make a pulse at once: a node reads what its neighbours sent at
+the pulse before, and sends at this one. Nodes without a common clock send the
+very same payloads, whatever the threads do: see `forestplay run --transcript`.",
     format: "Input: a graph in the DIMACS format, as `p edge NODES EDGES` and then `e V W`.
 
 Output, a line each:
@@ -426,7 +441,42 @@ and after the line of a pulse, for each vertex V, ascending:
   V chose C              V has chosen colour C, which is channel C + 1
   V put W payload P WORD NUMBER
                          for each neighbour W to which V sends: what it sends
+With --program leader or layers the first line is `rounds 3 NAME N DELTA R`, the
+lines of pulses are `pulse P`, and after pulse R comes the result of each vertex,
+as `V leader ID` or `V layer N by PORT`.
 
 Example: two nodes
   printf 'p edge 2 1\\ne 1 2\\n' | forestplay rounds",
+};
+
+pub const RUN: Help = Help {
+    about: "Runs nodes on threads, and prints where they end",
+    long_about: "Runs nodes on threads, and prints where they end.
+
+Worker threads run the nodes in any order, without a common clock, and Awerbuch's
+synchroniser alpha keeps each node in step with its neighbours: `forestplan plan
+--help` explains the words and the options. Whatever the threads do, each node
+ends in the state that the rounds end with. With --transcript it is printed what
+each node did instead; transcripts differ from run to run.",
+    format: "Input: a graph in the DIMACS format, as `p edge NODES EDGES` and then `e V W`.
+
+Output, for each node V, ascending, a line:
+  node V pulse P RESULT    its last pulse, and its result, as `forestplay events`
+                           has it
+With --transcript, a line each, as `forestplan transcript` writes them:
+  transcript 2 NODES       the first line
+  S V pulse P              node V made pulse P
+  S V put W WIRE           V put a wire on its link to its neighbour W
+  S V take W WIRE          V took a wire from the link of its neighbour W
+`forestplay replay` with the same --program accepts these lines after the graph.
+
+If it reports `forestplay: stopped` (status 3), the workers had looked for nodes
+as often as --turns says before all nodes were done.
+
+Example: three nodes in a row, of which node 1 has the identifier 1
+  printf 'p edge 3 2\\ne 1 2\\ne 2 3\\n' | forestplay run --program layers
+prints
+  node 1 pulse 3 layer 0
+  node 2 pulse 3 layer 1 by 0
+  node 3 pulse 3 layer 2 by 0",
 };

@@ -9,8 +9,7 @@
 //!     Ok(Request::Plan(options)) => ..,
 //!     Ok(Request::Forests) => ..,
 //!     Ok(Request::Check) => ..,
-//!     Ok(Request::Events) => ..,
-//!     Ok(Request::Replay) => ..,
+//!     Ok(Request::Play(program, play)) => ..,
 //!     Err(Declined::Help(text)) => ..,
 //!     Err(Declined::Refused(text)) => ..,
 //!     Err(Declined::Memory) => ..,
@@ -18,7 +17,8 @@
 //! ```
 //!
 //! The commands are listed in `specs/Line.antt` in clap's own words, the options of a run of workers in
-//! `specs/RunOptions.antt`, and `parse` is exact against them. What clap's texts say, help among them, is only tested.
+//! `specs/RunOptions.antt`, the programs of nodes in `specs/NodePrograms.antt`, and `parse` is exact against them. What
+//! clap's texts say, help among them, is only tested.
 //! There is no `--version` and no command `help`. Limits: those of `run_options`.
 #![tactic(auto)]
 
@@ -26,7 +26,9 @@ mod help;
 mod line;
 mod options;
 mod program;
+mod programs;
 mod request;
 
 pub use program::Program;
-pub use request::{Declined, Request, parse};
+pub use programs::{NodeProgramName, Shown};
+pub use request::{Declined, Play, Request, parse};

@@ -3,7 +3,8 @@
 ghost use Rattle.std.specs.Prelude.{◌≡◌, IfOk, false};
 ghost use Rattle.clap.specs.Words.{app_of, new_app, with_subcommand};
 ghost use Rattle.clap.specs.declared.builder.command.Command.TheViews.{out-Command};
-ghost use Rattle.command_line.specs.Line.{line, plan_command, transcript_command, without_commands};
+ghost use Rattle.command_line.specs.Line.{line, plan_command, play_command, run_command, transcript_command};
+ghost use Rattle.command_line.specs.Line.{without_commands};
 ghost use Rattle.command_line.specs.Line.{with_network_commands, with_plan_commands, with_play_commands};
 ghost use Rattle.command_line.specs.Line.{with_worker_commands};
 ghost use Rattle.command_line.specs.RunOptions.{with_edition, with_run_options};
@@ -12,6 +13,7 @@ use crate::help;
 use crate::help::Help;
 use crate::options::{with_edition, with_run_options};
 use crate::program::Program;
+use crate::programs::{with_program, with_transcript};
 use clap::Command;
 use std::alloc::{AllocError, Global};
 
@@ -131,15 +133,51 @@ fn with_plan_commands<'a>(alloc: Global, program: Command<'a>) -> Result<Command
     with_plain_command(alloc, program, "check", help::CHECK)
 }
 
+// A command for lessons, which plays a program.
+fn play_command<'a>(alloc: Global, name: &'a str, help: Help) -> Result<Command<'a>, AllocError>
+    ensures shape { IfOk result (λ c. app_of c ≡ play_command name.entry.now) }
+    ensures local { IfOk result (λ c. (out-Command c).has_globals ≡ false) }
+{
+    with_program(alloc, command(alloc, name, help))
+}
+
+// A program with one more command for lessons.
+fn with_play_command<'a>(
+    alloc: Global,
+    program: Command<'a>,
+    name: &'a str,
+    help: Help,
+) -> Result<Command<'a>, AllocError>
+    requires { (out-Command program).has_globals ≡ false }
+    ensures shape { IfOk result
+        (λ c. app_of c ≡ with_subcommand (app_of program.entry) (play_command name.entry.now).top) }
+    ensures local { IfOk result (λ c. (out-Command c).has_globals ≡ false) }
+{
+    let play = play_command(alloc, name, help)?;
+    with_command(program, play)
+}
+
+// The command for lessons that runs workers.
+fn run_command<'a>(alloc: Global) -> Result<Command<'a>, AllocError>
+    ensures shape { IfOk result (λ c. app_of c ≡ run_command) }
+    ensures local { IfOk result (λ c. (out-Command c).has_globals ≡ false) }
+{
+    let run = play_command(alloc, "run", help::RUN)?;
+    let run = with_run_options(alloc, run)?;
+    with_transcript(alloc, run)
+}
+
 // The commands for lessons.
 fn with_play_commands<'a>(alloc: Global, program: Command<'a>) -> Result<Command<'a>, AllocError>
     requires { (out-Command program).has_globals ≡ false }
     ensures shape { IfOk result (λ c. app_of c ≡ with_play_commands (app_of program.entry)) }
     ensures local { IfOk result (λ c. (out-Command c).has_globals ≡ false) }
 {
-    let program = with_plain_command(alloc, program, "events", help::EVENTS)?;
-    let program = with_plain_command(alloc, program, "replay", help::REPLAY)?;
-    with_plain_command(alloc, program, "rounds", help::ROUNDS)
+    let program = with_play_command(alloc, program, "events", help::EVENTS)?;
+    let program = with_play_command(alloc, program, "replay", help::REPLAY)?;
+    let program = with_play_command(alloc, program, "rounds", help::ROUNDS)?;
+    let run = run_command(alloc)?;
+    with_command(program, run)
 }
 
 /// The whole command line of a program.

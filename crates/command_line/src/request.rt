@@ -2,15 +2,22 @@
 
 ghost use Rattle.std.specs.Prelude.{◌≡◌, ◌≢◌, None, Some, IfOk, IfErr, map};
 ghost use Rattle.clap.specs.Words.{found_of, kind_of, rows_of, subcommand_rows_of};
-ghost use Rattle.command_line.specs.Asked.{IsDeclinedBy, IsInRange, MayDecline, choice_of, named, request_of};
+ghost use Rattle.command_line.specs.Asked.{IsDeclinedBy, IsInRange, IsRefusal, MayDecline};
+ghost use Rattle.command_line.specs.Asked.{choice_of, has_transcript, named, played, request_of, run_of};
 
 use crate::line::whole_line;
 use crate::options::{edition_of, options_of};
 use crate::program::Program;
+use crate::programs::{NodeProgramName, Shown, program_of, program_word, shown_of};
 use clap::error::ErrorKind;
 use clap::{ArgMatches, Error};
 use run_options::{Edition, Options};
 use std::alloc::Global;
+
+// The last lines of a refusal, as clap writes them.
+const PROGRAM_NAMES: &'static str = "[possible values: colouring, leader, layers]";
+
+const TRY_HELP: &'static str = "For more information, try '--help'.";
 
 /// What the program is asked for.
 #[derive(Clone, Copy, Debug, PartialEq, Eq)]
@@ -25,12 +32,21 @@ pub enum Request {
     Transcript(Options, Edition),
     /// The verdict on a channel plan of a network.
     Check,
+    /// What nodes of a program do.
+    Play(NodeProgramName, Play),
+}
+
+/// What nodes are asked to do, whatever their program is.
+#[derive(Clone, Copy, Debug, PartialEq, Eq)]
+pub enum Play {
     /// The state that events lead to.
     Events,
     /// The state that the entries of a transcript lead to.
     Replay,
     /// The rounds of a network, pulse by pulse.
     Rounds,
+    /// What nodes come to that worker threads run without a common clock.
+    Run(Options, Shown),
 }
 
 /// Why words ask for no command, and what is said of them.
@@ -44,6 +60,30 @@ pub enum Declined {
     Memory,
 }
 
+fn has_transcript(shown: Shown) -> bool
+    ensures { result ≡ has_transcript shown }
+{
+    match shown {
+        Shown::States => false,
+        Shown::Transcript => true,
+    }
+}
+
+// What nodes of the program that a command has are asked to do.
+fn played(matches: &ArgMatches<'_>, play: Play) -> Option<Request>
+    ensures { result ≡ played play (rows_of (found_of matches.now)) }
+{
+    Some(Request::Play(program_of(matches)?, play))
+}
+
+fn run_of(matches: &ArgMatches<'_>) -> Option<Request>
+    ensures { result ≡ run_of (rows_of (found_of matches.now)) }
+{
+    let shown = shown_of(matches);
+    let options = options_of(matches, has_transcript(shown))?;
+    played(matches, Play::Run(options, shown))
+}
+
 fn request_named(name: &str, matches: &ArgMatches<'_>) -> Option<Request>
     ensures { result ≡ named name.now (rows_of (found_of matches.now)) }
 {
@@ -53,9 +93,10 @@ fn request_named(name: &str, matches: &ArgMatches<'_>) -> Option<Request>
         "plan" => Some(Request::Plan(options_of(matches, false)?)),
         "transcript" => Some(Request::Transcript(options_of(matches, true)?, edition_of(matches)?)),
         "check" => Some(Request::Check),
-        "events" => Some(Request::Events),
-        "replay" => Some(Request::Replay),
-        "rounds" => Some(Request::Rounds),
+        "events" => played(matches, Play::Events),
+        "replay" => played(matches, Play::Replay),
+        "rounds" => played(matches, Play::Rounds),
+        "run" => run_of(matches),
         _ => None,
     }
 }
@@ -82,11 +123,27 @@ fn declined_by(alloc: Global, error: &Error) -> Declined
     }
 }
 
+// The refusal of words that name no program of nodes, in the words of clap for a value that isn't one of a list.
+fn no_program(alloc: Global, matches: &ArgMatches<'_>) -> Declined
+    ensures { IsRefusal result }
+{
+    let word = match matches.subcommand() {
+        Some((_, inner)) => program_word(inner),
+        None => "",
+    };
+    let Ok(text) = format!(in alloc;
+        "error: invalid value '{word}' for '--program <NAME>'\n  {PROGRAM_NAMES}\n\n{TRY_HELP}\n"
+    ) else {
+        return Declined::Memory;
+    };
+    Declined::Refused(text)
+}
+
 /// What the words ask a program for; the first is its name, and is not looked at.
 ///
 /// # Errors
-/// `Help` or `Refused` by the first fault that clap meets in the words. Any call may instead fail with
-/// `Memory`.
+/// `Help` or `Refused` by the first fault that clap meets in the words. `Refused` if there is none, and the word of
+/// `--program` names no program of nodes. Any call may instead fail with `Memory`.
 pub fn parse<'a>(alloc: Global, program: Program, words: &'a [&'a str]) -> Result<Request, Declined>
     ensures ok { IfOk result (λ request. request_of program (map (λ word. word.now) words.entry.now) ≡ Some request) }
     ensures in_range { IfOk result IsInRange }
@@ -98,7 +155,7 @@ pub fn parse<'a>(alloc: Global, program: Program, words: &'a [&'a str]) -> Resul
     match line.try_get_matches_from(words) {
         Ok(matches) => match choice(&matches) {
             Some(request) => Ok(request),
-            None => unreachable!(),
+            None => Err(no_program(alloc, &matches)),
         },
         Err(error) => Err(declined_by(alloc, &error)),
     }

@@ -5,7 +5,8 @@
 //! of a pulse and the lines of a node are the program's own, by its `ProgramText`.
 //!
 //! ```text
-//! let text = rounds_text::<Colouring>(alloc, &net)?;     // "rounds 1 2 1 1 18", "pulse 0 greet", "1 put 2 payload 0 hello 1", ..
+//! let text = rounds_text::<Colouring>(alloc, &net)?;
+//! // "rounds 1 2 1 1 18", "pulse 0 greet", "1 put 2 payload 0 hello 1", ..
 //! ```
 //!
 //! Limits: those of a `Network`.

@@ -54,8 +54,8 @@ fn push_pulse<P: ProgramText>(text: &mut Vec<u8>, rounds: &Rounds<'_, P>) -> Res
     Ok(())
 }
 
-/// The synchronous run of a program on a network: the program's first line, and then for each pulse 0 to the last a line
-/// `pulse P` with the program's words for it, and behind it for each vertex what the program says of its node, and
+/// The synchronous run of a program on a network: the program's first line, and then for each pulse 0 to the last a
+/// line `pulse P` with the program's words for it, and behind it for each vertex what the program says of its node, and
 /// what the node sends.
 ///
 /// # Errors

@@ -1,10 +1,20 @@
 -- What was written, and reported, is what is given of an answer, or what declines the words.
-use Rattle.std.proofs.Common.{◌≡◌, ◌⊎◌, ℕ, List, None, Ok, Err, inl, inr, subst, sym}
+use Rattle.std.proofs.Common.{◌≡◌, ◌⊎◌, ℕ, List, None, Ok, Err, Option, inl, inr, subst, sym}
 use Rattle.command_line.specs.Line.{name_of}
 use Rattle.command_line.specs.declared.program.Program.{Program}
 use Rattle.command_line.specs.declared.request.Request.{Request}
-use Rattle.command_line.specs.declared.request.Request.TheVariants.{Check, Events, Forests, Plain, Plan, Replay, Rounds, Transcript}
+use Rattle.command_line.specs.declared.request.Request.TheVariants.{Check, Forests, Plain, Plan, Play, Transcript}
+use Rattle.command_line.specs.declared.programs.NodeProgramName.{NodeProgramName}
+use Rattle.command_line.specs.declared.programs.NodeProgramName.TheVariants.{Colouring, Layers, Leader}
+use Rattle.command_line.specs.declared.request.Play.{Play as Played}
+use Rattle.command_line.specs.declared.request.Play.TheVariants.{Events, Replay, Rounds, Run}
 use Rattle.serving.specs.Answers.{MayAnswer}
+use Rattle.serving.specs.Plays.{MayPlay, MayPlayNamed}
+use Rattle.byte_functions.specs.colour_program.ColoursText.{colouring_texts}
+use Rattle.layers.specs.Texts.{layers_texts}
+use Rattle.leader.specs.Texts.{leader_texts}
+use Rattle.program_texts.specs.Texts.{ProgramTexts}
+use Rattle.program_texts.specs.node_api.Program.{Program as NodeProgram}
 use Rattle.byte_functions.specs.answers.Faults.{fault_line, fault_status}
 use Rattle.command_line.specs.Asked.{request_of}
 use Rattle.serving.specs.Serve.{Answers, Declines, IsReported, Puts, ServesChoice, ServesWords, memory_line}
@@ -18,15 +28,26 @@ pub of-bytes : (program : Program) (output errors : Written) (request : Request)
 of-bytes program output errors request input bytes text status same may puts =
     (Ok bytes, may, subst (λ t. Puts program output errors t status) same puts)
 
+-- nodes of any program may answer that memory ran out
+play-memory : {S M E : Type 0} (program : NodeProgram S M E) (texts : ProgramTexts S) (word_of : M → List ℕ) (number_of : M → ℕ)
+    (payload_of : List ℕ → ℕ → Option M) (play : Played) (input : List ℕ) → MayPlay program texts word_of number_of payload_of play input (Err Memory)
+play-memory program texts word_of number_of payload_of Events input = tt
+play-memory program texts word_of number_of payload_of Replay input = tt
+play-memory program texts word_of number_of payload_of Rounds input = tt
+play-memory program texts word_of number_of payload_of (Run options show) input = (tt, λ e. cc)
+
+named-memory : (name : NodeProgramName) (play : Played) (input : List ℕ) → MayPlayNamed name play input (Err Memory)
+named-memory Colouring play input = play-memory _ colouring_texts _ _ _ play input
+named-memory Leader play input = play-memory _ leader_texts _ _ _ play input
+named-memory Layers play input = play-memory _ layers_texts _ _ _ play input
+
 memory-may : (request : Request) (input : List ℕ) → MayAnswer request input (Err Memory)
 memory-may Forests input = tt
 memory-may Plain input = tt
 memory-may (Plan options) input = (tt, λ e. cc)
 memory-may (Transcript options edition) input = (tt, λ e. cc)
 memory-may Check input = tt
-memory-may Events input = tt
-memory-may Replay input = tt
-memory-may Rounds input = tt
+memory-may (Play program play) input = named-memory program play input
 
 -- where there is no memory for a fault's line, the answer is the fault of memory
 pub of-fault : (program : Program) (output errors : Written) (request : Request) (input : List ℕ) (fault : PlanFault) (status : ℕ)

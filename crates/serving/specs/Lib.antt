@@ -1,3 +1,4 @@
 pub mod Answers
+pub mod Plays
 pub mod Streams
 pub mod Serve

@@ -4,17 +4,18 @@ ghost use Rattle.std.specs.Prelude.{IfOk, IfErr, Ok, Err};
 ghost use Rattle.command_line.specs.Asked.{IsInRange};
 ghost use Rattle.serving.specs.Answers.{MayAnswer};
 
+use crate::playing::named_bytes;
 use byte_functions::{
-    Colouring, OpenGate, PlanFault, check_bytes, events_bytes, forest_bytes, plain_bytes,
-    plan_bytes, replay_bytes, rounds_bytes, transcript_bytes,
+    Colouring, OpenGate, PlanFault, check_bytes, forest_bytes, plain_bytes, plan_bytes,
+    transcript_bytes,
 };
 use command_line::Request;
 use std::alloc::Global;
 use std::sync::Wait;
 use std::thread::Threads;
 
-/// The answer of a command to its input; each command is a line. `Plan` and `Transcript` start threads, and
-/// aren't promised to return.
+/// The answer of a command to its input; each command is a line. `Plan`, `Transcript` and a `Play` that is a run start
+/// threads, and aren't promised to return.
 ///
 /// # Errors
 /// The fault of the input, or of memory.
@@ -33,11 +34,11 @@ pub fn answer_bytes<T: Threads + Wait + Sync>(
         Request::Plain => plain_bytes(alloc, input),
         Request::Plan(options) => plan_bytes(rt, alloc, input, options, &OpenGate),
         Request::Transcript(options, edition) => {
-            transcript_bytes(rt, alloc, input, options, edition, &OpenGate)
+            transcript_bytes::<Colouring, OpenGate, T>(
+                rt, alloc, input, options, edition, &OpenGate,
+            )
         }
         Request::Check => check_bytes(alloc, input),
-        Request::Events => events_bytes::<Colouring>(alloc, input),
-        Request::Replay => replay_bytes::<Colouring>(alloc, input),
-        Request::Rounds => rounds_bytes::<Colouring>(alloc, input),
+        Request::Play(program, play) => named_bytes(rt, alloc, program, play, input),
     }
 }

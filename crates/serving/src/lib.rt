@@ -18,6 +18,7 @@
 #![tactic(auto)]
 
 mod answer;
+mod playing;
 mod process;
 mod serving;
 mod words;

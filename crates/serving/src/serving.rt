@@ -130,11 +130,11 @@ fn serve_request<T: Threads + Wait + Sync, R: Source, W: Sink, E: Sink>(
 /// If the words ask for a command, `input` is read to its end, the answer goes to `output`, and the
 /// status is 0; a fault of the input goes to `errors` as one line, with status 1. If they don't, nothing
 /// is read: help goes to `output` with status 0, any other text of clap to `errors` with 2. If the workers of
-/// `plan` or `transcript` stop before every node is done, a line on `errors` says so, with status 3; if a
+/// `plan`, `transcript` or `run` stop before every node is done, a line on `errors` says so, with status 3; if a
 /// thread is refused, a read or a write fails, or memory runs out, with status 4. After a failed write
 /// `output` holds a beginning of the answer. A failed write to `errors` changes nothing.
 ///
-/// `plan` and `transcript` may wait for threads, so it is not promised that the call returns: the contract
+/// `plan`, `transcript` and `run` may wait for threads, so it is not promised that the call returns: the contract
 /// holds if it does.
 pub fn serve<'a, T: Threads + Wait + Sync, R: Source, W: Sink, E: Sink>(
     rt: &T,

@@ -6,7 +6,7 @@ use std::sync::atomic::{AtomicBool, AtomicU64, Ordering};
 use std::thread;
 
 // How often a worker that is held looks for the other.
-const TRIES: u32 = 100_000_000;
+const TRIES: u32 = 1_000_000;
 
 /// Counts by number, from 0 to 3.
 #[derive(Drop)]

@@ -1,9 +1,9 @@
-//! Plans and transcripts by two worker threads that are in turns at once, from bytes to bytes.
+//! Plans, last states and transcripts by two worker threads that are in turns at once, from bytes to bytes.
 
 use crate::meeting::Meeting;
 use crate::node_pool_checks::PULSES;
 use crate::runs::BY_TWO;
-use byte_functions::{Colouring, Edition, plan_bytes, replay_bytes, transcript_bytes};
+use byte_functions::{Colouring, Edition, plan_bytes, replay_bytes, run_bytes, transcript_bytes};
 use std::alloc::Global;
 use std::sync::Wait;
 use std::thread::Threads;
@@ -27,6 +27,24 @@ fn two_workers_make_a_plan_at_once(rt: HostRuntime) {
     assert!(rt; gate.saw_two_at_once(PULSES));
 }
 
+const TRIANGLE_ENDS: &[u8] =
+    b"node 1 pulse 30 channel 2\nnode 2 pulse 30 channel 3\nnode 3 pulse 30 channel 1\n";
+
+// Whether two workers make the last states through a gate.
+fn make_the_ends<R: Threads + Wait + Sync>(rt: &R, alloc: Global, gate: &Meeting) -> bool {
+    match run_bytes::<Colouring, Meeting, R>(rt, alloc, TRIANGLE, BY_TWO, gate) {
+        Ok(ends) => ends.as_slice() == TRIANGLE_ENDS,
+        Err(_) => false,
+    }
+}
+
+#[test]
+fn two_workers_end_a_run_at_once(rt: HostRuntime) {
+    let gate = Meeting::new();
+    assert!(rt; make_the_ends(&rt, rt.alloc(), &gate));
+    assert!(rt; gate.saw_two_at_once(PULSES));
+}
+
 // Whether a transcript of edition 2 is replayed behind its network.
 fn is_replayed(alloc: Global, transcript: &[u8]) -> bool {
     let mut text = Vec::new(alloc);
@@ -38,7 +56,14 @@ fn is_replayed(alloc: Global, transcript: &[u8]) -> bool {
 
 // Whether two workers make a transcript through a gate that is replayed.
 fn make_a_transcript<R: Threads + Wait + Sync>(rt: &R, alloc: Global, gate: &Meeting) -> bool {
-    match transcript_bytes(rt, alloc, TRIANGLE, BY_TWO, Edition::Two, gate) {
+    match transcript_bytes::<Colouring, Meeting, R>(
+        rt,
+        alloc,
+        TRIANGLE,
+        BY_TWO,
+        Edition::Two,
+        gate,
+    ) {
         Ok(transcript) => is_replayed(alloc, transcript.as_slice()),
         Err(_) => false,
     }

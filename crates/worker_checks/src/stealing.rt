@@ -6,7 +6,7 @@ use std::sync::atomic::{AtomicBool, Ordering};
 use std::thread;
 
 // How often a worker that is held looks for the other.
-const TRIES: u32 = 100_000_000;
+const TRIES: u32 = 1_000_000;
 
 /// Holds the worker that is the first to enter node 1 until a turn of node 3 was left. Nodes 1 and 3 are dealt to one
 /// worker of two.

@@ -2,7 +2,7 @@
 //! did.
 
 ghost use Rattle.std.specs.Prelude.{◌≡◌, ℕ, length};
-ghost use Rattle.byte_functions.specs.interference.Net.{IsVertex, degree_of, vertices};
+ghost use Rattle.byte_functions.specs.interference.Net.{IsVertex, count_of, degree_of, vertices};
 ghost use Rattle.byte_functions.specs.gather_laws.Outcome.{row_in};
 
 use crate::runs::{greeted, holds, of_one, run_of_one, triangle};
@@ -86,19 +86,17 @@ fn are(entries: &Entries<Payload>, wanted: &[StampedEntry]) -> bool {
     )
 }
 
-// Whether the node with this index is at its start, with these entries.
+// Whether the node with this index has these entries.
 fn has_entries(outcome: &Outcome<Colouring>, index: usize, wanted: &[StampedEntry]) -> bool {
     match outcome.actors().get(index) {
         Some(actor) => {
-            actor.node() as usize == index.wrapping_add(1)
-                && actor.alpha().pulse_number() == 0
-                && are(actor.entries(), wanted)
+            actor.node() as usize == index.wrapping_add(1) && are(actor.entries(), wanted)
         }
         None => false,
     }
 }
 
-// Whether nodes are at their start, with these entries.
+// Whether nodes have these entries.
 fn have_entries(outcome: &Outcome<Colouring>, entries: &[&[StampedEntry]]) -> bool {
     for (index, wanted) in entries.iter().enumerate() {
         if !has_entries(outcome, index, *wanted) {
@@ -106,6 +104,18 @@ fn have_entries(outcome: &Outcome<Colouring>, entries: &[&[StampedEntry]]) -> bo
         }
     }
     outcome.actors().len() == entries.len()
+}
+
+// Whether each node is at pulse 0.
+fn are_at_start(net: &Network, outcome: &Outcome<Colouring>) -> bool
+    requires nodes { length outcome.now.nodes ≡ count_of net.now }
+{
+    for v in 1..net.nodes() + 1 {
+        if outcome.pulses(v) != 0 {
+            return false;
+        }
+    }
+    true
 }
 
 // Whether the links hold these wires, by node and port, each with its stamp.
@@ -180,6 +190,7 @@ fn leaves<R: Threads + Wait + Sync>(rt: &R, alloc: Global, net: &Network, left: 
     match run_workers::<Colouring, OpenGate, R>(rt, alloc, net, options, &OpenGate) {
         Ok(outcome) => {
             !outcome.is_whole()
+                && are_at_start(net, &outcome)
                 && have_entries(&outcome, left.entries)
                 && hold(net, &outcome, left.links)
         }

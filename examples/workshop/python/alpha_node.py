@@ -12,8 +12,8 @@ class Port:
 
 
 class AlphaNode:
-    def __init__(self, own):
-        self.program, self.last = Colouring(own), own["last"]
+    def __init__(self, own, program=Colouring):
+        self.program, self.last = program(own), own["last"]
         self.ports = [Port() for _ in range(own["degree"])]
         self.pulse, self.said, self.answer = 0, False, []
 
@@ -64,7 +64,7 @@ class AlphaNode:
         if self.pulse == self.last:
             for at in range(len(self.ports)):
                 self.put(at, "close")
-            self.answer.append(f"channel {self.program.channel()}")
+            self.answer.append(self.program.result())
             return
         for at, (word, number) in out.items():
             self.put(at, f"payload {self.pulse} {word} {number}")

@@ -4,8 +4,8 @@ from talk import serve
 
 
 class RoundsNode:
-    def __init__(self, own):
-        self.program = Colouring(own)
+    def __init__(self, own, program=Colouring):
+        self.program = program(own)
 
     def start(self):
         return puts(self.program.greet())
@@ -13,11 +13,9 @@ class RoundsNode:
     def react(self, lines):
         pulse = int(lines[0][1])
         inbox = {int(port): (word, int(number)) for _, port, word, number in lines[1:]}
-        answer = puts(self.program.pulse(pulse, inbox))
-        if 2 <= pulse <= 12:        # not asked for, but then the workshop finds mistakes earlier
-            answer += [f"colour {forest} {colour}" for forest, colour in enumerate(self.program.colours)]
+        answer = puts(self.program.pulse(pulse, inbox)) + self.program.lines(pulse)
         if pulse == self.program.last:
-            answer.append(f"channel {self.program.channel()}")
+            answer.append(self.program.result())
         return answer
 
 

@@ -1,7 +1,6 @@
-use Rattle.std.proofs.Common.{◌∙◌, ◌++◌, ◌∷◌, [], ap, codes, map, subst, sym}
+use Rattle.std.proofs.Common.{◌≡◌, ◌∙◌, ◌++◌, ◌∷◌, [], ap, codes, map, rules, subst, sym}
 use Rattle.std.proofs.lemmas.List.{flat_map_more, length-map}
-use Rattle.answers.specs.colour_rules.Words.{number_in, word_in}
-use Rattle.answers.specs.transcripts.TranscriptText.{first_line_of, stamped_row_text}
+use Rattle.answers.specs.transcripts.TranscriptText.{first_line_of, stamped_row_text, stamped_transcript_of}
 use Rattle.node_pool.specs.outcomes.Gathers.{gathered_of}
 use Rattle.stamps.specs.Merged.{IsMerge, list_of}
 use Rattle.byte_functions.specs.Transcripts.{stamped_of}
@@ -10,17 +9,23 @@ use Rattle.byte_functions.proofs.merged.merged_text.Goals as goal
 
 -- nothing is taken yet
 pub loop-row-init : goal.loop-row-init
-loop-row-init c =
+loop-row-init g c =
     let wrote = map stamped_of (map gathered_of c.args.actors.items) in
-    let lefts = c.in_ok-merging.ensures.lefts ∙ ap (λ actors. map stamped_of (map gathered_of actors)) c.as_slice.ensures.value in
+    let lefts = c.in_ok-merging.ensures.lefts ∙ ap (λ actors. map stamped_of (map gathered_of actors)) c.as_slice-2.ensures.value in
+    let none : c.as_slice.result.now ≡ [] = search rules in
     record {
       keys = c.in_ok-merging.ensures.keys;
-      rows = ([], subst (λ l. IsMerging wrote l []) (sym lefts) (merging-init wrote c.requires.rising), c.in_ok-text.ensures.text);
+      rows = (
+        [],
+        subst (λ l. IsMerging wrote l []) (sym lefts) (merging-init wrote c.requires.rising),
+        c.in_ok-text.ensures.text
+            ∙ ap (stamped_transcript_of g.P.Payload.PayloadText.word_of g.P.Payload.PayloadText.number_of c.args.count) none,
+      );
     }
 
 -- one entry more is taken, and its line written
 pub loop-row-preserved : goal.loop-row-preserved
-loop-row-preserved c =
+loop-row-preserved g c =
     let wrote = map stamped_of (map gathered_of c.args.actors.items) in
     let row = c.in-Some.row in
     let so_far = c.loop-row.invariant.rows in
@@ -31,18 +36,18 @@ loop-row-preserved c =
       rows = (
         rows ++ (row ∷ []),
         merging-step wrote c.loop-row.merging.lefts.items c.take.new.self.lefts.items rows row so_far.1 taken,
-        c.in_ok-push_stamped_row.ensures.text ∙ ap (λ t. t ++ stamped_row_text word_in number_in row) so_far.2
-            ∙ flat_map_more (stamped_row_text word_in number_in) (first_line_of (codes "2") c.args.count) rows row,
+        c.in_ok-push_stamped_row.ensures.text ∙ ap (λ t. t ++ stamped_row_text g.P.Payload.PayloadText.word_of g.P.Payload.PayloadText.number_of row) so_far.2
+            ∙ flat_map_more (stamped_row_text g.P.Payload.PayloadText.word_of g.P.Payload.PayloadText.number_of) (first_line_of (codes "2") c.args.count) rows row,
       );
     }
 
 -- an entry less is left
 pub loop-row-smaller : goal.loop-row-smaller
-loop-row-smaller c = fewer c.loop-row.merging.lefts.items c.take.new.self.lefts.items c.in-Some.row c.in-Some.ensures.taken
+loop-row-smaller g c = fewer c.loop-row.merging.lefts.items c.take.new.self.lefts.items c.in-Some.row c.in-Some.ensures.taken
 
 -- nothing is left
 pub returns : goal.returns
-returns c =
+returns g c =
     let nodes = map gathered_of c.args.actors.items in
     let wrote = map stamped_of nodes in
     let all = c.loop-row.invariant.rows in

@@ -7,7 +7,7 @@ use Rattle.byte_functions.proofs.merging.replace_top.Goals as goal
 
 -- the new key is put to those behind the top
 pub returns-in-Some-stamp-clause-replaced : goal.returns-in-Some-stamp-clause-replaced
-returns-in-Some-stamp-clause-replaced c =
+returns-in-Some-stamp-clause-replaced g c =
     let behind = drop 1 (heap_items c.args.keys.now) in
     let x : Key = record { 0 = (c.in-Some-stamp.stamp, c.args.index) } in
     let same = IsPermutation-trans _ _ _ (IsPermutation-cons x _ _ c.in-Some.ensures.rest) (c.drop-top.ensures.permutation (search rules)) in
@@ -16,7 +16,7 @@ returns-in-Some-stamp-clause-replaced c =
 
 -- those behind the top are left
 pub returns-in-None-clause-replaced : goal.returns-in-None-clause-replaced
-returns-in-None-clause-replaced c =
+returns-in-None-clause-replaced g c =
     let behind = drop 1 (heap_items c.args.keys.now) in
     let same = IsPermutation-trans _ _ _ c.in-Some.ensures.rest c.pop.ensures.permutation in
     let added = none_added c.args.left.now c.args.index behind _ c.in-None.ensures same in

@@ -4,7 +4,6 @@ use Rattle.std.proofs.lemmas.Iterator.Adapters.{YieldsList-from_vec}
 use Rattle.std.proofs.lemmas.Iterator.Consumers.{YieldsList-end}
 use Rattle.std.proofs.lemmas.List.{flat_map_more}
 use Rattle.std.proofs.lemmas.List.Folds.{flat_map-map}
-use Rattle.answers.specs.colour_rules.Words.{number_in, word_in}
 use Rattle.node_pool.specs.outcomes.Gathers.{gathered_of}
 use Rattle.answers.specs.transcripts.TranscriptText.{first_line, row_text}
 use Rattle.byte_functions.specs.Transcripts.{rows_in}
@@ -12,24 +11,24 @@ use Rattle.byte_functions.proofs.transcript.text_of_actors.Goals as goal
 
 -- the lines of one node more
 pub loop-actor-preserved : goal.loop-actor-preserved
-loop-actor-preserved c =
+loop-actor-preserved g c =
     let actor = c.in-Some.actor in
     let first = first_line c.args.count in
-    let lines = flat_map (row_text word_in number_in) in
+    let lines = flat_map (row_text g.P.Payload.PayloadText.word_of g.P.Payload.PayloadText.number_of) in
     let before = flat_map (λ a. rows_in (gathered_of a)) c.loop-actor.yielded in
     c.in_ok-pushed.ensures.text
     ∙ ap₂ (λ v entries. c.loop-actor.text.items ++ lines (map (λ entry. (v, entry)) entries.items)) c.node.ensures.vertex c.entries.ensures.entries
     ∙ ap (λ l. l ++ lines (rows_in (gathered_of actor))) c.loop-actor.invariant
     ∙ append_assoc first (lines before) (lines (rows_in (gathered_of actor)))
-    ∙ ap (λ l. first ++ l) (sym (flat_map-append (row_text word_in number_in) before (rows_in (gathered_of actor)))
+    ∙ ap (λ l. first ++ l) (sym (flat_map-append (row_text g.P.Payload.PayloadText.word_of g.P.Payload.PayloadText.number_of) before (rows_in (gathered_of actor)))
     ∙ ap lines (flat_map_more (λ a. rows_in (gathered_of a)) [] c.loop-actor.yielded actor))
 
 -- at the end the lines of all nodes are there
 pub returns : goal.returns
-returns c =
+returns g c =
     let end = YieldsList-end (YieldsList-from_vec {s = c.into_iter-actor-iterator.result} c.args.actors.items (search rules) (search rules))
     c.loop-actor.yielded c.loop-actor.actor-iterator c.loop-actor.yielded_by c.next.result c.next.new.self c.in-None.is c.next.ensures.steps in
     let all = sym (map-id c.loop-actor.yielded) ∙ end.0 in
     c.loop-actor.invariant
-    ∙ ap (λ rows. first_line c.args.count ++ flat_map (row_text word_in number_in) rows)
+    ∙ ap (λ rows. first_line c.args.count ++ flat_map (row_text g.P.Payload.PayloadText.word_of g.P.Payload.PayloadText.number_of) rows)
     (ap (flat_map (λ a. rows_in (gathered_of a))) all ∙ sym (flat_map-map rows_in gathered_of c.args.actors.items))

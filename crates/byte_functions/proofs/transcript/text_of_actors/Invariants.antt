@@ -1,5 +1,4 @@
 use Rattle.std.proofs.Common.{◌≡◌, ◌++◌, flat_map}
-use Rattle.answers.specs.colour_rules.Words.{number_in, word_in}
 use Rattle.node_pool.specs.outcomes.Gathers.{gathered_of}
 use Rattle.answers.specs.transcripts.TranscriptText.{first_line, row_text}
 use Rattle.byte_functions.specs.Transcripts.{rows_in}
@@ -7,5 +6,5 @@ use Rattle.byte_functions.proofs.transcript.text_of_actors.Given as goal
 
 -- the lines of the nodes so far
 abbrev pub invariant-loop-actor : goal.invariant-loop-actor
-invariant-loop-actor l = l.text.items ≡ first_line l.count
-    ++ flat_map (row_text word_in number_in) (flat_map (λ actor. rows_in (gathered_of actor)) l.yielded)
+invariant-loop-actor g l = l.text.items ≡ first_line l.count
+    ++ flat_map (row_text g.P.Payload.PayloadText.word_of g.P.Payload.PayloadText.number_of) (flat_map (λ actor. rows_in (gathered_of actor)) l.yielded)

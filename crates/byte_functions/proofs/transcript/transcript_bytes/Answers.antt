@@ -1,26 +1,27 @@
-use Rattle.std.proofs.Common.{◌∙◌, All, ap, length, map, subst, sym}
+use Rattle.std.proofs.Common.{◌∙◌, All, ap, length, map, subst, sym, true}
 use Rattle.std.proofs.lemmas.List.{length-map}
 use Rattle.node_pool.specs.outcomes.Gathers.{gathered_of}
 use Rattle.stamps.specs.Stamps.{Rises}
-use Rattle.answers.specs.colour_rules.Program.{colouring}
 use Rattle.node_pool.specs.gather_laws.Merged.{WholeOutcomesReplay}
 use Rattle.byte_functions.specs.Transcripts.{IsTextIn, stamped_of}
 use Rattle.byte_functions.proofs.Recording.{all-rise, answered, nodes-count}
 use Rattle.byte_functions.proofs.transcript.transcript_bytes.Goals as goal
 
--- The plan: the nodes of a whole outcome are as many as vertices, and their stamps rise (text_in-requires); the text of its
--- nodes in the edition is the answer.
-pub text_in-requires : goal.text_in-requires
-text_in-requires g c =
+-- The plan: the nodes of a whole outcome are as many as vertices, and their stamps rise; the text of its nodes in the
+-- edition is the answer.
+pub text_in-requires-clause-count : goal.text_in-requires-clause-count
+text_in-requires-clause-count g c = λ lives within.
     let net = c.in_ok-network.network in
     let outcome = c.in_ok-outcome.outcome in
-    let is = c.in_ok-outcome.ensures.outcome in
-    let here = c.is_network.ensures in
-    record {
-      count = sym (length-map c.into_actors.result.items gathered_of) ∙ ap length c.into_actors.ensures.nodes
-          ∙ nodes-count net here c.args.options.capacity outcome is ∙ sym c.nodes-count.ensures.count;
-      rising = subst (λ nodes. All Rises (map stamped_of nodes)) (sym c.into_actors.ensures.nodes) (all-rise net here c.args.options.capacity outcome is);
-    }
+    sym (length-map c.into_actors.result.items gathered_of) ∙ ap length c.into_actors.ensures.nodes
+    ∙ nodes-count g.P.NodeProgram.program net c.args.options.capacity true outcome c.in_ok-outcome.ensures.outcome ∙ sym c.nodes-count.ensures.count
+
+pub text_in-requires-clause-rising : goal.text_in-requires-clause-rising
+text_in-requires-clause-rising g c = λ lives within.
+    let net = c.in_ok-network.network in
+    let outcome = c.in_ok-outcome.outcome in
+    subst (λ nodes. All Rises (map stamped_of nodes)) (sym c.into_actors.ensures.nodes)
+    (all-rise g.P.NodeProgram.program net c.args.options.capacity outcome c.in_ok-outcome.ensures.outcome)
 
 pub returns-clause-ok : goal.returns-clause-ok
 returns-clause-ok g c =
@@ -28,8 +29,10 @@ returns-clause-ok g c =
     let outcome = c.in_ok-outcome.outcome in
     let text = c.in_ok-text_in.field-0.items in
     let here = c.is_network.ensures in
-    let law : WholeOutcomesReplay colouring net = c.whole_outcomes_replay.ensures.law colouring net here in
-    answered c.args.edition c.args.input.now text net c.args.options.capacity outcome c.in_ok-network.ensures.ok c.in_ok-outcome.ensures.outcome
-    c.in_ok-outcome.ensures.whole here law
-    (subst (λ n. IsTextIn c.args.edition n outcome.nodes text) c.nodes-count.ensures.count
-    (subst (λ nodes. IsTextIn c.args.edition c.nodes-count.result nodes text) c.into_actors.ensures.nodes c.in_ok-text_in.ensures))
+    let law : WholeOutcomesReplay g.P.NodeProgram.program net = c.whole_outcomes_replay.ensures.law g.P.NodeProgram.program net here in
+    let word_of = g.P.Payload.PayloadText.word_of in
+    let number_of = g.P.Payload.PayloadText.number_of in
+    answered g.P.NodeProgram.program word_of number_of c.args.input.now text net c.args.options.capacity outcome c.in_ok-network.ensures.ok
+    c.in_ok-outcome.ensures.outcome c.in_ok-outcome.ensures.whole c.args.edition law
+    (subst (λ n. IsTextIn word_of number_of c.args.edition n outcome.nodes text) c.nodes-count.ensures.count
+    (subst (λ nodes. IsTextIn word_of number_of c.args.edition c.nodes-count.result nodes text) c.into_actors.ensures.nodes c.in_ok-text_in.ensures))

@@ -1,27 +1,27 @@
 use Rattle.std.proofs.Common.{[], ◌∷◌, ◌++◌, ap, arith, refl, ◌∙◌}
 use Rattle.alpha_core.specs.StampedWires.{last_stamp, wires_of}
 use Rattle.alpha_core.specs.declared.wire.Wire.TheVariants.{Payload, Safe}
-use Rattle.checks.proofs.LinkRows.{first_front}
+use Rattle.checks.proofs.LinkRows.{legal_begin}
 use Rattle.checks.proofs.Rising.{none_put, one_more}
 use Rattle.checks.proofs.link_alone.steps_of.Goals as goal
 
 pub put-requires-clause-legal : goal.put-requires-clause-legal
 put-requires-clause-legal g c κs within =
     let made = c.requires.put_end in
-    first_front (Payload 0 (record { 0 = 1 }) ∷ []) (Safe 0 ∷ []) _ _ refl (ap (λ l. l ++ Payload 0 (record { 0 = 1 }) ∷ []) made.put) made.named
+    legal_begin _ _ (Payload 0 c.args.payload ∷ []) (Safe 0 ∷ []) _ _ _ c.requires.legal refl (ap (λ l. l ++ Payload 0 c.args.payload ∷ []) made.put) made.named
 
 pub put-requires-2-clause-legal : goal.put-requires-2-clause-legal
 put-requires-2-clause-legal g c κs within =
     let made = c.requires.put_end in
-    let first = c.in-Ok.ensures.put ∙ ap (λ l. l ++ Payload 0 (record { 0 = 1 }) ∷ []) made.put in
-    first_front (Payload 0 (record { 0 = 1 }) ∷ Safe 0 ∷ []) [] _ _ refl (ap (λ l. l ++ Safe 0 ∷ []) first)
+    let first = c.in-Ok.ensures.put ∙ ap (λ l. l ++ Payload 0 c.args.payload ∷ []) made.put in
+    legal_begin _ _ (Payload 0 c.args.payload ∷ Safe 0 ∷ []) [] _ _ _ c.requires.legal refl (ap (λ l. l ++ Safe 0 ∷ []) first)
     (c.put.ensures.end.1 ∙ made.named)
 
 pub put-requires-3-clause-legal : goal.put-requires-3-clause-legal
 put-requires-3-clause-legal g c κs within =
     let made = c.requires.put_end in
-    let first = c.in-Ok.ensures.put ∙ ap (λ l. l ++ Payload 0 (record { 0 = 1 }) ∷ []) made.put in
-    first_front (Payload 0 (record { 0 = 1 }) ∷ Safe 0 ∷ []) [] _ _ refl
+    let first = c.in-Ok.ensures.put ∙ ap (λ l. l ++ Payload 0 c.args.payload ∷ []) made.put in
+    legal_begin _ _ (Payload 0 c.args.payload ∷ Safe 0 ∷ []) [] _ _ _ c.requires.legal refl
     (ap (λ l. l ++ Safe 0 ∷ []) (ap (λ l. wires_of l) c.in-Err-put.ensures.unchanged ∙ first))
     (c.put-2.ensures.end.1 ∙ c.put.ensures.end.1 ∙ made.named)
 

@@ -1,16 +1,18 @@
-use Rattle.std.proofs.Common.{◌∙◌, ap}
+use Rattle.std.proofs.Common.{◌∙◌, ap, ap₂}
 use Rattle.std.proofs.lemmas.Result.{IfOk-weaker}
 use Rattle.std.specs.Prelude.{codes}
-use Rattle.clap.specs.Words.{App, new_app, with_subcommand}
+use Rattle.clap.specs.Words.{App, with_subcommand}
+use Rattle.command_line.specs.Line.{play_command}
 use Rattle.command_line.proofs.Refused.{err_says}
 use Rattle.command_line.proofs.line.with_play_commands.Goals as goal
 
 pub returns-clause-shape : goal.returns-clause-shape
 returns-clause-shape c =
-    let replayed : App → App = λ a. with_subcommand a (new_app (codes "replay")).top in
-    let rounded : App → App = λ a. with_subcommand a (new_app (codes "rounds")).top in
-    IfOk-weaker c.with_plain_command-3.result _ _
-    (λ m h. h ∙ ap rounded (c.in_ok-program-2.ensures.shape ∙ ap replayed c.in_ok-program.ensures.shape)) c.with_plain_command-3.ensures.shape
+    let joined : App → App → App = λ program sub. with_subcommand program sub.top in
+    let replayed : App → App = λ a. joined a (play_command (codes "replay")) in
+    let rounded : App → App = λ a. joined a (play_command (codes "rounds")) in
+    let played = c.in_ok-program-3.ensures.shape ∙ ap rounded (c.in_ok-program-2.ensures.shape ∙ ap replayed c.in_ok-program.ensures.shape) in
+    IfOk-weaker c.with_command.result _ _ (λ m h. h ∙ ap₂ joined played c.in_ok-run.ensures.shape) c.with_command.ensures.shape
 
 pub returns-in_err-program-clause-shape : goal.returns-in_err-program-clause-shape
 returns-in_err-program-clause-shape c = err_says _ _ c.from_residual.result c.from_residual.ensures.1
@@ -23,3 +25,15 @@ returns-in_err-program-2-clause-shape c = err_says _ _ c.from_residual-in_err-pr
 
 pub returns-in_err-program-2-clause-local : goal.returns-in_err-program-2-clause-local
 returns-in_err-program-2-clause-local c = err_says _ _ c.from_residual-in_err-program-2.result c.from_residual-in_err-program-2.ensures.1
+
+pub returns-in_err-program-3-clause-shape : goal.returns-in_err-program-3-clause-shape
+returns-in_err-program-3-clause-shape c = err_says _ _ c.from_residual-in_err-program-3.result c.from_residual-in_err-program-3.ensures.1
+
+pub returns-in_err-program-3-clause-local : goal.returns-in_err-program-3-clause-local
+returns-in_err-program-3-clause-local c = err_says _ _ c.from_residual-in_err-program-3.result c.from_residual-in_err-program-3.ensures.1
+
+pub returns-in_err-run-clause-shape : goal.returns-in_err-run-clause-shape
+returns-in_err-run-clause-shape c = err_says _ _ c.from_residual-in_err-run.result c.from_residual-in_err-run.ensures.1
+
+pub returns-in_err-run-clause-local : goal.returns-in_err-run-clause-local
+returns-in_err-run-clause-local c = err_says _ _ c.from_residual-in_err-run.result c.from_residual-in_err-run.ensures.1

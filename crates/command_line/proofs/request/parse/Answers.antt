@@ -5,15 +5,15 @@ use Rattle.clap.specs.Faults.{is_simple_and_free}
 use Rattle.clap.specs.Kinds.{HasKind}
 use Rattle.command_line.specs.Asked.{choice_of}
 use Rattle.command_line.specs.Line.{line}
-use Rattle.command_line.proofs.KnownCommands.{declined, in_range, known, line_is_free, line_is_simple, line_wants_a_command, taken}
+use Rattle.command_line.proofs.KnownCommands.{declined, in_range, line_is_free, line_is_simple, line_wants_a_command, taken, unnamed}
 use Rattle.command_line.proofs.request.parse.Goals as goal
 
 mapped : {X Y : Type 0} (f : X → Y) (o : Option X) → is_some o ≡ true → is_some (option_map f o) ≡ true
 mapped f None h = h
 mapped f (Some x) h = refl
 
-pub unreachable-requires : goal.unreachable-requires
-unreachable-requires c =
+pub returns-in-Ok-try_get_matches_from-clause-err : goal.returns-in-Ok-try_get_matches_from-clause-err
+returns-in-Ok-try_get_matches_from-clause-err c =
     let e = c.in-Ok-try_get_matches_from.ensures in
     let words = texts c.args.words.now in
     let shape = c.in-Ok.ensures.shape in
@@ -23,9 +23,8 @@ unreachable-requires c =
     let wanted = e.parsed.from.needs_subcommand ∙ ap (λ (a : App). a.top.subcommand_required) shape ∙ line_wants_a_command c.args.program in
     let parsed = e.parsed.parsed (e.parsed.from.globals ∙ c.in-Ok.ensures.local) in
     let there = mapped _ _ (parsed.checked.subcommand wanted) in
-    let some = known c.args.program words none (ap is_some (sym rows_are) ∙ there) in
-    let bad : None ≡ Some some.0 = c.in-None.ensures ∙ ap choice_of rows_are ∙ some.1 in
-    cc
+    unnamed c.args.program words c.no_program.result none (ap is_some (sym rows_are) ∙ there) (sym (c.in-None.ensures ∙ ap choice_of rows_are))
+    c.no_program.ensures
 
 pub returns-in-Some-clause-ok : goal.returns-in-Some-clause-ok
 returns-in-Some-clause-ok c =
@@ -45,8 +44,8 @@ returns-in-Some-clause-in_range c =
     let rows_are = (e.matches (ap is_simple shape ∙ line_is_simple c.args.program)).1 ∙ ap (λ (a : App). subcommand_of a words) shape in
     in_range c.args.program words c.in-Some.request none (ap choice_of (sym rows_are) ∙ sym c.in-Some.ensures)
 
-pub returns-in-Err-clause-err : goal.returns-in-Err-clause-err
-returns-in-Err-clause-err c =
+pub returns-clause-err : goal.returns-clause-err
+returns-clause-err c =
     let words = texts c.args.words.now in
     let shape = c.in-Ok.ensures.shape in
     let has = subst (λ (a : App). HasKind (fault_of a words) c.in-Err.error) shape

@@ -1,15 +1,22 @@
-use Rattle.std.proofs.Common.{◌∙◌, ◌++◌, ◌∷◌, [], arith, ap, length, map, subst, sym, take}
+use Rattle.std.proofs.Common.{◌∙◌, ◌++◌, ◌∷◌, [], arith, ap, length, map, rules, subst, sym, take}
 use Rattle.std.specs.BinaryHeap.{heap_items}
 use Rattle.std.proofs.lemmas.List.{length-map, length-take-le, map-append, take_more}
 use Rattle.node_pool.specs.outcomes.Gathers.{gathered_of}
 use Rattle.byte_functions.specs.Merge.{AreKeys, IsKeyAdded}
 use Rattle.byte_functions.specs.Transcripts.{stamped_of}
-use Rattle.byte_functions.proofs.Keys.{keys_more}
+use Rattle.byte_functions.proofs.Keys.{keys_more, no_keys}
 use Rattle.byte_functions.proofs.merging.Merging.new.Goals as goal
+
+-- no entries and no keys
+pub loop-index-init : goal.loop-index-init
+loop-index-init g c = record {
+  lefts = c.new-lefts.ensures.items;
+  keys = no_keys c.new-lefts.result.items (heap_items c.new-keys.result) c.new-lefts.ensures.items c.new-keys.ensures.items (search rules);
+}
 
 -- the entries of one node more, and their key
 pub loop-index-preserved : goal.loop-index-preserved
-loop-index-preserved c =
+loop-index-preserved g c =
     let actors = c.args.actors.now in
     let i = c.loop-index.index in
     let actor = c.index-actors-index.result in

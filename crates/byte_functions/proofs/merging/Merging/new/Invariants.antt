@@ -7,7 +7,7 @@ use Rattle.byte_functions.proofs.merging.Merging.new.Given as goal
 
 -- the nodes so far
 abbrev pub invariant-loop-index : goal.invariant-loop-index
-invariant-loop-index l = record {
+invariant-loop-index g l = record {
   lefts : l.lefts.items ≡ map stamped_of (map gathered_of (take l.index l.actors));
   keys : AreKeys l.lefts.items (heap_items l.keys);
 }

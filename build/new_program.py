@@ -1,0 +1,121 @@
+"""Makes a crate with a node program, from the crate `silent`."""
+import argparse
+import os
+import re
+import shutil
+import sys
+
+from build.paths import TOP
+
+MODEL, MODEL_TYPE, GROUP = "silent", "Silent", "# programs beside the colouring"
+PARTS = ("src", "specs", "proofs")
+LONGEST = 20
+# Words that can't name a crate: those of the language, and those that its modules use.
+TAKEN = set("""as break const continue crate dyn else enum false fn for ghost if impl in let loop match mod move mut pub
+ref return self static struct super trait true type unsafe use where while core std word number node laws texts tests
+payload known""".split())
+
+HELP = f"""\
+Makes the crate crates/NAME with a node program that is proved as it stands: a copy of
+the crate `{MODEL}`, whose nodes send nothing, with every law, the program's words in
+texts, a law about its last states, and a test. NAME is a word of small letters, as
+`{MODEL}`; it is the program's name in texts and in `forestplay run --program NAME`, too.
+"""
+
+MORE_HELP = """\
+Then change it, one place after another (docs/work/OWN_PROGRAM.md goes along with an
+example):
+
+  specs/Knowing.antt  what a node knows, and what it does: the definition
+  specs/Lawful.antt   that it keeps the laws of every program
+  src/node.rt         the same in code, at places 1 to 4
+  src/laws.rt         what the nodes have found at the end, in the words of the subject
+
+In the crate's folder `rt try --test` runs its test unproved, within a minute, and
+`rt check` proves it.
+
+Status: 0 done, 1 it can't be made (one line on standard error says why), 2 the command
+line is refused.
+
+Example:
+  bin/new-program echoes
+"""
+
+
+class Refused(Exception):
+    """Why no crate is made."""
+
+
+def check_name(name, top):
+    if not re.fullmatch("[a-z]+", name):
+        raise Refused(f"{name}: a program's name is one word of small letters, a to z")
+    if len(name) > LONGEST:
+        raise Refused(f"{name}: a program's name has at most {LONGEST} letters")
+    if name in TAKEN:
+        raise Refused(f"{name}: this word is taken in the language or in the crate itself")
+    if os.path.exists(os.path.join(top, "crates", name)):
+        raise Refused(f"{name}: there is a crate of this name")
+
+
+def renamed(text, name):
+    """The text of the model with this name in the place of its own."""
+    return text.replace(MODEL_TYPE, name.title()).replace(MODEL, name)
+
+
+def head_of(name):
+    """The first lines of the crate's page."""
+    return (f"//! {name.title()}: say here what the nodes find, in the words of the subject, and where the\n"
+            "//! algorithm is published.\n")
+
+
+def copy(name, top):
+    """Writes the crate; nothing of it is there before, and nothing is left if that fails."""
+    to, source = os.path.join(top, "crates", name), os.path.join(TOP, "crates", MODEL)
+    try:
+        for part in PARTS:
+            for folder, _, files in os.walk(os.path.join(source, part)):
+                there = os.path.join(to, renamed(os.path.relpath(folder, source), name))
+                os.makedirs(there)
+                for file in files:
+                    with open(os.path.join(folder, file), encoding="utf-8") as text:
+                        made = renamed(text.read(), name)
+                    if (part, file) == ("src", "lib.rt"):
+                        made = head_of(name) + made[made.index("//!\n"):]
+                    with open(os.path.join(there, file), "w", encoding="utf-8") as text:
+                        text.write(made)
+    except BaseException:
+        shutil.rmtree(to, ignore_errors=True)
+        raise
+
+
+def add_line(name, top):
+    """Adds the line of crates.txt, after the model's."""
+    path = os.path.join(top, "crates.txt")
+    with open(path, encoding="utf-8") as file:
+        lines = file.read().split("\n")
+    at = next(k for k, line in enumerate(lines) if line.startswith(MODEL + ":"))
+    lines.insert(at + 1, renamed(lines[at], name))
+    with open(path, "w", encoding="utf-8") as file:
+        file.write("\n".join(lines))
+
+
+def main():
+    words = argparse.ArgumentParser(prog="new-program", usage="new-program NAME", description=HELP, epilog=MORE_HELP,
+                                    formatter_class=argparse.RawDescriptionHelpFormatter)
+    words.add_argument("name", metavar="NAME", help="the program's name, a word of small letters")
+    name = words.parse_args().name
+    try:
+        check_name(name, TOP)
+        copy(name, TOP)
+        add_line(name, TOP)
+    except (OSError, Refused) as why:
+        print(f"new-program: {why}", file=sys.stderr)
+        return 1
+    print(f"crates/{name} is there, and its line in crates.txt. Change, one after another:\n"
+          f"  crates/{name}/specs/Knowing.antt  what a node knows and does\n"
+          f"  crates/{name}/specs/Lawful.antt   the laws\n"
+          f"  crates/{name}/src/node.rt         the code\n"
+          f"  crates/{name}/src/laws.rt         what the nodes find\n"
+          f"Try it: cd crates/{name} && rt try --test    Prove it: rt check\n"
+          "docs/work/OWN_PROGRAM.md goes along with an example, to forestplay run --program.")
+    return 0

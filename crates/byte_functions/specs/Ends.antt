@@ -1,0 +1,33 @@
+-- The text of the last states of a program's nodes.
+use Rattle.std.specs.Prelude.{◌≡◌, ℕ, List, ◌++◌, codes, flat_map}
+use Rattle.answers.specs.Answers.{ReadsAs}
+use Rattle.answers.specs.alpha_core.View.{Node}
+use Rattle.node_pool.specs.gather_laws.Outcome.{Gathered}
+use Rattle.program_texts.specs.Texts.{ProgramTexts}
+use Rattle.program_texts.specs.node_api.Net.{Net, IsNetwork, vertices}
+use Rattle.program_texts.specs.node_api.Program.{Program, last_pulse_on}
+use Rattle.program_texts.specs.node_api.Run.{last_state}
+use Rattle.wire_texts.specs.WireText.{numbered}
+
+-- `node V pulse P`, and the result of a state
+abbrev pub end_line : {S : Type 0} → ProgramTexts S → ℕ → ℕ → S → List ℕ
+end_line texts v p state =
+    numbered (codes "node ") v ++ numbered (codes " pulse ") p ++ texts.result state ++ codes "\n"
+
+-- the same of a node that a run of workers left
+abbrev pub node_end : {S M : Type 0} → ProgramTexts S → ℕ → Node S M → List ℕ
+node_end texts v node = end_line texts v node.view.pulse node.state
+
+-- the same of a gathered node
+abbrev pub gathered_end : {S M : Type 0} → ProgramTexts S → Gathered S M → List ℕ
+gathered_end texts g = node_end texts g.vertex g.alpha.node
+
+-- for each vertex, ascending, such a line of its last state in the synchronous run
+abbrev pub ends_text : {S M E : Type 0} → Program S M E → ProgramTexts S → Net → List ℕ
+ends_text program texts net =
+    flat_map (λ v. end_line texts v (last_pulse_on program net) (last_state program net v)) (vertices net)
+
+-- the answer is the text of the last states of the synchronous run on the network that the input describes
+abbrev pub IsEndsAnswer : {S M E : Type 0} → Program S M E → ProgramTexts S → List ℕ → List ℕ → Type 0
+IsEndsAnswer program texts input answer =
+    ReadsAs input (λ net. IsNetwork net × (answer ≡ ends_text program texts net))

@@ -1,0 +1,65 @@
+//! Runs of worker threads, and the last states of their nodes.
+
+ghost use Rattle.std.specs.Prelude.{◌≡◌, ◌++◌, IfOk, IfErr, flat_map, map};
+ghost use Rattle.node_pool.specs.run_options.Ranges.{AreInRange};
+ghost use Rattle.node_pool.specs.outcomes.Gathers.{gathered_of};
+ghost use Rattle.byte_functions.specs.Ends.{IsEndsAnswer, gathered_end};
+ghost use Rattle.byte_functions.specs.Workers.{IsFaultOfWorkers};
+
+use crate::workers::whole_run;
+use answers::{Memory, PlanFault, Refused, network_of_text};
+use gather_laws::laws::whole_outcomes_have_ended;
+use node_pool::{Actor, Gate, Options};
+use program_texts::ProgramText;
+use std::alloc::{AllocError, Global};
+use std::sync::Wait;
+use std::thread::Threads;
+use wire_texts::push_numbered;
+
+// Appends the line of a node.
+fn push_end<P: ProgramText>(text: &mut Vec<u8>, actor: &Actor<P>) -> Result<(), AllocError>
+    ensures { IfOk result (λ _. text.new.items ≡ text.old.items ++ gathered_end P.texts (gathered_of actor.now)) }
+{
+    push_numbered(text, b"node ", u128::from(actor.node()))?;
+    push_numbered(text, b" pulse ", u128::from(actor.alpha().pulse_number()))?;
+    actor.alpha().program().push_result(text)?;
+    text.push(b'\n')?;
+    Ok(())
+}
+
+// A line for each node.
+fn text_of_ends<P: ProgramText>(alloc: Global, actors: &[Actor<P>]) -> Result<Vec<u8>, Memory>
+    ensures { IfOk result (λ text. text.items ≡ flat_map (gathered_end P.texts) (map gathered_of actors.now)) }
+{
+    let mut text = Vec::new(alloc);
+    for actor in actors {
+        push_end(&mut text, actor)?;
+    }
+    Ok(text)
+}
+
+/// The last state of each node of a program on the network that a DIMACS text describes, as text: a line for each
+/// vertex, with its last pulse and its result. The nodes run asynchronously, on worker threads with links between them,
+/// and end as in the synchronous run, whatever the threads do. The run has no transcript, whatever the options say.
+///
+/// It is not promised that the call returns, nor that any number of turns is enough.
+///
+/// # Errors
+/// As of `plan_bytes`.
+pub fn run_bytes<P: ProgramText, G: Gate + Sync, R: Threads + Wait + Sync>(
+    rt: &R,
+    alloc: Global,
+    input: &[u8],
+    options: Options,
+    gate: &G,
+) -> Result<Vec<u8>, PlanFault>
+    ensures ok { IfOk result (λ text. IsEndsAnswer P.program P.texts input.now text.items) }
+    ensures in_range { IfOk result (λ _. AreInRange options) }
+    ensures fault { IfErr result (IsFaultOfWorkers options input.now) }
+{
+    whole_outcomes_have_ended::<P, P::Payload, Refused>();
+    let network = network_of_text(alloc, input)?;
+    network.is_network();
+    let outcome = whole_run::<P, G, R>(rt, alloc, &network, options, false, gate)?;
+    Ok(text_of_ends(alloc, outcome.actors())?)
+}

@@ -1,0 +1,19 @@
+-- The greeting of the colouring is legal: vertex 1 of the network of two says its identifier, and is safe then.
+use Rattle.std.proofs.Common.{◌≡◌, [], ◌∷◌, Some, refl, arith}
+use Rattle.alpha_core.specs.node_api.Program.{last_pulse_on}
+use Rattle.alpha_core.specs.node_api.Run.{node_at}
+use Rattle.alpha_core.specs.declared.wire.Wire.TheVariants.{Payload, Safe}
+use Rattle.alpha_core.specs.Program.{sends}
+use Rattle.link_rule.specs.Legal.{IsLegalOn, name_of}
+use Rattle.colour_program.specs.colour_rules.Program.{colouring}
+use Rattle.colour_program.specs.colour_rules.Payload.TheVariants.{Hello}
+use Rattle.checks.specs.LinkRows.{pair_net}
+use Rattle.checks.proofs.LinkRows.{first_round}
+
+greets : sends colouring pair_net 1 2 0 ≡ Some (Hello 1)
+unfolding node_at
+greets = refl
+
+pub hello_legal : IsLegalOn colouring (name_of pair_net 1 0) (Payload 0 (Hello 1) ∷ Safe 0 ∷ [])
+hello_legal =
+    first_round (last_pulse_on colouring pair_net) (sends colouring pair_net 1 2) (sends colouring pair_net 2 1) (Hello 1) (omega arith) greets

@@ -1,0 +1,18 @@
+use Rattle.std.proofs.Common.{◌≡◌, List}
+use Rattle.std.specs.Prelude.{Result, Ok, Err, IfOk}
+use Rattle.alpha_core.specs.interference.Net.{Net}
+use Rattle.alpha_core.specs.node_api.Program.{Program}
+use Rattle.event_machine.specs.declared.event.Event.{Event}
+use Rattle.event_machine.specs.declared.refused.RunRefused.{RunRefused}
+use Rattle.net_core.specs.Runs.{RunMatches}
+use Rattle.event_machine.specs.State.{NetView}
+use Rattle.checks.proofs.net_core_checks.run_all.Goals as goal
+
+-- what is run on a network is of it
+of_net : {S M E : Type 0} (program : Program S M E) (net : Net) (events : List Event) (r : Result (NetView S M) RunRefused)
+    → RunMatches program net events r → IfOk r (λ view. view.net ≡ net)
+of_net program net events (Ok view) ran = ran.0
+of_net program net events (Err why) ran = tt
+
+pub returns : goal.returns
+returns g c = record { net = of_net g.P.NodeProgram.program c.args.net.now c.args.events.now c.run.result c.run.ensures.run }

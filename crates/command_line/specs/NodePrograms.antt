@@ -1,0 +1,58 @@
+-- The option that names a program of nodes, and the one that asks for a transcript, in clap's own words, and what they
+-- read from the rows of a command.
+use Rattle.std.specs.Prelude.{◌≡◌, List, [], ◌∷◌, Option, Some, None, if◌then◌else◌, codes, option_and_then}
+use Rattle.std.specs.Str.{bytes_eq}
+use Rattle.clap.specs.Words.{App, Row, Rule, Text, first_of, new_rule, with_rule}
+use Rattle.clap.specs.declared.builder.action.ArgAction.TheVariants.{SetTrue}
+use Rattle.command_line.specs.declared.programs.NodeProgramName.{NodeProgramName}
+use Rattle.command_line.specs.declared.programs.NodeProgramName.TheVariants.{Colouring, Layers, Leader}
+use Rattle.command_line.specs.declared.programs.Shown.{Shown}
+use Rattle.command_line.specs.declared.programs.Shown.TheVariants as shown
+
+-- the option that names a program; without it, the colouring
+abbrev pub program_rule : Rule
+program_rule = record (new_rule (codes "program")) {
+  long = Some (codes "program");
+  value_names = 1;
+  defaults = codes "colouring" ∷ [];
+}
+
+-- the option that asks for a transcript, which has no value
+abbrev pub transcript_rule : Rule
+transcript_rule = record (new_rule (codes "transcript")) {
+  long = Some (codes "transcript");
+  action = Some SetTrue;
+}
+
+-- a command with the option that names a program
+abbrev pub with_program : App → App
+with_program command = with_rule command program_rule
+
+-- a command with the option that asks for a transcript, after its others
+abbrev pub with_transcript : App → App
+with_transcript command = with_rule command transcript_rule
+
+-- the program that a word names, each a line
+abbrev pub program_with : Text → Option NodeProgramName
+program_with word =
+    if bytes_eq word (codes "colouring") then Some Colouring
+    else if bytes_eq word (codes "leader") then Some Leader
+    else if bytes_eq word (codes "layers") then Some Layers
+    else None
+
+-- the program that a command has, from the words or by default, if its word names one
+abbrev pub program_of : List Row → Option NodeProgramName
+program_of rows = option_and_then program_with (first_of (codes "program") rows)
+
+-- a word is given for a program, and names none
+abbrev pub NamesNoProgram : List Row → Type 0
+NamesNoProgram rows = (word : Text) × (first_of (codes "program") rows ≡ Some word) × (program_with word ≡ None)
+
+-- what the value of the option `transcript` asks for
+abbrev pub shown_with : Option Text → Shown
+shown_with None = shown.States
+shown_with (Some word) = if bytes_eq word (codes "true") then shown.Transcript else shown.States
+
+-- what a run shows: a transcript if that is asked for, and else the last states
+abbrev pub shown_of : List Row → Shown
+shown_of rows = shown_with (first_of (codes "transcript") rows)

@@ -1,0 +1,112 @@
+//! The programs of nodes that a command can run, in `clap`'s builders and as what its words name.
+
+ghost use Rattle.std.specs.Prelude.{◌≡◌, IfOk, false, option_map};
+ghost use Rattle.clap.specs.Words.{app_of, first_of, found_of, rows_of, rule_of};
+ghost use Rattle.clap.specs.declared.builder.command.Command.TheViews.{out-Command};
+ghost use Rattle.command_line.specs.NodePrograms.{program_of, program_rule, shown_of, transcript_rule};
+ghost use Rattle.command_line.specs.NodePrograms.{with_program, with_transcript};
+
+use crate::help::{PROGRAM, SHOW_TRANSCRIPT};
+use clap::{Arg, ArgAction, ArgMatches, Command};
+use std::alloc::{AllocError, Global};
+
+/// The name of a program of nodes.
+#[derive(Clone, Copy, Debug, PartialEq, Eq)]
+pub enum NodeProgramName {
+    /// Each node finds its channel.
+    Colouring,
+    /// Each node finds the greatest identifier of the nodes that a path leads to.
+    Leader,
+    /// Each node finds how far it is from the node with identifier 1.
+    Layers,
+}
+
+/// What a run of nodes prints.
+#[derive(Clone, Copy, Debug, PartialEq, Eq)]
+pub enum Shown {
+    /// The last state of each node.
+    States,
+    /// What each node put, took and did.
+    Transcript,
+}
+
+// The option that names a program.
+fn program<'a>(alloc: Global) -> Arg<'a>
+    ensures rule { rule_of result ≡ program_rule }
+    ensures local { result.global ≡ false }
+{
+    Arg::new(alloc, "program")
+        .long("program")
+        .value_name("NAME")
+        .default_value("colouring")
+        .help(PROGRAM)
+}
+
+// The option that asks for a transcript.
+fn transcript<'a>(alloc: Global) -> Arg<'a>
+    ensures rule { rule_of result ≡ transcript_rule }
+    ensures local { result.global ≡ false }
+{
+    Arg::new(alloc, "transcript")
+        .long("transcript")
+        .action(ArgAction::SetTrue)
+        .help(SHOW_TRANSCRIPT)
+}
+
+/// A command with the option `--program`.
+///
+/// # Errors
+/// If memory ran out.
+pub fn with_program<'a>(alloc: Global, command: Command<'a>) -> Result<Command<'a>, AllocError>
+    requires { (out-Command command).has_globals ≡ false }
+    ensures shape { IfOk result (λ c. app_of c ≡ with_program (app_of command.entry)) }
+    ensures local { IfOk result (λ c. (out-Command c).has_globals ≡ false) }
+{
+    command.arg(program(alloc))
+}
+
+/// A command with the option `--transcript` after its others.
+///
+/// # Errors
+/// If memory ran out.
+pub fn with_transcript<'a>(alloc: Global, command: Command<'a>) -> Result<Command<'a>, AllocError>
+    requires { (out-Command command).has_globals ≡ false }
+    ensures shape { IfOk result (λ c. app_of c ≡ with_transcript (app_of command.entry)) }
+    ensures local { IfOk result (λ c. (out-Command c).has_globals ≡ false) }
+{
+    command.arg(transcript(alloc))
+}
+
+// The first value of an option.
+fn first_word<'a>(matches: &ArgMatches<'a>, name: &str) -> Option<&'a str>
+    ensures { option_map (λ word. word.now) result ≡ first_of name.now (rows_of (found_of matches.now)) }
+{
+    matches.get_str(name)
+}
+
+/// The program that a command has, from the words or by default, if there is one of this name.
+pub fn program_of(matches: &ArgMatches<'_>) -> Option<NodeProgramName>
+    ensures { result ≡ program_of (rows_of (found_of matches.now)) }
+{
+    match first_word(matches, "program")? {
+        "colouring" => Some(NodeProgramName::Colouring),
+        "leader" => Some(NodeProgramName::Leader),
+        "layers" => Some(NodeProgramName::Layers),
+        _ => None,
+    }
+}
+
+/// The word of a command that names its program; the empty text if it has none.
+pub fn program_word<'a>(matches: &ArgMatches<'a>) -> &'a str {
+    matches.get_str("program").unwrap_or("")
+}
+
+/// What a command that runs nodes shows.
+pub fn shown_of(matches: &ArgMatches<'_>) -> Shown
+    ensures { result ≡ shown_of (rows_of (found_of matches.now)) }
+{
+    match first_word(matches, "transcript") {
+        Some("true") => Shown::Transcript,
+        _ => Shown::States,
+    }
+}

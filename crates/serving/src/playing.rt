@@ -1,0 +1,71 @@
+//! What nodes of a program do with the bytes of an input.
+
+ghost use Rattle.std.specs.Prelude.{IfOk, IfErr, Ok, Err};
+ghost use Rattle.command_line.specs.Asked.{IsPlayInRange};
+ghost use Rattle.serving.specs.Plays.{MayPlay, MayPlayNamed};
+
+use byte_functions::{
+    Colouring, Edition, OpenGate, PlanFault, events_bytes, replay_bytes, rounds_bytes, run_bytes,
+    transcript_bytes,
+};
+use command_line::{NodeProgramName, Play, Shown};
+use layers::Layers;
+use leader::Leader;
+use program_texts::ProgramText;
+use std::alloc::Global;
+use std::sync::Wait;
+use std::thread::Threads;
+
+// What nodes of a program answer to an input; each that they may be asked for is a line. `Run` starts threads.
+fn play_bytes<P: ProgramText, T: Threads + Wait + Sync>(
+    rt: &T,
+    alloc: Global,
+    play: Play,
+    input: &[u8],
+) -> Result<Vec<u8>, PlanFault>
+    requires in_range { IsPlayInRange play }
+    ensures ok { IfOk result (λ bytes. MayPlay P.program P.texts P.Payload.word_of P.Payload.number_of
+        P.Payload.payload_of play input.now (Ok bytes.items)) }
+    ensures fault { IfErr result (λ fault. MayPlay P.program P.texts P.Payload.word_of P.Payload.number_of
+        P.Payload.payload_of play input.now (Err fault)) }
+{
+    match play {
+        Play::Events => events_bytes::<P>(alloc, input),
+        Play::Replay => replay_bytes::<P>(alloc, input),
+        Play::Rounds => rounds_bytes::<P>(alloc, input),
+        Play::Run(options, Shown::States) => {
+            run_bytes::<P, OpenGate, T>(rt, alloc, input, options, &OpenGate)
+        }
+        Play::Run(options, Shown::Transcript) => transcript_bytes::<P, OpenGate, T>(
+            rt,
+            alloc,
+            input,
+            options,
+            Edition::Two,
+            &OpenGate,
+        ),
+    }
+}
+
+/// What nodes of the program of a name answer to an input; each program is a line. `Play::Run` starts threads, and
+/// isn't promised to return.
+///
+/// # Errors
+/// The fault of the input, of the run, or of memory.
+pub fn named_bytes<T: Threads + Wait + Sync>(
+    rt: &T,
+    alloc: Global,
+    program: NodeProgramName,
+    play: Play,
+    input: &[u8],
+) -> Result<Vec<u8>, PlanFault>
+    requires in_range { IsPlayInRange play }
+    ensures ok { IfOk result (λ bytes. MayPlayNamed program play input.now (Ok bytes.items)) }
+    ensures fault { IfErr result (λ fault. MayPlayNamed program play input.now (Err fault)) }
+{
+    match program {
+        NodeProgramName::Colouring => play_bytes::<Colouring, T>(rt, alloc, play, input),
+        NodeProgramName::Leader => play_bytes::<Leader, T>(rt, alloc, play, input),
+        NodeProgramName::Layers => play_bytes::<Layers, T>(rt, alloc, play, input),
+    }
+}

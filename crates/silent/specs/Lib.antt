@@ -1,0 +1,4 @@
+pub mod Knowing
+pub mod Lawful
+pub mod Texts
+pub mod Words

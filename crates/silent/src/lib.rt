@@ -1,0 +1,21 @@
+//! Silent nodes: each ends as it began, and nothing is sent. `bin/new-program` makes a program of your own from this
+//! crate, which has all that a program needs, and each law proved.
+//!
+//! ```text
+//! for node in &run_rounds::<Silent>(alloc, &net)? {
+//!     numbers.push(node.number())?;
+//! }
+//! ```
+//!
+//! Limits: those of `node_api`.
+#![tactic(auto)]
+
+pub mod laws;
+mod node;
+mod payload;
+#[cfg(test)]
+mod tests;
+mod texts;
+
+pub use node::Silent;
+pub use payload::Word;

@@ -1,0 +1,52 @@
+"""Layers around the node of identifier 1 (breadth-first search in rounds: Lynch, Distributed Algorithms, 1996, section
+4.2), at one node, by its definition (docs/claim/DEFINITIONS.md), slow and plain. Payloads, ports and pulses are as in
+lab/definitions/nodes.py."""
+from lab.definitions.colours import Network
+from lab.definitions.nodes import Slot
+
+# The identifier of the node in layer 0.
+ROOT = 1
+
+
+class Layers:
+    """A node that learns its distance from the root, in edges, and a port that leads there: `layer` is None as long as
+    nothing has come, and `by` is None then and at the root."""
+
+    name = "layers"
+
+    degree: int
+    last: int
+    is_root: bool
+    layer: int | None
+    by: int | None
+
+    def __init__(self, net: Network, v: int):
+        self.degree, self.last = len(net.neighbours[v]), self.last_pulse(net)
+        self.is_root, self.by = net.identifiers[v] == ROOT, None
+        self.layer = 0 if self.is_root else None
+
+    @staticmethod
+    def last_pulse(net: Network) -> int:
+        """No two nodes of a component are further apart than the number of nodes."""
+        return len(net.neighbours)
+
+    def greet(self) -> list[Slot]:
+        """What it sends at pulse 0, by port: its layer, if it is the root."""
+        return [("Hops", 0) if self.is_root else None] * self.degree
+
+    def next(self, pulse: int, inbox: list[Slot]) -> list[Slot]:
+        """What it sends at a pulse, by port: its layer at the pulse at which it learns it, and otherwise nothing."""
+        if self.layer is not None or not any(inbox):
+            return [None] * self.degree
+        hops, self.by = min((slot[1], port) for port, slot in enumerate(inbox) if slot)
+        self.layer = hops + 1
+        return [("Hops", self.layer) if pulse < self.last else None] * self.degree
+
+    def refuses(self, pulse: int, inbox: list[Slot]) -> bool:
+        """Whether an inbox is none that a round can have: what comes at pulse p was sent at distance p - 1."""
+        return any(slot and slot[1] != pulse - 1 for slot in inbox)
+
+    def result(self) -> str:
+        if self.layer is None:
+            return "layer none"
+        return f"layer {self.layer}" if self.by is None else f"layer {self.layer} by {self.by}"

@@ -1,0 +1,41 @@
+"""Electing a leader by flooding (FloodMax: Lynch, Distributed Algorithms, 1996, section 4.1), at one node, by its
+definition (docs/claim/DEFINITIONS.md), slow and plain. Payloads, ports and pulses are as in lab/definitions/nodes.py."""
+from lab.definitions.colours import Network
+from lab.definitions.nodes import Slot
+
+
+class Leader:
+    """A node that learns the greatest identifier of its component: `best` is the greatest that it knows."""
+
+    name = "leader"
+
+    degree: int
+    last: int
+    best: int
+
+    def __init__(self, net: Network, v: int):
+        self.degree, self.last, self.best = len(net.neighbours[v]), self.last_pulse(net), net.identifiers[v]
+
+    @staticmethod
+    def last_pulse(net: Network) -> int:
+        """No two nodes of a component are further apart than the number of nodes."""
+        return len(net.neighbours)
+
+    def greet(self) -> list[Slot]:
+        """What it sends at pulse 0, by port: its own identifier."""
+        return [("Leader", self.best)] * self.degree
+
+    def next(self, pulse: int, inbox: list[Slot]) -> list[Slot]:
+        """What it sends at a pulse, by port: a greater identifier if one came, and otherwise nothing."""
+        heard = max((slot[1] for slot in inbox if slot), default=0)
+        if heard <= self.best:
+            return [None] * self.degree
+        self.best = heard
+        return [("Leader", heard) if pulse < self.last else None] * self.degree
+
+    def refuses(self, pulse: int, inbox: list[Slot]) -> bool:
+        """Whether an inbox is none that a round can have: a neighbour's identifier isn't the node's own."""
+        return pulse == 1 and any(slot and slot[1] == self.best for slot in inbox)
+
+    def result(self) -> str:
+        return f"leader {self.best}"

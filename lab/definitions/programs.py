@@ -1,0 +1,26 @@
+"""The programs that nodes can run, by their names, and programs of one's own, from a file."""
+import os
+
+from lab.definitions.layers import Layers
+from lab.definitions.leader import Leader
+from lab.definitions.nodes import Colouring
+from lab.definitions.own_program import own_program
+from lab.wrong import Wrong
+
+PROGRAMS = {program.name: program for program in (Colouring, Leader, Layers)}
+HELP = "what the nodes run: colouring, leader, layers, or a file of your own, as NAME.py (colouring)"
+
+
+def program_at(name: str) -> type:
+    """The program of a name, or of a file whose name ends in `.py`."""
+    if name in PROGRAMS:
+        return PROGRAMS[name]
+    if name.endswith(".py"):
+        return own_program(name)
+    raise Wrong(f"there is no program {name}: there are {', '.join(PROGRAMS)}, and a file of your own, as {name}.py"
+                if os.sep not in name else f"{name} is no name of a program, and doesn't end in .py")
+
+
+def add_program(words):
+    """Adds the option to a command line."""
+    words.add_argument("--program", default=Colouring.name, metavar="P", help=HELP)

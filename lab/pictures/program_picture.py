@@ -1,0 +1,73 @@
+"""The rounds of any program: a row for each node, a column for each pulse at which something happens; what a node has
+found, as soon as it changes, and the messages."""
+from lab.pictures.palette import BAND, BORDER, INK, PULSE, SOFT, WIRES
+from lab.pictures.svg import Svg, text_width
+from lab.wrong import at_most
+
+MOST_COLUMNS = 60
+LEFT, TOP, ROW, SIZE = 64, 112, 46, 11
+
+
+def draw(rounds, pulses=None):
+    """All pulses at which something is sent or found, or those of A to B."""
+    network, shown = rounds.network, columns_of(rounds, pulses)
+    at_most("rounds", len(shown), "pulses in which something happens", MOST_COLUMNS, "fewer pulses (--pulses A..B)")
+    words = [result for pulse in rounds.pulses for result in pulse.results.values()]
+    column = max(88, max(text_width(result, SIZE) for result in words) + 22)
+    svg = Svg(max(LEFT + len(shown) * column + 24, 760), TOP + network.nodes * ROW + 30,
+              f"Rounds of {rounds.program.name} on {network.name}")
+    svg.heading(f"{network.name}: {rounds.program.name}, pulse by pulse to pulse {rounds.last}",
+                "Left in a column is what the node has found after the pulse, where it is new; an arrow is a message, "
+                "read in the next pulse.", left_out(rounds, shown, bool(pulses)))
+    x_of = {pulse.number: LEFT + k * column for k, pulse in enumerate(shown)}
+    for k, pulse in enumerate(shown):
+        x = x_of[pulse.number]
+        svg.rect(x, TOP - 20, column, network.nodes * ROW + 14, BAND if k % 2 == 0 else "#FFFFFF")
+        svg.text(x + 5, TOP - 26, f"pulse {pulse.number}", 11.5, PULSE, bold=True, mark="pulse")
+        svg.line(x, TOP - 20, x, TOP + network.nodes * ROW - 6, BORDER, 1)
+    for v in network.vertices:
+        svg.line(LEFT - 8, row(v), LEFT + len(shown) * column, row(v), "#B0B0B0", 1)
+        svg.text(LEFT - 16, row(v) + 5, v, 13, INK, "end", bold=True)
+    for pulse in shown:
+        with svg.group("messages", f"pulse {pulse.number}"):
+            for v, w, word, number in pulse.puts:
+                arrow(svg, x_of[pulse.number] + column * 0.62, row(v), x_of[pulse.number] + column - 3, row(w),
+                      f"{v} to {w}: {word} {number}")
+        for v in network.vertices:
+            if is_new(rounds, pulse, v):
+                x = x_of[pulse.number]
+                svg.rect(x + 4, row(v) - 9, text_width(pulse.results[v], SIZE) + 8, 18, "#FFFFFF", "#8A8A8A", 1, 3)
+                svg.text(x + 8, row(v) + 4, pulse.results[v], SIZE, INK, mark="found")
+    return svg.document()
+
+
+def row(v):
+    return TOP + (v - 1) * ROW + 6
+
+
+def is_new(rounds, pulse, v):
+    """Whether a node has found something else than before."""
+    return pulse.number == 0 or rounds.pulses[pulse.number - 1].results[v] != pulse.results[v]
+
+
+def columns_of(rounds, pulses):
+    """The pulses that are drawn: those at which something is sent or found, among those asked for."""
+    first, last = pulses or (0, rounds.last)
+    return [pulse for pulse in rounds.pulses[first:last + 1]
+            if pulse.puts or any(is_new(rounds, pulse, v) for v in rounds.network.vertices)]
+
+
+def left_out(rounds, shown, is_part):
+    """What is said of the pulses that aren't drawn."""
+    missing = rounds.last + 1 - len(shown)
+    if not missing:
+        return ""
+    why = "others than those asked for, and those" if is_part else "those"
+    return f"{missing} of {rounds.last + 1} pulses aren't drawn: {why} in which nothing is sent and nothing found."
+
+
+def arrow(svg, x1, y1, x2, y2, title):
+    with svg.group("message", title):
+        svg.line(x1, y1, x2, y2, WIRES["payload"], 1.4)
+        svg.head(x2, y2, x2 - x1, y2 - y1, 7, WIRES["payload"])
+        svg.circle(x1, y1, 2, SOFT)

@@ -1,0 +1,83 @@
+"""The rounds of a program other than the colouring as pictures need them, pulse by pulse, by its definition
+(lab/definitions/programs.py)."""
+from lab.definitions.colours import Network
+from lab.definitions.nodes import Colouring, ports_of
+from lab.definitions.own_program import OwnNode
+from lab.pictures.colouring import Rounds
+from lab.wrong import Wrong, wrong_line
+
+# Rounds of more steps of nodes than this take minutes to work out.
+MOST_STEPS = 2_000_000
+
+
+class ProgramPulse:
+    """What all nodes did in one pulse: `results[v]` is what v has found after it, in words, `puts` as (v, w, word,
+    number)."""
+
+    def __init__(self, number, results, puts):
+        self.number, self.results, self.puts = number, results, puts
+        self.phase, self.step, self.colours, self.chosen = "", None, {}, {}
+
+
+class ProgramRounds:
+    """A synchronous run of a program: `pulses` are those from 0 to `last`. It has no forests."""
+
+    forests, first = 0, {}
+
+    def __init__(self, network, identifiers, program):
+        self.network, self.identifiers, self.program = network, identifiers, program
+        self.net = Network({v: identifiers[v] for v in network.vertices}, network.edges)
+        self.last = program.last_pulse(self.net)
+        if self.last * network.nodes > MOST_STEPS:
+            raise Wrong(f"{network.name}: {self.last} pulses of {network.nodes} nodes are too many to be drawn")
+        ports = {v: ports_of(self.net, v) for v in network.vertices}
+        nodes = {v: program(self.net, v) for v in network.vertices}
+        sent, self.pulses = {v: nodes[v].greet() for v in nodes}, []
+        self.add(0, nodes, ports, sent)
+        for p in range(1, self.last + 1):
+            inboxes = {v: [sent[w][ports[w].index(v)] for w in ports[v]] for v in nodes}
+            sent = {v: nodes[v].next(p, inboxes[v]) for v in nodes}
+            self.add(p, nodes, ports, sent)
+
+    def add(self, number, nodes, ports, sent):
+        puts = [(v, w, slot[0].lower(), slot[1]) for v in nodes for w, slot in zip(ports[v], sent[v]) if slot]
+        self.pulses.append(ProgramPulse(number, {v: node.result() for v, node in nodes.items()}, puts))
+
+    def lines(self):
+        """The text of rounds, line by line."""
+        net = self.net
+        yield f"rounds 3 {self.program.name} {len(net.neighbours)} {net.greatest_degree} {self.last}"
+        for pulse in self.pulses:
+            yield f"pulse {pulse.number}"
+            puts = {v: [] for v in self.network.vertices}
+            for v, w, word, number in pulse.puts:
+                puts[v].append(f"{v} put {w} payload {pulse.number} {word} {number}")
+            for v in self.network.vertices:
+                if pulse.number == self.last:
+                    yield f"{v} {pulse.results[v]}"
+                yield from puts[v]
+
+
+def rounds_of(network, identifiers, program):
+    """The rounds of any program."""
+    if program is Colouring:
+        return Rounds(network, identifiers)
+    return ProgramRounds(network, identifiers, program)
+
+
+def is_own(program):
+    """Whether a program is from a file, so that no proved program runs it."""
+    return issubclass(program, OwnNode)
+
+
+def read_program_rounds(text, name, network, program):
+    """The rounds of a program, if the text has them line by line, or its first line that is wrong."""
+    rounds = ProgramRounds(network, network.identifiers, program)
+    lines, wanted = text.removesuffix("\n").split("\n"), list(rounds.lines())
+    for number, (line, want) in enumerate(zip(lines, wanted), 1):
+        if line != want:
+            raise wrong_line(name, number, f"`{line[:60]}`, and the rounds of {network.name} have `{want}`")
+    if len(lines) != len(wanted):
+        raise wrong_line(name, min(len(lines), len(wanted)) + 1,
+                         f"the text has {len(lines)} lines, and the rounds of {network.name} {len(wanted)}")
+    return rounds

@@ -1,0 +1,162 @@
+"""Tests of programs of one's own, from a Python file, and of the two definitions beside the colouring: in `explore`,
+`simulate`, `check-transcript` and `picture`.
+
+What nodes find is worked out here from the network (independent sets, trees, greatest identifiers, distances), not by
+the definitions of the programs."""
+import glob
+import os
+import random
+import tempfile
+
+from lab.definitions.colours import Network
+from lab.definitions.nodes import synchronous_run
+from lab.definitions.programs import PROGRAMS, program_at
+from lab.schedules.reading import network_at
+from tests import TOP
+from tests.cases import Case
+from tests.programs.plain_networks import random_of, tree
+from tests.programs.simulate import call
+
+SEED = 2026
+MOST_NODES = 30
+SET, COUNT = (os.path.join(TOP, "examples", "algorithms", name) for name in ("independent_set.py", "tree_count.py"))
+GOOD = """\
+def greet(me):
+    return None
+def next(me, pulse, inbox):
+    return None
+def result(me):
+    return 'x'
+"""
+# (what the file has, what is said of it, after its name)
+WRONG = [
+    ("def greet(me:\n", " line 1: '(' was never closed"),
+    ("x = 1 / 0\n", " line 1: ZeroDivisionError: division by zero"),
+    (GOOD.replace("def result", "def results"), " has no function result"),
+    ("greet = 1\n", " has no function greet and no function next and no function result"),
+    (GOOD.replace("return None\ndef next", "return me.colour\ndef next"),
+     " line 2: AttributeError: 'types.SimpleNamespace' object has no attribute 'colour'"),
+    (GOOD.replace("return None\ndef next", "return ('Word', 1)\ndef next"),
+     ": `greet` at pulse 0 of the node of identifier 1 sends ('Word', 1): a payload is a pair, a word of small letters "
+     "and a number from 0"),
+    (GOOD.replace("return None\ndef next", "return [None] * 9\ndef next"),
+     ": `greet` at pulse 0 of the node of identifier 1 returns a list of 9 for 1 ports"),
+    (GOOD.replace("return None\ndef result", "return ('word', 1)\ndef result"),
+     ": `next` at pulse 2 of the node of identifier 1 sends something, and 2 is the last pulse"),
+    (GOOD.replace("'x'", "7"), ": `result` returns 7: it must be words on one line"),
+    (GOOD + "def last_pulse(nodes, degree):\n    return -1\n", ": `last_pulse` returns -1, which is no pulse"),
+]
+
+
+def example(name):
+    return os.path.join(TOP, "examples", name)
+
+
+def script(name, *words, data=b""):
+    return call(os.path.join(TOP, "bin", name), *words, data=data)
+
+
+def some_networks():
+    """The examples, and random networks with identifiers in any order."""
+    for path in sorted(glob.glob(example("*.col"))):
+        name, net = network_at(path)
+        if len(net.neighbours) <= MOST_NODES:
+            yield name, net
+    source = random.Random(SEED)
+    for k, (nodes, edges) in enumerate(random_of(20, 1, 9)(source)):
+        yield f"random {k}", Network(dict(enumerate(source.sample(range(1, 40), nodes), 1)), edges)
+
+
+def reached(net, v):
+    """The distance of each vertex that can be reached from v."""
+    found, layer = {v: 0}, [v]
+    while layer:
+        layer = sorted({w for u in layer for w in net.neighbours[u]} - set(found))
+        found |= dict.fromkeys(layer, max(found.values()) + 1)
+    return found
+
+
+class OwnAlgorithms(Case):
+    def test_leaders(self):
+        for name, net in some_networks():
+            for v, node in synchronous_run(net, PROGRAMS["leader"]).items():
+                wanted = f"leader {max(net.identifiers[w] for w in reached(net, v))}"
+                self.note(f"the leader of {v} in {name}", node.result() == wanted, node.result())
+
+    def test_layers(self):
+        """Distances from the node of identifier 1, each with the first port that leads one closer."""
+        for name, net in some_networks():
+            away = reached(net, next((v for v in net.identifiers if net.identifiers[v] == 1), None)) if (
+                1 in net.identifiers.values()) else {}
+            for v, node in synchronous_run(net, PROGRAMS["layers"]).items():
+                wanted = "layer none" if v not in away else f"layer {away[v]}"
+                if away.get(v):
+                    ports = [port for port, w in enumerate(sorted(net.neighbours[v])) if away[w] == away[v] - 1]
+                    wanted += f" by {ports[0]}"
+                self.note(f"the layer of {v} in {name}", node.result() == wanted, node.result())
+
+    def test_samples(self):
+        """The set is independent and can't grow; a tree is counted, and nothing is where a ring is in the way."""
+        for name, net in some_networks():
+            nodes = synchronous_run(net, program_at(SET))
+            inside = {v for v in nodes if nodes[v].result() == "set in"}
+            good = all(bool(net.neighbours[v] & inside) != (v in inside) for v in nodes)
+            self.note(f"a maximal independent set of {name}", good, inside)
+        source = random.Random(SEED)
+        for count in (1, 2, 3, 7, 12):
+            names = list(range(1, count + 1))
+            net = Network({v: v for v in names}, {(min(e), max(e)) for e in tree(source, names)})
+            found = {node.result() for node in synchronous_run(net, program_at(COUNT)).values()}
+            self.note(f"a tree of {count} nodes counted", found == {f"nodes {count}"}, found)
+        found = {node.result() for node in synchronous_run(network_at(example("four_cycle.col"))[1],
+                                                           program_at(COUNT)).values()}
+        self.note("a ring isn't counted", found == {"nodes unknown"}, found)
+
+    def test_schedules(self):
+        """Every order on two nodes leads to what the rounds find; a run by seed is checked, and drawn."""
+        with tempfile.TemporaryDirectory() as folder:
+            for program in ("leader", "layers", SET, COUNT):
+                status, text, fault = script("explore", example("two.col"), "--program", program)
+                nodes = synchronous_run(network_at(example("two.col"))[1], program_at(program))
+                end = "one end: " + ", ".join(f"{v} {node.result()}" for v, node in nodes.items())
+                good = (status, text.decode().splitlines()[-1:], fault) == (0, [end], b"")
+                self.note(f"every order of {program}", good, text)
+                status, run, fault = script("simulate", example("chain6.col"), "--program", program, "--seed", "3")
+                path = os.path.join(folder, "run")
+                with open(path, "wb") as file:
+                    file.write(run)
+                done = script("check-transcript", example("chain6.col"), path, "--program", program)
+                self.note(f"a run of {program}", (status, done[0], done[2]) == (0, 0, b"")
+                          and done[1].startswith(b"whole run of 6 nodes, "), done)
+                last = run.replace(b" safe 0", b" safe 1", 1)
+                with open(path, "wb") as file:
+                    file.write(last)
+                done = script("check-transcript", example("chain6.col"), path, "--program", program)
+                self.note(f"a wrong run of {program}", done[0] == 1 and b"WrongWire" in done[2], done)
+
+    def test_pictures(self):
+        for kind, name in (("rounds", "petersen.col"), ("run", "chain6.col"), ("overview", "chain6.col"),
+                           ("node", "path.col"), ("tally", "path.col"), ("schedules", "two.col")):
+            status, text, fault = script("picture", kind, example(name), "--program", SET)
+            self.note(f"picture {kind}", (status, text[:4], fault) == (0, b"<svg", b""), fault)
+        status, text, fault = script("picture", "player", example("petersen.col"), "--program", SET)
+        self.note("picture player", (status, text[:15], fault) == (0, b"<!doctype html>", b""), fault)
+        _, text, _ = script("picture", "rounds", example("path.col"), "--program", SET)
+        # Node 3 is in at pulse 1, 2 out at 2, and 1 in at 3.
+        self.note("what is found", text.count(b'class="found"') == 6, text)
+
+    def test_wrong_files(self):
+        with tempfile.TemporaryDirectory() as folder:
+            path = os.path.join(folder, "mine.py")
+            for lines, said in WRONG:
+                with open(path, "w", encoding="utf-8") as file:
+                    file.write(lines)
+                # A run by seed has no need of what is found.
+                for name in ("explore",) if "`result`" in said else ("simulate", "explore"):
+                    done = script(name, example("two.col"), "--program", path)
+                    self.note(f"{name}{said}", done == (1, b"", f"{name}: {path}{said}\n".encode()), done)
+        status, _, fault = script("simulate", example("two.col"), "--program", "tree")
+        self.note("an unknown name",
+                  status == 1 and fault.startswith(b"simulate: there is no program tree: there are "), fault)
+        done = script("simulate", example("two.col"), "--program", "nowhere.py")
+        self.note("no such file", done == (1, b"", b"simulate: nowhere.py: No such file or directory\n"), done)
