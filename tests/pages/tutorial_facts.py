@@ -78,6 +78,15 @@ def order_rows():
         yield f"choosing in order on a row of {len(row)}", found == wanted, found
 
 
+def step_rows():
+    """By hand, with 2**128 + 3 as the root: 1, 2, 3 find the digits 0, 0, 128, and have 1, 0, 256, the root 1; then the
+    digits 0, 8, 0 and 1, 16, 0; then 0, 4, 0 and 1, 9, 0; then 3, 0, 0 and 6, 1, 0."""
+    net = Network({1: 1, 2: 2, 3: 3, 4: 2**128 + 3}, {(1, 2), (2, 3), (3, 4)})
+    lists = [list(c.values()) for c in pulses_of(net, 0)[1:5]]
+    wanted = [[1, 0, 256, 1], [1, 16, 0, 1], [1, 9, 0, 1], [6, 1, 0, 1]]
+    yield "four bit steps with a name of 129 digits", lists == wanted, lists
+
+
 def dropped(net, f):
     """(pulse, vertex) of each drop that changes a colour."""
     lists = dict(enumerate(pulses_of(net, f), 2))
@@ -222,6 +231,9 @@ class TutorialFacts(Case):
 
     def test_orders(self):
         self.note_all(order_rows())
+
+    def test_steps(self):
+        self.note_all(step_rows())
 
     def test_drops(self):
         self.note_all(drop_rows())
