@@ -69,7 +69,7 @@ ROWS = (
     ("x 1 pulse 1|", "line 2: X1: not an entry: `x` is no number of a stamp, which is below 2^64"),
     ("1|", "line 2: X1: not an entry: there is a stamp alone"),
     ("1 1|", "line 2: X1: not an entry: a node's number isn't followed by what it did"),
-    ("1 1 puts 2 close|", "line 2: X1: not an entry: `puts` is none of pulse, put and take"),
+    ("1 1 puts 2 close|", "line 2: X1: not an entry: `puts` is neither pulse, put nor take"),
     ("1 1 put 2|", "line 2: X1: not an entry: `put` is followed by a neighbour and a wire"),
     ("1 1 pulse|", "line 2: X1: not an entry: `pulse` is followed by one number"),
     ("1 1 put 2 nack 0|", "line 2: X1: not an entry: `nack` is no wire, which are payload, ack, safe, close"),
