@@ -20,6 +20,7 @@ from lab.definitions.colours import colours, network_of
 from lab.definitions.nodes import Colouring, last_pulse, ports_of
 from lab.schedules.space import Space
 from tests import TOP
+from tests.by_hand.tally import last_line, note
 
 MODEL = os.path.join(TOP, "bench", "spin", "alpha.pml")
 NETWORKS = {
@@ -104,19 +105,18 @@ def searched(net, without, puts, reduce):
 
 
 def main():
-    tally = {True: 0, False: 0}
     for name, without, puts, reduce in CASES + ALL * (sys.argv[1:] == ["--all"]):
         net = network_of((NETWORKS | LARGE)[name])
         space = Space(net, [without] if without else [], MOST, puts, reduce=reduce)
         wanted = space.count + 3, len(space.target) + 4, 0
         got = searched(net, without, puts, reduce)
         good = got == wanted and not space.faults
-        tally[good] += 1
         what = f"{name}{f' without {without}' if without else ''}{', puts apart' * puts}{', reduced' * reduce}"
-        print(f"{'' if good else 'FAILED '}{what}: {space.count:,} states and {len(space.target):,} steps"
-              + ("" if good else f", and Spin has {got}"))
-    print(f"{tally[True]} passed, {tally[False]} failed")
-    return 0 if not tally[False] else 1
+        found = f"{space.count:,} states and {len(space.target):,} steps"
+        if good:
+            print(f"{what}: {found}")
+        note(what, good, f"{found}, and Spin has {got}")
+    return last_line()
 
 
 if __name__ == "__main__":
