@@ -16,7 +16,7 @@ mod Rooms
 mod Steps
 mod Taking
 mod Telling
-mod Turning
+mod Turned
 mod Bytes
 mod Looping
 mod Highs

@@ -1,7 +1,7 @@
 use Rattle.std.proofs.Common.{◌<◌, arith}
 use Rattle.cole_vishkin.specs.Digits.{digit}
 use Rattle.cole_vishkin.proofs.DigitLemmas.{digit-small}
-use Rattle.colour_rules.proofs.colours.stepped.Goals as goal
+use Rattle.colour_rules.proofs.turning.stepped.Goals as goal
 
 pub overflow_cast-result : goal.overflow_cast-result
 overflow_cast-result c =

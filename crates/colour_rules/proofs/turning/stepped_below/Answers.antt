@@ -1,7 +1,7 @@
 use Rattle.std.proofs.Common.{◌<◌, Some, arith}
 use Rattle.cole_vishkin.specs.BitStep.{bit_by}
 use Rattle.colour_rules.proofs.Bytes.{bit-byte}
-use Rattle.colour_rules.proofs.colours.stepped_below.Goals as goal
+use Rattle.colour_rules.proofs.turning.stepped_below.Goals as goal
 
 pub overflow_cast-result : goal.overflow_cast-result
 overflow_cast-result c =
