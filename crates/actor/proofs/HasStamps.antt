@@ -1,5 +1,6 @@
 -- What one call on an end, or on the node alone, leaves of the stamps of a node with its ends.
-use Rattle.std.proofs.Common.{◌≡◌, ℕ, zero, suc, ◌+◌, ◌^◌, ◌<◌, ◌≤◌, ◌==◌, true, false, if◌then◌else◌, List, [], ◌∷◌, ◌++◌, length, map, set, get_or, refl, sym, ap}
+use Rattle.std.proofs.Common.{◌≡◌, ℕ, zero, suc, ◌+◌, ◌^◌, ◌<◌, ◌≤◌, ◌==◌, true, false, if◌then◌else◌, List, [], ◌∷◌, ◌++◌, length, map, set, get_or}
+use Rattle.std.proofs.Common.{refl, sym, ap}
 use Rattle.std.proofs.Common.{ap₂, ◌∙◌, subst, arith, ⊎_elim, Some, None, Ok, Err}
 use Rattle.std.specs.Prelude.{All, Bool, Option, Result, IsTrue, MatchResult, max}
 use Rattle.std.proofs.lemmas.Bool.{cases_Bool, cases_eq, eqb-true}
@@ -32,7 +33,8 @@ value_says (Ok x) is more = more x is
 value_says (Err e) is more = absurd is
 
 -- a list by port, without stamps
-wires_at : {Y M : Type 0} (taken : Y → List (Stamped M)) (ys : List Y) (i : ℕ) → by_port (map (λ y. wires_of (taken y)) ys) i ≡ wires_of (by_port (map taken ys) i)
+wires_at : {Y M : Type 0} (taken : Y → List (Stamped M)) (ys : List Y) (i : ℕ)
+    → by_port (map (λ y. wires_of (taken y)) ys) i ≡ wires_of (by_port (map taken ys) i)
 wires_at taken [] i = refl
 wires_at taken (y ∷ ys) zero = refl
 wires_at taken (y ∷ ys) (suc i) = wires_at taken ys i
@@ -75,7 +77,8 @@ module _ {S M E : Type 0} (program : Program S M E) (net : Net) (v : ℕ) where
 
     by_ports : TakesAreByPorts net v st
     by_ports w none =
-        let wires : wires_of (taken_in st w) ≡ [] = wires_taken st w ∙ ap (λ l. takes_in l w) same ∙ none_from es (start_node program net v) node is.run w none in
+        let wires : wires_of (taken_in st w) ≡ [] =
+        wires_taken st w ∙ ap (λ l. takes_in l w) same ∙ none_from es (start_node program net v) node is.run w none in
         sym (length-map (taken_in st w) (λ x. x.wire)) ∙ ap (λ l. length l) wires
 
 module _ {M : Type 0} (net : Net) (v : ℕ) where
@@ -191,7 +194,8 @@ module _ {S M E X Y : Type 0} (program : Program S M E) (net : Net) (put : X →
         (λ yes kept. (keeps net ok v vertex).puts i counter w (by_port (map put xs)) (by_port (map put (set xs i y))) (by_port (map taken ys)) st lt kept grown)
         (λ j. ⊎_elim
         (λ here.
-        let last : last_stamp (by_port (map put (set xs i y)) j) ≡ s = ap (λ k. last_stamp (by_port (map put (set xs i y)) k)) here ∙ ap (λ l. last_stamp l) grown.here
+        let last : last_stamp (by_port (map put (set xs i y)) j) ≡ s =
+        ap (λ k. last_stamp (by_port (map put (set xs i y)) k)) here ∙ ap (λ l. last_stamp l) grown.here
         ∙ last_more 0 (by_port (map put xs) i) (stamped s w) in
         omega (arith, last))
         (λ ne. let same = ap (λ l. last_stamp l) (grown.others j ne) in let le = h.below j in omega (arith, same, le))
@@ -214,7 +218,8 @@ module _ {S M E X Y : Type 0} (program : Program S M E) (net : Net) (put : X →
 -- the last stamp of a list that got one wire more is that of the wire
 pub last_at : {Y M : Type 0} (taken : Y → List (Stamped M)) (ys : List Y) (i : ℕ) (x y : Y) (w : Stamped M) → i < length ys → x ≡ get_or ys i x
     → taken y ≡ taken x ++ (w ∷ []) → last_stamp (by_port (map taken (set ys i y)) i) ≡ w.stamp
-last_at taken ys i x y w within is more = ap (λ l. last_stamp l) (one_more_stamped taken ys i x y w within is more).here ∙ last_more 0 (by_port (map taken ys) i) w
+last_at taken ys i x y w within is more =
+    ap (λ l. last_stamp l) (one_more_stamped taken ys i x y w within is more).here ∙ last_more 0 (by_port (map taken ys) i) w
 
 -- the wire that was taken last, and was set aside, came with the stamp for which it was, which the counter couldn't pass
 pub full_aside : {Y M : Type 0} (taken : Y → List (Stamped M)) (ys : List Y) (i : ℕ) (x y : Y) (w : Stamped M) (aside : Aside M) → i < length ys

@@ -37,28 +37,27 @@ module _ {J P T : Type 0} {j : wiring.Ghosts J} {p : program.Ghosts P T} {t : te
     full = tt;
   }
 
-  -- memory was refused
-  pub stepped-memory : {old new : Node J P T j p t q} {r : Result Bool TurnRefused} → IsErrAnd r (λ error. error ≡ Memory) → new.vertex ≡ old.vertex
-      → new.degree ≡ old.degree → new.refusal ≡ old.refusal → IsTrue j.transcript → Stepped old new r
-  stepped-memory {r = Ok did} is vertex degree refusal transcript = absurd is
-  stepped-memory {r = Err error} is vertex degree refusal transcript = record {
+  -- it ended early
+  stepped-early : {old new : Node J P T j p t q} {r : Result Bool TurnRefused} (why : TurnRefused) → IsErrAnd r (λ error. error ≡ why)
+      → new.vertex ≡ old.vertex → new.degree ≡ old.degree → new.refusal ≡ old.refusal → (why ≡ Memory → IsTrue j.transcript)
+      → (why ≡ StampFull → 2 ^ 64 ≤ max new.counter (aside_stamp new.aside) + 1) → Stepped old new r
+  stepped-early {r = Ok did} why is vertex degree refusal memory full = absurd is
+  stepped-early {r = Err error} why is vertex degree refusal memory full = record {
     vertex = vertex;
     degree = degree;
     refusal = refusal;
     unmoved = tt;
-    refused = λ memory. transcript;
-    full = λ full. absurd (memory-isnt_full (sym is ∙ full));
+    refused = λ e. memory (sym is ∙ e);
+    full = λ e. full (sym is ∙ e);
   }
+
+  -- memory was refused
+  pub stepped-memory : {old new : Node J P T j p t q} {r : Result Bool TurnRefused} → IsErrAnd r (λ error. error ≡ Memory) → new.vertex ≡ old.vertex
+      → new.degree ≡ old.degree → new.refusal ≡ old.refusal → IsTrue j.transcript → Stepped old new r
+  stepped-memory is vertex degree refusal transcript =
+      stepped-early Memory is vertex degree refusal (λ e. transcript) (λ e. absurd (memory-isnt_full e))
 
   -- a stamp would be too great
   pub stepped-full : {old new : Node J P T j p t q} {r : Result Bool TurnRefused} → IsErrAnd r (λ error. error ≡ StampFull) → new.vertex ≡ old.vertex
       → new.degree ≡ old.degree → new.refusal ≡ old.refusal → 2 ^ 64 ≤ max new.counter (aside_stamp new.aside) + 1 → Stepped old new r
-  stepped-full {r = Ok did} is vertex degree refusal le = absurd is
-  stepped-full {r = Err error} is vertex degree refusal le = record {
-    vertex = vertex;
-    degree = degree;
-    refusal = refusal;
-    unmoved = tt;
-    refused = λ memory. absurd (full-isnt_memory (sym is ∙ memory));
-    full = λ full. le;
-  }
+  stepped-full is vertex degree refusal le = stepped-early StampFull is vertex degree refusal (λ e. absurd (full-isnt_memory e)) (λ e. le)

@@ -4,6 +4,7 @@ use Rattle.std.specs.declared.cmp.PartialEq as equality
 use Rattle.alpha_laws.specs.declared.NodeProgram as program
 use Rattle.alpha_laws.specs.declared.PayloadText as text
 use Rattle.link_queue.specs.Ends.{put_list, taken_list}
+use Rattle.stamps.specs.entries.Recorded.{entries_by}
 use Rattle.actor.specs.declared.wiring.Wiring as wiring
 use Rattle.actor.specs.declared.node.Node.{Node}
 
@@ -16,5 +17,5 @@ module _ {J P T : Type 0} {j : wiring.Ghosts J} {p : program.Ghosts P T} {t : te
     pub aside : new.aside ≡ old.aside
     pub puts : map (λ e. put_list e.end) new.puts.items ≡ map (λ e. put_list e.end) old.puts.items
     pub takes : map (λ e. taken_list e.end) new.takes.items ≡ map (λ e. taken_list e.end) old.takes.items
-    pub entries : new.entries.items ≡ old.entries.items
+    pub entries : entries_by new.recorder ≡ entries_by old.recorder
     pub counter : new.counter ≡ old.counter

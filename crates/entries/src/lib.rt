@@ -1,8 +1,9 @@
 //! What a node writes down of each of its events, so that its run can be read and replayed.
 //!
-//! `actor` writes a node's own entries into an `Entries`, each with its stamp (`Counter` of `alpha_core`). It takes 20
-//! bytes an entry and the bytes of a payload where there is one. The 20 bytes lie in blocks that are never moved.
-//! `replay` plays lists of entries, and `transcripts` writes them as text and reads them.
+//! `actor` writes a node's own entries into a `Recorder`, each with its stamp (`Counter` of `alpha_core`): it has an
+//! `Entries`, or nothing. An `Entries` takes 20 bytes an entry and the bytes of a payload where there is one. The 20
+//! bytes lie in blocks that are never moved. `replay` plays lists of entries, and `transcripts` writes them as text and
+//! reads them.
 //!
 //! ```text
 //! let mut entries = Entries::new(alloc);
@@ -18,10 +19,12 @@ mod blocks;
 mod entry;
 mod iter;
 mod list;
+mod recorder;
 
 pub use entry::Entry;
 pub use iter::{Iter, StampedIter};
 pub use list::Entries;
+pub use recorder::Recorder;
 
 // What crates above name of lower ones.
 pub use alpha_core::{Counter, Memory, StampFull, Stamped};

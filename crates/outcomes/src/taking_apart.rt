@@ -1,6 +1,7 @@
 //! A node after the run, and the nodes taken apart.
 
 ghost use Rattle.std.specs.Prelude.{◌≡◌, ◌≤◌, [], IfOk, map, vec_capacity};
+ghost use Rattle.actor.specs.entries.Recorded.{entries_by, stamped_by};
 ghost use Rattle.outcomes.specs.Full.{is_full, some_full};
 
 use actor::{AlphaNode, Entries, Node, WhyAside, WiredPut, WiredTake, Wiring};
@@ -104,9 +105,9 @@ pub fn apart<J: Wiring, P: NodeProgram>(
     ensures alphas { IfOk result
         (λ both. map (λ a. a.alpha) both.actors.items ≡ map (λ n. n.alpha) nodes.items) }
     ensures entries { IfOk result
-        (λ both. map (λ a. a.entries.items) both.actors.items ≡ map (λ n. n.entries.items) nodes.items) }
+        (λ both. map (λ a. a.entries.items) both.actors.items ≡ map (λ n. entries_by n.recorder) nodes.items) }
     ensures stamped { IfOk result
-        (λ both. map (λ a. a.entries.stamped) both.actors.items ≡ map (λ n. n.entries.stamped) nodes.items) }
+        (λ both. map (λ a. a.entries.stamped) both.actors.items ≡ map (λ n. stamped_by n.recorder) nodes.items) }
     ensures puts { IfOk result
         (λ both. map (λ row. row.items) both.puts.items ≡ map (λ n. n.puts.items) nodes.items) }
     ensures takes { IfOk result
@@ -122,10 +123,10 @@ pub fn apart<J: Wiring, P: NodeProgram>(
             takes,
             aside: _,
             refusal: _,
-            transcript: _,
-            entries,
+            recorder,
             counter: _,
         } = node;
+        let entries = recorder.into_entries(alloc);
         all.actors.push_reserved(Actor {
             vertex,
             alpha,

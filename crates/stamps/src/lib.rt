@@ -25,4 +25,4 @@ pub use rise::rising;
 pub use table::StampTable;
 
 // What crates above name of lower ones.
-pub use entries::{Counter, Entries, Entry, StampFull, Stamped, StampedIter};
+pub use entries::{Counter, Entries, Entry, Recorder, StampFull, Stamped, StampedIter};

@@ -53,17 +53,17 @@ put-requires-clause-above g c κs within =
 
 pub invariant_of-self-in-Err : goal.invariant_of-self-in-Err
 invariant_of-self-in-Err g c = record {
-  kept = kept-none-put (kept-room c.args.self.now.kept c.keep_room.ensures.same c.keep_room.ensures.stamped) c.requires.going
+  kept = kept-none-put (kept-room c.args.self.now.kept c.reserve.ensures.same) c.requires.going
       record { is = c.index_mut.ensures.value; place = c.in-Err.ensures.place; same = c.in-Err.ensures.unchanged };
 }
 
 pub invariant_of-self-in-Ok : goal.invariant_of-self-in-Ok
 invariant_of-self-in-Ok g c = record {
-  kept = kept-put (kept-room c.args.self.now.kept c.keep_room.ensures.same c.keep_room.ensures.stamped) c.requires.going c.requires.port
+  kept = kept-put (kept-room c.args.self.now.kept c.reserve.ensures.same) c.requires.going c.requires.port
       record { is = c.index_mut.ensures.value; place = c.in-Ok.ensures.place; more = c.in-Ok.ensures.stamped }
       c.index-neighbour.ensures (sym c.in-Some.ensures.oldest) c.put_done.ensures.view c.put_done.ensures.state
       c.put_done.ensures.last c.in_ok-stamp.ensures.stamp c.advance.ensures.value
-      c.write.ensures.entries c.write.ensures.stamped;
+      c.write.ensures.written;
 }
 
 -- the port is one of the node's
@@ -82,13 +82,13 @@ put_done-requires-clause-some g c κs within = first_there _ c.in-Some.wire (sym
 
 -- room for an entry was made
 pub invariant_of-self : goal.invariant_of-self
-invariant_of-self g c = record { kept = kept-room c.args.self.now.kept c.keep_room.ensures.same c.keep_room.ensures.stamped }
+invariant_of-self g c = record { kept = kept-room c.args.self.now.kept c.reserve.ensures.same }
 
 pub advance-requires : goal.advance-requires
 advance-requires g c = record { above = next_above c.in_ok-stamp.stamp c.args.self.now.counter c.in_ok-stamp.ensures.stamp }
 
 pub write-requires : goal.write-requires
-write-requires g c = record { room = c.in_ok-keep_room.ensures.room }
+write-requires g c = record { room = c.in_ok-reserve.ensures.room }
 
 pub returns-in_default : goal.returns-in_default
 returns-in_default g c = record {
@@ -108,10 +108,11 @@ returns-in_err-stamp g c =
     }
 
 -- memory was refused
-pub returns-in_err-keep_room : goal.returns-in_err-keep_room
-returns-in_err-keep_room g c = record {
-  stepped = stepped-memory c.from_residual-in_err-keep_room.ensures.1 refl refl refl (subst IsTrue c.args.self.now.kept.recorded c.in_err-keep_room.ensures.refused);
-  counted = IfOk-from_err c.from_residual-in_err-keep_room.result _ c.from_residual-in_err-keep_room.ensures.0;
+pub returns-in_err-reserve : goal.returns-in_err-reserve
+returns-in_err-reserve g c = record {
+  stepped = stepped-memory c.from_residual-in_err-reserve.ensures.1 refl refl refl
+      (subst IsTrue c.args.self.now.kept.recorded c.in_err-reserve.ensures.refused);
+  counted = IfOk-from_err c.from_residual-in_err-reserve.result _ c.from_residual-in_err-reserve.ensures.0;
   going = c.requires.going;
 }
 
@@ -123,7 +124,7 @@ returns-in-Err g c = record {
     aside = refl;
     puts = same_all (λ e. put_list e.end) _ _ _ _ c.index_mut.ensures.value (ap (λ l. wires_of l) c.in-Err.ensures.unchanged);
     takes = refl;
-    entries = c.keep_room.ensures.same;
+    entries = c.reserve.ensures.same.entries;
     counter = refl;
   };
   counted = λ did. absurd (true≢false (sym did));
