@@ -17,6 +17,7 @@ use Rattle.link_queue.specs.link_rule.Legal.{IsLegalOn, LegalFor}
 use Rattle.stamps.specs.Stamps.{StampedEntry}
 use Rattle.stamps.specs.entries.Entry.{Entry}
 use Rattle.stamps.specs.entries.Entry.TheVariants.{Pulse, Put, Take}
+use Rattle.stamps.specs.entries.Rows.{stamped_entry}
 use Rattle.actor.specs.Kept.{IsKept}
 use Rattle.alpha_laws.specs.Kept.{NodeKept}
 use Rattle.actor.specs.HasStamps.{HasStamps}
@@ -143,7 +144,7 @@ module _ {J S M E : Type 0} {j : wiring.Ghosts J} {program : Program S M E} {v d
       {x y : WiredTake J M j} {s : ℕ} {w : Wire M} → aside ≡ None → i < degree → Came takes i x y s w
       → LegalFor (IsLegalOn program) (take_name x.end) (taken_list y.end) → reaction last node.view i w ≡ Ok new.view → new.state ≡ node.state
       → last' ≡ last → next ≡ max counter s + 1 → counter' ≡ next
-      → es' ≡ (if t then es ++ (Take y.vertex w ∷ []) else es) → st' ≡ (if t then st ++ ((next, Take y.vertex w) ∷ []) else st)
+      → es' ≡ (if t then es ++ (Take y.vertex w ∷ []) else es) → st' ≡ (if t then st ++ (stamped_entry next (Take y.vertex w) ∷ []) else st)
       → IsKept program v degree t aside last' new puts (set takes i y) es' st' counter'
   kept-took {new} {last'} {counter'} {next} {es'} {st'} {i} {x} {y} {s} {w} going port c legal reacts state same stamp moved wrote wrote_st =
       let lt = port_below i port in
@@ -228,7 +229,7 @@ module _ {J S M E : Type 0} {j : wiring.Ghosts J} {program : Program S M E} {v d
       {x y : WiredPut J M j} {z : WiredTake J M j} {w : Wire M} → aside ≡ None → i < degree → Went puts i x y next w → z ≡ get_or takes i z
       → slice_get (port_at node.view i).out 0 ≡ Some w → new.view ≡ put_done node.view i → new.state ≡ node.state
       → last' ≡ last → next ≡ counter + 1 → counter' ≡ next
-      → es' ≡ (if t then es ++ (Put z.vertex w ∷ []) else es) → st' ≡ (if t then st ++ ((next, Put z.vertex w) ∷ []) else st)
+      → es' ≡ (if t then es ++ (Put z.vertex w ∷ []) else es) → st' ≡ (if t then st ++ (stamped_entry next (Put z.vertex w) ∷ []) else st)
       → IsKept program v degree t aside last' new (set puts i y) takes es' st' counter'
   kept-put {new} {last'} {counter'} {next} {es'} {st'} {i} {x} {y} {z} {w} going port c is oldest view state same stamp moved wrote wrote_st =
       let lt = port_below i port in
@@ -245,7 +246,7 @@ module _ {J S M E : Type 0} {j : wiring.Ghosts J} {program : Program S M E} {v d
   pub kept-pulsed : {new : Node S M} {last' counter' next number : ℕ} {es' : List (Entry M)} {st' : List (StampedEntry M)} → IsProgram program
       → aside ≡ None → IsTrue (can_pulse last node.view) → pulse program.next last node ≡ Ok new → number ≡ new.view.pulse
       → last' ≡ last → next ≡ counter + 1 → counter' ≡ next
-      → es' ≡ (if t then es ++ (Pulse number ∷ []) else es) → st' ≡ (if t then st ++ ((next, Pulse number) ∷ []) else st)
+      → es' ≡ (if t then es ++ (Pulse number ∷ []) else es) → st' ≡ (if t then st ++ (stamped_entry next (Pulse number) ∷ []) else st)
       → IsKept program v degree t aside last' new puts takes es' st' counter'
   kept-pulsed {new} {last'} {counter'} {next} {number} {es'} {st'} laws going can made is same stamp moved wrote wrote_st =
       let sent = by_port (map (λ e. put_list e.end) puts) in

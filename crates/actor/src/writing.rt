@@ -1,6 +1,7 @@
 //! What a node writes down.
 
 ghost use Rattle.std.specs.Prelude.{◌≡◌, ◌<◌, ◌++◌, ◌∷◌, [], IsTrue, IfErr, OnOk, if◌then◌else◌};
+ghost use Rattle.stamps.specs.entries.Rows.{stamped_entry};
 
 use alpha_laws::Memory;
 use stamps::{Entries, Entry};
@@ -31,7 +32,7 @@ pub(crate) fn write<T: Copy>(
     ensures entries { entries.new.items ≡
         (if transcript then entries.old.items ++ entry ∷ [] else entries.old.items) }
     ensures stamped { entries.new.stamped ≡
-        (if transcript then entries.old.stamped ++ (stamp, entry) ∷ [] else entries.old.stamped) }
+        (if transcript then entries.old.stamped ++ stamped_entry stamp entry ∷ [] else entries.old.stamped) }
 {
     if transcript {
         entries.push_reserved(stamp, entry);

@@ -21,6 +21,7 @@ use Rattle.progress_laws.proofs.Maximal.{bounded}
 use Rattle.net_core.specs.Rows.{Row, event_of}
 use Rattle.net_core.proofs.Counted.{stamps-within}
 use Rattle.net_core.proofs.Decided.{decided}
+use Rattle.stamps.specs.entries.Rows.{without_stamp}
 use Rattle.stamps.specs.Merged.{StampedRow, rows_in}
 use Rattle.async_colour_laws.specs.Stamped.{StampsAreBounded}
 
@@ -28,7 +29,7 @@ use Rattle.async_colour_laws.specs.Stamped.{StampsAreBounded}
 pub stamps-bounded : {S M E : Type 0} (program : Program S M E) → IsProgram program → (net : Net) → IsNetwork net → StampsAreBounded program net
 stamps-bounded {S} {M} program laws net ok rows last is k d lt =
     let replay = is.replay in
-    let f : StampedRow M → Row M = λ r. (r.1, r.2) in
+    let f : StampedRow M → Row M = λ r. without_stamp r in
     let events = (decided program net ok).events (rows_in rows) last replay in
     let many : length replay.events ≡ length rows =
     ap (λ l. length l) events ∙ length-map (rows_in rows) (λ row. event_of net row) ∙ length-map rows f in

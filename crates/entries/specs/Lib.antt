@@ -1,5 +1,6 @@
 pub mod Bare
 pub mod Blocks
 pub mod EntryList
+pub mod Rows
 pub mod alpha_core
 pub mod interference

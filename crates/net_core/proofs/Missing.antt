@@ -7,6 +7,7 @@ use Rattle.alpha_laws.specs.interference.Net.{Net, count_of, degree_of, port_to}
 use Rattle.alpha_laws.specs.node_api.Program.{Program}
 use Rattle.stamps.specs.entries.Entry.{Entry}
 use Rattle.stamps.specs.entries.Entry.TheVariants as entry
+use Rattle.stamps.specs.entries.Rows.{vertex_row}
 use Rattle.event_machine.specs.declared.event.Event.TheVariants.{Put, Take}
 use Rattle.event_machine.specs.declared.refused.StepRefused.{StepRefused}
 use Rattle.event_machine.specs.declared.refused.StepRefused.TheVariants.{NoSuch}
@@ -33,7 +34,7 @@ module _ (net : Net) (v : ℕ) where
       and_right (is_vertex net v) (nat_lt (port_to net v w) (degree_of net v)) (le-ltb (port_to net v w) (degree_of net v) none)
 
 module _ {S M E : Type 0} (program : Program S M E) (net : Net) (state : State S M) (v : ℕ) where
-  pub no-vertex : (of : Entry M) → is_vertex net v ≡ false → step program net state (event_of net (v, of)) ≡ Err NoSuch
+  pub no-vertex : (of : Entry M) → is_vertex net v ≡ false → step program net state (event_of net (vertex_row v of)) ≡ Err NoSuch
   no-vertex (entry.Pulse p) missing = pulse_no_such program net state v missing
   no-vertex (entry.Put w wire) missing = put_no_such program net state v (port_to net v w) (and_left _ _ missing)
   no-vertex (entry.Take w wire) missing = take_no_such program net state v (port_to net v w) (and_left _ _ missing)

@@ -10,4 +10,4 @@ use Rattle.net_core.specs.Whole.{IsStampedReplay}
 abbrev pub StampsAreCounted : {S M E : Type 0} → Program S M E → Net → Type 0
 StampsAreCounted {S} {M} program net =
     (rows : List (StampedRow M)) (last : State S M) → IsStampedReplay program net rows last
-    → All (λ row. row.0 ≤ length rows) rows
+    → All (λ row. row.stamp ≤ length rows) rows

@@ -3,6 +3,7 @@
 ghost use Rattle.std.specs.Prelude.{◌≡◌, ◌<◌, ◌≤◌, false, IfErr, IfNone, IfOk, IfSome};
 ghost use Rattle.alpha_laws.specs.interference.Net.{IsVertex, degree_of, port_to};
 ghost use Rattle.stamps.specs.entries.Entry.TheVariants.{Pulse, Put, Take};
+ghost use Rattle.stamps.specs.entries.Rows.{vertex_row};
 ghost use Rattle.net_core.specs.Replays.{IsMade, IsRefusedEntry};
 ghost use Rattle.net_core.specs.Rows.{event_of, has_place};
 
@@ -10,7 +11,7 @@ use crate::refused::EntryRefused;
 use crate::same_wire::carries;
 use alpha_laws::{Network, NodeProgram, Wire};
 use event_machine::{Event, NetState, StepRefused};
-use stamps::Entry;
+use stamps::{Entry, Row};
 
 // The port of vertex `v` that leads to `w`; `None` if `w` isn't its neighbour.
 fn port_to(net: &Network, v: u32, w: u32) -> Option<u32>
@@ -26,15 +27,15 @@ fn port_to(net: &Network, v: u32, w: u32) -> Option<u32>
 }
 
 /// The event that an entry of a vertex is of; `None` if there is no such vertex, or the other is no neighbour.
-pub fn event_of<T: Copy>(net: &Network, row: &(u32, Entry<T>)) -> Option<Event>
+pub fn event_of<T: Copy>(net: &Network, row: &Row<T>) -> Option<Event>
     ensures event { IfSome result (λ event. event ≡ event_of net.now row.now) }
     ensures none { IfNone result (has_place net.now (event_of net.now row.now) ≡ false) }
 {
-    let (v, entry) = *row;
+    let v = row.vertex;
     if v == 0 || net.nodes() < v {
         return None;
     }
-    match entry {
+    match row.entry {
         Entry::Pulse(_) => Some(Event::Pulse(v)),
         Entry::Put(w, _) => Some(Event::Put(v, port_to(net, v, w)?)),
         Entry::Take(w, _) => Some(Event::Take(v, port_to(net, v, w)?)),
@@ -48,8 +49,8 @@ fn make_pulse<P: NodeProgram>(
     pulse: u32,
 ) -> Result<(), EntryRefused>
     requires vertex { IsVertex state.old.net v }
-    ensures made { IfOk result (λ _. IsMade P.program state.old (v, Pulse pulse) state.new) }
-    ensures refused { IfErr result (IsRefusedEntry P.program state.old (v, Pulse pulse)) }
+    ensures made { IfOk result (λ _. IsMade P.program state.old (vertex_row v (Pulse pulse)) state.new) }
+    ensures refused { IfErr result (IsRefusedEntry P.program state.old (vertex_row v (Pulse pulse))) }
 {
     let next = state.pulse_of(v).checked_add(1);
     state.step(Event::Pulse(v))?;
@@ -68,8 +69,8 @@ fn make_put<P: NodeProgram>(
     wire: Wire<P::Payload>,
 ) -> Result<(), EntryRefused>
     requires vertex { IsVertex state.old.net v }
-    ensures made { IfOk result (λ _. IsMade P.program state.old (v, Put w wire) state.new) }
-    ensures refused { IfErr result (IsRefusedEntry P.program state.old (v, Put w wire)) }
+    ensures made { IfOk result (λ _. IsMade P.program state.old (vertex_row v (Put w wire)) state.new) }
+    ensures refused { IfErr result (IsRefusedEntry P.program state.old (vertex_row v (Put w wire))) }
 {
     let Some(port) = port_to(state.network(), v, w) else {
         return Err(EntryRefused::Step(StepRefused::NoSuch));
@@ -92,8 +93,8 @@ fn make_take<P: NodeProgram>(
     wire: Wire<P::Payload>,
 ) -> Result<(), EntryRefused>
     requires vertex { IsVertex state.old.net v }
-    ensures made { IfOk result (λ _. IsMade P.program state.old (v, Take w wire) state.new) }
-    ensures refused { IfErr result (IsRefusedEntry P.program state.old (v, Take w wire)) }
+    ensures made { IfOk result (λ _. IsMade P.program state.old (vertex_row v (Take w wire)) state.new) }
+    ensures refused { IfErr result (IsRefusedEntry P.program state.old (vertex_row v (Take w wire))) }
 {
     let Some(port) = port_to(state.network(), v, w) else {
         return Err(EntryRefused::Step(StepRefused::NoSuch));
@@ -117,16 +118,16 @@ fn make_take<P: NodeProgram>(
 /// then isn't said.
 pub(crate) fn make_entry<P: NodeProgram>(
     state: &mut NetState<P>,
-    row: &(u32, Entry<P::Payload>),
+    row: &Row<P::Payload>,
 ) -> Result<(), EntryRefused>
     ensures made { IfOk result (λ _. IsMade P.program state.old row.now state.new) }
     ensures refused { IfErr result (IsRefusedEntry P.program state.old row.now) }
 {
-    let (v, entry) = *row;
+    let v = row.vertex;
     if v == 0 || state.network().nodes() < v {
         return Err(EntryRefused::Step(StepRefused::NoSuch));
     }
-    match entry {
+    match row.entry {
         Entry::Pulse(pulse) => make_pulse(state, v, pulse),
         Entry::Put(w, wire) => make_put(state, v, w, wire),
         Entry::Take(w, wire) => make_take(state, v, w, wire),

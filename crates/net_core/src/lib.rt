@@ -13,7 +13,10 @@
 //! replay is and where it stops.
 //!
 //! ```text
-//! let entries = [(1, Entry::Put(2, Wire::Close)), (2, Entry::Take(1, Wire::Close))];
+//! let entries = [
+//!     Row { vertex: 1, entry: Entry::Put(2, Wire::Close) },
+//!     Row { vertex: 2, entry: Entry::Take(1, Wire::Close) },
+//! ];
 //! let state = replay::<Greatest<0>>(alloc, &network, &entries)?;
 //! ```
 //!
@@ -37,4 +40,4 @@ pub use whole::replay_whole;
 
 // What crates above name of lower ones.
 pub use event_machine::{Event, NetState, RunRefused, StepRefused};
-pub use stamps::{Entry, order};
+pub use stamps::{Entry, Row, StampedEntry, StampedRow, order};

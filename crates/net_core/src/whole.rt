@@ -14,7 +14,7 @@ use crate::refused::WholeRefused;
 use crate::whole_state::is_whole;
 use alpha_laws::{Network, NodeProgram};
 use event_machine::NetState;
-use stamps::{Entry, StampTable};
+use stamps::{StampTable, StampedRow};
 use std::alloc::Global;
 
 // Plays the row of an index. Those before it led to the state, and the table is theirs.
@@ -22,7 +22,7 @@ fn replay_row<P: NodeProgram>(
     alloc: Global,
     state: &mut NetState<P>,
     table: &mut StampTable,
-    rows: &[(u64, u32, Entry<P::Payload>)],
+    rows: &[StampedRow<P::Payload>],
     index: usize,
 ) -> Result<(), WholeRefused>
     requires row { index < length rows.now }
@@ -36,7 +36,7 @@ fn replay_row<P: NodeProgram>(
         (λ refused. refused ≢ Replay (Run Memory) → WhyNotWhole P.program state.old.net rows.now refused) }
 {
     let row = &rows[index];
-    match make_entry(state, &(row.1, row.2)) {
+    match make_entry(state, &row.without_stamp()) {
         Ok(()) => {}
         Err(refused) => return Err(WholeRefused::Replay(refused.at(index))),
     }
@@ -51,7 +51,7 @@ fn replay_row<P: NodeProgram>(
 fn replay_rows<P: NodeProgram>(
     alloc: Global,
     state: &mut NetState<P>,
-    rows: &[(u64, u32, Entry<P::Payload>)],
+    rows: &[StampedRow<P::Payload>],
 ) -> Result<(), WholeRefused>
     requires start { state.now.state ≡ start P.program state.now.net }
     ensures net { IfOk result (λ _. state.new.net ≡ state.old.net) }
@@ -66,7 +66,7 @@ fn replay_rows<P: NodeProgram>(
     Ok(())
 }
 
-/// Plays stamped entries, each behind the vertex of its node, from the start, and returns the state that they lead to.
+/// Plays stamped entries, each with the vertex of its node, from the start, and returns the state that they lead to.
 /// They have to end whole: every node drained, and every link empty.
 ///
 /// # Errors
@@ -77,7 +77,7 @@ fn replay_rows<P: NodeProgram>(
 pub fn replay_whole<P: NodeProgram>(
     alloc: Global,
     net: &Network,
-    rows: &[(u64, u32, Entry<P::Payload>)],
+    rows: &[StampedRow<P::Payload>],
 ) -> Result<NetState<P>, WholeRefused>
     ensures net { IfOk result (λ view. view.net ≡ net.now) }
     ensures accepts { IfOk result (λ view. IsWholeReplay P.program net.now rows.now view.state) }

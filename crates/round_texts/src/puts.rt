@@ -5,7 +5,7 @@ ghost use Rattle.alpha_core.specs.interference.Net.{IsVertex, degree_of};
 ghost use Rattle.round_texts.specs.PutsText.{puts_text};
 
 use alpha_core::{Network, Outbox, PayloadText, Wire};
-use entries::Entry;
+use entries::{Entry, Row};
 use std::alloc::AllocError;
 use transcripts::push_row;
 
@@ -33,7 +33,11 @@ pub(crate) fn push_puts<T: PayloadText>(
     for port in 0..net.degree(v) {
         if let Some(payload) = out.get(port) {
             let put = Entry::Put(net.neighbour(v, port), Wire::Payload(pulse, payload));
-            push_row(text, &(v, put))?;
+            let row = Row {
+                vertex: v,
+                entry: put,
+            };
+            push_row(text, &row)?;
         }
     }
     Ok(())

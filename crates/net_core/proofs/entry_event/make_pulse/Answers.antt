@@ -3,6 +3,7 @@
 use Rattle.std.proofs.Common.{◌+◌, ◌∙◌, Some, ap, sym}
 use Rattle.std.proofs.lemmas.Result.{IfOk-from_err}
 use Rattle.stamps.specs.entries.Entry.TheVariants as entry
+use Rattle.stamps.specs.entries.Rows.{vertex_row}
 use Rattle.net_core.specs.declared.refused.EntryRefused.TheVariants.{Step}
 use Rattle.net_core.specs.Replays.{IsRefusedEntry}
 use Rattle.net_core.proofs.Missing.{refused-step}
@@ -20,7 +21,7 @@ returns-in_err-step-clause-made g c = IfOk-from_err c.from_residual.result _ c.f
 
 pub returns-in_err-step-clause-refused : goal.returns-in_err-step-clause-refused
 returns-in_err-step-clause-refused g c =
-    refused-step c.from_residual.result (IsRefusedEntry g.P.NodeProgram.program c.args.state.now (c.args.v, entry.Pulse c.args.pulse))
+    refused-step c.from_residual.result (IsRefusedEntry g.P.NodeProgram.program c.args.state.now (vertex_row c.args.v (entry.Pulse c.args.pulse)))
     c.in_err-step.field-0.0 c.from_residual.ensures.1 (λ never. c.in_err-step.ensures.step (λ e. never (ap Step e)))
 
 pub returns-then-eq-clause-made : goal.returns-then-eq-clause-made
@@ -29,8 +30,8 @@ returns-then-eq-clause-made g c =
     record {
       net = c.step.ensures.net;
       leads = c.in_ok-step.ensures.step;
-      writes = ap (λ n. Some (v, entry.Pulse (n + 1))) (sym c.pulse_of.ensures.pulse)
-          ∙ ap (λ n. Some (v, entry.Pulse n)) (next-pulse c.pulse_of.result c.args.pulse c.checked_add-next.result c.checked_add-next.ensures
+      writes = ap (λ n. Some (vertex_row v (entry.Pulse (n + 1)))) (sym c.pulse_of.ensures.pulse)
+          ∙ ap (λ n. Some (vertex_row v (entry.Pulse n))) (next-pulse c.pulse_of.result c.args.pulse c.checked_add-next.result c.checked_add-next.ensures
           c.if-eq.ensures);
     }
 

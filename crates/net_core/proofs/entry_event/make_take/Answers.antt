@@ -7,6 +7,7 @@ use Rattle.stamps.specs.entries.Entry.TheVariants as entry
 use Rattle.event_machine.specs.declared.event.Event.TheVariants.{Take}
 use Rattle.event_machine.specs.State.{link_at, link_to}
 use Rattle.event_machine.specs.Step.{step}
+use Rattle.stamps.specs.entries.Rows.{vertex_row}
 use Rattle.net_core.specs.declared.refused.EntryRefused.TheVariants.{Step}
 use Rattle.net_core.specs.Replays.{IsRefusedEntry}
 use Rattle.net_core.proofs.Missing.{no-take, refused-step}
@@ -95,7 +96,7 @@ pub returns-in_err-step-clause-refused : goal.returns-in_err-step-clause-refused
 returns-in_err-step-clause-refused g c =
     let old = c.args.state.now in
     let place = c.in-Some.ensures.port.0 ∙ ap (λ n. port_to n c.args.v c.args.w) c.network.ensures.network in
-    refused-step c.from_residual.result (IsRefusedEntry g.P.NodeProgram.program old (c.args.v, entry.Take c.args.w c.args.wire))
+    refused-step c.from_residual.result (IsRefusedEntry g.P.NodeProgram.program old (vertex_row c.args.v (entry.Take c.args.w c.args.wire)))
     c.in_err-step.field-0.0 c.from_residual.ensures.1
     (λ never. ap (λ i. step g.P.NodeProgram.program old.net old.state (Take c.args.v i)) (sym place)
     ∙ c.in_err-step.ensures.step (λ e. never (ap Step e)))
