@@ -16,7 +16,7 @@ use channel_plan::text_start;
 use entries::{Row, StampedRow};
 use event_machine::{NetState, RunRefused};
 use event_texts::{expected_words, missing_words, text_of_state};
-use net_core::{ReplayRefused, WholeRefused, event_of, replay, replay_whole};
+use net_core::{ReplayRefused, StampedState, WholeRefused, event_of, replay, replay_whole};
 use program_texts::ProgramText;
 use std::alloc::{AllocError, Global};
 use transcripts::{TextFault, Transcript, entry_lines, network_text, read_any_behind_network};
@@ -249,7 +249,7 @@ fn replayed_whole<P: NodeProgram>(
 {
     network.is_network();
     match replay_whole::<P>(alloc, network, rows) {
-        Ok(state) => Ok(state),
+        Ok(StampedState { state, table: _ }) => Ok(state),
         Err(refused) => {
             let lines = entry_lines(alloc, input)?;
             let Some(first) = first_line_in(input) else {

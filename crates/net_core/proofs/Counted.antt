@@ -8,7 +8,7 @@ use Rattle.stamps.specs.entries.Entry.{Entry}
 use Rattle.stamps.specs.entries.Entry.TheVariants.{Pulse, Put, Take}
 use Rattle.stamps.specs.entries.Rows.{stamped_row, without_vertex}
 use Rattle.stamps.specs.alpha_core.Stamped.{Stamped}
-use Rattle.stamps.specs.Stamps.{counter_from, taken_in}
+use Rattle.stamps.specs.Stamps.{counter_from, counter_of, taken_in}
 use Rattle.stamps.specs.Merged.{StampedRow, AreStampedRows, entries_at, puts_at, stamp_behind}
 use Rattle.stamps.proofs.Lists.{none_or_one}
 use Rattle.alpha_laws.specs.alpha_core.StampedWires.{stamps_of}
@@ -80,3 +80,7 @@ module _ {M : Type 0} where
   -- no stamp passes the number of rows
   pub stamps-within : (rows : List (StampedRow M)) → AreStampedRows rows → Within (length rows) rows
   stamps-within rows right = all-within rows [] rows right refl (All-nil (λ (r : StampedRow M). r.stamp ≤ 0))
+
+  -- nor does the counter of a vertex
+  pub counters-within : (rows : List (StampedRow M)) → AreStampedRows rows → (v : ℕ) → counter_of (entries_at rows v) ≤ length rows
+  counters-within rows right v = counter-within (length rows) 0 v rows (omega arith) (stamps-within rows right)
