@@ -17,6 +17,7 @@ use Rattle.net_core.proofs.Decided.{by-index}
 use Rattle.transcripts.specs.Behind.{entry_lines, stamped_entry_on}
 use Rattle.transcripts.specs.Editions.{Two}
 use Rattle.transcripts.specs.Reading.{StampedTranscript}
+use Rattle.entries.specs.Rows.{without_stamp}
 use Rattle.transcripts.specs.TranscriptText.{Row, StampedRow}
 use Rattle.transcripts.proofs.Either.{stamped-have-lines}
 use Rattle.answers.specs.ReplayAnswers.{HasLine, IsEntryTold, IsFaultOfTranscript, IsStampedLine, IsStampedRefusal, IsStampedTold, IsToldAs, bare_rows}
@@ -27,7 +28,7 @@ use Rattle.answers.specs.declared.replaying.ReplayFault.TheVariants as fault
 use Rattle.answers.proofs.RefusedLines.{entry-at, not-memory, says-there, told-as}
 
 abbrev bare : {M : Type 0} → StampedRow M → Row M
-bare row = (row.1, row.2)
+bare row = without_stamp row
 
 -- stamped entries that stop at an entry do so without their stamps
 abbrev stops-bare : {S M E : Type 0} (program : Program S M E) (net : Net) (rows : List (StampedRow M)) (refused : ReplayRefused) →

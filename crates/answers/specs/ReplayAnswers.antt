@@ -13,6 +13,7 @@ use Rattle.event_machine.specs.declared.refused.RunRefused.TheVariants as run
 use Rattle.event_texts.specs.Missing.{expected_text, missing_text}
 use Rattle.event_texts.specs.StateText.{state_text}
 use Rattle.net_core.specs.Replays.{IsReplay, Stops}
+use Rattle.entries.specs.Rows.{without_stamp}
 use Rattle.net_core.specs.Rows.{event_of}
 use Rattle.net_core.specs.declared.refused.ReplayRefused.{ReplayRefused}
 use Rattle.net_core.specs.declared.refused.ReplayRefused.TheVariants as replay
@@ -116,9 +117,9 @@ module _ {M : Type 0} (payload_of : List ℕ → ℕ → Option M) where
   abbrev pub IsStampedLine : List Line → StampedRow M → ℕ → Type 0
   IsStampedLine lines row n = stamped_entry_on payload_of lines n ≡ Some row
 
--- the entries of edition 2 behind their vertices alone
+-- the entries of edition 2 without their stamps
 abbrev pub bare_rows : {M : Type 0} → List (StampedRow M) → List (Row M)
-bare_rows rows = map (λ row. (row.1, row.2)) rows
+bare_rows rows = map (λ row. without_stamp row) rows
 
 -- ---- how the refusal of entries is told
 module _ {S M E : Type 0} (program : Program S M E) (word_of : M → List ℕ) (number_of : M → ℕ) where
@@ -172,7 +173,7 @@ module _ {S M E : Type 0} (program : Program S M E) (word_of : M → List ℕ) (
       (stops : StopsAtEntry program net rows refused) (told : ReplayFault) : Type 0 where
     pub words : Vec ℕ Global
     pub says : words.items
-        ≡ words_text program word_of number_of net stops.at.reached (stops.at.row.1, stops.at.row.2) refused
+        ≡ words_text program word_of number_of net stops.at.reached (without_stamp stops.at.row) refused
     pub is_told : told ≡ fault_at (entry_lines lines) words refused
     pub has_line : HasLine (IsStampedLine payload_of lines stops.at.row) told
 

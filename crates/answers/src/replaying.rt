@@ -13,10 +13,10 @@ use crate::answer::network_of_text;
 use crate::fault::PlanFault;
 use alpha_core::{Network, NodeProgram, PayloadText};
 use channel_plan::text_start;
-use entries::Entry;
+use entries::{Row, StampedRow};
 use event_machine::{NetState, RunRefused};
 use event_texts::{expected_words, missing_words, text_of_state};
-use net_core::{ReplayRefused, WholeRefused, event_of, replay, replay_whole};
+use net_core::{ReplayRefused, StampedState, WholeRefused, event_of, replay, replay_whole};
 use program_texts::ProgramText;
 use std::alloc::{AllocError, Global};
 use transcripts::{TextFault, Transcript, entry_lines, network_text, read_any_behind_network};
@@ -115,7 +115,7 @@ fn index_of(refused: ReplayRefused) -> Option<usize>
 fn words_of<P: NodeProgram>(
     alloc: Global,
     state: &NetState<P>,
-    row: &(u32, Entry<P::Payload>),
+    row: &Row<P::Payload>,
     refused: ReplayRefused,
 ) -> Result<Vec<u8>, AllocError>
     ensures { IfOk result (λ words. words.items
@@ -132,7 +132,7 @@ fn words_of<P: NodeProgram>(
 fn told<P: NodeProgram>(
     alloc: Global,
     network: &Network,
-    rows: &[(u32, Entry<P::Payload>)],
+    rows: &[Row<P::Payload>],
     lines: &[usize],
     refused: ReplayRefused,
 ) -> ReplayFault
@@ -158,7 +158,7 @@ fn replayed_entries<P: NodeProgram>(
     alloc: Global,
     network: &Network,
     input: &[u8],
-    rows: &[(u32, Entry<P::Payload>)],
+    rows: &[Row<P::Payload>],
 ) -> Result<NetState<P>, ReplayFault>
     ensures net { IfOk result (λ view. view.net ≡ network.now) }
     ensures ok { IfOk result (λ view. IsReplay P.program network.now rows.now view.state) }
@@ -176,16 +176,19 @@ fn replayed_entries<P: NodeProgram>(
     }
 }
 
-// The entries behind their vertices alone.
+// The rows without their stamps.
 fn bare_rows<T: PayloadText>(
     alloc: Global,
-    rows: &[(u64, u32, Entry<T>)],
-) -> Result<Vec<(u32, Entry<T>)>, AllocError>
+    rows: &[StampedRow<T>],
+) -> Result<Vec<Row<T>>, AllocError>
     ensures { IfOk result (λ bare. bare.items ≡ bare_rows rows.now) }
 {
     let mut bare = Vec::new(alloc);
     for row in rows {
-        bare.push((row.1, row.2))?;
+        bare.push(Row {
+            vertex: row.vertex,
+            entry: row.entry,
+        })?;
     }
     Ok(bare)
 }
@@ -213,7 +216,7 @@ fn last_of(other: usize, numbers: &[usize]) -> usize
 fn stamped_told<P: NodeProgram>(
     alloc: Global,
     network: &Network,
-    rows: &[(u64, u32, Entry<P::Payload>)],
+    rows: &[StampedRow<P::Payload>],
     first: usize,
     lines: &[usize],
     refused: WholeRefused,
@@ -236,7 +239,7 @@ fn replayed_whole<P: NodeProgram>(
     alloc: Global,
     network: &Network,
     input: &[u8],
-    rows: &[(u64, u32, Entry<P::Payload>)],
+    rows: &[StampedRow<P::Payload>],
 ) -> Result<NetState<P>, ReplayFault>
     ensures net { IfOk result (λ view. view.net ≡ network.now) }
     ensures ok { IfOk result (λ view. IsWholeReplay P.program network.now rows.now view.state) }
@@ -246,7 +249,7 @@ fn replayed_whole<P: NodeProgram>(
 {
     network.is_network();
     match replay_whole::<P>(alloc, network, rows) {
-        Ok(state) => Ok(state),
+        Ok(StampedState { state, table: _ }) => Ok(state),
         Err(refused) => {
             let lines = entry_lines(alloc, input)?;
             let Some(first) = first_line_in(input) else {

@@ -3,6 +3,8 @@ use Rattle.std.specs.Prelude.{⊤, ◌≡◌, ◌<◌, ℕ, Bool, true, false, L
 use Rattle.entries.specs.declared.entry.Entry.{Entry}
 use Rattle.entries.specs.declared.recorder.Recorder.{Recorder}
 use Rattle.entries.specs.declared.recorder.Recorder.TheVariants.{Off, On}
+use Rattle.entries.specs.declared.rows.StampedEntry.{StampedEntry}
+use Rattle.entries.specs.Rows.{stamped_entry}
 
 module _ {M : Type 0} where
   -- entries are written down
@@ -15,7 +17,7 @@ module _ {M : Type 0} where
   entries_by Off = []
   entries_by (On entries) = entries.items
 
-  abbrev pub stamped_by : Recorder M → List (ℕ × Entry M)
+  abbrev pub stamped_by : Recorder M → List (StampedEntry M)
   stamped_by Off = []
   stamped_by (On entries) = entries.stamped
 
@@ -34,4 +36,4 @@ module _ {M : Type 0} where
   pub record HasWritten (stamp : ℕ) (entry : Entry M) (old new : Recorder M) : Type 0 where
     pub on : is_on new ≡ is_on old
     pub entries : entries_by new ≡ (if is_on old then entries_by old ++ (entry ∷ []) else entries_by old)
-    pub stamped : stamped_by new ≡ (if is_on old then stamped_by old ++ ((stamp, entry) ∷ []) else stamped_by old)
+    pub stamped : stamped_by new ≡ (if is_on old then stamped_by old ++ (stamped_entry stamp entry ∷ []) else stamped_by old)

@@ -6,7 +6,7 @@ ghost use Rattle.alpha_core.specs.node_api.Run.{outbox_at};
 ghost use Rattle.round_texts.specs.PutsText.{puts_text};
 
 use alpha_core::Wire;
-use entries::Entry;
+use entries::{Entry, Row};
 use program_texts::ProgramText;
 use std::alloc::AllocError;
 use sync_rounds::Rounds;
@@ -38,7 +38,11 @@ pub(crate) fn push_puts<P: ProgramText>(
                 net.neighbour(v, port),
                 Wire::Payload(rounds.pulse(), payload),
             );
-            push_row(text, &(v, put))?;
+            let row = Row {
+                vertex: v,
+                entry: put,
+            };
+            push_row(text, &row)?;
         }
     }
     Ok(())
