@@ -46,7 +46,8 @@ module _ (roles : List Role) (slots : List (Option Payload)) where
       ∙ (ap (λ (b : Bool). if b then colour_in (at_port slots k) else from_parent f (drop (k + 1) roles) (drop (k + 1) slots)) e ∙ ap colour_in slot)
 
   -- no colour comes from ports that brought nothing
-  skips : (gap f i : ℕ) → HaveColours roles slots → length slots ≡ length roles → i + gap ≤ length roles → ((k : ℕ) → i ≤ k → k < i + gap → at_port slots k ≡ None) →
+  skips : (gap f i : ℕ) → HaveColours roles slots → length slots ≡ length roles → i + gap ≤ length roles →
+      ((k : ℕ) → i ≤ k → k < i + gap → at_port slots k ≡ None) →
       from_parent f (drop i roles) (drop i slots) ≡ from_parent f (drop (i + gap) roles) (drop (i + gap) slots)
   skips zero f i colours ports h none = ap (λ (k : ℕ). from_parent f (drop k roles) (drop k slots)) (let e : i ≡ i + 0 = omega arith in e)
   skips (suc gap) f i colours ports h none =

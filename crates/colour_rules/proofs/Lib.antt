@@ -13,6 +13,7 @@ pub mod Idling
 mod Places
 mod Reading
 mod Rooms
+mod Roots
 mod Steps
 mod Taking
 mod Telling

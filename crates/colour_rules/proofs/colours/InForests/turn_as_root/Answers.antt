@@ -1,11 +1,11 @@
--- The plan: of the forests before that of the loop those have turned of which nothing was heard (Turned.roots-below).
+-- The plan: of the forests before that of the loop those have turned of which nothing was heard (Roots.roots-below).
 use Rattle.std.proofs.Common.{◌+◌, ◌<◌, ℕ, length, sym, ◌∙◌, subst, arith}
 use Rattle.std.specs.Prelude.{Bool, None}
 use Rattle.std.specs.FinSet.{contains}
 use Rattle.std.proofs.lemmas.List.{length-map}
 use Rattle.colour_rules.specs.declared.colours.InForests.{InForests}
 use Rattle.colour_rules.specs.InForests.{AreTurned}
-use Rattle.colour_rules.proofs.Turned.{roots-below, roots-start, roots-ready, roots-more, roots-skip, roots-end}
+use Rattle.colour_rules.proofs.Roots.{roots-below, roots-start, roots-ready, roots-more, roots-skip, roots-end}
 use Rattle.colour_rules.proofs.colours.InForests.turn_as_root.Goals as goal
 use Rattle.colour_rules.proofs.colours.InForests.turn_as_root.Goals.{then-not-has, else-not-has}
 
@@ -25,7 +25,8 @@ loop-forest-preserved c =
     let heard : ℕ → Bool = contains c.args.heard.now in
     let old : InForests = c.args.self.now in
     let mid : InForests = c.loop-forest.self in
-    let so_far : InForests → Type 0 = λ new. AreTurned c.args.reduction c.args.id (λ g. None) (roots-below c.args.reduction c.args.id heard old (f + 1)) old new in
+    let turns : ℕ → Bool = roots-below c.args.reduction c.args.id heard old (f + 1) in
+    let so_far : InForests → Type 0 = λ new. AreTurned c.args.reduction c.args.id (λ g. None) turns old new in
     let here : f < length old.each.items = omega (arith, c.loop-forest-test.true, c.len-forest-end.ensures) in
     elim c.if-not-has.branch [
       | then-not-has w ↦
