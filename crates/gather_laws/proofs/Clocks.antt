@@ -83,7 +83,7 @@ module _ {S M E : Type 0} (program : Program S M E) (net : Net) (ok : IsNetwork 
     (puts takens held : ℕ → ℕ → List (Stamped M)) (wrote : ℕ → List (StampedEntry M)) (rows : List (StampedRow M))
     (met : HaveMet program net nodes counters puts takens held wrote) (merge : IsMerge (count_of net) wrote rows) where
   -- the entries of the vertex of a row
-  split_at : (before : List (StampedRow M)) (s v : ℕ) (e : Entry M) (after : List (StampedRow M)) 
+  split_at : (before : List (StampedRow M)) (s v : ℕ) (e : Entry M) (after : List (StampedRow M))
       → rows ≡ before ++ (stamped_row s v e ∷ after) → IsVertex net v → wrote v ≡ entries_at before v ++ (stamped_entry s e ∷ entries_at after v)
   split_at before s v e after is vertex =
       sym (merge.each v vertex) ∙ ap (λ l. entries_at l v) is ∙ entries_append before (stamped_row s v e ∷ after) v
