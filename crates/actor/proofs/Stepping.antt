@@ -1,12 +1,15 @@
 -- What a part of a turn leaves, exit by exit.
-use Rattle.std.proofs.Common.{◌≡◌, ◌≤◌, ◌+◌, ◌^◌, true, false, Ok, Err, sym, ◌∙◌, true≢false}
+use Rattle.std.proofs.Common.{◌≡◌, ◌≤◌, ◌+◌, ◌^◌, ℕ, List, true, false, Ok, Err, subst, sym, ◌∙◌, true≢false}
 use Rattle.std.specs.Prelude.{Bool, Result, IsErrAnd, IsTrue, max}
 use Rattle.std.specs.declared.cmp.PartialEq as equality
+use Rattle.atomic_table.specs.Seated.{TableId}
+use Rattle.alpha_laws.specs.alpha_core.Wire.{Wire}
 use Rattle.alpha_laws.specs.declared.NodeProgram as program
 use Rattle.alpha_laws.specs.declared.PayloadText as text
 use Rattle.actor.specs.Blocked.{IsUnmoved}
 use Rattle.actor.specs.HasStamps.{aside_stamp}
 use Rattle.actor.specs.Stepped.{Stepped}
+use Rattle.actor.specs.Tables.{LinkWasFull}
 use Rattle.actor.specs.declared.wiring.Wiring as wiring
 use Rattle.actor.specs.declared.node.Node.{Node}
 use Rattle.actor.specs.declared.refused.TurnRefused.{TurnRefused}
@@ -61,3 +64,9 @@ module _ {J P T : Type 0} {j : wiring.Ghosts J} {p : program.Ghosts P T} {t : te
   pub stepped-full : {old new : Node J P T j p t q} {r : Result Bool TurnRefused} → IsErrAnd r (λ error. error ≡ StampFull) → new.vertex ≡ old.vertex
       → new.degree ≡ old.degree → new.refusal ≡ old.refusal → 2 ^ 64 ≤ max new.counter (aside_stamp new.aside) + 1 → Stepped old new r
   stepped-full is vertex degree refusal le = stepped-early StampFull is vertex degree refusal (λ e. absurd (full-isnt_memory e)) (λ e. le)
+
+-- a link that an end found full, as the link out of a vertex by a port
+pub full-there : {P T : Type 0} (tables : List (List TableId)) (v i : ℕ) {at : ℕ × ℕ} {put here : List (Wire T)} → at ≡ (v, i) → put ≡ here
+    → LinkWasFull P tables at.0 at.1 put → LinkWasFull P tables v i here
+full-there {P} tables v i {at} {put} place is full =
+    subst (λ wires. LinkWasFull P tables v i wires) is (subst (λ (p : ℕ × ℕ). LinkWasFull P tables p.0 p.1 put) place full)

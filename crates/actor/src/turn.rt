@@ -3,7 +3,7 @@
 ghost use Rattle.std.specs.Prelude.{◌≡◌, ◌<◌, ◌≤◌, ◌+◌, ◌^◌, max, IfErr, IfOk, IsSome, IsTrue, None, false, true};
 ghost use Rattle.alpha_laws.specs.alpha_core.View.{can_pulse, can_take};
 ghost use Rattle.link_queue.specs.Queued.{stamped_of};
-ghost use Rattle.actor.specs.Blocked.{IsUnmoved};
+ghost use Rattle.actor.specs.Blocked.{IsUnmoved, PutBlocked};
 ghost use Rattle.actor.specs.Counted.{CountsPut, CountsTake};
 ghost use Rattle.actor.specs.HasStamps.{aside_stamp};
 ghost use Rattle.actor.specs.Stepped.{Stepped, Turned, remembered};
@@ -153,6 +153,7 @@ impl<J: Wiring, P: NodeProgram> Node<J, P> {
         requires going { self.old.aside ≡ None }
         ensures stepped { Stepped self.old self.new result }
         ensures counted { IfOk result (λ did. did ≡ true → CountsPut port self.old self.new) }
+        ensures blocked { IfOk result (λ did. did ≡ false → PutBlocked port self.old) }
         ensures going { self.new.aside ≡ None }
     {
         let Some(wire) = self.alpha.front(port) else {

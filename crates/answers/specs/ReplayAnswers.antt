@@ -1,5 +1,5 @@
 -- The answer to a network and the transcript behind it.
-use Rattle.std.specs.Prelude.{◌≡◌, ◌⊎◌, ◌+◌, ◌-◌, ℕ, List, Option, Some, None, Result, Ok, Err, length, map, slice_get}
+use Rattle.std.specs.Prelude.{◌≡◌, ◌≢◌, ◌⊎◌, ◌+◌, ◌-◌, ℕ, List, Option, Some, None, Result, Ok, Err, length, map, slice_get}
 use Rattle.std.specs.Prelude.{slice_index_or, take}
 use Rattle.std.specs.declared.vec.Vec.{Vec}
 use Rattle.std.specs.declared.alloc.Global.{Global}
@@ -120,6 +120,15 @@ module _ {M : Type 0} (payload_of : List ℕ → ℕ → Option M) where
 -- the entries of edition 2 without their stamps
 abbrev pub bare_rows : {M : Type 0} → List (StampedRow M) → List (Row M)
 bare_rows rows = map (λ row. without_stamp row) rows
+
+-- a refusal of entries says where they stop, unless memory ran out
+abbrev pub StopsThere : {S M E : Type 0} → Program S M E → Net → List (Row M) → ReplayRefused → Type 0
+StopsThere program net rows refused = refused ≢ replay.Run run.Memory → Stops program net rows refused
+
+-- a refusal of stamped entries says why they aren't a whole replay, unless memory ran out
+abbrev pub SaysWhyNot : {S M E : Type 0} → Program S M E → Net → List (StampedRow M) → WholeRefused → Type 0
+SaysWhyNot program net rows refused =
+    refused ≢ whole.Replay (replay.Run run.Memory) → WhyNotWhole program net rows refused
 
 -- ---- how the refusal of entries is told
 module _ {S M E : Type 0} (program : Program S M E) (word_of : M → List ℕ) (number_of : M → ℕ) where

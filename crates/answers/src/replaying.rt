@@ -1,12 +1,14 @@
 //! The state that the entries of a transcript lead to.
 
-ghost use Rattle.std.specs.Prelude.{◌≡◌, ℕ, IfOk, IfErr, IfSome, Ok};
+ghost use Rattle.std.specs.Prelude.{◌≡◌, ◌≢◌, ℕ, [], IfOk, IfErr, Ok};
 ghost use Rattle.dimacs_col.specs.Lines.{lines_of};
 ghost use Rattle.net_core.specs.Replays.{IsReplay};
 ghost use Rattle.net_core.specs.Whole.{IsWholeReplay};
+ghost use Rattle.transcripts.specs.Behind.{transcript_lines};
 ghost use Rattle.transcripts.specs.Editions.{One, Two};
 ghost use Rattle.answers.specs.ReplayAnswers.{IsFaultOfReplay, IsFaultOfTranscript, IsReplayAnswer, IsReplayed};
-ghost use Rattle.answers.specs.ReplayAnswers.{IsStampedTold, IsTold, bare_rows, fault_at, fault_of_text};
+ghost use Rattle.answers.specs.ReplayAnswers.{IsStampedTold, IsTold, SaysWhyNot, StopsThere};
+ghost use Rattle.answers.specs.ReplayAnswers.{bare_rows, fault_at, fault_of_text};
 ghost use Rattle.answers.specs.ReplayAnswers.{first_line_in, index_of, last_of, line_at, transcript_in, words_text};
 
 use crate::answer::network_of_text;
@@ -136,14 +138,13 @@ fn told<P: NodeProgram>(
     lines: &[usize],
     refused: ReplayRefused,
 ) -> ReplayFault
+    requires stops { StopsThere P.program network.now rows.now refused }
     ensures { IsTold P.program P.Payload.word_of P.Payload.number_of network.now rows.now lines.now refused result }
 {
     let Some(index) = index_of(refused) else {
         return ReplayFault::Memory;
     };
-    let Some(row) = rows.get(index) else {
-        return ReplayFault::Memory;
-    };
+    let row = &rows[index];
     let Ok(state) = replay::<P>(alloc, network, &rows[..index]) else {
         return ReplayFault::Memory;
     };
@@ -194,11 +195,14 @@ fn bare_rows<T: PayloadText>(
 }
 
 // The number of the transcript's first line.
-fn first_line_in(input: &[u8]) -> Option<usize>
-    ensures { IfSome result (λ line. line ≡ first_line_in (lines_of input.now)) }
+fn first_line_in(input: &[u8]) -> usize
+    requires begins { transcript_lines (lines_of input.now) ≢ [] }
+    ensures { result ≡ first_line_in (lines_of input.now) }
 {
-    let start = text_start(input, &[b"transcript"])?;
-    Some(start.lines + 1)
+    match text_start(input, &[b"transcript"]) {
+        Some(start) => start.lines + 1,
+        None => unreachable!(),
+    }
 }
 
 // The last of some numbers.
@@ -221,6 +225,7 @@ fn stamped_told<P: NodeProgram>(
     lines: &[usize],
     refused: WholeRefused,
 ) -> ReplayFault
+    requires why { SaysWhyNot P.program network.now rows.now refused }
     ensures { IsStampedTold P.program P.Payload.word_of P.Payload.number_of network.now rows.now first lines.now refused
         result }
 {
@@ -241,20 +246,19 @@ fn replayed_whole<P: NodeProgram>(
     input: &[u8],
     rows: &[StampedRow<P::Payload>],
 ) -> Result<NetState<P>, ReplayFault>
+    requires read { (nodes : ℕ)
+        × (transcript_in P.Payload.payload_of (lines_of input.now) ≡ Ok (Two (nodes, rows.now))) }
     ensures net { IfOk result (λ view. view.net ≡ network.now) }
     ensures ok { IfOk result (λ view. IsWholeReplay P.program network.now rows.now view.state) }
-    ensures fault { IfErr result (λ told. (nodes : ℕ)
-        → transcript_in P.Payload.payload_of (lines_of input.now) ≡ Ok (Two (nodes, rows.now)) → IsFaultOfTranscript
-        P.program P.Payload.word_of P.Payload.number_of P.Payload.payload_of network.now (lines_of input.now) told) }
+    ensures fault { IfErr result (IsFaultOfTranscript P.program P.Payload.word_of P.Payload.number_of
+        P.Payload.payload_of network.now (lines_of input.now)) }
 {
     network.is_network();
     match replay_whole::<P>(alloc, network, rows) {
         Ok(StampedState { state, table: _ }) => Ok(state),
         Err(refused) => {
             let lines = entry_lines(alloc, input)?;
-            let Some(first) = first_line_in(input) else {
-                return Err(ReplayFault::Memory);
-            };
+            let first = first_line_in(input);
             Err(stamped_told::<P>(alloc, network, rows, first, lines.as_slice(), refused))
         }
     }

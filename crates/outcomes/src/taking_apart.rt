@@ -4,7 +4,7 @@ ghost use Rattle.std.specs.Prelude.{◌≡◌, ◌≤◌, [], IfOk, map, vec_cap
 ghost use Rattle.actor.specs.entries.Recorded.{entries_by, stamped_by};
 ghost use Rattle.outcomes.specs.Full.{is_full, some_full};
 
-use actor::{AlphaNode, Entries, Node, WhyAside, WiredPut, WiredTake, Wiring};
+use actor::{AlphaNode, Aside, Entries, Node, WhyAside, WiredPut, WiredTake, Wiring};
 use gather_laws::NodeProgram;
 use std::alloc::{AllocError, Global};
 
@@ -51,20 +51,20 @@ pub struct NodesAndEnds<J: Wiring, P: NodeProgram> {
 fn is_full<J: Wiring, P: NodeProgram>(node: &Node<J, P>) -> bool
     ensures { result ≡ is_full node.now.aside }
 {
-    match &node.aside {
-        None => false,
-        Some(aside) => match aside.why {
-            WhyAside::Refused => false,
-            WhyAside::StampFull(_) => true,
-        },
-    }
+    matches!(
+        &node.aside,
+        Some(Aside {
+            why: WhyAside::StampFull(_),
+            ..
+        })
+    )
 }
 
 /// Whether one of the nodes has set a wire aside since the stamp of its take would be too great.
-pub fn some_full<J: Wiring, P: NodeProgram>(nodes: &Vec<Node<J, P>>) -> bool
-    ensures { result ≡ some_full (map (λ n. n.aside) nodes.now.items) }
+pub fn some_full<J: Wiring, P: NodeProgram>(nodes: &[Node<J, P>]) -> bool
+    ensures { result ≡ some_full (map (λ n. n.aside) nodes.now) }
 {
-    for node in nodes.as_slice() {
+    for node in nodes {
         if is_full(node) {
             return true;
         }

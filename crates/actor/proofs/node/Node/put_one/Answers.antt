@@ -1,5 +1,5 @@
 -- The plan: each exit is an event of the node, and what it keeps after it is a lemma of `Keeping`.
-use Rattle.std.proofs.Common.{[], ◌∷◌, ◌++◌, ◌<◌, ◌^◌, length, refl, sym, ap, ◌∙◌, subst, arith, true≢false}
+use Rattle.std.proofs.Common.{[], ◌∷◌, ◌++◌, ◌<◌, ◌^◌, length, refl, sym, ap, ◌∙◌, inl, inr, subst, arith, true≢false}
 use Rattle.std.specs.Prelude.{IsTrue}
 use Rattle.std.proofs.lemmas.Result.{IfOk-from_err}
 use Rattle.alpha_laws.specs.alpha_core.StampedWires.{last_stamp, wires_of}
@@ -11,7 +11,7 @@ use Rattle.alpha_laws.specs.interference.Net.{degree_of, neighbour_of}
 use Rattle.alpha_laws.specs.alpha_core.Program.{IsLegal}
 use Rattle.actor.specs.HasStamps.{aside_stamp}
 use Rattle.actor.proofs.Refusals.{first_there, next_above, past_greater}
-use Rattle.actor.proofs.Stepping.{stepped-did, stepped-full, stepped-memory, stepped-not}
+use Rattle.actor.proofs.Stepping.{full-there, stepped-did, stepped-full, stepped-memory, stepped-not}
 use Rattle.actor.proofs.node.Node.put_one.Goals as goal
 
 -- there is an end for each port
@@ -94,6 +94,7 @@ pub returns-in_default : goal.returns-in_default
 returns-in_default g c = record {
   stepped = stepped-not refl refl refl record { alpha = refl; aside = refl; puts = refl; takes = refl; entries = refl; counter = refl };
   counted = λ did. absurd (true≢false (sym did));
+  blocked = λ did. inl (sym c.in_default.ensures.oldest);
   going = c.requires.going;
 }
 
@@ -104,6 +105,7 @@ returns-in_err-stamp g c =
     record {
       stepped = stepped-full c.from_residual.ensures.1 refl refl refl (past_greater (2 ^ 64) old.counter (aside_stamp old.aside) c.in_err-stamp.ensures.full);
       counted = IfOk-from_err c.from_residual.result _ c.from_residual.ensures.0;
+      blocked = IfOk-from_err c.from_residual.result _ c.from_residual.ensures.0;
       going = c.requires.going;
     }
 
@@ -113,23 +115,32 @@ returns-in_err-reserve g c = record {
   stepped = stepped-memory c.from_residual-in_err-reserve.ensures.1 refl refl refl
       (subst IsTrue c.args.self.now.kept.recorded c.in_err-reserve.ensures.refused);
   counted = IfOk-from_err c.from_residual-in_err-reserve.result _ c.from_residual-in_err-reserve.ensures.0;
+  blocked = IfOk-from_err c.from_residual-in_err-reserve.result _ c.from_residual-in_err-reserve.ensures.0;
   going = c.requires.going;
 }
 
 -- the link was full
 pub returns-in-Err : goal.returns-in-Err
-returns-in-Err g c = record {
-  stepped = stepped-not refl refl refl record {
-    alpha = refl;
-    aside = refl;
-    puts = same_all (λ e. put_list e.end) _ _ _ _ c.index_mut.ensures.value (ap (λ l. wires_of l) c.in-Err.ensures.unchanged);
-    takes = refl;
-    entries = c.reserve.ensures.same.entries;
-    counter = refl;
-  };
-  counted = λ did. absurd (true≢false (sym did));
-  going = c.requires.going;
-}
+returns-in-Err g c =
+    let old = c.args.self.now in
+    let is = c.index_mut.ensures.value in
+    let lt = port_below old.kept c.args.port c.requires.port in
+    let inside = below_as_many c.args.port (length old.puts.items) (degree_of g.J.Wiring.net old.vertex) (count_puts old.kept) lt in
+    let place = at_place (λ e. (e.vertex, e.port)) (λ i. (old.vertex, i)) old.puts.items (degree_of g.J.Wiring.net old.vertex) c.args.port _ old.kept.outs lt is in
+    let here = get_map (λ e. put_list e.end) old.puts.items c.args.port _ [] inside is in
+    record {
+      stepped = stepped-not refl refl refl record {
+        alpha = refl;
+        aside = refl;
+        puts = same_all (λ e. put_list e.end) _ _ _ _ is (ap (λ l. wires_of l) c.in-Err.ensures.unchanged);
+        takes = refl;
+        entries = c.reserve.ensures.same.entries;
+        counter = refl;
+      };
+      counted = λ did. absurd (true≢false (sym did));
+      blocked = λ did. inr (full-there g.J.Wiring.tables old.vertex c.args.port place here c.in-Err.ensures.full);
+      going = c.requires.going;
+    }
 
 -- a wire was put
 pub returns-in-Ok : goal.returns-in-Ok
@@ -137,6 +148,7 @@ returns-in-Ok g c =
     let old = c.args.self.now in
     record {
       stepped = stepped-did refl refl refl;
+      blocked = λ did. absurd (true≢false did);
       counted = λ did. record {
         one_more = c.advance.ensures.value ∙ c.in_ok-stamp.ensures.stamp;
         stamp = last_went old.kept c.requires.port record { is = c.index_mut.ensures.value; place = c.in-Ok.ensures.place; more = c.in-Ok.ensures.stamped }
