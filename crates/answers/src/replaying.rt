@@ -255,7 +255,10 @@ fn replayed_whole<P: NodeProgram>(
 {
     network.is_network();
     match replay_whole::<P>(alloc, network, rows) {
-        Ok(StampedState { state, table: _ }) => Ok(state),
+        Ok(stamped) => {
+            let StampedState { state, table: _ } = stamped;
+            Ok(state)
+        }
         Err(refused) => {
             let lines = entry_lines(alloc, input)?;
             let first = first_line_in(input);
