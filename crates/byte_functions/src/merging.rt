@@ -9,7 +9,7 @@ ghost use Rattle.byte_functions.specs.Transcripts.{stamped_of};
 use crate::left_entries::LeftEntries;
 use alpha_laws::{NodeProgram, PayloadText};
 use node_pool::Actor;
-use stamps::{StampedEntry, StampedRow};
+use stamps::StampedRow;
 use std::alloc::{AllocError, Global};
 use std::cmp::Reverse;
 use std::collections::BinaryHeap;
@@ -91,12 +91,12 @@ impl<'a, T: PayloadText> Merging<'a, T> {
     {
         let Reverse((_, index)) = *self.keys.peek()?;
         let left = &mut self.lefts[index];
-        let StampedEntry { stamp, entry } = left.take()?;
+        let first = left.take()?;
         replace_top(&mut self.keys, left, index);
         Some(StampedRow {
-            stamp,
+            stamp: first.stamp,
             vertex: (index + 1) as u32,
-            entry,
+            entry: first.entry,
         })
     }
 }
