@@ -51,6 +51,14 @@ ROWS = (
      "a greater stamp than its put"),
     (f"1 1 take 2 {HELLO_2}|",
      "line 2: LinkEmpty: node 1 takes payload 0 hello 2 from 2: link from 2 to 1, and 2 never puts it"),
+    # What is put there later is another wire.
+    (f"1 1 take 2 {HELLO_2}|2 2 put 1 ack 0|",
+     "line 2: LinkEmpty: node 1 takes payload 0 hello 2 from 2: link from 2 to 1, and 2 never puts it"),
+    (f"1 1 take 2 {HELLO_2}|2 2 put 1 ack 0|3 2 put 1 {HELLO_2}|",
+     "line 2: LinkEmpty: node 1 takes payload 0 hello 2 from 2: link from 2 to 1; it is put in line 4, and ack 0 in "
+     "line 3 comes before it on that link"),
+    (f"1 1 put 2 {HELLO_1}|1 2 put 1 {HELLO_2}|2 1 take 2 {HELLO_2}|3 1 take 2 {HELLO_2}|",
+     "line 5: LinkEmpty: node 1 takes payload 0 hello 2 from 2: link from 2 to 1, and 2 never puts it again"),
     # Nothing is on its way: it isn't asked whether the text is cut.
     (GREETED, "line 5: NotWhole: after the last entry nothing is on its way, and not all is done: node 1 at pulse 0 "
               "doesn't "
