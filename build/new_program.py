@@ -16,7 +16,7 @@ ref return self static struct super trait true type unsafe use where while core 
 payload known""".split())
 
 HELP = f"""\
-Makes the crate crates/NAME with a node program that is proved as it stands: a copy of
+Makes the crate crates/NAME with a node program, all of it proved already: a copy of
 the crate `{MODEL}`, whose nodes send nothing, with every law, the program's words in
 texts, a law about its last states, and a test. NAME is a word of small letters, as
 `{MODEL}`; it is the program's name in texts and in `forestplay run --program NAME`, too.

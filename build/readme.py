@@ -9,7 +9,8 @@ SECTION = """\
 
 The programs need no toolchain, the scripts bash and Python 3. With `bin/` on the PATH the commands work anywhere, and
 `man` finds their pages. VERSION says from which commit the folder was made, and SHA256SUMS has a sum of each file. What
-a page says of `crates/`, `bench/`, `tests/` and the toolchain is about the repository of that commit.
+a page says of `crates/`, `bench/`, `tests/`, the toolchain, and of scripts that `bin/` here lacks, is about the
+repository of that commit.
 
 """
 

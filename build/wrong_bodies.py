@@ -81,7 +81,7 @@ def said_of_each(rt, crate, edits):
     room = rt.seeded(crate, flags)
     if room is None:
         return [
-            f"must-fail {crate.name}/{os.path.basename(edit)}: NOT TRIED: the crate isn't proved as it stands"
+            f"must-fail {crate.name}/{os.path.basename(edit)}: NOT TRIED: the crate isn't proved without the edit"
             for edit in edits
         ]
     try:

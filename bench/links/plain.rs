@@ -1,4 +1,4 @@
-// The queue that a link stands on, crossbeam's array queue, in plain Rust: the same wires put and taken by the same
+// The queue that a link is made of, crossbeam's array queue, in plain Rust: the same wires put and taken by the same
 // loops as in proved.rs. With an argument, as `crossbeam4`, it makes and holds 50,000 queues of that capacity; with a
 // second one twice as many.
 

@@ -9,7 +9,7 @@ one processor alone.
 
 Each program is built in a folder of its own, which is removed. What it writes has to be what `PROGRAM plain` writes.
 Prints for each network, number of processors and program the least and the median seconds, the least processor
-seconds with their ratio to those of `plan` with a worker for each processor, and the greatest peak memory in MiB.
+seconds with their ratio to the seconds of `plan` with a worker for each processor, and the greatest peak memory in MiB.
 Ends with status 1 if a program wrote something else, failed, or took longer than the limit.
 """
 import argparse

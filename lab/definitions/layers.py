@@ -43,7 +43,7 @@ class Layers:
         return [("Hops", self.layer) if pulse < self.last else None] * self.degree
 
     def refuses(self, pulse: int, inbox: list[Slot]) -> bool:
-        """Whether an inbox is none that a round can have: what comes at pulse p was sent at distance p - 1."""
+        """Whether no round has this inbox: what comes at pulse p was sent at distance p - 1."""
         return any(slot and slot[1] != pulse - 1 for slot in inbox)
 
     def result(self) -> str:

@@ -1,5 +1,6 @@
 """Electing a leader by flooding (FloodMax: Lynch, Distributed Algorithms, 1996, section 4.1), at one node, by its
-definition (docs/claim/DEFINITIONS.md), slow and plain. Payloads, ports and pulses are as in lab/definitions/nodes.py."""
+definition (docs/claim/DEFINITIONS.md), slow and plain. Payloads, ports and pulses are as in
+lab/definitions/nodes.py."""
 from lab.definitions.colours import Network
 from lab.definitions.nodes import Slot
 
@@ -34,7 +35,7 @@ class Leader:
         return [("Leader", heard) if pulse < self.last else None] * self.degree
 
     def refuses(self, pulse: int, inbox: list[Slot]) -> bool:
-        """Whether an inbox is none that a round can have: a neighbour's identifier isn't the node's own."""
+        """Whether no round has this inbox: a neighbour's identifier isn't the node's own."""
         return pulse == 1 and any(slot and slot[1] == self.best for slot in inbox)
 
     def result(self) -> str:

@@ -156,8 +156,8 @@ class Port:
     """What a node keeps for one neighbour.
 
     `waits`: the acknowledgement of its payload is still to come. `safe`, `present`: the neighbour's safe and payload of
-    this pulse, if they came; `early_safe`, `early`: those of the next pulse. `closed`: the neighbour's last wire came.
-    `out`: the wires that are to be put on the link, the first one next."""
+    this pulse, if they came; `early_safe`, `early`: the same of the next pulse. `closed`: the neighbour's last wire
+    came. `out`: the wires that are to be put on the link, the first one next."""
     waits: bool = False
     safe: bool = False
     early_safe: bool = False

@@ -39,7 +39,7 @@ def merge_step(net: Network, p: int) -> tuple[int, int, int]:
 
 
 def pulse_lines(net: Network, p: int) -> list[str]:
-    """The line of pulse p, and those of each vertex after it."""
+    """The line of pulse p, and after it the lines of each vertex."""
     facts = Facts.of(net)
     lines = [f"pulse {p} {phase_words(net, p)}"]
     for v in sorted(net.neighbours):

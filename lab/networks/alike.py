@@ -1,12 +1,13 @@
-"""Networks by chance that are alike: connected if that is asked for, with a greatest number of neighbours and of forests.
-So each of them has as many rounds, and is as hard as any other. `bin/network random` and `bin/sheet` make them."""
+"""Networks by chance that are alike: connected if that is asked for, with a greatest number of neighbours and of
+forests. So each of them has as many rounds, and is as hard as any other. `bin/network random` and `bin/sheet` make
+them."""
 import random
 
 from lab.networks.kinds import at_least, below, check_room
 from lab.networks.texts import Made
 from lab.wrong import Wrong
 
-# So many edges are tried in all, and so many networks at most and at least; and so many pairs for each edge.
+# How many edges are tried in all, how many networks at most and at least, and how many pairs for each edge.
 EDGES_TRIED, MOST_TRIES, LEAST_TRIES, PAIRS = 40_000, 2000, 20, 40
 
 
@@ -15,8 +16,8 @@ def tries_of(edges):
 
 
 def alike_edges(source, nodes, edges, connected=False, neighbours=None, forests=None):
-    """So many different edges by a source of chance, or None if none were found in `tries_of(edges)` tries. `neighbours`
-    is the greatest number of neighbours of a node, and `forests` of neighbours of higher number."""
+    """`edges` different edges by a source of chance, or None if none were found in `tries_of(edges)` tries.
+    `neighbours` is the greatest number of neighbours of a node, and `forests` of neighbours of higher number."""
     for _ in range(tries_of(edges)):
         found = Growing(nodes, neighbours, forests)
         if connected and not found.join_all(source):

@@ -11,7 +11,7 @@ from lab.wrong import Wrong, wrong_line
 
 # Headings of the column of channels in a file, in small letters without blanks.
 HEADINGS = ("channel", "channels", "channelnumber", "kanal", "kanäle", "kanalnummer")
-# Real numbers of channels, as frequencies in kHz are, have at most so many digits.
+# How many digits a real number of a channel has at most, as a frequency in kHz.
 MOST_DIGITS = 12
 
 HELP = """\

@@ -85,7 +85,7 @@ CODES = (
     Code("X2", ENTRY, "memory ran out; the programs write `memory`", MEMORY),
     Code("WrongWire", ENTRY, "the event of {at} is possible, but with another wire or pulse",
          f"write the one that the words after the line name. {CHECK}", LINE),
-    Code("WrongStamp", ENTRY, "in {at} the stamp isn't that of its node's counter, or the entry comes too late",
+    Code("WrongStamp", ENTRY, "in {at} the stamp isn't what its node's counter gives, or the entry comes too late",
          "a put or a pulse adds one to the node's counter; a take sets it to the greater of the counter and the "
          f"stamp of the put, plus one. Entries come by stamp, and then by node. {LINES}", LINE, "E7"),
     Code("NotWhole", ENTRY, "all entries are possible, but after {at} a node isn't done, or a wire wasn't taken",

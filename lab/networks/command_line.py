@@ -15,7 +15,7 @@ Makes networks, reads them in other forms, and says what they are.
   queen ROWS COLUMNS  squares of a board that a queen joins in one move
   tree NODES          each node but the first is joined to one before it, by chance
   disk NODES          places by chance in a square, joined if they are near
-  random NODES EDGES  so many edges by chance
+  random NODES EDGES  that many edges, by chance
 
   read FILE           another form of a network: pairs (CSV), adjacency, GraphML, GML,
                       JSON, DOT, Matrix Market, DIMACS; or sites and a reach

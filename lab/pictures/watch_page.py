@@ -70,7 +70,7 @@ def look_of(state, v):
 
 
 def found(node):
-    """Its channel once it has chosen one, or 0; of another program than the colouring the words of what it has found."""
+    """Its channel once it has chosen one, or 0; of another program than the colouring the words for what it found."""
     if not isinstance(node.program, Colouring):
         return node.program.result()
     return node.program.merged + 1 if has_chosen(node) else 0

@@ -174,7 +174,8 @@ def events_of(text, name):
         if not words or words[0].startswith("c"):
             continue
         if words[0] == "take" and len(words) == 4 or note.endswith(", out of turn"):
-            raise wrong_line(name, line, f"`{shown(raw.strip())}` overtakes another message, and links keep their order")
+            refusal = f"`{shown(raw.strip())}` overtakes another message, and links keep their order"
+            raise wrong_line(name, line, refusal)
         found = re.fullmatch(r"(pulse) ([0-9]{1,10})|(put|take) ([0-9]{1,10}) ([0-9]{1,10})", " ".join(words))
         if found is None:
             raise wrong_line(name, line, f"`{shown(raw.strip())}` is no event (NoEvent)")

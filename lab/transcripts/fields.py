@@ -51,7 +51,7 @@ def why_no_entry(fields, edition, program):
     if wrong or len(fields) == 1:
         return wrong or "a node's number isn't followed by what it did"
     if fields[1] not in KINDS:
-        return f"{shown(fields[1])} is none of pulse, put and take"
+        return f"{shown(fields[1])} is neither pulse, put nor take"
     if fields[1] == b"pulse":
         return no_number(fields[2], "pulse") if len(fields) == 3 else "`pulse` is followed by one number"
     if len(fields) < 4:

@@ -72,13 +72,18 @@ def why_refused(state, entry, refused, entries):
 
 
 def why_link_empty(entry, entries):
-    """Of a wire that isn't there: whether it is put later in the text."""
+    """Of a wire that isn't there: whether this wire is put later in the text, and what is put on its link before it."""
     link = entry.neighbour, entry.vertex
     taken = sum(1 for e in entries if e.kind == "Take" and (e.neighbour, e.vertex) == link and e.line < entry.line)
     puts = [e for e in entries if e.kind == "Put" and (e.vertex, e.neighbour) == link]
-    if len(puts) <= taken:
-        return f", and {entry.neighbour} never puts it"
-    put = puts[taken]
+    later = [e for e in puts[taken:] if e.what == entry.what]
+    if not later:
+        again = " again" if any(e.what == entry.what for e in puts[:taken]) else ""
+        return f", and {entry.neighbour} never puts it{again}"
+    put, first = later[0], puts[taken]
+    if put is not first:
+        before = f"{wire_words(first.what)} in line {first.line}"
+        return f"; it is put in line {put.line}, and {before} comes before it on that link"
     return f"; it is put in line {put.line}, with stamp {put.stamp}: a take has a greater stamp than its put"
 
 

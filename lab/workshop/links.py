@@ -7,7 +7,7 @@ from lab.schedules.policies import Step
 
 
 class Wire(NamedTuple):
-    """`words` as a transcript has them; `stamp` is that of its put; `count`, how many puts there were, up to it."""
+    """`words` as a transcript has them; `stamp` is its put's stamp; `count`, how many puts there were, up to it."""
     words: str
     stamp: int
     count: int

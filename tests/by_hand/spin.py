@@ -2,16 +2,15 @@
 """Searches a model in Promela (bench/spin/alpha.pml) with Spin, and compares its counts with bin/explore. The
 last line is 'N passed, M failed'.
 
-  python3 -m tests.by_hand.spin [--all]
-      --all   also four nodes in a row, and four that are all neighbours, which takes some minutes and 1.2 GB
-
 The model was written apart from lab/schedules: other states, another language, another search. It asserts in every
 state that a pulse has the round's inbox, that no wire comes which a node refuses, that no link finds its two places
 full, and at the end that the plan is right and all links are empty. Spin's process that starts the nodes adds three
 states and four steps. Of a reduced search, both take a safe or a close that comes next on its link at once and alone,
 as `bin/explore --reduce` does. It needs spin and gcc (Debian: `apt-get install spin gcc`), and so is no part of ./test."""
+import argparse
 import os
 import re
+import shutil
 import subprocess
 import sys
 import tempfile
@@ -20,6 +19,7 @@ from lab.definitions.colours import colours, network_of
 from lab.definitions.nodes import Colouring, last_pulse, ports_of
 from lab.schedules.space import Space
 from tests import TOP
+from tests.by_hand.tally import last_line, note
 
 MODEL = os.path.join(TOP, "bench", "spin", "alpha.pml")
 NETWORKS = {
@@ -104,19 +104,24 @@ def searched(net, without, puts, reduce):
 
 
 def main():
-    tally = {True: 0, False: 0}
-    for name, without, puts, reduce in CASES + ALL * (sys.argv[1:] == ["--all"]):
+    words = argparse.ArgumentParser(description=__doc__, formatter_class=argparse.RawDescriptionHelpFormatter)
+    words.add_argument("--all", action="store_true", help="also four nodes in a row, and four that are all neighbours, "
+                       "which takes some minutes and 1.2 GB")
+    given = words.parse_args()
+    if not (shutil.which("spin") and shutil.which("gcc")):
+        words.error("spin and gcc are needed")
+    for name, without, puts, reduce in CASES + ALL * given.all:
         net = network_of((NETWORKS | LARGE)[name])
         space = Space(net, [without] if without else [], MOST, puts, reduce=reduce)
         wanted = space.count + 3, len(space.target) + 4, 0
         got = searched(net, without, puts, reduce)
         good = got == wanted and not space.faults
-        tally[good] += 1
         what = f"{name}{f' without {without}' if without else ''}{', puts apart' * puts}{', reduced' * reduce}"
-        print(f"{'' if good else 'FAILED '}{what}: {space.count:,} states and {len(space.target):,} steps"
-              + ("" if good else f", and Spin has {got}"))
-    print(f"{tally[True]} passed, {tally[False]} failed")
-    return 0 if not tally[False] else 1
+        found = f"{space.count:,} states and {len(space.target):,} steps"
+        if good:
+            print(f"{what}: {found}")
+        note(what, good, f"{found}, and Spin has {got}")
+    return last_line()
 
 
 if __name__ == "__main__":

@@ -1,15 +1,17 @@
 """The count of rows of a script that is called by hand."""
+from collections import Counter
 
-TALLY = {"passed": 0, "failed": 0}
+# How many rows were good, and how many weren't.
+ROWS = Counter()
 
 
 def note(name, good, what=""):
-    TALLY["passed" if good else "failed"] += 1
+    ROWS[bool(good)] += 1
     if not good:
         print(f"FAILED {name}: {str(what)[:2000]}")
 
 
 def last_line():
     """Prints the count, and returns the status."""
-    print(f"{TALLY['passed']} passed, {TALLY['failed']} failed")
-    return 1 if TALLY["failed"] else 0
+    print(f"{ROWS[True]} passed, {ROWS[False]} failed")
+    return 1 if ROWS[False] else 0

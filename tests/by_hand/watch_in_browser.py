@@ -14,6 +14,7 @@ import sys
 import tempfile
 
 from tests import TOP
+from tests.by_hand.tally import last_line, note
 
 CLICKS = """<script>
 (function () {
@@ -82,7 +83,7 @@ def said(line):
 def main():
     words = argparse.ArgumentParser(description=__doc__, formatter_class=argparse.RawDescriptionHelpFormatter)
     words.add_argument("browser", nargs="?", default="chromium")
-    browser, tally = words.parse_args().browser, {True: 0, False: 0}
+    browser = words.parse_args().browser
     network = os.path.join(TOP, "examples", "triangle.col")
     row = os.path.join(TOP, "examples", "chain6.col")
     with tempfile.TemporaryDirectory() as folder:
@@ -109,16 +110,10 @@ def main():
             seen |= {"button while it plays": seen.get("playing", ("", ""))[1],
                      "button when it is stopped": seen.get("stopped", ("", ""))[1]}
             for step, what in wanted.items():
-                good = seen.get(step) == what
-                tally[good] += 1
-                if not good:
-                    print(f"FAILED {name}, {step}: wanted {what}, seen {seen.get(step)}")
+                note(f"{name}, {step}", seen.get(step) == what, f"wanted {what}, seen {seen.get(step)}")
         seen = seen_on(browser, call("picture", "watch", row, os.path.join(TOP, "examples", "chain6_slow.transcript")))
-        tally[seen.get("messages") == ("true", "0")] += 1
-        if seen.get("messages") != ("true", "0"):
-            print(f"FAILED six in a row: messages that cover nodes: {seen.get('messages')}")
-    print(f"{tally[True]} passed, {tally[False]} failed")
-    return 1 if tally[False] else 0
+        note("six in a row: messages that cover nodes", seen.get("messages") == ("true", "0"), seen.get("messages"))
+    return last_line()
 
 
 if __name__ == "__main__":

@@ -33,7 +33,8 @@ def members():
     """The fields of each record of specs/, and the ghost fields and fields of each struct of src/, by its name."""
     found = {}
     for path in glob.glob(os.path.join(TOP, "crates", "*", "specs", "**", "*.antt"), recursive=True):
-        for name, body in re.findall(r"^\s*(?:pub )?record (\w+)\b(.*?)(?=^\s*pub record |^\S|\Z)", text_of(path), re.M | re.S):
+        pattern = r"^\s*(?:pub )?record (\w+)\b(.*?)(?=^\s*pub record |^\S|\Z)"
+        for name, body in re.findall(pattern, text_of(path), re.M | re.S):
             found.setdefault(name, set()).update(re.findall(r"^\s+pub (\w+)\b", body, re.M))
     for path in glob.glob(os.path.join(TOP, "crates", "*", "src", "**", "*.rt"), recursive=True):
         for name, body in re.findall(r"^\s*(?:pub )?(?:struct|trait) (\w+)\b(.*?)^\}", text_of(path), re.M | re.S):
@@ -89,15 +90,20 @@ class Index(Case):
         self.assertGreater(count, 5, "fields that pages name")
 
     def test_names_in_files(self):
-        """Each name that a page gives with its file, as in "`crates/pool/src/run.rt`: `start`, `join_all`" or in two
-        cells of a row, is there; a file without a folder is beside the one named before it in the line."""
+        """Each name that a page gives with its file, as in "`crates/pool/src/run.rt`: `start`, `join_all`", in two
+        cells of a row, or in "`start` and `join_all` of `pool/src/run.rt`", is there; a file without a folder is
+        beside the one named before it in the line."""
         count = 0
         for page, text in pages():
             for number, line in enumerate(text.split("\n"), 1):
                 folder = ""
-                for path, names in re.findall(r"`([\w/-]+\.(?:rt|antt))`(?::| \|) ((?:`\w+`(?:, | and |))*)", line):
+                named = re.findall(r"`([\w/-]+\.(?:rt|antt))`(?::| \|) ((?:`\w+`(?:, | and |))*)", line)
+                named += [(path, names) for names, path in re.findall(
+                    r"((?:`\w+`(?:, | and |))+) of `((?:crates/)?\w+/(?:src|specs)/[\w/-]+\.(?:rt|antt))`", line)]
+                for path, names in named:
                     folder = os.path.dirname(path) or folder
-                    file = os.path.join(TOP, folder, os.path.basename(path))
+                    top = folder if folder.split("/")[0] == "crates" else os.path.join("crates", folder)
+                    file = os.path.join(TOP, top, os.path.basename(path))
                     for name in re.findall(r"`(\w+)`", names):
                         count += 1
                         with self.subTest(page=f"{page}:{number}", name=name, path=path):
@@ -129,6 +135,10 @@ class Index(Case):
         ):
             with self.subTest(page="README.md", limit=name):
                 self.assertIn(f"{limits[name]:,} {words}", readme)
+        with self.subTest(page="START", limit="the greatest colour"):
+            degree, bars, channel = (limits[name] for name in ("MAX_DEGREE", "MAX_BARS", "MAX_CHANNEL"))
+            self.assertIn(f"{degree:,} + {bars:,}, below `COLOURS`, {channel:,}",
+                          one_line(text_of("docs", "work", "START.md")))
         for name in ("MAX_NODES", "MAX_EDGES", "MAX_CHANNEL", "MAX_BARS", "MAX_DEGREE", "MAX_WORKERS", "MAX_CAPACITY"):
             with self.subTest(page="DEFINITIONS", limit=name):
                 self.assertIn(f"`{name}`, {limits[name]:,}", definitions)

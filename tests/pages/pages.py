@@ -258,6 +258,9 @@ class Pages(Case):
                 if "NAME" not in name:
                     self.note(f"{page}:{number} {name}", os.path.exists(os.path.join(TOP, name)),
                               "there is no such file")
+            for name in re.findall(r"`(\w+/(?:src|specs|proofs)(?:/[\w./-]+)?)`", line):
+                self.note(f"{page}:{number} {name}", os.path.exists(os.path.join(TOP, "crates", name)),
+                          "there is no such file of a crate")
             for target in re.findall(r"\]\(([^)]*)\)", line):
                 if re.match(r"https?:", target):
                     continue

@@ -47,7 +47,7 @@ FAULTS = [
     ("replay", RUN + "1 1 puts 2 close|", "X1 line 4", "line 4 isn't a line of a transcript"),
     ("replay", RUN + "1 1 put 2 payload 0 hello 7|", "WrongWire line 4: expected payload 0 hello 1",
      "the event of line 4 is possible, but with another wire"),
-    ("replay", RUN + "2 1 put 2 payload 0 hello 1|", "WrongStamp line 4", "in line 4 the stamp isn't that"),
+    ("replay", RUN + "2 1 put 2 payload 0 hello 1|", "WrongStamp line 4", "in line 4 the stamp isn't what"),
     ("replay", RUN + "1 1 put 2 payload 0 hello 1|", "NotWhole line 4", "but after line 4 a node isn't done"),
     ("plan", TRIANGLE, "stopped", "the workers had made all their looks"),
 ]

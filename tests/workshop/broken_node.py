@@ -7,6 +7,7 @@ import time
 
 from tests.workshop.base import EXAMPLES
 
+# The right node finds its own files beside it, as a student's does: examples/ is no package.
 sys.path.insert(0, os.path.join(EXAMPLES, "python"))
 import talk                                             # noqa: E402
 from rounds_node import RoundsNode                      # noqa: E402

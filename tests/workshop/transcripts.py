@@ -51,6 +51,14 @@ ROWS = (
      "a greater stamp than its put"),
     (f"1 1 take 2 {HELLO_2}|",
      "line 2: LinkEmpty: node 1 takes payload 0 hello 2 from 2: link from 2 to 1, and 2 never puts it"),
+    # What is put there later is another wire.
+    (f"1 1 take 2 {HELLO_2}|2 2 put 1 ack 0|",
+     "line 2: LinkEmpty: node 1 takes payload 0 hello 2 from 2: link from 2 to 1, and 2 never puts it"),
+    (f"1 1 take 2 {HELLO_2}|2 2 put 1 ack 0|3 2 put 1 {HELLO_2}|",
+     "line 2: LinkEmpty: node 1 takes payload 0 hello 2 from 2: link from 2 to 1; it is put in line 4, and ack 0 in "
+     "line 3 comes before it on that link"),
+    (f"1 1 put 2 {HELLO_1}|1 2 put 1 {HELLO_2}|2 1 take 2 {HELLO_2}|3 1 take 2 {HELLO_2}|",
+     "line 5: LinkEmpty: node 1 takes payload 0 hello 2 from 2: link from 2 to 1, and 2 never puts it again"),
     # Nothing is on its way: it isn't asked whether the text is cut.
     (GREETED, "line 5: NotWhole: after the last entry nothing is on its way, and not all is done: node 1 at pulse 0 "
               "doesn't "
@@ -69,7 +77,7 @@ ROWS = (
     ("x 1 pulse 1|", "line 2: X1: not an entry: `x` is no number of a stamp, which is below 2^64"),
     ("1|", "line 2: X1: not an entry: there is a stamp alone"),
     ("1 1|", "line 2: X1: not an entry: a node's number isn't followed by what it did"),
-    ("1 1 puts 2 close|", "line 2: X1: not an entry: `puts` is none of pulse, put and take"),
+    ("1 1 puts 2 close|", "line 2: X1: not an entry: `puts` is neither pulse, put nor take"),
     ("1 1 put 2|", "line 2: X1: not an entry: `put` is followed by a neighbour and a wire"),
     ("1 1 pulse|", "line 2: X1: not an entry: `pulse` is followed by one number"),
     ("1 1 put 2 nack 0|", "line 2: X1: not an entry: `nack` is no wire, which are payload, ack, safe, close"),

@@ -1,5 +1,6 @@
 -- What one call on an end, or on the node alone, leaves of the stamps of a node with its ends.
-use Rattle.std.proofs.Common.{◌≡◌, ℕ, zero, suc, ◌+◌, ◌^◌, ◌<◌, ◌≤◌, ◌==◌, true, false, if◌then◌else◌, List, [], ◌∷◌, ◌++◌, length, map, set, get_or, refl, sym, ap}
+use Rattle.std.proofs.Common.{◌≡◌, ℕ, zero, suc, ◌+◌, ◌^◌, ◌<◌, ◌≤◌, ◌==◌, true, false, if◌then◌else◌, List, [], ◌∷◌, ◌++◌, length, map, set, get_or}
+use Rattle.std.proofs.Common.{refl, sym, ap}
 use Rattle.std.proofs.Common.{ap₂, ◌∙◌, subst, arith, ⊎_elim, Some, None, Ok, Err}
 use Rattle.std.specs.Prelude.{All, Bool, Option, Result, IsTrue, MatchResult, max}
 use Rattle.std.proofs.lemmas.Bool.{cases_Bool, cases_eq, eqb-true}
@@ -15,6 +16,7 @@ use Rattle.alpha_laws.specs.alpha_core.Program.{start_node}
 use Rattle.alpha_laws.proofs.alpha_core.StampedWires.{last_more}
 use Rattle.stamps.specs.entries.Entry.{Entry}
 use Rattle.stamps.specs.entries.Entry.TheVariants.{Pulse, Put, Take}
+use Rattle.stamps.specs.entries.Rows.{stamped_entry}
 use Rattle.stamps.specs.Keeps.{HasTaken, KeepsStamps, TakesAreByPorts}
 use Rattle.stamps.specs.Stamps.{StampedEntry, bare_of, taken_in}
 use Rattle.stamps.proofs.Keeps.{keeps}
@@ -32,7 +34,8 @@ value_says (Ok x) is more = more x is
 value_says (Err e) is more = absurd is
 
 -- a list by port, without stamps
-wires_at : {Y M : Type 0} (taken : Y → List (Stamped M)) (ys : List Y) (i : ℕ) → by_port (map (λ y. wires_of (taken y)) ys) i ≡ wires_of (by_port (map taken ys) i)
+wires_at : {Y M : Type 0} (taken : Y → List (Stamped M)) (ys : List Y) (i : ℕ)
+    → by_port (map (λ y. wires_of (taken y)) ys) i ≡ wires_of (by_port (map taken ys) i)
 wires_at taken [] i = refl
 wires_at taken (y ∷ ys) zero = refl
 wires_at taken (y ∷ ys) (suc i) = wires_at taken ys i
@@ -75,18 +78,19 @@ module _ {S M E : Type 0} (program : Program S M E) (net : Net) (v : ℕ) where
 
     by_ports : TakesAreByPorts net v st
     by_ports w none =
-        let wires : wires_of (taken_in st w) ≡ [] = wires_taken st w ∙ ap (λ l. takes_in l w) same ∙ none_from es (start_node program net v) node is.run w none in
+        let wires : wires_of (taken_in st w) ≡ [] =
+        wires_taken st w ∙ ap (λ l. takes_in l w) same ∙ none_from es (start_node program net v) node is.run w none in
         sym (length-map (taken_in st w) (λ x. x.wire)) ∙ ap (λ l. length l) wires
 
 module _ {M : Type 0} (net : Net) (v : ℕ) where
   -- an entry is written down, or there is none
   next_stamps : (t : Bool) (counter counter' : ℕ) (puts puts' takens takens' : ℕ → List (Stamped M)) (es es' : List (Entry M)) (st st' : List (StampedEntry M))
-      (e : StampedEntry M) → es' ≡ (if t then es ++ (e.1 ∷ []) else es) → st' ≡ (if t then st ++ (e ∷ []) else st) → HasStamps net v t counter puts takens es st
+      (e : StampedEntry M) → es' ≡ (if t then es ++ (e.entry ∷ []) else es) → st' ≡ (if t then st ++ (e ∷ []) else st) → HasStamps net v t counter puts takens es st
       → (IsTrue t → KeepsStamps net v counter puts takens st → KeepsStamps net v counter' puts' takens' (st ++ (e ∷ [])))
       → ((i : ℕ) → last_stamp (puts' i) ≤ counter') → HasStamps net v t counter' puts' takens' es' st'
   next_stamps true counter counter' puts puts' takens takens' es es' st st' e es_are st_are h more below = record {
     keeps = λ yes. subst (λ l. KeepsStamps net v counter' puts' takens' l) (sym st_are) (more yes (h.keeps yes));
-    same = ap (λ l. bare_of l) st_are ∙ map-append (λ x. x.1) st (e ∷ []) ∙ ap (λ l. l ++ (e.1 ∷ [])) h.same ∙ sym es_are;
+    same = ap (λ l. bare_of l) st_are ∙ map-append (λ x. x.entry) st (e ∷ []) ∙ ap (λ l. l ++ (e.entry ∷ [])) h.same ∙ sym es_are;
     below = below;
   }
   next_stamps false counter counter' puts puts' takens takens' es es' st st' e es_are st_are h more below = record {
@@ -148,16 +152,17 @@ module _ {S M E X Y : Type 0} (program : Program S M E) (net : Net) (put : X →
     pub has_taken : (node : Node S M) (counter counter' k n : ℕ) (xs : List X) (ys : List Y) (aside : Option (Aside M)) (i : ℕ) (x y : Y) (item : Stamped M)
         (es es' : List (Entry M)) (st st' : List (StampedEntry M)) → length ys ≡ degree_of net v → i < degree_of net v → aside ≡ None
         → x ≡ get_or ys i x → taken y ≡ taken x ++ (item ∷ []) → n ≡ neighbour_of net v i → counter' ≡ max counter item.stamp + 1 → k ≡ counter'
-        → es' ≡ (if t then es ++ (Take n item.wire ∷ []) else es) → st' ≡ (if t then st ++ ((counter', Take n item.wire) ∷ []) else st)
+        → es' ≡ (if t then es ++ (Take n item.wire ∷ []) else es) → st' ≡ (if t then st ++ (stamped_entry counter' (Take n item.wire) ∷ []) else st)
         → Wrote node xs ys aside es → Has counter xs ys es st → Has k xs (set ys i y) es' st'
     has_taken node counter counter' k n xs ys aside i x y item es es' st st' count lt going is more neighbour next moved es_are st_are wrote h =
         let within : i < length ys = omega arith in
         let s = max counter item.stamp + 1 in
-        let e : StampedEntry M = (s, Take (neighbour_of net v i) item.wire) in
+        let e : StampedEntry M = stamped_entry s (Take (neighbour_of net v i) item.wire) in
         let wrote' : Wrote node xs ys None es = subst (λ a. Wrote node xs ys a es) going wrote in
         let grown = one_more_stamped taken ys i x y item within is more in
-        let es_more : es' ≡ (if t then es ++ (e.1 ∷ []) else es) = es_are ∙ ap (λ k. if t then es ++ (Take k item.wire ∷ []) else es) neighbour in
-        let st_more : st' ≡ (if t then st ++ (e ∷ []) else st) = st_are ∙ ap₂ (λ c k. if t then st ++ ((c, Take k item.wire) ∷ []) else st) next neighbour in
+        let es_more : es' ≡ (if t then es ++ (e.entry ∷ []) else es) = es_are ∙ ap (λ k. if t then es ++ (Take k item.wire ∷ []) else es) neighbour in
+        let st_more : st' ≡ (if t then st ++ (e ∷ []) else st) =
+        st_are ∙ ap₂ (λ c k. if t then st ++ (stamped_entry c (Take k item.wire) ∷ []) else st) next neighbour in
         subst (λ c. Has c xs (set ys i y) es' st') (sym (moved ∙ next))
         (next_stamps net v t counter s (by_port (map put xs)) (by_port (map put xs)) (by_port (map taken ys)) (by_port (map taken (set ys i y))) es es' st st'
         e es_more st_more h
@@ -175,23 +180,25 @@ module _ {S M E X Y : Type 0} (program : Program S M E) (net : Net) (put : X →
     pub has_put : (counter counter' k n : ℕ) (xs : List X) (ys : List Y) (i : ℕ) (x y : X) (w : Wire M)
         (es es' : List (Entry M)) (st st' : List (StampedEntry M)) → length xs ≡ degree_of net v → i < degree_of net v
         → x ≡ get_or xs i x → put y ≡ put x ++ (stamped counter' w ∷ []) → n ≡ neighbour_of net v i → counter' ≡ counter + 1 → k ≡ counter'
-        → es' ≡ (if t then es ++ (Put n w ∷ []) else es) → st' ≡ (if t then st ++ ((counter', Put n w) ∷ []) else st)
+        → es' ≡ (if t then es ++ (Put n w ∷ []) else es) → st' ≡ (if t then st ++ (stamped_entry counter' (Put n w) ∷ []) else st)
         → Has counter xs ys es st → Has k (set xs i y) ys es' st'
     has_put counter counter' k n xs ys i x y w es es' st st' count lt is more neighbour next moved es_are st_are h =
         let within : i < length xs = omega arith in
         let s = counter + 1 in
-        let e : StampedEntry M = (s, Put (neighbour_of net v i) w) in
+        let e : StampedEntry M = stamped_entry s (Put (neighbour_of net v i) w) in
         let more' : put y ≡ put x ++ (stamped s w ∷ []) = more ∙ ap (λ c. put x ++ (stamped c w ∷ [])) next in
         let grown = one_more_stamped put xs i x y (stamped s w) within is more' in
-        let es_more : es' ≡ (if t then es ++ (e.1 ∷ []) else es) = es_are ∙ ap (λ k. if t then es ++ (Put k w ∷ []) else es) neighbour in
-        let st_more : st' ≡ (if t then st ++ (e ∷ []) else st) = st_are ∙ ap₂ (λ c k. if t then st ++ ((c, Put k w) ∷ []) else st) next neighbour in
+        let es_more : es' ≡ (if t then es ++ (e.entry ∷ []) else es) = es_are ∙ ap (λ k. if t then es ++ (Put k w ∷ []) else es) neighbour in
+        let st_more : st' ≡ (if t then st ++ (e ∷ []) else st) =
+        st_are ∙ ap₂ (λ c k. if t then st ++ (stamped_entry c (Put k w) ∷ []) else st) next neighbour in
         subst (λ c. Has c (set xs i y) ys es' st') (sym (moved ∙ next))
         (next_stamps net v t counter s (by_port (map put xs)) (by_port (map put (set xs i y))) (by_port (map taken ys)) (by_port (map taken ys)) es es' st st'
         e es_more st_more h
         (λ yes kept. (keeps net ok v vertex).puts i counter w (by_port (map put xs)) (by_port (map put (set xs i y))) (by_port (map taken ys)) st lt kept grown)
         (λ j. ⊎_elim
         (λ here.
-        let last : last_stamp (by_port (map put (set xs i y)) j) ≡ s = ap (λ k. last_stamp (by_port (map put (set xs i y)) k)) here ∙ ap (λ l. last_stamp l) grown.here
+        let last : last_stamp (by_port (map put (set xs i y)) j) ≡ s =
+        ap (λ k. last_stamp (by_port (map put (set xs i y)) k)) here ∙ ap (λ l. last_stamp l) grown.here
         ∙ last_more 0 (by_port (map put xs) i) (stamped s w) in
         omega (arith, last))
         (λ ne. let same = ap (λ l. last_stamp l) (grown.others j ne) in let le = h.below j in omega (arith, same, le))
@@ -199,12 +206,12 @@ module _ {S M E X Y : Type 0} (program : Program S M E) (net : Net) (put : X →
 
     -- a pulse was made
     pub has_pulsed : (counter counter' k p : ℕ) (xs : List X) (ys : List Y) (es es' : List (Entry M)) (st st' : List (StampedEntry M))
-        → counter' ≡ counter + 1 → k ≡ counter' → es' ≡ (if t then es ++ (Pulse p ∷ []) else es) → st' ≡ (if t then st ++ ((counter', Pulse p) ∷ []) else st)
-        → Has counter xs ys es st → Has k xs ys es' st'
+        → counter' ≡ counter + 1 → k ≡ counter' → es' ≡ (if t then es ++ (Pulse p ∷ []) else es)
+        → st' ≡ (if t then st ++ (stamped_entry counter' (Pulse p) ∷ []) else st) → Has counter xs ys es st → Has k xs ys es' st'
     has_pulsed counter counter' k p xs ys es es' st st' next moved es_are st_are h =
         let s = counter + 1 in
-        let e : StampedEntry M = (s, Pulse p) in
-        let st_more : st' ≡ (if t then st ++ (e ∷ []) else st) = st_are ∙ ap (λ c. if t then st ++ ((c, Pulse p) ∷ []) else st) next in
+        let e : StampedEntry M = stamped_entry s (Pulse p) in
+        let st_more : st' ≡ (if t then st ++ (e ∷ []) else st) = st_are ∙ ap (λ c. if t then st ++ (stamped_entry c (Pulse p) ∷ []) else st) next in
         subst (λ c. Has c xs ys es' st') (sym (moved ∙ next))
         (next_stamps net v t counter s (by_port (map put xs)) (by_port (map put xs)) (by_port (map taken ys)) (by_port (map taken ys)) es es' st st'
         e es_are st_more h
@@ -214,7 +221,8 @@ module _ {S M E X Y : Type 0} (program : Program S M E) (net : Net) (put : X →
 -- the last stamp of a list that got one wire more is that of the wire
 pub last_at : {Y M : Type 0} (taken : Y → List (Stamped M)) (ys : List Y) (i : ℕ) (x y : Y) (w : Stamped M) → i < length ys → x ≡ get_or ys i x
     → taken y ≡ taken x ++ (w ∷ []) → last_stamp (by_port (map taken (set ys i y)) i) ≡ w.stamp
-last_at taken ys i x y w within is more = ap (λ l. last_stamp l) (one_more_stamped taken ys i x y w within is more).here ∙ last_more 0 (by_port (map taken ys) i) w
+last_at taken ys i x y w within is more =
+    ap (λ l. last_stamp l) (one_more_stamped taken ys i x y w within is more).here ∙ last_more 0 (by_port (map taken ys) i) w
 
 -- the wire that was taken last, and was set aside, came with the stamp for which it was, which the counter couldn't pass
 pub full_aside : {Y M : Type 0} (taken : Y → List (Stamped M)) (ys : List Y) (i : ℕ) (x y : Y) (w : Stamped M) (aside : Aside M) → i < length ys

@@ -1,12 +1,15 @@
 -- What a part of a turn leaves, exit by exit.
-use Rattle.std.proofs.Common.{◌≡◌, ◌≤◌, ◌+◌, ◌^◌, true, false, Ok, Err, sym, ◌∙◌, true≢false}
+use Rattle.std.proofs.Common.{◌≡◌, ◌≤◌, ◌+◌, ◌^◌, ℕ, List, true, false, Ok, Err, subst, sym, ◌∙◌, true≢false}
 use Rattle.std.specs.Prelude.{Bool, Result, IsErrAnd, IsTrue, max}
 use Rattle.std.specs.declared.cmp.PartialEq as equality
+use Rattle.atomic_table.specs.Seated.{TableId}
+use Rattle.alpha_laws.specs.alpha_core.Wire.{Wire}
 use Rattle.alpha_laws.specs.declared.NodeProgram as program
 use Rattle.alpha_laws.specs.declared.PayloadText as text
 use Rattle.actor.specs.Blocked.{IsUnmoved}
 use Rattle.actor.specs.HasStamps.{aside_stamp}
 use Rattle.actor.specs.Stepped.{Stepped}
+use Rattle.actor.specs.Tables.{LinkWasFull}
 use Rattle.actor.specs.declared.wiring.Wiring as wiring
 use Rattle.actor.specs.declared.node.Node.{Node}
 use Rattle.actor.specs.declared.refused.TurnRefused.{TurnRefused}
@@ -37,28 +40,33 @@ module _ {J P T : Type 0} {j : wiring.Ghosts J} {p : program.Ghosts P T} {t : te
     full = tt;
   }
 
-  -- memory was refused
-  pub stepped-memory : {old new : Node J P T j p t q} {r : Result Bool TurnRefused} → IsErrAnd r (λ error. error ≡ Memory) → new.vertex ≡ old.vertex
-      → new.degree ≡ old.degree → new.refusal ≡ old.refusal → IsTrue j.transcript → Stepped old new r
-  stepped-memory {r = Ok did} is vertex degree refusal transcript = absurd is
-  stepped-memory {r = Err error} is vertex degree refusal transcript = record {
+  -- it ended early
+  stepped-early : {old new : Node J P T j p t q} {r : Result Bool TurnRefused} (why : TurnRefused) → IsErrAnd r (λ error. error ≡ why)
+      → new.vertex ≡ old.vertex → new.degree ≡ old.degree → new.refusal ≡ old.refusal → (why ≡ Memory → IsTrue j.transcript)
+      → (why ≡ StampFull → 2 ^ 64 ≤ max new.counter (aside_stamp new.aside) + 1) → Stepped old new r
+  stepped-early {r = Ok did} why is vertex degree refusal memory full = absurd is
+  stepped-early {r = Err error} why is vertex degree refusal memory full = record {
     vertex = vertex;
     degree = degree;
     refusal = refusal;
     unmoved = tt;
-    refused = λ memory. transcript;
-    full = λ full. absurd (memory-isnt_full (sym is ∙ full));
+    refused = λ e. memory (sym is ∙ e);
+    full = λ e. full (sym is ∙ e);
   }
+
+  -- memory was refused
+  pub stepped-memory : {old new : Node J P T j p t q} {r : Result Bool TurnRefused} → IsErrAnd r (λ error. error ≡ Memory) → new.vertex ≡ old.vertex
+      → new.degree ≡ old.degree → new.refusal ≡ old.refusal → IsTrue j.transcript → Stepped old new r
+  stepped-memory is vertex degree refusal transcript =
+      stepped-early Memory is vertex degree refusal (λ e. transcript) (λ e. absurd (memory-isnt_full e))
 
   -- a stamp would be too great
   pub stepped-full : {old new : Node J P T j p t q} {r : Result Bool TurnRefused} → IsErrAnd r (λ error. error ≡ StampFull) → new.vertex ≡ old.vertex
       → new.degree ≡ old.degree → new.refusal ≡ old.refusal → 2 ^ 64 ≤ max new.counter (aside_stamp new.aside) + 1 → Stepped old new r
-  stepped-full {r = Ok did} is vertex degree refusal le = absurd is
-  stepped-full {r = Err error} is vertex degree refusal le = record {
-    vertex = vertex;
-    degree = degree;
-    refusal = refusal;
-    unmoved = tt;
-    refused = λ memory. absurd (full-isnt_memory (sym is ∙ memory));
-    full = λ full. le;
-  }
+  stepped-full is vertex degree refusal le = stepped-early StampFull is vertex degree refusal (λ e. absurd (full-isnt_memory e)) (λ e. le)
+
+-- a link that an end found full, as the link out of a vertex by a port
+pub full-there : {P T : Type 0} (tables : List (List TableId)) (v i : ℕ) {at : ℕ × ℕ} {put here : List (Wire T)} → at ≡ (v, i) → put ≡ here
+    → LinkWasFull P tables at.0 at.1 put → LinkWasFull P tables v i here
+full-there {P} tables v i {at} {put} place is full =
+    subst (λ wires. LinkWasFull P tables v i wires) is (subst (λ (p : ℕ × ℕ). LinkWasFull P tables p.0 p.1 put) place full)

@@ -57,7 +57,8 @@ module _ {S M E X Y : Type 0} (program : Program S M E) (net : Net) (put : X →
         let within : i < length xs = omega arith in
         let ts = by_port (reacted_to aside (map taken ys)) in
         let wrote' = subst (λ k. es' ≡ (if t then es ++ (Put k w ∷ []) else es)) neighbour wrote in
-        next_transcript program net v t node new (by_port (map put xs)) (by_port (map put (set xs i y))) ts ts es es' (Put (neighbour_of net v i) w) wrote' writes
+        next_transcript program net v t node new (by_port (map put xs)) (by_port (map put (set xs i y))) ts ts es es' (Put (neighbour_of net v i) w)
+        wrote' writes
         (wrote_put program net v ok vertex i w node new (by_port (map put xs)) (by_port (map put (set xs i y))) ts es lt oldest view same
         (one_more put xs i x y w within is more))
 

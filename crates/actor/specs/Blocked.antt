@@ -1,9 +1,13 @@
--- A node before and after a turn in which it did nothing.
-use Rattle.std.specs.Prelude.{◌≡◌, map}
+-- A node before and after a turn in which it did nothing, and why no wire of it is put.
+use Rattle.std.specs.Prelude.{◌≡◌, ◌⊎◌, ℕ, None, map, slice_get}
 use Rattle.std.specs.declared.cmp.PartialEq as equality
+use Rattle.alpha_laws.specs.alpha_core.View.{port_at}
 use Rattle.alpha_laws.specs.declared.NodeProgram as program
 use Rattle.alpha_laws.specs.declared.PayloadText as text
 use Rattle.link_queue.specs.Ends.{put_list, taken_list}
+use Rattle.stamps.specs.entries.Recorded.{entries_by}
+use Rattle.actor.specs.Node.{by_port}
+use Rattle.actor.specs.Tables.{LinkWasFull}
 use Rattle.actor.specs.declared.wiring.Wiring as wiring
 use Rattle.actor.specs.declared.node.Node.{Node}
 
@@ -16,5 +20,11 @@ module _ {J P T : Type 0} {j : wiring.Ghosts J} {p : program.Ghosts P T} {t : te
     pub aside : new.aside ≡ old.aside
     pub puts : map (λ e. put_list e.end) new.puts.items ≡ map (λ e. put_list e.end) old.puts.items
     pub takes : map (λ e. taken_list e.end) new.takes.items ≡ map (λ e. taken_list e.end) old.takes.items
-    pub entries : new.entries.items ≡ old.entries.items
+    pub entries : entries_by new.recorder ≡ entries_by old.recorder
     pub counter : new.counter ≡ old.counter
+
+  -- Why no wire is put by a port: none waits in its out-list, or its link was full at a moment of the call.
+  abbrev pub PutBlocked : ℕ → Node J P T j p t q → Type 0
+  PutBlocked port node =
+      (slice_get (port_at node.alpha.node.view port).out 0 ≡ None)
+      ⊎ LinkWasFull P j.tables node.vertex port (by_port (map (λ e. put_list e.end) node.puts.items) port)

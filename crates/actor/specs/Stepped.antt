@@ -10,7 +10,7 @@ use Rattle.actor.specs.HasStamps.{aside_stamp}
 use Rattle.actor.specs.declared.wiring.Wiring as wiring
 use Rattle.actor.specs.declared.node.Node.{Node}
 use Rattle.actor.specs.declared.refused.TurnRefused.{TurnRefused}
-use Rattle.actor.specs.declared.refused.TurnRefused.TheVariants as turn
+use Rattle.actor.specs.declared.refused.TurnRefused.TheVariants.{Memory, StampFull}
 
 -- the refusal that a node remembers after a turn: its own, if it ended early
 abbrev pub remembered : Option TurnRefused → Result Bool TurnRefused → Option TurnRefused
@@ -26,9 +26,9 @@ module _ {J P T : Type 0} {j : wiring.Ghosts J} {p : program.Ghosts P T} {t : te
     pub degree : new.degree ≡ old.degree
     pub refusal : new.refusal ≡ old.refusal
     pub unmoved : IfOk result (λ did. did ≡ false → IsUnmoved old new)
-    pub refused : IfErr result (λ error. error ≡ turn.Memory → IsTrue j.transcript)
+    pub refused : IfErr result (λ error. error ≡ Memory → IsTrue j.transcript)
     pub full : IfErr result
-        (λ error. error ≡ turn.StampFull → 2 ^ 64 ≤ max new.counter (aside_stamp new.aside) + 1)
+        (λ error. error ≡ StampFull → 2 ^ 64 ≤ max new.counter (aside_stamp new.aside) + 1)
 
   -- The three parts of a turn, one after the other. If they did nothing and set no wire aside, the node is as it was
   -- and can't make its next pulse.
@@ -38,6 +38,6 @@ module _ {J P T : Type 0} {j : wiring.Ghosts J} {p : program.Ghosts P T} {t : te
     pub unmoved : IfOk result (λ did. did ≡ false → new.aside ≡ old.aside → IsUnmoved old new)
     pub blocked : IfOk result
         (λ did. did ≡ false → new.aside ≡ None → can_pulse new.alpha.last new.alpha.node.view ≡ false)
-    pub refused : IfErr result (λ error. error ≡ turn.Memory → IsTrue j.transcript)
+    pub refused : IfErr result (λ error. error ≡ Memory → IsTrue j.transcript)
     pub full : IfErr result
-        (λ error. error ≡ turn.StampFull → 2 ^ 64 ≤ max new.counter (aside_stamp new.aside) + 1)
+        (λ error. error ≡ StampFull → 2 ^ 64 ≤ max new.counter (aside_stamp new.aside) + 1)

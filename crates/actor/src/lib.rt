@@ -14,7 +14,7 @@
 //! while node.turn(&rt, &links, &OpenGate, 0)? {}
 //! ```
 //!
-//! With a transcript a node writes down each of its events (`entries`), and keeps as a fact of its type that these are
+//! With a transcript a node writes down each of its events (`recorder`), and keeps as a fact of its type that these are
 //! all that it did (`specs/Written.antt`). Each entry's place is reserved before its event; so a turn whose place is
 //! refused leaves the node as after its last event. Without a transcript no turn can return
 //! out-of-memory.
@@ -35,7 +35,6 @@ mod task;
 mod turn;
 mod wired;
 mod wiring;
-mod writing;
 
 pub use aside::{Aside, WhyAside};
 pub use gate::{Gate, OpenGate};
@@ -48,4 +47,4 @@ pub use wiring::Wiring;
 // What crates above name of lower ones.
 pub use alpha_laws::{AlphaNode, Memory, NodeProgram};
 pub use link_queue::{Link, Met, PutEnd, TakeEnd};
-pub use stamps::{Counter, Entries};
+pub use stamps::{Counter, Entries, Recorder};

@@ -14,7 +14,7 @@ use crate::refused::TurnRefused;
 use crate::wired::{WiredPut, WiredTake};
 use crate::wiring::Wiring;
 use alpha_laws::{AlphaNode, Memory, Network, NodeProgram};
-use stamps::{Counter, Entries};
+use stamps::{Counter, Recorder};
 use std::alloc::Global;
 
 /// A node of a run, with the ends of its links by port. A node that has set a wire aside does nothing in a turn.
@@ -22,8 +22,6 @@ use std::alloc::Global;
 pub struct Node<J: Wiring, P: NodeProgram> {
     pub vertex: u32,
     pub degree: u32,
-    /// Whether it writes down what it does.
-    pub transcript: bool,
     /// Why a turn of it ended early, if one did: the last of those.
     pub refusal: Option<TurnRefused>,
     /// From which its events and the wires that it puts have their stamps.
@@ -31,12 +29,13 @@ pub struct Node<J: Wiring, P: NodeProgram> {
     pub puts: Vec<WiredPut<J, P::Payload>>,
     pub takes: Vec<WiredTake<J, P::Payload>>,
     pub alpha: AlphaNode<P>,
-    // A turn reads these two seldom, so they come after what it reads at each wire.
+    // A turn reads little of these two, so they come after what it reads at each wire.
     pub aside: Option<Aside<P::Payload>>,
-    pub entries: Entries<P::Payload>,
+    /// What it wrote down of its events, if the run's nodes do.
+    pub recorder: Recorder<P::Payload>,
     /// It keeps its links, and writes down what it does, if the run's nodes do.
-    pub ghost kept: { IsKept P.program vertex degree transcript aside alpha.last alpha.node puts.items takes.items
-        entries.items entries.stamped counter } by { Prim.hlevel (props, Follows-prop, Leads-prop, HasStamps-prop) },
+    pub ghost kept: { IsKept P.program vertex degree aside alpha.last alpha.node puts.items takes.items
+        recorder counter } by { Prim.hlevel (props, Follows-prop, Leads-prop, HasStamps-prop) },
 }
 
 impl<J: Wiring, P: NodeProgram> Node<J, P> {
@@ -70,14 +69,13 @@ impl<J: Wiring, P: NodeProgram> Node<J, P> {
         Ok(Node {
             vertex,
             degree: net.degree(vertex),
-            transcript,
             refusal: None,
             counter: Counter::new(),
             puts,
             takes,
             alpha,
             aside: None,
-            entries: Entries::new(alloc),
+            recorder: Recorder::new(alloc, transcript),
         })
     }
 }

@@ -1,7 +1,6 @@
 //! Why a turn of a node ended early.
 
 ghost use Rattle.std.specs.Prelude.{◌≡◌};
-ghost use Rattle.actor.specs.declared.refused.TurnRefused.TheVariants as turn;
 
 use alpha_laws::Memory;
 use stamps::StampFull;
@@ -16,7 +15,9 @@ pub enum TurnRefused {
 }
 
 impl From<Memory> for TurnRefused {
-    ghost from_gives = { λ _ result. result ≡ turn.Memory };
+    ghost use Rattle.actor.specs.declared.refused.TurnRefused.{TurnRefused};
+
+    ghost from_gives = { λ _ result. result ≡ TurnRefused.Memory };
 
     fn from(_error: Memory) -> TurnRefused {
         TurnRefused::Memory
@@ -24,7 +25,9 @@ impl From<Memory> for TurnRefused {
 }
 
 impl From<StampFull> for TurnRefused {
-    ghost from_gives = { λ _ result. result ≡ turn.StampFull };
+    ghost use Rattle.actor.specs.declared.refused.TurnRefused.{TurnRefused};
+
+    ghost from_gives = { λ _ result. result ≡ TurnRefused.StampFull };
 
     fn from(_error: StampFull) -> TurnRefused {
         TurnRefused::StampFull

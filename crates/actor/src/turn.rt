@@ -3,11 +3,10 @@
 ghost use Rattle.std.specs.Prelude.{◌≡◌, ◌<◌, ◌≤◌, ◌+◌, ◌^◌, max, IfErr, IfOk, IsSome, IsTrue, None, false, true};
 ghost use Rattle.alpha_laws.specs.alpha_core.View.{can_pulse, can_take};
 ghost use Rattle.link_queue.specs.Queued.{stamped_of};
-ghost use Rattle.actor.specs.Blocked.{IsUnmoved};
+ghost use Rattle.actor.specs.Blocked.{IsUnmoved, PutBlocked};
 ghost use Rattle.actor.specs.Counted.{CountsPut, CountsTake};
 ghost use Rattle.actor.specs.HasStamps.{aside_stamp};
 ghost use Rattle.actor.specs.Stepped.{Stepped, Turned, remembered};
-ghost use Rattle.actor.specs.declared.refused.TurnRefused.TheVariants as turn;
 
 use crate::aside::{Aside, WhyAside};
 use crate::gate::Gate;
@@ -15,7 +14,6 @@ use crate::links::Links;
 use crate::node::Node;
 use crate::refused::TurnRefused;
 use crate::wiring::Wiring;
-use crate::writing::{keep_room, write};
 use alpha_laws::{NodeProgram, Stamped, Wire};
 use link_queue::Queued;
 use stamps::Entry;
@@ -53,7 +51,7 @@ impl<J: Wiring, P: NodeProgram> Node<J, P> {
         ensures stepped { Stepped self.old self.new result }
         ensures counted { IfOk result (λ did. did ≡ true → CountsTake port self.old self.new) }
     {
-        keep_room(self.transcript, &mut self.entries)?;
+        self.recorder.reserve()?;
         let end = &mut self.takes[port as usize];
         match links.take(rt, end) {
             None => Ok(false),
@@ -69,7 +67,7 @@ impl<J: Wiring, P: NodeProgram> Node<J, P> {
                     Ok(()) => {
                         self.counter.advance(next);
                         let entry = Entry::Take(end.vertex, wire);
-                        write(self.transcript, &mut self.entries, next, entry);
+                        self.recorder.write(next, entry);
                     }
                     Err(_) => {
                         let why = WhyAside::Refused;
@@ -132,17 +130,12 @@ impl<J: Wiring, P: NodeProgram> Node<J, P> {
             return Ok(false);
         }
         let stamp = self.counter.peek()?;
-        keep_room(self.transcript, &mut self.entries)?;
+        self.recorder.reserve()?;
         match self.alpha.pulse() {
             Ok(()) => {
                 self.counter.advance(stamp);
                 let number = self.alpha.pulse_number();
-                write(
-                    self.transcript,
-                    &mut self.entries,
-                    stamp,
-                    Entry::Pulse(number),
-                );
+                self.recorder.write(stamp, Entry::Pulse(number));
                 Ok(true)
             }
             Err(_) => unreachable!(),
@@ -160,13 +153,14 @@ impl<J: Wiring, P: NodeProgram> Node<J, P> {
         requires going { self.old.aside ≡ None }
         ensures stepped { Stepped self.old self.new result }
         ensures counted { IfOk result (λ did. did ≡ true → CountsPut port self.old self.new) }
+        ensures blocked { IfOk result (λ did. did ≡ false → PutBlocked port self.old) }
         ensures going { self.new.aside ≡ None }
     {
         let Some(wire) = self.alpha.front(port) else {
             return Ok(false);
         };
         let stamp = self.counter.peek()?;
-        keep_room(self.transcript, &mut self.entries)?;
+        self.recorder.reserve()?;
         match links.put(rt, &mut self.puts[port as usize], Stamped { stamp, wire }) {
             Err(_) => Ok(false),
             Ok(()) => {
@@ -174,7 +168,7 @@ impl<J: Wiring, P: NodeProgram> Node<J, P> {
                 self.counter.advance(stamp);
                 let neighbour = &self.takes[port as usize];
                 let entry = Entry::Put(neighbour.vertex, wire);
-                write(self.transcript, &mut self.entries, stamp, entry);
+                self.recorder.write(stamp, entry);
                 Ok(true)
             }
         }
@@ -258,8 +252,8 @@ impl<J: Wiring, P: NodeProgram> Node<J, P> {
             (λ did. did ≡ false → self.new.aside ≡ self.old.aside → IsUnmoved self.old self.new) }
         ensures blocked { IfOk result (λ did. did ≡ false → self.new.aside ≡ None
             → can_pulse self.new.alpha.last self.new.alpha.node.view ≡ false) }
-        ensures refused { IfErr result (λ error. error ≡ turn.Memory → IsTrue J.transcript) }
-        ensures full { IfErr result (λ error. error ≡ turn.StampFull
+        ensures refused { IfErr result (λ error. error ≡ TurnRefused.Memory → IsTrue J.transcript) }
+        ensures full { IfErr result (λ error. error ≡ TurnRefused.StampFull
             → 2 ^ 64 ≤ max self.new.counter (aside_stamp self.new.aside) + 1) }
     {
         match self.parts(rt, links, gate, worker) {

@@ -10,8 +10,11 @@ use Rattle.std.proofs.lemmas.List.Folds.{sum_by-replicate}
 use Rattle.std.proofs.lemmas.List.Sums.{sum_by-set}
 use Rattle.alpha_core.specs.declared.marks.Kept.{Kept}
 use Rattle.alpha_core.specs.declared.marks.Marks.{Marks}
+use Rattle.alpha_core.specs.declared.when.When.{When}
+use Rattle.alpha_core.specs.declared.when.When.TheVariants.{Now, Next}
 use Rattle.alpha_core.specs.View.{bit}
 use Rattle.alpha_core.specs.Rows.{AreCounted, AtPulse, IsInStep, advanced, all_have_safe, marks_at, marks_in, marks_with, no_marks, safes_of}
+use Rattle.alpha_core.specs.When.{mark_safe, safes_before}
 use Rattle.alpha_core.proofs.Counts.{count-cons, count-map}
 
 -- the number of safes, by the two flags
@@ -39,14 +42,12 @@ abbrev pub one_more : Kept → Kept
 one_more o = record { safes = o.safes + 1; waits = o.waits; closed = o.closed }
 
 module _ (p : ℕ) (o : Kept) where
-  pub safe-taken : o.safes ≡ p → marks_with p (one_more o) ≡ record (marks_with p o) { safe = true }
-  safe-taken e =
+  pub safe-taken : (when : When) → o.safes ≡ p + safes_before when → marks_with p (one_more o) ≡ mark_safe when (marks_with p o)
+  safe-taken Now e =
       ap (λ b. record (marks_with p (one_more o)) { safe = b }) (lt-true p (o.safes + 1) (omega (arith, e)))
       ∙ ap (λ b. record (marks_with p o) { safe = true; early_safe = b })
       (lt-false (p + 1) (o.safes + 1) (omega (arith, e)) ∙ sym (lt-false (p + 1) o.safes (omega (arith, e))))
-
-  pub early-taken : o.safes ≡ p + 1 → marks_with p (one_more o) ≡ record (marks_with p o) { early_safe = true }
-  early-taken e =
+  safe-taken Next e =
       ap (λ b. record (marks_with p (one_more o)) { early_safe = b }) (lt-true (p + 1) (o.safes + 1) (omega (arith, e)))
       ∙ ap (λ b. record (marks_with p o) { safe = b; early_safe = true })
       (lt-true p (o.safes + 1) (omega (arith, e)) ∙ sym (lt-true p o.safes (omega (arith, e))))
@@ -100,6 +101,29 @@ module _ (p : ℕ) (kept : List Kept) (v : AtPulse Marks) (is : record { pulse =
         ap (λ l. record { pulse = p; ports = l })
         (map-set (marks_with p) kept i m ∙ ap (λ x. set (marks_in p kept) i x) (e ∙ ap f (sym (seen i o was h))))
         ∙ ap (λ (w : AtPulse Marks). record w { ports = set w.ports i (f (marks_at v.ports i)) }) is
+
+  -- one safe more was taken at the port: of this pulse, or of the next
+  module _ (i : ℕ) (o : Kept) (was : o ≡ get_or kept i o) (h : i < length v.ports) {waits safe early closed : ℕ}
+      (before : AreCounted p kept waits safe early closed) where
+    pub now-counted : o.safes ≡ p + 0 → AreCounted p (set kept i (one_more o)) waits (safe + 1) early closed
+    now-counted at =
+        let taken = safe-taken p o Now at in
+        are-counted i o (one_more o) was h before (omega (arith, at), omega (arith, at)) refl
+        (omega (arith, ap (λ (x : Marks). cond {A = ℕ} x.safe 1 0) taken, ap (λ b. cond {A = ℕ} b 1 0) (lt-false p o.safes (omega (arith, at)))))
+        (omega (arith, ap (λ (x : Marks). cond {A = ℕ} x.early_safe 1 0) taken))
+        refl
+
+    pub next-counted : o.safes ≡ p + 1 → AreCounted p (set kept i (one_more o)) waits safe (early + 1) closed
+    next-counted at =
+        let taken = safe-taken p o Next at in
+        are-counted i o (one_more o) was h before (omega (arith, at), omega (arith, at)) refl
+        (omega (arith, ap (λ (x : Marks). cond {A = ℕ} x.safe 1 0) taken))
+        (omega (
+          arith,
+          ap (λ (x : Marks). cond {A = ℕ} x.early_safe 1 0) taken,
+          ap (λ b. cond {A = ℕ} b 1 0) (lt-false (p + 1) o.safes (omega (arith, at))),
+        ))
+        refl
 
 -- a count of ports that wait counts this one
 pub waits-counted : (p : ℕ) (kept : List Kept) (i : ℕ) (o : Kept) → o ≡ get_or kept i o → i < length kept →

@@ -82,7 +82,8 @@ module _ {X M : Type 0} (items : X → List BareWire) where
         (get_or-le-sum_by (λ p. bit (is_over most (out_of {M = M} items p))) (zip ws ps) i (w, p) (omega (arith, inside, zip-length ws ps same)))
 
     -- a list of one wire more than so many is counted
-    pub is-counted : (most : ℕ) → All (IsWhole {M = M} items) (zip ws ps) → 0 < length (items w) → bit (nat_eq (length (items w)) (most + 1)) ≤ overs_of most ws ps
+    pub is-counted : (most : ℕ) → All (IsWhole {M = M} items) (zip ws ps) → 0 < length (items w)
+        → bit (nat_eq (length (items w)) (most + 1)) ≤ overs_of most ws ps
     is-counted most all some = omega (
       arith,
       counted most,

@@ -9,12 +9,15 @@ mod Kept
 mod KeptFlags
 mod PayloadPlaces
 mod PortRows
+mod WhenRows
+mod WhenTaken
 mod RowLengths
 mod Taken
 mod OutLists
 mod OutWires
 mod FrontWires
 mod KeptOuts
+mod SeenOuts
 mod Followed
 mod Settled
 mod Entered

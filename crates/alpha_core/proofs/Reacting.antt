@@ -1,13 +1,16 @@
 -- What a payload that is due finds at its port, and the reaction to a wire that isn't refused.
-use Rattle.std.proofs.Common.{◌≡◌, ℕ, suc, ◌+◌, ◌<◌, ◌≤◌, Bool, true, false, ◌&&◌, Option, Some, None, refl, sym, ap, ◌∙◌, arith, eq-eqb}
+use Rattle.std.proofs.Common.{◌≡◌, ℕ, suc, ◌+◌, ◌<◌, ◌≤◌, Bool, true, false, ◌&&◌, Option, Some, None, refl, sym, ap, ◌∙◌, arith}
+use Rattle.std.proofs.Common.{eq-eqb, ne_eqb, ⊎_elim}
 use Rattle.std.specs.Prelude.{is_some, nat_eq, nat_lt, if◌then◌else◌, Ok}
-use Rattle.std.proofs.lemmas.Bool.{and_parts, or_parts, eqb-true, leb-true, ltb-true, not-true}
+use Rattle.std.proofs.lemmas.Bool.{cases_eq, and_parts, or_parts, eqb-true, leb-true, ltb-true, not-true}
 use Rattle.alpha_core.specs.declared.wire.Wire.{Wire}
 use Rattle.alpha_core.specs.declared.wire.Wire.TheVariants.{Payload, Safe}
 use Rattle.alpha_core.specs.View.{Alpha, Port, View, set_port, safes_at, safes_here, is_paid, port_at}
 use Rattle.alpha_core.specs.Table.{horizon, refusal_of, is_due}
 use Rattle.alpha_core.specs.Rows.{AtPulse, with_port}
 use Rattle.alpha_core.specs.Alpha.{reaction, reacts, unless_refused}
+use Rattle.alpha_core.specs.When.{payload_taken, safes_before, when_of}
+use Rattle.alpha_core.specs.declared.when.When.TheVariants.{Now, Next}
 
 -- the reaction to a wire that isn't refused, and that is this one
 pub reaction-is : {M : Type 0} (last : ℕ) (view : View M) (i : ℕ) (w v : Wire M)
@@ -45,17 +48,17 @@ module _ {M : Type 0} (last p : ℕ) (said : Bool) (port : Port M) (q : ℕ) (x 
   within : q ≤ horizon last p said
   within = leb-true q (horizon last p said) (and_parts _ _ (and_parts _ _ (and_parts _ _ due).0).0).1
 
-  -- no payload of its pulse was taken: of this pulse, or else of the next
-  pub due-present : q ≡ p → port.present ≡ None
-  due-present e =
-      none-at port.present (nat_eq (safes_here port) 0) (or_parts _ _ unpaid).0 (eq-eqb (safes_here port) 0 (omega (arith, next, e)))
+  -- no payload of its pulse was taken
+  pub due-none : payload_taken (when_of p q) port ≡ None
+  due-none = ⊎_elim
+      (λ e. ap (λ b. payload_taken (if b then Now else Next) port) (eq-eqb q p e)
+      ∙ none-at port.present (nat_eq (safes_here port) 0) (or_parts _ _ unpaid).0 (eq-eqb (safes_here port) 0 (omega (arith, next, e))))
+      (λ ne. ap (λ b. payload_taken (if b then Now else Next) port) (ne_eqb q p ne)
+      ∙ none-at port.early (nat_eq (safes_here port) 1) (or_parts _ _ unpaid).1
+      (eq-eqb (safes_here port) 1 (omega (arith, next, ne, within, horizon-below last p said))))
+      (cases_eq q p)
 
-  pub due-early : (q ≡ p → ⊥) → port.early ≡ None
-  due-early ne =
-      none-at port.early (nat_eq (safes_here port) 1) (or_parts _ _ unpaid).1
-      (eq-eqb (safes_here port) 1 (omega (arith, next, ne, within, horizon-below last p said)))
-
--- a safe that is due is the next: of this pulse where none was taken, or else of the next
+-- a safe that is due is the next
 module _ {M : Type 0} (last p : ℕ) (said : Bool) (port : Port M) (q : ℕ) (due : is_due {M = M} last p said port (Safe q) ≡ true) where
   pub safe-below : q < last
   safe-below = ltb-true q last (and_parts _ _ due).1
@@ -66,11 +69,11 @@ module _ {M : Type 0} (last p : ℕ) (said : Bool) (port : Port M) (q : ℕ) (du
   safe-within : q ≤ horizon last p said
   safe-within = leb-true q (horizon last p said) (and_parts _ _ (and_parts _ _ due).0).1
 
-  pub safe-first : q ≡ p → safes_here port ≡ 0
-  safe-first e = omega (arith, safe-next, e)
+  pub safe-at : q ≡ p + safes_before (when_of p q)
+  safe-at = ⊎_elim
+      (λ e. omega (arith, e, ap (λ b. safes_before (if b then Now else Next)) (eq-eqb q p e)))
+      (λ ne. omega (arith, safe-next, ne, safe-within, horizon-below last p said, ap (λ b. safes_before (if b then Now else Next)) (ne_eqb q p ne)))
+      (cases_eq q p)
 
-  pub safe-second : (q ≡ p → ⊥) → safes_here port ≡ 1
-  safe-second ne = omega (arith, safe-next, ne, safe-within, horizon-below last p said)
-
-  pub safe-later : (q ≡ p → ⊥) → q ≡ p + 1
-  safe-later ne = omega (arith, safe-next, safe-second ne)
+  pub safe-follows : safes_here port ≡ safes_before (when_of p q)
+  safe-follows = omega (arith, safe-next, safe-at)

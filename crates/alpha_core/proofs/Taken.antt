@@ -1,30 +1,49 @@
 -- The two inboxes of a node: which has the payloads of this pulse, and which those of the next.
-use Rattle.std.proofs.Common.{◌≡◌, Bool, true, false, Option, List, refl, ap, sym, ◌∙◌}
+use Rattle.std.proofs.Common.{◌≡◌, Bool, true, false, Option, List, refl, ap, ◌∙◌}
 use Rattle.alpha_core.specs.Rows.{Taken, taken_by}
+use Rattle.alpha_core.specs.When.{in_odd, slots_of, with_slots}
+use Rattle.alpha_core.specs.declared.when.When.{When}
+use Rattle.alpha_core.specs.declared.when.When.TheVariants.{Now, Next}
 
 module _ {M : Type 0} where
-  odd-of : (at_odd : Bool) (evens odds : List (Option M)) → (taken_by at_odd evens odds).odd ≡ at_odd
-  odd-of true evens odds = refl
-  odd-of false evens odds = refl
+  odd-has : (when : When) (at_odd : Bool) (even odd : List (Option M)) → in_odd when at_odd ≡ true → odd ≡ slots_of when (taken_by at_odd even odd)
+  odd-has Now true even odd e = refl
+  odd-has Now false even odd e = absurd cc
+  odd-has Next true even odd e = absurd cc
+  odd-has Next false even odd e = refl
 
-module _ {M : Type 0} (at_odd : Bool) (even odd : List (Option M)) (v : Taken M) (is : taken_by at_odd even odd ≡ v) where
-  pub present-odd : at_odd ≡ true → odd ≡ v.present
-  present-odd e = ap (λ b. (taken_by b even odd).present) (sym e) ∙ ap (λ t. t.present) is
+  even-has : (when : When) (at_odd : Bool) (even odd : List (Option M)) → in_odd when at_odd ≡ false → even ≡ slots_of when (taken_by at_odd even odd)
+  even-has Now true even odd e = absurd cc
+  even-has Now false even odd e = refl
+  even-has Next true even odd e = refl
+  even-has Next false even odd e = absurd cc
 
-  pub early-odd : at_odd ≡ true → even ≡ v.early
-  early-odd e = ap (λ b. (taken_by b even odd).early) (sym e) ∙ ap (λ t. t.early) is
+  odd-other : (when : When) (at_odd : Bool) (even odd new : List (Option M)) → in_odd when at_odd ≡ true
+      → taken_by at_odd even new ≡ with_slots when new (taken_by at_odd even odd)
+  odd-other Now true even odd new e = refl
+  odd-other Now false even odd new e = absurd cc
+  odd-other Next true even odd new e = absurd cc
+  odd-other Next false even odd new e = refl
 
-  pub present-even : at_odd ≡ false → even ≡ v.present
-  present-even e = ap (λ b. (taken_by b even odd).present) (sym e) ∙ ap (λ t. t.present) is
+  even-other : (when : When) (at_odd : Bool) (even odd new : List (Option M)) → in_odd when at_odd ≡ false
+      → taken_by at_odd new odd ≡ with_slots when new (taken_by at_odd even odd)
+  even-other Now true even odd new e = absurd cc
+  even-other Now false even odd new e = refl
+  even-other Next true even odd new e = refl
+  even-other Next false even odd new e = absurd cc
 
-  pub early-even : at_odd ≡ false → odd ≡ v.early
-  early-even e = ap (λ b. (taken_by b even odd).early) (sym e) ∙ ap (λ t. t.early) is
+-- what contracts see of the inboxes
+module _ {M : Type 0} (when : When) (at_odd : Bool) (even odd : List (Option M)) {v : Taken M} (is : taken_by at_odd even odd ≡ v) where
+  pub odd-slots : in_odd when at_odd ≡ true → odd ≡ slots_of when v
+  odd-slots e = odd-has when at_odd even odd e ∙ ap (λ t. slots_of when t) is
 
-  -- what is seen of other inboxes with this parity
-  pub taken-odd : (evens odds : List (Option M)) → at_odd ≡ true → taken_by at_odd evens odds ≡ record { odd = v.odd; present = odds; early = evens }
-  taken-odd evens odds e = ap (λ b. taken_by b evens odds) e
-      ∙ ap (λ b. record { odd = b; present = odds; early = evens }) (sym e ∙ sym (odd-of at_odd even odd) ∙ ap (λ t. t.odd) is)
+  pub even-slots : in_odd when at_odd ≡ false → even ≡ slots_of when v
+  even-slots e = even-has when at_odd even odd e ∙ ap (λ t. slots_of when t) is
 
-  pub taken-even : (evens odds : List (Option M)) → at_odd ≡ false → taken_by at_odd evens odds ≡ record { odd = v.odd; present = evens; early = odds }
-  taken-even evens odds e = ap (λ b. taken_by b evens odds) e
-      ∙ ap (λ b. record { odd = b; present = evens; early = odds }) (sym e ∙ sym (odd-of at_odd even odd) ∙ ap (λ t. t.odd) is)
+  pub odd-changed : {new slots : List (Option M)} → in_odd when at_odd ≡ true → new ≡ slots → taken_by at_odd even new ≡ with_slots when slots v
+  odd-changed {new} {slots} e same =
+      odd-other when at_odd even odd new e ∙ ap (λ t. with_slots when new t) is ∙ ap (λ l. with_slots when l v) same
+
+  pub even-changed : {new slots : List (Option M)} → in_odd when at_odd ≡ false → new ≡ slots → taken_by at_odd new odd ≡ with_slots when slots v
+  even-changed {new} {slots} e same =
+      even-other when at_odd even odd new e ∙ ap (λ t. with_slots when new t) is ∙ ap (λ l. with_slots when l v) same

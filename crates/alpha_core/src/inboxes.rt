@@ -4,7 +4,9 @@ ghost use Rattle.std.specs.Prelude.{◌≡◌, ◌<◌, ◌≤◌, ◌↔◌, If
 ghost use Rattle.node_api.below.interference.specs.declared.limits.TheConstants.{MAX_DEGREE};
 ghost use Rattle.node_api.specs.Boxes.{at_port, nothing};
 ghost use Rattle.node_api.specs.Program.{Matches};
+ghost use Rattle.alpha_core.specs.When.{slots_of, with_slots};
 
+use crate::when::When;
 use node_api::{Inbox, Memory, NodeProgram, Outbox, Refused};
 use std::alloc::Global;
 use std::marker::Model;
@@ -64,54 +66,29 @@ impl<T: Copy> Inboxes<T> {
         })
     }
 
-    /// Whether no payload of this pulse is at a port.
-    pub(crate) fn has_no_present(&self, port: u32) -> bool
-        requires port { port < length self.now.present }
-        ensures empty { IsTrue result ↔ (at_port self.now.present port ≡ Option.None) }
+    /// Whether no payload of a pulse is at a port.
+    pub(crate) fn has_none(&self, port: u32, when: When) -> bool
+        requires port { port < length (slots_of when self.now) }
+        ensures empty { IsTrue result ↔ (at_port (slots_of when self.now) port ≡ Option.None) }
     {
-        if self.at_odd {
+        if when.is_in_odd(self.at_odd) {
             self.odd.is_empty(port)
         } else {
             self.even.is_empty(port)
         }
     }
 
-    /// Whether no payload of the next pulse is at a port.
-    pub(crate) fn has_no_early(&self, port: u32) -> bool
-        requires port { port < length self.now.early }
-        ensures empty { IsTrue result ↔ (at_port self.now.early port ≡ Option.None) }
+    /// Puts a payload of a pulse at a port that has none of it.
+    pub(crate) fn put(&mut self, port: u32, when: When, payload: T)
+        requires port { port < length (slots_of when self.old) }
+        requires empty { at_port (slots_of when self.old) port ≡ Option.None }
+        ensures put { self.new ≡ with_slots when
+            (slice_set (slots_of when self.old) port (Option.Some payload)) self.old }
     {
-        if self.at_odd {
-            self.even.is_empty(port)
-        } else {
-            self.odd.is_empty(port)
-        }
-    }
-
-    /// Puts a payload of this pulse at a port that has none.
-    pub(crate) fn put_present(&mut self, port: u32, payload: T)
-        requires port { port < length self.old.present }
-        requires empty { at_port self.old.present port ≡ Option.None }
-        ensures put { self.new ≡
-            record self.old { present = slice_set self.old.present port (Option.Some payload) } }
-    {
-        if self.at_odd {
+        if when.is_in_odd(self.at_odd) {
             self.odd.put(port, payload);
         } else {
             self.even.put(port, payload);
-        }
-    }
-
-    /// Puts a payload of the next pulse at a port that has none.
-    pub(crate) fn put_early(&mut self, port: u32, payload: T)
-        requires port { port < length self.old.early }
-        requires empty { at_port self.old.early port ≡ Option.None }
-        ensures put { self.new ≡ record self.old { early = slice_set self.old.early port (Option.Some payload) } }
-    {
-        if self.at_odd {
-            self.even.put(port, payload);
-        } else {
-            self.odd.put(port, payload);
         }
     }
 

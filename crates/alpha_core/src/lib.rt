@@ -42,6 +42,7 @@ mod refused;
 mod stamped;
 mod table;
 mod taking;
+mod when;
 mod wire;
 
 pub use counter::{Counter, StampFull};

@@ -12,7 +12,7 @@ use Rattle.dimacs_col.specs.Reading.{AllGood, number_after, verdict}
 use Rattle.dimacs_col.specs.declared.fault.ColFault.TheVariants.{UnknownLine}
 use Rattle.dimacs_col.specs.declared.kind.Kind.TheVariants.{Unknown}
 use Rattle.dimacs_col.proofs.Verdicts.{verdict-unknown}
-use Rattle.channel_plan.specs.Split.{begins_plan, plan_word}
+use Rattle.channel_plan.specs.Split.{begins, plan_word}
 use Rattle.channel_plan.proofs.Splitting.{AreBefore, before-cons, before-none}
 
 abbrev is_feed : ℕ → Bool
@@ -53,6 +53,9 @@ plan-kind = refl
 or-false : (b : Bool) → (b || false) ≡ true → b ≡ true
 or-false true e = refl
 or-false false e = e
+
+abbrev begins_plan : Line → Bool
+begins_plan line = begins plan_word line
 
 line-kind : (line : Line) → begins_plan line ≡ true → kind_of line ≡ Unknown
 line-kind [] e = absurd cc

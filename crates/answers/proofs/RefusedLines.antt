@@ -1,8 +1,7 @@
 -- The number of a refused entry's line: the line is the entry (entry-at), whatever the refusal (refusal).
 use Rattle.std.proofs.Common.{◌≡◌, ◌≢◌, ◌++◌, ◌∷◌, [], ◌∙◌, ◌<◌, ℕ, zero, suc, Option, Some, None, Ok, List, ap, arith, codes, get_or, inl, length, map}
 use Rattle.std.proofs.Common.{refl, slice_get, slice_index_or, subst, sym, take}
-use Rattle.std.specs.declared.vec.Vec.{Vec}
-use Rattle.std.specs.declared.alloc.Global.{Global}
+use Rattle.std.proofs.lemmas.List.{length-append}
 use Rattle.dimacs_col.specs.Lines.{Line}
 use Rattle.alpha_core.specs.interference.Net.{IsNetwork, Net}
 use Rattle.alpha_core.specs.node_api.Program.{Program}
@@ -18,7 +17,8 @@ use Rattle.transcripts.specs.EntryLines.{row_of}
 use Rattle.transcripts.specs.Reading.{Transcript}
 use Rattle.transcripts.proofs.Either.{read-one-behind}
 use Rattle.transcripts.proofs.EntryNumbers.{entries-have-lines}
-use Rattle.answers.specs.ReplayAnswers.{HasLineOf, IsFaultOfTranscript, IsRefusal, IsTold, IsToldAs, fault_at, index_of, transcript_in, words_text}
+use Rattle.answers.specs.ReplayAnswers.{HasLineOf, IsFaultOfTranscript, IsRefusal, IsTold, IsToldAs, StopsThere}
+use Rattle.answers.specs.ReplayAnswers.{fault_at, index_of, transcript_in, words_text}
 use Rattle.answers.specs.declared.replaying.ReplayFault.{ReplayFault}
 use Rattle.answers.specs.declared.replaying.ReplayFault.TheVariants as fault
 
@@ -49,14 +49,32 @@ take-at : {X : Type 0} (before after : List X) → take (length before) (before 
 take-at [] after = refl
 take-at (first ∷ before) after = ap (λ l. first ∷ l) (take-at before after)
 
-pub not-memory : (numbers : List ℕ) (words : Vec ℕ Global) (refused : ReplayRefused) (index : ℕ) → index_of refused ≡ Some index →
-    refused ≢ replay.Run run.Memory
-not-memory numbers words (replay.Run run.Memory) index e = absurd cc
-not-memory numbers words (replay.Run (run.NotReady k)) index e = λ same. cc
-not-memory numbers words (replay.Run (run.NothingToPut k)) index e = λ same. cc
-not-memory numbers words (replay.Run (run.LinkEmpty k)) index e = λ same. cc
-not-memory numbers words (replay.Run (run.NoSuch k)) index e = λ same. cc
-not-memory numbers words (replay.WrongWire k) index e = λ same. cc
+pub not-memory : (refused : ReplayRefused) (index : ℕ) → index_of refused ≡ Some index → refused ≢ replay.Run run.Memory
+not-memory (replay.Run run.Memory) index e = absurd cc
+not-memory (replay.Run (run.NotReady k)) index e = λ same. cc
+not-memory (replay.Run (run.NothingToPut k)) index e = λ same. cc
+not-memory (replay.Run (run.LinkEmpty k)) index e = λ same. cc
+not-memory (replay.Run (run.NoSuch k)) index e = λ same. cc
+not-memory (replay.WrongWire k) index e = λ same. cc
+
+module _ {S M E : Type 0} (program : Program S M E) where
+  -- the index that a refusal has is that of the refused entry
+  index-is : (net : Net) (rows : List (Row M)) (refused : ReplayRefused) (index : ℕ) → (stops : Stops program net rows refused) →
+      index_of refused ≡ Some index → index ≡ length stops.before
+  index-is net rows refused index stops e =
+      let k = length stops.before in
+      let same = some-is k index in
+      by-index (λ r. index_of r ≡ Some index → index ≡ k) k same same same same (none-is k index) same stops.reason
+      (ap index_of (sym stops.index) ∙ e)
+
+  -- so there is such an entry
+  pub index-within : (net : Net) (rows : List (Row M)) (refused : ReplayRefused) (index : ℕ) → StopsThere program net rows refused →
+      index_of refused ≡ Some index → index < length rows
+  index-within net rows refused index there e =
+      let stops = there (not-memory refused index e) in
+      let is = index-is net rows refused index stops e in
+      let split = ap (λ l. length l) stops.splits ∙ length-append stops.before (stops.row ∷ stops.after) in
+      omega (arith, is, split)
 
 module _ {S M E : Type 0} (program : Program S M E) (word_of : M → List ℕ) (number_of : M → ℕ) where
   -- The entries before the refused one, replayed once more, lead to the state in which the entries stop.
@@ -64,12 +82,9 @@ module _ {S M E : Type 0} (program : Program S M E) (word_of : M → List ℕ) (
       (stops : Stops program net rows refused) → (is : IsToldAs program word_of number_of net rows numbers refused told) →
       is.words.items ≡ words_text program word_of number_of net stops.reached stops.row refused
   says-there net ok rows numbers refused told stops is =
-      let k = length stops.before in
-      let same = some-is k is.index in
-      let place : is.index ≡ k = by-index (λ r. index_of r ≡ Some is.index → is.index ≡ k) k same same same same (none-is k is.index) same stops.reason
-      (ap index_of (sym stops.index) ∙ is.is_index) in
+      let place = index-is program net rows refused is.index stops is.is_index in
       let before : take is.index rows ≡ stops.before =
-      ap (λ k. take k rows) place ∙ ap (take k) stops.splits ∙ take-at stops.before (stops.row ∷ stops.after) in
+      ap (λ k. take k rows) place ∙ ap (take (length stops.before)) stops.splits ∙ take-at stops.before (stops.row ∷ stops.after) in
       let here : Some is.row ≡ Some stops.row =
       sym is.is_row ∙ ap (λ k. slice_get rows k) place ∙ ap (λ l. slice_get l (length stops.before)) stops.splits
       ∙ get-at stops.before stops.row stops.after in
@@ -146,4 +161,4 @@ module _ {S M E : Type 0} (program : Program S M E) (word_of : M → List ℕ) (
   fault-refused net ok lines read refused told e stops is =
       by-fault net lines told (λ no.
       let so = told-as program word_of number_of net read.1 (entry_lines lines) refused told is no in
-      refusal net ok lines read refused told e (stops (not-memory (entry_lines lines) so.words refused so.index so.is_index)) so)
+      refusal net ok lines read refused told e (stops (not-memory refused so.index so.is_index)) so)

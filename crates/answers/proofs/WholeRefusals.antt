@@ -17,17 +17,18 @@ use Rattle.net_core.proofs.Decided.{by-index}
 use Rattle.transcripts.specs.Behind.{entry_lines, stamped_entry_on}
 use Rattle.transcripts.specs.Editions.{Two}
 use Rattle.transcripts.specs.Reading.{StampedTranscript}
+use Rattle.entries.specs.Rows.{without_stamp}
 use Rattle.transcripts.specs.TranscriptText.{Row, StampedRow}
 use Rattle.transcripts.proofs.Either.{stamped-have-lines}
 use Rattle.answers.specs.ReplayAnswers.{HasLine, IsEntryTold, IsFaultOfTranscript, IsStampedLine, IsStampedRefusal, IsStampedTold, IsToldAs, bare_rows}
-use Rattle.answers.specs.ReplayAnswers.{fault_at}
+use Rattle.answers.specs.ReplayAnswers.{SaysWhyNot, StopsThere, fault_at}
 use Rattle.answers.specs.ReplayAnswers.{first_line_in, last_of, line_at, transcript_in}
 use Rattle.answers.specs.declared.replaying.ReplayFault.{ReplayFault}
 use Rattle.answers.specs.declared.replaying.ReplayFault.TheVariants as fault
 use Rattle.answers.proofs.RefusedLines.{entry-at, not-memory, says-there, told-as}
 
 abbrev bare : {M : Type 0} → StampedRow M → Row M
-bare row = (row.1, row.2)
+bare row = without_stamp row
 
 -- stamped entries that stop at an entry do so without their stamps
 abbrev stops-bare : {S M E : Type 0} (program : Program S M E) (net : Net) (rows : List (StampedRow M)) (refused : ReplayRefused) →
@@ -46,6 +47,12 @@ stops-bare program net rows refused is = record {
 
 inner-is : (r : ReplayRefused) → whole.Replay r ≡ whole.Replay (replay.Run run.Memory) → r ≡ replay.Run run.Memory
 inner-is r same = cc
+
+-- a refusal of stamped entries at an entry is one of the entries without their stamps
+pub stops-there : {S M E : Type 0} (program : Program S M E) (net : Net) (rows : List (StampedRow M)) (refused : ReplayRefused) →
+    SaysWhyNot program net rows (whole.Replay refused) → StopsThere program net (bare_rows rows) refused
+stops-there program net rows refused why isnt =
+    stops-bare program net rows refused (why (λ same. isnt (inner-is refused same)))
 
 module _ {S M E : Type 0} (program : Program S M E) (word_of : M → List ℕ) (number_of : M → ℕ) (payload_of : List ℕ → ℕ → Option M)
     (net : Net) (ok : IsNetwork net) (lines : List Line) (read : StampedTranscript M) (e : transcript_in payload_of lines ≡ Ok (Two read)) where
@@ -78,7 +85,7 @@ module _ {S M E : Type 0} (program : Program S M E) (word_of : M → List ℕ) (
       IsStampedRefusal program word_of number_of payload_of net lines told
   refusal-of (whole.Replay refused) told isnt why is =
       let so = told-as program word_of number_of net (bare_rows read.1) (entry_lines lines) refused told is isnt in
-      let stops = why (λ same. not-memory (entry_lines lines) so.words refused so.index so.is_index (inner-is refused same)) in
+      let stops = why (λ same. not-memory refused so.index so.is_index (inner-is refused same)) in
       record { read = read; refused = whole.Replay refused; is_read = e; why = stops; is_told = entry-told refused told stops so }
   refusal-of (whole.WrongStamp k) told isnt why is =
       let stops : StopsAtStamp program net read.1 k = why (λ same. cc) in

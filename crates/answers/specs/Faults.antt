@@ -10,6 +10,8 @@ use Rattle.answers.specs.declared.fault.PlanFault.{PlanFault}
 use Rattle.answers.specs.declared.fault.PlanFault.TheVariants.{Check, Col, Event, Net, Memory}
 use Rattle.answers.specs.declared.fault.PlanFault.TheVariants.{Pool, Replay, Stopped}
 use Rattle.answers.specs.declared.replaying.ReplayFault.TheVariants as replay
+use Rattle.answers.specs.declared.report.Place.{Place}
+use Rattle.answers.specs.declared.report.Place.TheVariants.{None, Line, Vertex, Vertices}
 
 -- a code, and the line of the input that has the fault
 abbrev pub at_line : List ℕ → ℕ → List ℕ
@@ -22,6 +24,13 @@ at_vertex code v = code ++ (codes " vertex " ++ decimal v)
 -- a code, and the two vertices that have the fault
 abbrev pub at_vertices : List ℕ → ℕ → ℕ → List ℕ
 at_vertices code v w = code ++ (codes " vertices " ++ (decimal v ++ (codes " " ++ decimal w)))
+
+-- a code, and the place that has the fault
+abbrev pub at_place : List ℕ → Place → List ℕ
+at_place code None = code
+at_place code (Line number) = at_line code number
+at_place code (Vertex v) = at_vertex code v
+at_place code (Vertices v w) = at_vertices code v w
 
 -- the text of a fault, and the status of the program
 abbrev pub fault_text : PlanFault → List ℕ × ℕ

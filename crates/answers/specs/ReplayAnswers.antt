@@ -1,5 +1,5 @@
 -- The answer to a network and the transcript behind it.
-use Rattle.std.specs.Prelude.{◌≡◌, ◌⊎◌, ◌+◌, ◌-◌, ℕ, List, Option, Some, None, Result, Ok, Err, length, map, slice_get}
+use Rattle.std.specs.Prelude.{◌≡◌, ◌≢◌, ◌⊎◌, ◌+◌, ◌-◌, ℕ, List, Option, Some, None, Result, Ok, Err, length, map, slice_get}
 use Rattle.std.specs.Prelude.{slice_index_or, take}
 use Rattle.std.specs.declared.vec.Vec.{Vec}
 use Rattle.std.specs.declared.alloc.Global.{Global}
@@ -13,6 +13,7 @@ use Rattle.event_machine.specs.declared.refused.RunRefused.TheVariants as run
 use Rattle.event_texts.specs.Missing.{expected_text, missing_text}
 use Rattle.event_texts.specs.StateText.{state_text}
 use Rattle.net_core.specs.Replays.{IsReplay, Stops}
+use Rattle.entries.specs.Rows.{without_stamp}
 use Rattle.net_core.specs.Rows.{event_of}
 use Rattle.net_core.specs.declared.refused.ReplayRefused.{ReplayRefused}
 use Rattle.net_core.specs.declared.refused.ReplayRefused.TheVariants as replay
@@ -116,9 +117,18 @@ module _ {M : Type 0} (payload_of : List ℕ → ℕ → Option M) where
   abbrev pub IsStampedLine : List Line → StampedRow M → ℕ → Type 0
   IsStampedLine lines row n = stamped_entry_on payload_of lines n ≡ Some row
 
--- the entries of edition 2 behind their vertices alone
+-- the entries of edition 2 without their stamps
 abbrev pub bare_rows : {M : Type 0} → List (StampedRow M) → List (Row M)
-bare_rows rows = map (λ row. (row.1, row.2)) rows
+bare_rows rows = map (λ row. without_stamp row) rows
+
+-- a refusal of entries says where they stop, unless memory ran out
+abbrev pub StopsThere : {S M E : Type 0} → Program S M E → Net → List (Row M) → ReplayRefused → Type 0
+StopsThere program net rows refused = refused ≢ replay.Run run.Memory → Stops program net rows refused
+
+-- a refusal of stamped entries says why they aren't a whole replay, unless memory ran out
+abbrev pub SaysWhyNot : {S M E : Type 0} → Program S M E → Net → List (StampedRow M) → WholeRefused → Type 0
+SaysWhyNot program net rows refused =
+    refused ≢ whole.Replay (replay.Run run.Memory) → WhyNotWhole program net rows refused
 
 -- ---- how the refusal of entries is told
 module _ {S M E : Type 0} (program : Program S M E) (word_of : M → List ℕ) (number_of : M → ℕ) where
@@ -172,7 +182,7 @@ module _ {S M E : Type 0} (program : Program S M E) (word_of : M → List ℕ) (
       (stops : StopsAtEntry program net rows refused) (told : ReplayFault) : Type 0 where
     pub words : Vec ℕ Global
     pub says : words.items
-        ≡ words_text program word_of number_of net stops.at.reached (stops.at.row.1, stops.at.row.2) refused
+        ≡ words_text program word_of number_of net stops.at.reached (without_stamp stops.at.row) refused
     pub is_told : told ≡ fault_at (entry_lines lines) words refused
     pub has_line : HasLine (IsStampedLine payload_of lines stops.at.row) told
 

@@ -1,22 +1,24 @@
 //! The state that the entries of a transcript lead to.
 
-ghost use Rattle.std.specs.Prelude.{◌≡◌, ℕ, IfOk, IfErr, IfSome, Ok};
+ghost use Rattle.std.specs.Prelude.{◌≡◌, ◌≢◌, ℕ, [], IfOk, IfErr, Ok};
 ghost use Rattle.dimacs_col.specs.Lines.{lines_of};
 ghost use Rattle.net_core.specs.Replays.{IsReplay};
 ghost use Rattle.net_core.specs.Whole.{IsWholeReplay};
+ghost use Rattle.transcripts.specs.Behind.{transcript_lines};
 ghost use Rattle.transcripts.specs.Editions.{One, Two};
 ghost use Rattle.answers.specs.ReplayAnswers.{IsFaultOfReplay, IsFaultOfTranscript, IsReplayAnswer, IsReplayed};
-ghost use Rattle.answers.specs.ReplayAnswers.{IsStampedTold, IsTold, bare_rows, fault_at, fault_of_text};
+ghost use Rattle.answers.specs.ReplayAnswers.{IsStampedTold, IsTold, SaysWhyNot, StopsThere};
+ghost use Rattle.answers.specs.ReplayAnswers.{bare_rows, fault_at, fault_of_text};
 ghost use Rattle.answers.specs.ReplayAnswers.{first_line_in, index_of, last_of, line_at, transcript_in, words_text};
 
 use crate::answer::network_of_text;
 use crate::fault::PlanFault;
 use alpha_core::{Network, NodeProgram, PayloadText};
 use channel_plan::text_start;
-use entries::Entry;
+use entries::{Row, StampedRow};
 use event_machine::{NetState, RunRefused};
 use event_texts::{expected_words, missing_words, text_of_state};
-use net_core::{ReplayRefused, WholeRefused, event_of, replay, replay_whole};
+use net_core::{ReplayRefused, StampedState, WholeRefused, event_of, replay, replay_whole};
 use program_texts::ProgramText;
 use std::alloc::{AllocError, Global};
 use transcripts::{TextFault, Transcript, entry_lines, network_text, read_any_behind_network};
@@ -115,7 +117,7 @@ fn index_of(refused: ReplayRefused) -> Option<usize>
 fn words_of<P: NodeProgram>(
     alloc: Global,
     state: &NetState<P>,
-    row: &(u32, Entry<P::Payload>),
+    row: &Row<P::Payload>,
     refused: ReplayRefused,
 ) -> Result<Vec<u8>, AllocError>
     ensures { IfOk result (λ words. words.items
@@ -132,18 +134,17 @@ fn words_of<P: NodeProgram>(
 fn told<P: NodeProgram>(
     alloc: Global,
     network: &Network,
-    rows: &[(u32, Entry<P::Payload>)],
+    rows: &[Row<P::Payload>],
     lines: &[usize],
     refused: ReplayRefused,
 ) -> ReplayFault
+    requires stops { StopsThere P.program network.now rows.now refused }
     ensures { IsTold P.program P.Payload.word_of P.Payload.number_of network.now rows.now lines.now refused result }
 {
     let Some(index) = index_of(refused) else {
         return ReplayFault::Memory;
     };
-    let Some(row) = rows.get(index) else {
-        return ReplayFault::Memory;
-    };
+    let row = &rows[index];
     let Ok(state) = replay::<P>(alloc, network, &rows[..index]) else {
         return ReplayFault::Memory;
     };
@@ -158,7 +159,7 @@ fn replayed_entries<P: NodeProgram>(
     alloc: Global,
     network: &Network,
     input: &[u8],
-    rows: &[(u32, Entry<P::Payload>)],
+    rows: &[Row<P::Payload>],
 ) -> Result<NetState<P>, ReplayFault>
     ensures net { IfOk result (λ view. view.net ≡ network.now) }
     ensures ok { IfOk result (λ view. IsReplay P.program network.now rows.now view.state) }
@@ -176,26 +177,32 @@ fn replayed_entries<P: NodeProgram>(
     }
 }
 
-// The entries behind their vertices alone.
+// The rows without their stamps.
 fn bare_rows<T: PayloadText>(
     alloc: Global,
-    rows: &[(u64, u32, Entry<T>)],
-) -> Result<Vec<(u32, Entry<T>)>, AllocError>
+    rows: &[StampedRow<T>],
+) -> Result<Vec<Row<T>>, AllocError>
     ensures { IfOk result (λ bare. bare.items ≡ bare_rows rows.now) }
 {
     let mut bare = Vec::new(alloc);
     for row in rows {
-        bare.push((row.1, row.2))?;
+        bare.push(Row {
+            vertex: row.vertex,
+            entry: row.entry,
+        })?;
     }
     Ok(bare)
 }
 
 // The number of the transcript's first line.
-fn first_line_in(input: &[u8]) -> Option<usize>
-    ensures { IfSome result (λ line. line ≡ first_line_in (lines_of input.now)) }
+fn first_line_in(input: &[u8]) -> usize
+    requires begins { transcript_lines (lines_of input.now) ≢ [] }
+    ensures { result ≡ first_line_in (lines_of input.now) }
 {
-    let start = text_start(input, &[b"transcript"])?;
-    Some(start.lines + 1)
+    match text_start(input, &[b"transcript"]) {
+        Some(start) => start.lines + 1,
+        None => unreachable!(),
+    }
 }
 
 // The last of some numbers.
@@ -213,11 +220,12 @@ fn last_of(other: usize, numbers: &[usize]) -> usize
 fn stamped_told<P: NodeProgram>(
     alloc: Global,
     network: &Network,
-    rows: &[(u64, u32, Entry<P::Payload>)],
+    rows: &[StampedRow<P::Payload>],
     first: usize,
     lines: &[usize],
     refused: WholeRefused,
 ) -> ReplayFault
+    requires why { SaysWhyNot P.program network.now rows.now refused }
     ensures { IsStampedTold P.program P.Payload.word_of P.Payload.number_of network.now rows.now first lines.now refused
         result }
 {
@@ -236,22 +244,24 @@ fn replayed_whole<P: NodeProgram>(
     alloc: Global,
     network: &Network,
     input: &[u8],
-    rows: &[(u64, u32, Entry<P::Payload>)],
+    rows: &[StampedRow<P::Payload>],
 ) -> Result<NetState<P>, ReplayFault>
+    requires read { (nodes : ℕ)
+        × (transcript_in P.Payload.payload_of (lines_of input.now) ≡ Ok (Two (nodes, rows.now))) }
     ensures net { IfOk result (λ view. view.net ≡ network.now) }
     ensures ok { IfOk result (λ view. IsWholeReplay P.program network.now rows.now view.state) }
-    ensures fault { IfErr result (λ told. (nodes : ℕ)
-        → transcript_in P.Payload.payload_of (lines_of input.now) ≡ Ok (Two (nodes, rows.now)) → IsFaultOfTranscript
-        P.program P.Payload.word_of P.Payload.number_of P.Payload.payload_of network.now (lines_of input.now) told) }
+    ensures fault { IfErr result (IsFaultOfTranscript P.program P.Payload.word_of P.Payload.number_of
+        P.Payload.payload_of network.now (lines_of input.now)) }
 {
     network.is_network();
     match replay_whole::<P>(alloc, network, rows) {
-        Ok(state) => Ok(state),
+        Ok(stamped) => {
+            let StampedState { state, table: _ } = stamped;
+            Ok(state)
+        }
         Err(refused) => {
             let lines = entry_lines(alloc, input)?;
-            let Some(first) = first_line_in(input) else {
-                return Err(ReplayFault::Memory);
-            };
+            let first = first_line_in(input);
             Err(stamped_told::<P>(alloc, network, rows, first, lines.as_slice(), refused))
         }
     }

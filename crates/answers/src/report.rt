@@ -1,7 +1,7 @@
 //! The line that reports a fault, and the status that goes with it.
 
 ghost use Rattle.std.specs.Prelude.{◌≡◌, ◌++◌, IfOk, codes, string_bytes};
-ghost use Rattle.answers.specs.Faults.{at_line, at_vertex, at_vertices, fault_line, fault_status, line_with};
+ghost use Rattle.answers.specs.Faults.{at_line, at_place, fault_line, fault_status, line_with};
 ghost use Rattle.answers.specs.declared.fault.PlanFault.TheVariants.{Check, Col, Event, Net, Pool, Replay};
 
 use crate::fault::PlanFault;
@@ -35,30 +35,55 @@ pub struct FaultReport {
     pub status: u8,
 }
 
-fn refusal(line: String) -> FaultReport
-    ensures line { result.line.items ≡ string_bytes line }
-    ensures status { result.status ≡ 1 }
+// Where a fault is: nowhere in particular, at a line of the input, at a vertex, or at two vertices.
+#[derive(Clone, Copy)]
+enum Place {
+    None,
+    Line(usize),
+    Vertex(u32),
+    Vertices(u32, u32),
+}
+
+// `NAME: CODE`, and then the place.
+fn head(alloc: Global, name: &str, code: &str, place: Place) -> Result<String, AllocError>
+    ensures { IfOk result (λ text. string_bytes text ≡ name.now ++ (codes ": " ++ at_place code.now place)) }
 {
-    FaultReport {
-        line: line.into_bytes(),
-        status: REFUSED,
+    match place {
+        Place::None => format!(in alloc; "{name}: {code}"),
+        Place::Line(n) => format!(in alloc; "{name}: {code} line {n}"),
+        Place::Vertex(v) => format!(in alloc; "{name}: {code} vertex {v}"),
+        Place::Vertices(v, w) => format!(in alloc; "{name}: {code} vertices {v} {w}"),
     }
 }
 
-// `NAME: CODE line N`.
-fn refusal_at_line(
+// `NAME: CODE`, then the place, and then words.
+fn report_at(
     alloc: Global,
     name: &str,
     code: &str,
-    number: usize,
+    place: Place,
+    words: &[u8],
+    status: u8,
 ) -> Result<FaultReport, AllocError>
-    ensures line { IfOk result (λ report. report.line.items ≡ line_with name.now (at_line code.now number)) }
-    ensures status { IfOk result (λ report. report.status ≡ 1) }
+    ensures line { IfOk result (λ report.
+        report.line.items ≡ line_with name.now (at_place code.now place ++ words.now)) }
+    ensures status { IfOk result (λ report. report.status ≡ status) }
 {
-    Ok(refusal(format!(in alloc; "{name}: {code} line {number}\n")?))
+    let mut line = head(alloc, name, code, place)?.into_bytes();
+    line.extend_from_slice(words)?;
+    line.push(b'\n')?;
+    Ok(FaultReport { line, status })
 }
 
-// `NAME: CODE line N`, and words behind it.
+// The input is refused, at a place.
+fn refusal(alloc: Global, name: &str, code: &str, place: Place) -> Result<FaultReport, AllocError>
+    ensures line { IfOk result (λ report. report.line.items ≡ line_with name.now (at_place code.now place)) }
+    ensures status { IfOk result (λ report. report.status ≡ 1) }
+{
+    report_at(alloc, name, code, place, &[], REFUSED)
+}
+
+// The input is refused at a line, with words after its number.
 fn refusal_in_words(
     alloc: Global,
     name: &str,
@@ -70,40 +95,7 @@ fn refusal_in_words(
         report.line.items ≡ line_with name.now (at_line code.now number ++ words.now)) }
     ensures status { IfOk result (λ report. report.status ≡ 1) }
 {
-    let mut line = format!(in alloc; "{name}: {code} line {number}")?.into_bytes();
-    line.extend_from_slice(words)?;
-    line.push(b'\n')?;
-    Ok(FaultReport {
-        line,
-        status: REFUSED,
-    })
-}
-
-// `NAME: CODE vertex V`.
-fn refusal_at_vertex(
-    alloc: Global,
-    name: &str,
-    code: &str,
-    v: u32,
-) -> Result<FaultReport, AllocError>
-    ensures line { IfOk result (λ report. report.line.items ≡ line_with name.now (at_vertex code.now v)) }
-    ensures status { IfOk result (λ report. report.status ≡ 1) }
-{
-    Ok(refusal(format!(in alloc; "{name}: {code} vertex {v}\n")?))
-}
-
-// `NAME: CODE vertices V W`.
-fn refusal_at_vertices(
-    alloc: Global,
-    name: &str,
-    code: &str,
-    v: u32,
-    w: u32,
-) -> Result<FaultReport, AllocError>
-    ensures line { IfOk result (λ report. report.line.items ≡ line_with name.now (at_vertices code.now v w)) }
-    ensures status { IfOk result (λ report. report.status ≡ 1) }
-{
-    Ok(refusal(format!(in alloc; "{name}: {code} vertices {v} {w}\n")?))
+    report_at(alloc, name, code, Place::Line(number), words, REFUSED)
 }
 
 // `NAME: TEXT`.
@@ -111,8 +103,7 @@ fn report_with(alloc: Global, name: &str, text: &str, status: u8) -> Result<Faul
     ensures line { IfOk result (λ report. report.line.items ≡ line_with name.now text.now) }
     ensures status { IfOk result (λ report. report.status ≡ status) }
 {
-    let line = format!(in alloc; "{name}: {text}\n")?.into_bytes();
-    Ok(FaultReport { line, status })
+    report_at(alloc, name, text, Place::None, &[], status)
 }
 
 fn memory_report(alloc: Global, name: &str) -> Result<FaultReport, AllocError>
@@ -127,19 +118,19 @@ fn report_of_reading(alloc: Global, name: &str, fault: ColFault) -> Result<Fault
     ensures status { IfOk result (λ report. report.status ≡ fault_status (Col fault)) }
 {
     match fault {
-        ColFault::NoProblem => Ok(refusal(format!(in alloc; "{name}: F1\n")?)),
-        ColFault::SecondProblem(n) => refusal_at_line(alloc, name, "F2", n),
-        ColFault::EdgeBeforeProblem(n) => refusal_at_line(alloc, name, "F3", n),
-        ColFault::BadField(n) => refusal_at_line(alloc, name, "F4", n),
-        ColFault::VertexRange(n) => refusal_at_line(alloc, name, "F5", n),
-        ColFault::SelfLoop(n) => refusal_at_line(alloc, name, "F6", n),
-        ColFault::TooLarge(n) => refusal_at_line(alloc, name, "F7", n),
-        ColFault::UnknownLine(n) => refusal_at_line(alloc, name, "F8", n),
-        ColFault::EarlyLine(n) => refusal_at_line(alloc, name, "F10", n),
-        ColFault::NumberRange(n) => refusal_at_line(alloc, name, "F11", n),
-        ColFault::IdTwice(n) => refusal_at_line(alloc, name, "F12", n),
-        ColFault::ChannelRange(n) => refusal_at_line(alloc, name, "F13", n),
-        ColFault::TooManyBars(n) => refusal_at_line(alloc, name, "F14", n),
+        ColFault::NoProblem => refusal(alloc, name, "F1", Place::None),
+        ColFault::SecondProblem(n) => refusal(alloc, name, "F2", Place::Line(n)),
+        ColFault::EdgeBeforeProblem(n) => refusal(alloc, name, "F3", Place::Line(n)),
+        ColFault::BadField(n) => refusal(alloc, name, "F4", Place::Line(n)),
+        ColFault::VertexRange(n) => refusal(alloc, name, "F5", Place::Line(n)),
+        ColFault::SelfLoop(n) => refusal(alloc, name, "F6", Place::Line(n)),
+        ColFault::TooLarge(n) => refusal(alloc, name, "F7", Place::Line(n)),
+        ColFault::UnknownLine(n) => refusal(alloc, name, "F8", Place::Line(n)),
+        ColFault::EarlyLine(n) => refusal(alloc, name, "F10", Place::Line(n)),
+        ColFault::NumberRange(n) => refusal(alloc, name, "F11", Place::Line(n)),
+        ColFault::IdTwice(n) => refusal(alloc, name, "F12", Place::Line(n)),
+        ColFault::ChannelRange(n) => refusal(alloc, name, "F13", Place::Line(n)),
+        ColFault::TooManyBars(n) => refusal(alloc, name, "F14", Place::Line(n)),
         ColFault::Memory => memory_report(alloc, name),
     }
 }
@@ -149,8 +140,8 @@ fn report_of_network(alloc: Global, name: &str, fault: NetFault) -> Result<Fault
     ensures status { IfOk result (λ report. report.status ≡ fault_status (Net fault)) }
 {
     match fault {
-        NetFault::Degree(v) => refusal_at_vertex(alloc, name, "N1", v),
-        NetFault::SameId(v, w) => refusal_at_vertices(alloc, name, "N2", v, w),
+        NetFault::Degree(v) => refusal(alloc, name, "N1", Place::Vertex(v)),
+        NetFault::SameId(v, w) => refusal(alloc, name, "N2", Place::Vertices(v, w)),
         NetFault::Memory => memory_report(alloc, name),
     }
 }
@@ -172,13 +163,13 @@ fn report_of_check(alloc: Global, name: &str, fault: CheckFault) -> Result<Fault
     ensures status { IfOk result (λ report. report.status ≡ fault_status (Check fault)) }
 {
     match fault {
-        CheckFault::Missing(v) => refusal_at_vertex(alloc, name, "C1", v),
-        CheckFault::Stranger(v) => refusal_at_vertex(alloc, name, "C2", v),
-        CheckFault::Twice(v) => refusal_at_vertex(alloc, name, "C3", v),
-        CheckFault::Clash(v, w) => refusal_at_vertices(alloc, name, "C4", v, w),
-        CheckFault::TooHigh(v) => refusal_at_vertex(alloc, name, "C5", v),
-        CheckFault::Barred(v) => refusal_at_vertex(alloc, name, "C8", v),
-        CheckFault::Syntax(n) => refusal_at_line(alloc, name, "C6", n),
+        CheckFault::Missing(v) => refusal(alloc, name, "C1", Place::Vertex(v)),
+        CheckFault::Stranger(v) => refusal(alloc, name, "C2", Place::Vertex(v)),
+        CheckFault::Twice(v) => refusal(alloc, name, "C3", Place::Vertex(v)),
+        CheckFault::Clash(v, w) => refusal(alloc, name, "C4", Place::Vertices(v, w)),
+        CheckFault::TooHigh(v) => refusal(alloc, name, "C5", Place::Vertex(v)),
+        CheckFault::Barred(v) => refusal(alloc, name, "C8", Place::Vertex(v)),
+        CheckFault::Syntax(n) => refusal(alloc, name, "C6", Place::Line(n)),
         CheckFault::Memory => memory_report(alloc, name),
     }
 }
@@ -188,7 +179,7 @@ fn report_of_events(alloc: Global, name: &str, fault: EventFault) -> Result<Faul
     ensures status { IfOk result (λ report. report.status ≡ fault_status (Event fault)) }
 {
     match fault {
-        EventFault::NoEvent(n) => refusal_at_line(alloc, name, "NoEvent", n),
+        EventFault::NoEvent(n) => refusal(alloc, name, "NoEvent", Place::Line(n)),
         EventFault::NotReady(n, words) => {
             refusal_in_words(alloc, name, "NotReady", n, words.as_slice())
         }
@@ -198,7 +189,7 @@ fn report_of_events(alloc: Global, name: &str, fault: EventFault) -> Result<Faul
         EventFault::LinkEmpty(n, words) => {
             refusal_in_words(alloc, name, "LinkEmpty", n, words.as_slice())
         }
-        EventFault::NoSuch(n) => refusal_at_line(alloc, name, "NoSuch", n),
+        EventFault::NoSuch(n) => refusal(alloc, name, "NoSuch", Place::Line(n)),
         EventFault::Memory => memory_report(alloc, name),
     }
 }
@@ -212,7 +203,7 @@ fn report_of_replay(
     ensures status { IfOk result (λ report. report.status ≡ fault_status (Replay fault)) }
 {
     match fault {
-        ReplayFault::Syntax(n) => refusal_at_line(alloc, name, "X1", n),
+        ReplayFault::Syntax(n) => refusal(alloc, name, "X1", Place::Line(n)),
         ReplayFault::NotReady(n, words) => {
             refusal_in_words(alloc, name, "NotReady", n, words.as_slice())
         }
@@ -222,12 +213,12 @@ fn report_of_replay(
         ReplayFault::LinkEmpty(n, words) => {
             refusal_in_words(alloc, name, "LinkEmpty", n, words.as_slice())
         }
-        ReplayFault::NoSuch(n) => refusal_at_line(alloc, name, "NoSuch", n),
+        ReplayFault::NoSuch(n) => refusal(alloc, name, "NoSuch", Place::Line(n)),
         ReplayFault::WrongWire(n, words) => {
             refusal_in_words(alloc, name, "WrongWire", n, words.as_slice())
         }
-        ReplayFault::WrongStamp(n) => refusal_at_line(alloc, name, "WrongStamp", n),
-        ReplayFault::NotWhole(n) => refusal_at_line(alloc, name, "NotWhole", n),
+        ReplayFault::WrongStamp(n) => refusal(alloc, name, "WrongStamp", Place::Line(n)),
+        ReplayFault::NotWhole(n) => refusal(alloc, name, "NotWhole", Place::Line(n)),
         ReplayFault::Memory => memory_report(alloc, name),
     }
 }

@@ -1,8 +1,8 @@
 -- Stamps are at most as many as the events of a whole run, and for the colouring these are fewer than 2^64.
-use Rattle.std.proofs.Common.{◌≡◌, ℕ, zero, suc, ◌+◌, ◌*◌, ◌^◌, ◌<◌, ◌≤◌, length, Option, Some, None, ap, arith, ◌∙◌, mul-le-mul}
+use Rattle.std.proofs.Common.{ℕ, zero, suc, ◌+◌, ◌*◌, ◌^◌, ◌<◌, ◌≤◌, length, Option, Some, None, arith, mul-le-mul}
 use Rattle.std.specs.Prelude.{nat_lt, count_by, sum_by}
 use Rattle.std.specs.List.{range_with_len}
-use Rattle.std.proofs.lemmas.List.{length-append, length-map}
+use Rattle.std.proofs.lemmas.List.{length-append}
 use Rattle.std.proofs.lemmas.List.FromFn.{length-range_with_len}
 use Rattle.std.proofs.lemmas.List.Sums.{count_by-le-length, sum_by-le}
 use Rattle.dimacs_col.specs.declared.limits.TheConstants.{MAX_NODES}
@@ -18,23 +18,14 @@ use Rattle.alpha_laws.specs.Counts.{events_of_run, payloads_sent}
 use Rattle.alpha_laws.proofs.Runs.{runs}
 use Rattle.colour_laws.specs.declared.laws.TheConstants.{MAX_LAST_PULSE}
 use Rattle.progress_laws.proofs.Maximal.{bounded}
-use Rattle.net_core.specs.Rows.{Row, event_of}
-use Rattle.net_core.proofs.Counted.{stamps-within}
-use Rattle.net_core.proofs.Decided.{decided}
-use Rattle.stamps.specs.Merged.{StampedRow, rows_in}
+use Rattle.net_core.proofs.WholeReplays.{stamps-within-events}
 use Rattle.async_colour_laws.specs.Stamped.{StampsAreBounded}
 
--- each row is one event
 pub stamps-bounded : {S M E : Type 0} (program : Program S M E) → IsProgram program → (net : Net) → IsNetwork net → StampsAreBounded program net
-stamps-bounded {S} {M} program laws net ok rows last is k d lt =
-    let replay = is.replay in
-    let f : StampedRow M → Row M = λ r. (r.1, r.2) in
-    let events = (decided program net ok).events (rows_in rows) last replay in
-    let many : length replay.events ≡ length rows =
-    ap (λ l. length l) events ∙ length-map (rows_in rows) (λ row. event_of net row) ∙ length-map rows f in
-    let most = bounded ok (runs program laws net ok) replay.events last replay.is_run in
-    let stamp = stamps-within rows is.stamped k d lt in
-    omega (arith, many, most, stamp)
+stamps-bounded program laws net ok rows last is k d lt =
+    let most = bounded ok (runs program laws net ok) is.replay.events last is.replay.is_run in
+    let stamp = stamps-within-events program net ok rows last is k d lt in
+    omega (arith, most, stamp)
 
 few_pulses : {M : Type 0} (sends : ℕ → Option M) (last : ℕ) → length (sent_pulses sends last) ≤ last
 few_pulses sends zero = omega arith

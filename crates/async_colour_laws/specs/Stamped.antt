@@ -14,10 +14,10 @@ use Rattle.stamps.specs.Merged.{StampedRow}
 abbrev pub StampsAreBounded : {S M E : Type 0} → Program S M E → Net → Type 0
 StampsAreBounded {S} {M} program net =
     (rows : List (StampedRow M)) (last : State S M) → IsStampedReplay program net rows last
-    → All (λ row. row.0 ≤ events_of_run program net) rows
+    → All (λ row. row.stamp ≤ events_of_run program net) rows
 
 -- On every network within the limits, no stamp of the colouring comes to 2^64, so none is too great for a counter.
 abbrev pub StampsFit : Net → Type 0
 StampsFit net =
     (rows : List (StampedRow Payload)) (last : State colour.Node Payload) → IsStampedReplay colouring net rows last
-    → All (λ row. row.0 < 2 ^ 64) rows
+    → All (λ row. row.stamp < 2 ^ 64) rows

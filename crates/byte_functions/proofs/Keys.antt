@@ -64,12 +64,12 @@ other_stamp s i x ne = and_left (x.0.0 == s) (x.0.1 == i) (ne_eqb x.0.0 s (λ e.
 
 module _ {M : Type 0} where
   -- a list that isn't empty is counted once, at the stamp of its first entry
-  pub in_here : (e : StampedEntry M) (more : List (StampedEntry M)) → keys_in (e ∷ more) e.0 ≡ 1
-  in_here e more = one_if (e.0 == e.0) (eq-eqb e.0 e.0 refl)
+  pub in_here : (e : StampedEntry M) (more : List (StampedEntry M)) → keys_in (e ∷ more) e.stamp ≡ 1
+  in_here e more = one_if (e.stamp == e.stamp) (eq-eqb e.stamp e.stamp refl)
 
   pub in_other : (list : List (StampedEntry M)) (s t : ℕ) → starts_at list t ≡ true → (s ≡ t → ⊥) → keys_in list s ≡ 0
   in_other [] s t starts ne = refl
-  in_other (e ∷ more) s t starts ne = none_if (e.0 == s) (ne_eqb e.0 s (λ is. ne (sym is ∙ eqb-true e.0 t starts)))
+  in_other (e ∷ more) s t starts ne = none_if (e.stamp == s) (ne_eqb e.stamp s (λ is. ne (sym is ∙ eqb-true e.stamp t starts)))
 
   -- a key more
   pub key_added : (list : List (StampedEntry M)) (stamp index : ℕ) (old new : List Key) → starts_at list stamp ≡ true

@@ -9,6 +9,7 @@ use Rattle.std.proofs.lemmas.List.{append-nil, get_or-set_other, get_or-set_same
 use Rattle.std.proofs.lemmas.List.Elements.{All-get_or, All-head, All-nil, All-push, All-weaker}
 use Rattle.std.proofs.Math.ListN.{get_or-eq_default}
 use Rattle.stamps.specs.entries.Entry.{Entry}
+use Rattle.stamps.specs.entries.Rows.{stamped_entry, stamped_row}
 use Rattle.stamps.specs.Stamps.{StampedEntry, Rises}
 use Rattle.stamps.specs.Merged.{StampedRow, AreOrdered, IsMerge, Precedes, entries_at, list_of}
 use Rattle.answers.specs.transcripts.TranscriptText.{stamped_transcript_of}
@@ -23,11 +24,11 @@ module _ {M : Type 0} where
   -- after what is left.
   pub record IsMerging (wrote lefts : List (List (StampedEntry M))) (rows : List (StampedRow M)) : Type 0 where
     pub ordered : AreOrdered rows
-    pub vertices : All (λ row. (1 ≤ row.1) × (row.1 ≤ length wrote)) rows
+    pub vertices : All (λ row. (1 ≤ row.vertex) × (row.vertex ≤ length wrote)) rows
     pub many : length lefts ≡ length wrote
     pub each : (i : ℕ) → entries_at rows (i + 1) ++ get_or lefts i [] ≡ get_or wrote i []
     pub behind : (i : ℕ) (e : StampedEntry M) (more : List (StampedEntry M)) → get_or lefts i [] ≡ e ∷ more
-        → All (λ row. Precedes row (e.0, i + 1, e.1)) rows
+        → All (λ row. Precedes row (stamped_row e.stamp (i + 1) e.entry)) rows
     pub rises : (i : ℕ) → Rises (get_or lefts i [])
 
   -- a row may come before another
@@ -38,10 +39,10 @@ module _ {M : Type 0} where
   pub merging-init : (wrote : List (List (StampedEntry M))) → All Rises wrote → IsMerging wrote wrote []
   merging-init wrote rising = record {
     ordered = tt;
-    vertices = All-nil (λ (row : StampedRow M). (1 ≤ row.1) × (row.1 ≤ length wrote));
+    vertices = All-nil (λ (row : StampedRow M). (1 ≤ row.vertex) × (row.vertex ≤ length wrote));
     many = refl;
     each = λ i. refl;
-    behind = λ i e more is. All-nil (Before (e.0, i + 1, e.1));
+    behind = λ i e more is. All-nil (Before (stamped_row e.stamp (i + 1) e.entry));
     rises = λ i. ⊎_elim
         (λ lt. All-get_or Rises wrote i [] lt rising)
         (λ le. subst Rises (sym (get_or-eq_default wrote [] le)) tt)
@@ -49,21 +50,22 @@ module _ {M : Type 0} where
   }
 
   -- what a vertex has in the rows with one more
-  at_here : (rows : List (StampedRow M)) (s v : ℕ) (e : Entry M) → entries_at (rows ++ ((s, v, e) ∷ [])) v ≡ entries_at rows v ++ ((s, e) ∷ [])
-  at_here rows s v e = entries_append rows ((s, v, e) ∷ []) v ∙ ap (λ l. entries_at rows v ++ l) (entry_here s v e [])
+  at_here : (rows : List (StampedRow M)) (s v : ℕ) (e : Entry M)
+      → entries_at (rows ++ (stamped_row s v e ∷ [])) v ≡ entries_at rows v ++ (stamped_entry s e ∷ [])
+  at_here rows s v e = entries_append rows (stamped_row s v e ∷ []) v ∙ ap (λ l. entries_at rows v ++ l) (entry_here s v e [])
 
-  at_other : (rows : List (StampedRow M)) (s v u : ℕ) (e : Entry M) → (u ≡ v → ⊥) → entries_at (rows ++ ((s, v, e) ∷ [])) u ≡ entries_at rows u
+  at_other : (rows : List (StampedRow M)) (s v u : ℕ) (e : Entry M) → (u ≡ v → ⊥) → entries_at (rows ++ (stamped_row s v e ∷ [])) u ≡ entries_at rows u
   at_other rows s v u e ne =
-      entries_append rows ((s, v, e) ∷ []) u ∙ ap (λ l. entries_at rows u ++ l) (entry_other s v u e [] ne) ∙ append-nil (entries_at rows u)
+      entries_append rows (stamped_row s v e ∷ []) u ∙ ap (λ l. entries_at rows u ++ l) (entry_other s v u e [] ne) ∙ append-nil (entries_at rows u)
 
   -- the first entry of list i is taken, and none of the lists begins before it
   module _ (wrote lefts : List (List (StampedEntry M))) (rows : List (StampedRow M)) (i s : ℕ) (e : Entry M) (left : List (StampedEntry M))
-      (so_far : IsMerging wrote lefts rows) (within : i < length lefts) (was : get_or lefts i [] ≡ (s, e) ∷ left)
+      (so_far : IsMerging wrote lefts rows) (within : i < length lefts) (was : get_or lefts i [] ≡ stamped_entry s e ∷ left)
       (least : (j : ℕ) (later : StampedEntry M) (more : List (StampedEntry M)) → get_or lefts j [] ≡ later ∷ more
-      → Precedes (s, i + 1, e) (later.0, j + 1, later.1))
+      → Precedes (stamped_row s (i + 1) e) (stamped_row later.stamp (j + 1) later.entry))
     where
       abbrev row : StampedRow M
-      row = (s, i + 1, e)
+      row = stamped_row s (i + 1) e
 
       here : get_or (set lefts i left) i [] ≡ left
       here = get_or-set_same lefts i left [] within
@@ -74,30 +76,31 @@ module _ {M : Type 0} where
       step_each : (j : ℕ) → entries_at (rows ++ (row ∷ [])) (j + 1) ++ get_or (set lefts i left) j [] ≡ get_or wrote j []
       step_each j = ⊎_elim
           (λ is. subst (λ k. entries_at (rows ++ (row ∷ [])) (k + 1) ++ get_or (set lefts i left) k [] ≡ get_or wrote k []) (sym is)
-          (ap (λ l. l ++ get_or (set lefts i left) i []) (at_here rows s (i + 1) e) ∙ ap (λ l. (entries_at rows (i + 1) ++ ((s, e) ∷ [])) ++ l) here
-          ∙ append_assoc (entries_at rows (i + 1)) ((s, e) ∷ []) left ∙ ap (λ l. entries_at rows (i + 1) ++ l) (sym was) ∙ so_far.each i))
+          (ap (λ l. l ++ get_or (set lefts i left) i []) (at_here rows s (i + 1) e) ∙ ap (λ l. (entries_at rows (i + 1) ++ (stamped_entry s e ∷ [])) ++ l) here
+          ∙ append_assoc (entries_at rows (i + 1)) (stamped_entry s e ∷ []) left ∙ ap (λ l. entries_at rows (i + 1) ++ l) (sym was) ∙ so_far.each i))
           (λ ne. ap (λ l. l ++ get_or (set lefts i left) j []) (at_other rows s (i + 1) (j + 1) e (λ same. ne (omega (arith, same))))
           ∙ ap (λ l. entries_at rows (j + 1) ++ l) (other j ne) ∙ so_far.each j)
           (cases_eq j i)
 
       -- those behind the entry have greater stamps
-      rises_here : Rises ((s, e) ∷ left)
+      rises_here : Rises (stamped_entry s e ∷ left)
       rises_here = subst Rises was (so_far.rises i)
 
       all_before : All (Before row) rows
-      all_before = so_far.behind i (s, e) left was
+      all_before = so_far.behind i (stamped_entry s e) left was
 
       step_behind : (j : ℕ) (later : StampedEntry M) (more : List (StampedEntry M)) → get_or (set lefts i left) j [] ≡ later ∷ more
-          → All (Before (later.0, j + 1, later.1)) (rows ++ (row ∷ []))
+          → All (Before (stamped_row later.stamp (j + 1) later.entry)) (rows ++ (row ∷ []))
       step_behind j later more begins = ⊎_elim
           (λ is.
           let first : left ≡ later ∷ more = sym here ∙ ap (λ k. get_or (set lefts i left) k []) (sym is) ∙ begins in
-          let lt : s < later.0 = All-head (λ (l : StampedEntry M). s < l.0) later more (subst (All (λ (l : StampedEntry M). s < l.0)) first rises_here.0) in
-          let next : StampedRow M = (later.0, j + 1, later.1) in
+          let lt : s < later.stamp =
+          All-head (λ (l : StampedEntry M). s < l.stamp) later more (subst (All (λ (l : StampedEntry M). s < l.stamp)) first rises_here.0) in
+          let next : StampedRow M = stamped_row later.stamp (j + 1) later.entry in
           All-push (Before next) rows row (All-weaker (Before row) (Before next) (λ r before. through r row next before (inl lt)) rows all_before) (inl lt))
           (λ ne.
           let begins' : get_or lefts j [] ≡ later ∷ more = sym (other j ne) ∙ begins in
-          All-push (Before (later.0, j + 1, later.1)) rows row (so_far.behind j later more begins') (least j later more begins'))
+          All-push (Before (stamped_row later.stamp (j + 1) later.entry)) rows row (so_far.behind j later more begins') (least j later more begins'))
           (cases_eq j i)
 
       step_rises : (j : ℕ) → Rises (get_or (set lefts i left) j [])
@@ -109,7 +112,7 @@ module _ {M : Type 0} where
       step : IsMerging wrote (set lefts i left) (rows ++ (row ∷ []))
       step = record {
         ordered = ordered_push rows row so_far.ordered all_before;
-        vertices = let many = so_far.many in All-push (λ (r : StampedRow M). (1 ≤ r.1) × (r.1 ≤ length wrote)) rows row so_far.vertices
+        vertices = let many = so_far.many in All-push (λ (r : StampedRow M). (1 ≤ r.vertex) × (r.vertex ≤ length wrote)) rows row so_far.vertices
             (omega arith, omega (arith, within, many));
         many = length-set lefts i left ∙ so_far.many;
         each = step_each;
@@ -120,12 +123,14 @@ module _ {M : Type 0} where
   -- one row more is taken
   pub merging-step : (wrote old new : List (List (StampedEntry M))) (rows : List (StampedRow M)) (row : StampedRow M) → IsMerging wrote old rows
       → IsTaken old new row → IsMerging wrote new (rows ++ (row ∷ []))
-  merging-step wrote old new rows (s, v, e) so_far taken =
+  merging-step wrote old new rows row so_far taken =
       let i = taken.index in
+      let s = row.stamp in
+      let e = row.entry in
       let least = subst (λ u. (j : ℕ) (later : StampedEntry M) (more : List (StampedEntry M)) → get_or old j [] ≡ later ∷ more
-      → Precedes (s, u, e) (later.0, j + 1, later.1)) taken.vertex taken.least in
-      subst (λ lefts. IsMerging wrote lefts (rows ++ ((s, v, e) ∷ []))) (sym taken.is)
-      (subst (λ u. IsMerging wrote (set old i taken.behind) (rows ++ ((s, u, e) ∷ []))) (sym taken.vertex)
+      → Precedes (stamped_row s u e) (stamped_row later.stamp (j + 1) later.entry)) taken.vertex taken.least in
+      subst (λ lefts. IsMerging wrote lefts (rows ++ (row ∷ []))) (sym taken.is)
+      (subst (λ u. IsMerging wrote (set old i taken.behind) (rows ++ (stamped_row s u e ∷ []))) (sym taken.vertex)
       (step wrote old rows i s e taken.behind so_far taken.within taken.was least))
 
   -- at the end nothing is left

@@ -10,6 +10,7 @@ use Rattle.std.proofs.lemmas.List.{get_or_default, get_or-set_other, get_or-set_
 use Rattle.std.proofs.lemmas.List.Sorted.{IsPermutation-refl, sum_by_popped}
 use Rattle.std.proofs.lemmas.List.Sums.{sum_by-cons}
 use Rattle.stamps.specs.entries.Entry.{Entry}
+use Rattle.stamps.specs.entries.Rows.{stamped_entry, stamped_row}
 use Rattle.stamps.specs.Stamps.{StampedEntry}
 use Rattle.byte_functions.specs.Merge.{AreKeys, IsKeyAdded, IsTaken, Key, NoneLeft, is_key, key_cmp, keys_in, starts_at}
 use Rattle.byte_functions.proofs.Keys.{NotAfter, in_here, in_other, none_if, not_after, number, one_if, other_index, other_stamp, own_key}
@@ -92,15 +93,15 @@ module _ {M : Type 0} where
 
   -- no list begins before the key on top
   pub top_least : (lists : List (List (StampedEntry M))) (keys : List Key) (x : Key) → AreKeys lists keys → IsUpperBound key_cmp x keys
-      → (i : ℕ) (e : StampedEntry M) (more : List (StampedEntry M)) → get_or lists i [] ≡ e ∷ more → NotAfter x.0.0 x.0.1 e.0 i
+      → (i : ℕ) (e : StampedEntry M) (more : List (StampedEntry M)) → get_or lists i [] ≡ e ∷ more → NotAfter x.0.0 x.0.1 e.stamp i
   top_least lists keys x are bound i e more starts =
-      let is = are.once e.0 i in
-      let one : keys_in (get_or lists i []) e.0 ≡ 1 = ap (λ l. keys_in l e.0) starts ∙ in_here e more in
-      let found = counted (λ y. lt_by_cmp key_cmp x y ≡ false) (is_key e.0 i) keys bound (omega (arith, is, one)) in
+      let is = are.once e.stamp i in
+      let one : keys_in (get_or lists i []) e.stamp ≡ 1 = ap (λ l. keys_in l e.stamp) starts ∙ in_here e more in
+      let found = counted (λ y. lt_by_cmp key_cmp x y ≡ false) (is_key e.stamp i) keys bound (omega (arith, is, one)) in
       let key = found.0 in
-      let parts = and_parts (key.0.0 == e.0) (key.0.1 == i) found.1 in
+      let parts = and_parts (key.0.0 == e.stamp) (key.0.1 == i) found.1 in
       let before = not_after x key found.2 in
-      subst (λ t. NotAfter x.0.0 x.0.1 t i) (eqb-true key.0.0 e.0 parts.0)
+      subst (λ t. NotAfter x.0.0 x.0.1 t i) (eqb-true key.0.0 e.stamp parts.0)
       (subst (λ j. NotAfter x.0.0 x.0.1 key.0.0 j) (eqb-true key.0.1 i parts.1) before)
 
   -- with no key, no list has an entry
@@ -110,12 +111,12 @@ module _ {M : Type 0} where
     where
       empty : (list : List (StampedEntry M)) → ((s : ℕ) → keys_in list s ≡ 0) → list ≡ []
       empty [] none = refl
-      empty (e ∷ more) none = let a = none e.0 in let b = in_here e more in absurd (omega (arith, a, b))
+      empty (e ∷ more) none = let a = none e.stamp in let b = in_here e more in absurd (omega (arith, a, b))
 
   -- the first entry of a list that begins with a stamp
   pub starts_with : (list : List (StampedEntry M)) (s : ℕ) (e : StampedEntry M) (more : List (StampedEntry M)) → starts_at list s ≡ true → list ≡ e ∷ more
-      → e.0 ≡ s
-  starts_with list s e more starts is = eqb-true e.0 s (subst (λ l. starts_at l s ≡ true) is starts)
+      → e.stamp ≡ s
+  starts_with list s e more starts is = eqb-true e.stamp s (subst (λ l. starts_at l s ≡ true) is starts)
 
   pub starts_within : (lists : List (List (StampedEntry M))) (i s : ℕ) → starts_at (get_or lists i []) s ≡ true → i < length lists
   starts_within lists i s starts = within lists i starts
@@ -136,13 +137,13 @@ module _ {M : Type 0} where
 
   -- the first entry of the list of the key on top is taken
   pub top_taken : (lists : List (List (StampedEntry M))) (keys rest : List Key) (x : Key) (left more : List (StampedEntry M)) (s : ℕ) (e : Entry M)
-      → AreKeys lists keys → IsPermutation keys (x ∷ rest) → IsUpperBound key_cmp x keys → left ≡ get_or lists x.0.1 left → left ≡ (s, e) ∷ more
-      → IsTaken lists (set lists x.0.1 more) (s, x.0.1 + 1, e)
+      → AreKeys lists keys → IsPermutation keys (x ∷ rest) → IsUpperBound key_cmp x keys → left ≡ get_or lists x.0.1 left → left ≡ stamped_entry s e ∷ more
+      → IsTaken lists (set lists x.0.1 more) (stamped_row s (x.0.1 + 1) e)
   top_taken lists keys rest x left more s e are popped bound is first =
       let starts = top_starts lists keys rest x are popped in
       let within = starts_within lists x.0.1 x.0.0 starts in
-      let was : get_or lists x.0.1 [] ≡ (s, e) ∷ more = get_or_default lists x.0.1 [] left within ∙ sym is ∙ first in
-      let stamp : s ≡ x.0.0 = starts_with (get_or lists x.0.1 []) x.0.0 (s, e) more starts was in
+      let was : get_or lists x.0.1 [] ≡ stamped_entry s e ∷ more = get_or_default lists x.0.1 [] left within ∙ sym is ∙ first in
+      let stamp : s ≡ x.0.0 = starts_with (get_or lists x.0.1 []) x.0.0 (stamped_entry s e) more starts was in
       record {
         index = x.0.1;
         vertex = refl;

@@ -5,6 +5,7 @@ use Rattle.std.specs.BinaryHeap.{IsHeap}
 use Rattle.std.specs.Ordering.{nat_cmp, ordering_then}
 use Rattle.std.specs.declared.cmp.Ordering.{Ordering}
 use Rattle.std.specs.declared.cmp.Reverse.{Reverse}
+use Rattle.stamps.specs.entries.Rows.{stamped_row, without_vertex}
 use Rattle.stamps.specs.Stamps.{StampedEntry}
 use Rattle.stamps.specs.Merged.{StampedRow, Precedes}
 
@@ -29,7 +30,7 @@ module _ {M : Type 0} where
   -- whether the first entry has this stamp
   abbrev pub starts_at : List (StampedEntry M) → ℕ → Bool
   starts_at [] s = false
-  starts_at (e ∷ entries) s = e.0 == s
+  starts_at (e ∷ entries) s = e.stamp == s
 
   -- how many keys there are of a stamp and of the index of a list: one if the first entry has the stamp
   abbrev pub keys_in : List (StampedEntry M) → ℕ → ℕ
@@ -49,13 +50,13 @@ module _ {M : Type 0} where
   -- entries.
   pub record IsTaken (old new : List (List (StampedEntry M))) (row : StampedRow M) : Type 0 where
     pub index : ℕ
-    pub vertex : row.1 ≡ index + 1
+    pub vertex : row.vertex ≡ index + 1
     pub within : index < length old
     pub behind : List (StampedEntry M)
-    pub was : slice_index_or old index [] ≡ (row.0, row.2) ∷ behind
+    pub was : slice_index_or old index [] ≡ without_vertex row ∷ behind
     pub is : new ≡ slice_set old index behind
     pub least : (i : ℕ) (e : StampedEntry M) (more : List (StampedEntry M)) → slice_index_or old i [] ≡ e ∷ more
-        → Precedes row (e.0, i + 1, e.1)
+        → Precedes row (stamped_row e.stamp (i + 1) e.entry)
 
   -- all lists are empty
   abbrev pub NoneLeft : List (List (StampedEntry M)) → Type 0

@@ -9,12 +9,13 @@ use Rattle.answers.specs.Answers.{ReadsAs}
 use Rattle.answers.specs.net_core.Whole.{IsWholeReplay}
 use Rattle.run_options.specs.declared.Edition.{Edition}
 use Rattle.run_options.specs.declared.Edition.TheVariants as edition
+use Rattle.stamps.specs.entries.Rows.{vertex_row}
 use Rattle.stamps.specs.Merged.{IsMerge, StampedRow, list_of}
 use Rattle.stamps.specs.Stamps.{StampedEntry}
 
--- the entries of a node, each behind its vertex
+-- the entries of a node, each with its vertex
 abbrev pub rows_in : {S M : Type 0} → Gathered S M → List (Row M)
-rows_in g = map (λ entry. (g.vertex, entry)) g.entries
+rows_in g = map (λ entry. vertex_row g.vertex entry) g.entries
 
 -- the entries of a node with their stamps
 abbrev pub stamped_of : {S M : Type 0} → Gathered S M → List (StampedEntry M)

@@ -3,14 +3,14 @@
 ghost use Rattle.std.specs.Prelude.{◌≡◌, ◌∷◌, [], MatchOption, true};
 ghost use Rattle.byte_functions.specs.Merge.{starts_at};
 
-use stamps::{Entry, StampedIter};
+use stamps::{StampedEntry, StampedIter};
 use std::marker::Model;
 
 /// The entries that a node has left, by value, seen as their list. The first of them is read ahead, so that its stamp
 /// is known while it is left.
 #[derive(Drop)]
 pub struct LeftEntries<'a, T> {
-    first: Option<(u64, Entry<T>)>,
+    first: Option<StampedEntry<T>>,
     behind: StampedIter<'a, T>,
 }
 
@@ -40,12 +40,12 @@ impl<'a, T: Copy> LeftEntries<'a, T> {
     {
         match &self.first {
             None => None,
-            Some((stamp, _)) => Some(*stamp),
+            Some(entry) => Some(entry.stamp),
         }
     }
 
     /// Takes the first, if there is one.
-    pub fn take(&mut self) -> Option<(u64, Entry<T>)>
+    pub fn take(&mut self) -> Option<StampedEntry<T>>
         ensures { MatchOption result (self.old ≡ []) (λ first. self.old ≡ first ∷ self.new) }
     {
         let next = self.behind.next();

@@ -40,4 +40,6 @@ pub use answers::{
 };
 pub use node_pool::{Gate, OpenGate, Options, Outcome, run_workers};
 pub use run_options::Edition;
-pub use stamps::{Counter, Entries, Entry, StampFull, Stamped, order, rising};
+pub use stamps::{
+    Counter, Entries, Entry, Row, StampFull, Stamped, StampedEntry, StampedRow, order, rising,
+};

@@ -9,7 +9,7 @@ ghost use Rattle.byte_functions.specs.Transcripts.{stamped_of};
 use crate::left_entries::LeftEntries;
 use alpha_laws::{NodeProgram, PayloadText};
 use node_pool::Actor;
-use stamps::Entry;
+use stamps::StampedRow;
 use std::alloc::{AllocError, Global};
 use std::cmp::Reverse;
 use std::collections::BinaryHeap;
@@ -81,8 +81,8 @@ impl<'a, T: PayloadText> Merging<'a, T> {
         Ok(Merging { lefts, keys })
     }
 
-    /// Takes the least entry, if there is one, behind its stamp and the vertex of its node.
-    pub fn take(&mut self) -> Option<(u64, u32, Entry<T>)>
+    /// Takes the least entry, if there is one, with its stamp and the vertex of its node.
+    pub fn take(&mut self) -> Option<StampedRow<T>>
         requires few { length self.old.lefts.items < 2 ^ 32 }
         requires keys { AreKeys self.old.lefts.items (heap_items self.old.keys) }
         ensures keys { AreKeys self.new.lefts.items (heap_items self.new.keys) }
@@ -91,8 +91,12 @@ impl<'a, T: PayloadText> Merging<'a, T> {
     {
         let Reverse((_, index)) = *self.keys.peek()?;
         let left = &mut self.lefts[index];
-        let (stamp, entry) = left.take()?;
+        let first = left.take()?;
         replace_top(&mut self.keys, left, index);
-        Some((stamp, (index + 1) as u32, entry))
+        Some(StampedRow {
+            stamp: first.stamp,
+            vertex: (index + 1) as u32,
+            entry: first.entry,
+        })
     }
 }

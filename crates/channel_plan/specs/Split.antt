@@ -51,9 +51,6 @@ AreLinesBefore words lines front = (front ≡ lines_before words lines) ⊎ (fro
 abbrev pub plan_word : List (List ℕ)
 plan_word = codes "plan" ∷ []
 
-abbrev pub begins_plan : Line → Bool
-begins_plan line = begins plan_word line
-
 abbrev pub network_lines : List Line → List Line
 network_lines lines = lines_before plan_word lines
 

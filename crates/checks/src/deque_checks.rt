@@ -1,7 +1,7 @@
 //! In which order a worker takes tasks, without threads: those of its own deque, as they were dealt, and then the next
 //! worker's, and so on, and round.
 
-ghost use Rattle.std.specs.Prelude.{◌≡◌, ◌<◌, ◌≤◌, All, IfOk, map, vec_len};
+ghost use Rattle.std.specs.Prelude.{◌≡◌, ◌<◌, ◌≤◌, All, IfOk, length, map, vec_len};
 ghost use Rattle.crossbeam_deque.specs.Handles.{stealer_deque};
 ghost use Rattle.worker_deques.specs.deque_rule.Deques.{deque_of};
 
@@ -78,9 +78,9 @@ fn finish(desk: &mut Desk<Numbered>)
 }
 
 // What a worker finds in so many looks becomes finished.
-fn find_all(thieves: &Vec<Thief<Numbered>>, worker: u32, desk: &mut Desk<Numbered>, looks: u32)
-    requires worker { worker < vec_len thieves.now }
-    requires deques { map (λ g. deque_of g.pass) desk.old.guests.items ≡ map stealer_deque thieves.now.items }
+fn find_all(thieves: &[Thief<Numbered>], worker: u32, desk: &mut Desk<Numbered>, looks: u32)
+    requires worker { worker < length thieves.now }
+    requires deques { map (λ g. deque_of g.pass) desk.old.guests.items ≡ map stealer_deque thieves.now }
 {
     for _ in 0..looks {
         let _ = desk.find(thieves, worker);
@@ -115,7 +115,7 @@ fn second_finds(
     if desks.len() < 2 {
         return false;
     }
-    find_all(&thieves, 1, &mut desks[1], looks);
+    find_all(thieves.as_slice(), 1, &mut desks[1], looks);
     are_numbered(desks[1].finished.as_slice(), numbers)
 }
 

@@ -13,10 +13,11 @@ pub mod Idling
 mod Places
 mod Reading
 mod Rooms
+mod Roots
 mod Steps
 mod Taking
 mod Telling
-mod Turning
+mod Turned
 mod Bytes
 mod Looping
 mod Highs

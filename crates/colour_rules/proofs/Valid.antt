@@ -27,10 +27,6 @@ IsValid node =
 pub valid-seen : (inside : Inside) (node : Node) → the_view inside ≡ node → the_invariant inside → IsValid node
 valid-seen inside node e h = subst IsValid e (h.0, h.1, h.2, h.3, h.4, h.5, h.6, h.7, h.8, h.9, h.10)
 
--- and how many forests it has at most
-pub forests-seen : (inside : Inside) (node : Node) (n : ℕ) → the_view inside ≡ node → inside.forests ≤ n → node.sizes.forests ≤ n
-forests-seen inside node n e h = subst (λ (seen : Node). seen.sizes.forests ≤ n) e h
-
 -- a node with other roles for its ports
 pub valid-roles : (node : Node) (roles : List Role) → IsValid node → length roles ≡ ports node → HasForests node.sizes.forests roles →
     IsValid (record node { roles = roles })

@@ -1,7 +1,6 @@
 -- Numbers that fit into their widths.
 use Rattle.std.proofs.Common.{◌≡◌, ℕ, ◌+◌, ◌*◌, ◌<◌, ◌≤◌, Fits, w32, w64, arith}
 use Rattle.std.proofs.Math.Nat.{mul-le-mul_right}
-use Rattle.node_api.below.interference.specs.declared.limits.TheConstants.{MAX_DEGREE}
 
 -- a number of 32 bits fits into 64
 pub fits_wider : (n : ℕ) → n < 4294967296 → Fits w64 n
@@ -26,11 +25,3 @@ pub fits_pair : (n width old span : ℕ) → n ≤ 2 → width ≡ span → span
 fits_pair n width old span h same small low =
     let most : n * (width + 1) ≤ 2 * (width + 1) = mul-le-mul_right (width + 1) h in
     omega arith
-
--- the place of a forest among the colours of the parents fits
-pub fits_offset : (n : ℕ) → n < 65536 → Fits w64 (n * 32)
-fits_offset n h = omega arith
-
--- the number of a forest has 16 bits
-pub forest_fits : (f forests : ℕ) → f < forests → forests ≤ MAX_DEGREE → f < 65536
-forest_fits f forests h most = omega arith

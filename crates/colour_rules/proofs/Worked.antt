@@ -1,40 +1,27 @@
 -- A node after a pulse of work on its colours.
-use Rattle.std.proofs.Common.{◌≡◌, ℕ, ◌<◌, Bool, true, false, List, length, refl, ap, ◌∙◌, arith}
-use Rattle.std.specs.Prelude.{if◌then◌else◌, map, Option, None, slice_index, slice_index_or}
+use Rattle.std.proofs.Common.{◌≡◌, ℕ, Bool, true, false, List, length, refl, ap, ◌∙◌}
+use Rattle.std.specs.Prelude.{if◌then◌else◌, map, Option, None, slice_index}
 use Rattle.std.specs.List.{range_with_len}
-use Rattle.std.proofs.lemmas.List.FromFn.{fill_by_all, get_or-map-range_with_len, length-map-range_with_len}
 use Rattle.node_api.specs.Boxes.{nothing}
 use Rattle.colour_rules.specs.declared.phase.Reduction.{Reduction}
 use Rattle.colour_rules.specs.declared.payload.Payload.{Payload}
 use Rattle.colour_rules.specs.Node.{Node, ports}
-use Rattle.colour_rules.specs.Program.{from_parent, is_last, kept, next_colours, next_kept, silent, tells_colour, turned, with_colours}
+use Rattle.colour_rules.specs.Program.{from_parent, is_last, kept, kept_all, next_colours, next_kept, silent, tells_colour}
+use Rattle.colour_rules.specs.Program.{turned, turned_all, with_colours}
 use Rattle.colour_rules.proofs.Greets.{same-for_all}
 
-same-map : (F G : ℕ → ℕ) (m n : ℕ) → m ≡ n → ((f : ℕ) → f < n → F f ≡ G f) → map F (range_with_len 0 m) ≡ map G (range_with_len 0 n)
-same-map F G m n e same =
-    fill_by_all G (map F (range_with_len 0 m)) n 0 (length-map-range_with_len F 0 m ∙ e)
-    (λ f h. get_or-map-range_with_len F 0 m f f 0 (omega arith) (omega arith) ∙ same f h)
-
-module _ (node : Node) (reduction : Reduction) (slots : List (Option Payload)) (old old_before : List ℕ) (own : old ≡ node.colours) (before : old_before
-    ≡ node.before) (size : length node.colours ≡ node.sizes.forests) where
-  long : length old ≡ node.sizes.forests
-  long = ap (λ (cs : List ℕ). length cs) own ∙ size
-
-  own-at : (f : ℕ) → slice_index old f ≡ slice_index node.colours f
-  own-at f = ap (λ (cs : List ℕ). slice_index cs f) own
-
-  before-at : (f : ℕ) → slice_index old_before f ≡ slice_index node.before f
-  before-at f = ap (λ (cs : List ℕ). slice_index cs f) before
-
-  -- the colours are the next ones, from what is above
-  pub colours-are : (above : List (Option ℕ)) → ((f : ℕ) → f < node.sizes.forests → slice_index_or above f None ≡ from_parent f node.roles slots) →
-      map (λ f. turned reduction (slice_index old f) (slice_index old_before f) (slice_index_or above f None)) (range_with_len 0 (length old))
-      ≡ next_colours node reduction slots
-  colours-are above heard = same-map _ _ (length old) node.sizes.forests long (λ f h. rw (own-at f, before-at f, heard f h) refl)
+module _ (node : Node) (reduction : Reduction) (size : length node.colours ≡ node.sizes.forests) where
+  -- the colours are the next ones
+  pub colours-are : (slots : List (Option Payload)) →
+      turned_all reduction node.colours node.before (λ f. from_parent f node.roles slots) ≡ next_colours node reduction slots
+  colours-are slots =
+      ap
+      (λ (n : ℕ). map (λ f. turned reduction (slice_index node.colours f) (slice_index node.before f) (from_parent f node.roles slots)) (range_with_len 0 n))
+      size
 
   -- and so are those kept beside them
-  pub kept-are : map (λ f. kept reduction (slice_index old f) (slice_index old_before f)) (range_with_len 0 (length old)) ≡ next_kept node reduction
-  kept-are = same-map _ _ (length old) node.sizes.forests long (λ f h. rw (own-at f, before-at f) refl)
+  pub kept-are : kept_all reduction node.colours node.before ≡ next_kept node reduction
+  kept-are = ap (λ (n : ℕ). map (λ f. kept reduction (slice_index node.colours f) (slice_index node.before f)) (range_with_len 0 n)) size
 
 pair-is : {X Y : Type 0} (a b : X) (x y : Y) → a ≡ b → x ≡ y → ◌≡◌ {A = X × Y} (a, x) (b, y)
 pair-is {X = X} {Y = Y} a b x y e f = ap (λ (c : X). let both : X × Y = (c, x) in both) e ∙ ap (λ (z : Y). let both : X × Y = (b, z) in both) f

@@ -3,6 +3,7 @@ use Rattle.std.specs.Prelude.{◌≡◌, ◌≢◌, ℕ, suc, ◌<◌, ◌≤◌
 use Rattle.std.specs.Prelude.{List, [], ◌∷◌, length, map, replicate, slice_index, slice_index_or}
 use Rattle.std.specs.Prelude.{Option, Some, None, IfSome, Result, Ok, Err}
 use Rattle.std.specs.List.{range_with_len}
+use Rattle.node_api.below.interference.specs.declared.limits.TheConstants.{MAX_DEGREE}
 use Rattle.node_api.specs.Program.{Program}
 use Rattle.node_api.specs.Boxes.{at_port}
 use Rattle.node_api.specs.declared.program.Refused.{Refused}
@@ -17,7 +18,7 @@ use Rattle.colour_rules.specs.declared.phase.Phase.{Phase}
 use Rattle.colour_rules.specs.declared.phase.Phase.TheVariants.{Greet, Orient, Seed, Work, Merge, Halted}
 use Rattle.colour_rules.specs.declared.payload.Payload.{Payload}
 use Rattle.colour_rules.specs.declared.payload.Payload.TheVariants.{Hello, Label, Colour, Chosen}
-use Rattle.colour_rules.specs.Node.{Node, steps, phase_of, last, ports, made, greet}
+use Rattle.colour_rules.specs.Node.{Node, HasForests, steps, phase_of, last, ports, made, greet}
 use Rattle.colour_rules.specs.Choice.{gathered, chooses, free_for}
 use Rattle.colour_rules.specs.Table.{is_merged}
 use Rattle.colour_rules.specs.Refusals.{ids_in, refusal}
@@ -67,6 +68,13 @@ HaveColours roles slots =
     (port f : ℕ) → port < length roles → slice_index_or roles port Unknown ≡ Up f
     → (c : ℕ) × (at_port slots port ≡ Some (Colour c))
 
+-- What came to a node in a pulse of work: the ports name some of n forests, and those to a parent brought a colour.
+pub record BringColours (n : ℕ) (roles : List Role) (slots : List (Option Payload)) : Type 0 where
+  pub few : n ≤ MAX_DEGREE
+  pub ports : length slots ≡ length roles
+  pub known : HasForests n roles
+  pub colours : HaveColours roles slots
+
 -- whether a port leads to the parent in forest f
 abbrev pub is_up : ℕ → Role → Bool
 is_up f (Up g) = f == g
@@ -104,15 +112,14 @@ IsReady (Shift x) own before parent =
 IsReady (Drop x) own before parent =
     (parent ≢ Some own) × (own < 6) × (before < 6) × IfSome parent (λ c. c < 6) × (3 ≤ x) × (x ≤ 5)
 
--- the same for all forests, by the colours of the parents
-abbrev pub AreReady : Reduction → List ℕ → List ℕ → List (Option ℕ) → Type 0
-AreReady reduction colours before parents =
-    (f : ℕ) → f < length colours
-    → IsReady reduction (slice_index colours f) (slice_index before f) (slice_index_or parents f None)
+-- the same for all forests, by the colour of the parent in each
+abbrev pub AreReady : Reduction → List ℕ → List ℕ → (ℕ → Option ℕ) → Type 0
+AreReady reduction colours before parent =
+    (f : ℕ) → f < length colours → IsReady reduction (slice_index colours f) (slice_index before f) (parent f)
 
-abbrev pub turned_all : Reduction → List ℕ → List ℕ → List (Option ℕ) → List ℕ
-turned_all reduction colours before parents =
-    map (λ f. turned reduction (slice_index colours f) (slice_index before f) (slice_index_or parents f None))
+abbrev pub turned_all : Reduction → List ℕ → List ℕ → (ℕ → Option ℕ) → List ℕ
+turned_all reduction colours before parent =
+    map (λ f. turned reduction (slice_index colours f) (slice_index before f) (parent f))
     (range_with_len 0 (length colours))
 
 abbrev pub kept_all : Reduction → List ℕ → List ℕ → List ℕ

@@ -38,6 +38,7 @@ mod shown;
 mod table;
 mod taken;
 mod tell;
+mod turning;
 mod work;
 
 pub use idle::IdlePulses;

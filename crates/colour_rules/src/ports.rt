@@ -186,7 +186,7 @@ impl ColourNode {
     ) -> Result<usize, Refused>
         requires unread { inbox.old ≡ unread inbox.old.slots }
         requires ports { length inbox.old.slots ≡ ports self.now }
-        requires room { phase ≡ Orient → length identifiers.old ≡ ports self.now }
+        requires room { phase ≡ Orient → ports self.now ≤ length identifiers.old }
         ensures slots { inbox.new.slots ≡ inbox.old.slots }
         ensures answer { MatchResult result
             (λ _. first_refusal self.now phase inbox.old.slots ≡ None)

@@ -1,7 +1,6 @@
 //! A whole pulse of a node: what it refuses, and the work of the phase.
-ghost use Rattle.std.specs.Prelude.{◌≡◌, ◌≤◌, IfOk, MatchResult, None, OnErr, Some, count_by, length, nat_lt, take};
+ghost use Rattle.std.specs.Prelude.{◌≡◌, ◌≤◌, IfOk, MatchResult, None, OnErr, Some, count_by, length, nat_lt};
 ghost use Rattle.std.specs.List.{list_any};
-ghost use Rattle.node_api.below.interference.specs.declared.limits.TheConstants.{MAX_DEGREE};
 ghost use Rattle.node_api.specs.Boxes.{nothing, unread};
 ghost use Rattle.node_api.specs.Program.{Matches};
 ghost use Rattle.colour_rules.specs.Idle.{IsIdle, IsWaiting};
@@ -23,9 +22,7 @@ use node_api::{Inbox, MAX_DEGREE, Outbox, Refused};
 const MAX_PORTS: usize = MAX_DEGREE as usize;
 
 // Up to how many ports a shorter list on the stack serves, since it is cleared.
-const FEW_PORTS: usize = 16;
-
-const SOME_PORTS: usize = 128;
+const FEW_PORTS: usize = 128;
 
 impl ColourNode {
     /// A pulse: reads what came, does the work of the phase and sends. Returns pulses after this one in
@@ -50,49 +47,22 @@ impl ColourNode {
         ensures refused { OnErr result ((self.new ≡ self.old) × (out.new ≡ out.old)) }
         ensures inbox { inbox.new.slots ≡ inbox.old.slots }
     {
-        if self.phase(pulse) != Phase::Orient {
+        if self.phase(pulse) == Phase::Orient {
+            self.pulse_at_orient(pulse, inbox, out)
+        } else {
             self.pulse_with(pulse, &mut [], inbox, out)
-        } else {
-            self.pulse_with_room(pulse, inbox, out)
         }
     }
 
-    // The same, at a pulse at which identifiers may come.
-    fn pulse_with_room(
-        &mut self,
-        pulse: u32,
-        inbox: &mut Inbox<Payload>,
-        out: &mut Outbox<Payload>,
-    ) -> Result<IdlePulses, Refused>
-        requires rewound { inbox.old.cursor ≡ 0 }
-        requires inbox { length inbox.old.slots ≡ ports self.old }
-        requires out { out.old ≡ nothing (ports self.old) }
-        ensures answer { Matches result (next self.old pulse inbox.old.slots) (self.new, out.new) }
-        ensures idle { IfOk result (IsIdle self.new) }
-        ensures waits { IfOk result (IsWaiting self.new) }
-        ensures refused { OnErr result ((self.new ≡ self.old) × (out.new ≡ out.old)) }
-        ensures inbox { inbox.new.slots ≡ inbox.old.slots }
-    {
-        let ports = self.roles.len();
-        if ports <= FEW_PORTS {
-            self.pulse_in::<FEW_PORTS>(pulse, inbox, out)
-        } else if ports <= SOME_PORTS {
-            self.pulse_in::<SOME_PORTS>(pulse, inbox, out)
-        } else {
-            self.pulse_in::<MAX_PORTS>(pulse, inbox, out)
-        }
-    }
-
-    // The same, with at most `N` ports. Never inlined: a function clears all its lists on the stack as it begins,
-    // those of other branches too.
+    // The same, at the pulse at which identifiers come. Never inlined, since its list on the stack is cleared, which
+    // other pulses needn't pay for.
     #[inline(never)]
-    fn pulse_in<const N: usize>(
+    fn pulse_at_orient(
         &mut self,
         pulse: u32,
         inbox: &mut Inbox<Payload>,
         out: &mut Outbox<Payload>,
     ) -> Result<IdlePulses, Refused>
-        requires few { (ports self.old ≤ N) × (N ≤ MAX_DEGREE) }
         requires rewound { inbox.old.cursor ≡ 0 }
         requires inbox { length inbox.old.slots ≡ ports self.old }
         requires out { out.old ≡ nothing (ports self.old) }
@@ -102,9 +72,11 @@ impl ColourNode {
         ensures refused { OnErr result ((self.new ≡ self.old) × (out.new ≡ out.old)) }
         ensures inbox { inbox.new.slots ≡ inbox.old.slots }
     {
-        let ports = self.roles.len();
-        let mut room = [0; N];
-        self.pulse_with(pulse, &mut room[..ports], inbox, out)
+        if self.roles.len() <= FEW_PORTS {
+            self.pulse_with(pulse, &mut [0; FEW_PORTS], inbox, out)
+        } else {
+            self.pulse_with(pulse, &mut [0; MAX_PORTS], inbox, out)
+        }
     }
 
     // The same, with room for the identifiers of all ports if they come at this pulse.
@@ -115,7 +87,7 @@ impl ColourNode {
         inbox: &mut Inbox<Payload>,
         out: &mut Outbox<Payload>,
     ) -> Result<IdlePulses, Refused>
-        requires room { phase_of self.old.sizes pulse ≡ Orient → length identifiers.old ≡ ports self.old }
+        requires room { phase_of self.old.sizes pulse ≡ Orient → ports self.old ≤ length identifiers.old }
         requires rewound { inbox.old.cursor ≡ 0 }
         requires inbox { length inbox.old.slots ≡ ports self.old }
         requires out { out.old ≡ nothing (ports self.old) }

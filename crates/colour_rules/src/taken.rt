@@ -22,7 +22,8 @@ const FEW_WORDS: usize = 2;
 // For how many colours the smallest set has room.
 const FEW_COLOURS: u16 = FEW_WORDS as u16 * 64;
 
-// The same of the next larger set, which has room for the colours of each network without bars.
+// The same of the next larger set, which has room for the colours of each network without bars. Each node has room for
+// the greatest degree of its network, so one node of some hundred neighbours makes the sets of all larger.
 const MORE_WORDS: usize = 16;
 
 const MORE_COLOURS: u16 = MORE_WORDS as u16 * 64;

@@ -9,9 +9,8 @@ use Rattle.std.specs.Result.{OkIff, result_ok}
 use Rattle.std.specs.Str.{IsUtf8, all_ascii_digits}
 use Rattle.std.specs.Str.Parse.{ParsesUnsigned, digits_value}
 use Rattle.std.specs.List.{slice_get}
-use Rattle.std.specs.Option.{option_map}
-use Rattle.dimacs_col.specs.Lines.{Line, field_at, fitting, is_field, is_identifier, number_of, wide_number}
-use Rattle.dimacs_col.specs.State.{kept, kept_number}
+use Rattle.dimacs_col.specs.Lines.{Line, field_at, identifier_in, identifier_of, is_field, is_identifier, number_of}
+use Rattle.dimacs_col.specs.declared.fields.IdentifierField.TheVariants.{NoNumber, TooGreat, Value}
 
 own : IsNumeralModel (λ ds. all_ascii_digits ds ≡ true) (digits_value 10)
 own = numerals_by_value (λ ds. all_ascii_digits ds ≡ true) tells_all_ascii_digits
@@ -87,49 +86,22 @@ parsed k field bs r same plain is =
     by-result (Err e) never = sym (below-none k field never)
 
 -- ---- identifiers
-pub fitting-missing : (line : Line) (place : ℕ) → slice_get line place ≡ None → option_map fitting (number_of (field_at line place)) ≡ None
+pub identifier-missing : (line : Line) (place : ℕ) → slice_get line place ≡ None → identifier_in (field_at line place) ≡ NoNumber
 unfolding number_of
-fitting-missing [] place e = refl
-fitting-missing (f ∷ fs) zero e = absurd cc
-fitting-missing (f ∷ fs) (suc place) e = fitting-missing fs place e
+identifier-missing [] place e = refl
+identifier-missing (f ∷ fs) zero e = absurd cc
+identifier-missing (f ∷ fs) (suc place) e = identifier-missing fs place e
 
-pub fitting-none : (field : List ℕ) → kept_number field ≡ None → option_map fitting (number_of field) ≡ None
-fitting-none field e = none-by (number_of field) refl
+-- a field in which an identifier was found spells it
+pub value-from : (field : List ℕ) (id : ℕ) → identifier_in field ≡ Value id → (number_of field ≡ Some id) × (is_identifier id ≡ true)
+value-from field id e = from-by (number_of field) refl
   where
-    none-by : (o : Option ℕ) → number_of field ≡ o → option_map fitting (number_of field) ≡ None
-    none-by None o = rw o refl
-    none-by (Some n) o = let some : Some (kept n) ≡ None = (rw o at e) in absurd cc
+    fits-by : (n : ℕ) (b : Bool) → is_identifier n ≡ b → identifier_of (Some n) ≡ Value id → (Some n ≡ Some id) × (is_identifier id ≡ true)
+    fits-by n true t f = let same : Value n ≡ Value id = (rw t at f) in let is : n ≡ id = cc in (ap Some is, ap is_identifier (sym is) ∙ t)
+    fits-by n false t f = let none : TooGreat ≡ Value id = (rw t at f) in absurd cc
 
-pub fitting-some : (field : List ℕ) (v : ℕ) → kept_number field ≡ Some v → option_map fitting (number_of field) ≡ Some (wide_number field)
-fitting-some field v e = some-by (number_of field) refl
-  where
-    some-by : (o : Option ℕ) → number_of field ≡ o → option_map fitting (number_of field) ≡ Some (wide_number field)
-    some-by None o = let none : None ≡ Some v = (rw o at e) in absurd cc
-    some-by (Some n) o = rw o refl
-
--- the number of a field that a reader took as an identifier, or as a number too great for one
-pub record IsFitting (field : List ℕ) (held : Option ℕ) : Type 0 where
-  pub number : ℕ
-  pub is : number_of field ≡ Some number
-  pub held_is : held ≡ fitting number
-
-pub fitting-from : (field : List ℕ) (held : Option ℕ) → option_map fitting (number_of field) ≡ Some held → IsFitting field held
-fitting-from field held e = from-by (number_of field) refl
-  where
-    from-by : (o : Option ℕ) → number_of field ≡ o → IsFitting field held
-    from-by None o = let none : None ≡ Some held = (rw o at e) in absurd cc
-    from-by (Some n) o = let some : Some (fitting n) ≡ Some held = (rw o at e) in record { number = n; is = o; held_is = cc }
-
-pub fits : (n id : ℕ) → Some id ≡ fitting n → (is_identifier n ≡ true) × (id ≡ n)
-fits n id e = fits-by (is_identifier n) refl
-  where
-    fits-by : (b : Bool) → is_identifier n ≡ b → (is_identifier n ≡ true) × (id ≡ n)
-    fits-by true t = let some : Some id ≡ Some n = (rw t at e) in (t, cc)
-    fits-by false t = let none : Some id ≡ None = (rw t at e) in absurd cc
-
-pub fits-not : (n : ℕ) → None ≡ fitting n → is_identifier n ≡ false
-fits-not n e = not-by (is_identifier n) refl
-  where
-    not-by : (b : Bool) → is_identifier n ≡ b → is_identifier n ≡ false
-    not-by true t = let some : None ≡ Some n = (rw t at e) in absurd cc
-    not-by false t = t
+    from-by : (o : Option ℕ) → number_of field ≡ o → (number_of field ≡ Some id) × (is_identifier id ≡ true)
+    from-by None o = let none : NoNumber ≡ Value id = (rw o at e) in absurd cc
+    from-by (Some n) o =
+        let found = fits-by n (is_identifier n) refl (rw o at e) in
+        (o ∙ found.0, found.1)

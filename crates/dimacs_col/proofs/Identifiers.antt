@@ -18,7 +18,7 @@ use Rattle.dimacs_col.specs.declared.fault.ColFault.TheVariants.{VertexRange, Nu
 use Rattle.dimacs_col.specs.declared.kind.Kind.TheVariants.{Identifier}
 use Rattle.dimacs_col.proofs.Lists.{AllGood-push, nodes_of-same, edges_of-same, edge_count-same, ids_of-push, bars_of-same}
 use Rattle.dimacs_col.proofs.Edges.{small-nodes}
-use Rattle.dimacs_col.proofs.Verdicts.{verdict-identifier, outside-one, inside-one, kept-from, kept-inside}
+use Rattle.dimacs_col.proofs.Verdicts.{verdict-identifier, inside-one, kept-from, kept-inside}
 
 -- ---- what a list gives a vertex
 lookup-by : (f g : ℕ → Bool) → ((k : ℕ) → f k ≡ g k) → (ids : List (ℕ × ℕ)) → lookup f ids ≡ lookup g ids
@@ -65,13 +65,6 @@ pub record IsNamed (before : List Line) (word : List ℕ) (fields : Line) (r : R
   pub second : number_of (field_at fields 1) ≡ Some number
 
 module _ (before : List Line) (word : List ℕ) (fields : Line) (r : Reader) (nodes v number : ℕ) (e : IsNamed before word fields r nodes v number) where
-  pub outside-told : (0 < v → v ≤ nodes → ⊥) → verdict before (word ∷ fields) ≡ Some (VertexRange (number_after before))
-  outside-told bad =
-      let small = small-nodes r.nodes nodes e.nodes_is e.knows.nodes_fit in
-      let a = kept-from (field_at fields 0) v e.first in
-      verdict-identifier before word fields nodes a.number number true (is_identifier number) (has_id before a.number)
-      e.kind (sym e.knows.nodes_are ∙ e.nodes_is) a.is e.second (outside-one nodes a.number v small a.kept_is bad) refl refl
-
   -- the vertex is one of the network
   module _ (low : 0 < v) (high : v ≤ nodes) where
     vertex : number_of (field_at fields 0) ≡ Some v
@@ -88,13 +81,6 @@ module _ (before : List Line) (word : List ℕ) (fields : Line) (r : Reader) (no
     told-by b c f g =
         verdict-identifier before word fields nodes v number false b c e.kind (sym e.knows.nodes_are ∙ e.nodes_is) vertex e.second
         (inside-one nodes v low high) f g
-
-    pub great-told : is_identifier number ≡ false → verdict before (word ∷ fields) ≡ Some (NumberRange (number_after before))
-    great-told f = told-by false (has_id before v) f refl
-
-    pub twice-told : is_identifier number ≡ true → is_some (get nat_cmp r.ids v) ≡ true →
-        verdict before (word ∷ fields) ≡ Some (IdTwice (number_after before))
-    twice-told f h = told-by true true f (ap is_some (sym (e.knows.ids_are v)) ∙ h)
 
     -- one more vertex with an identifier
     named : edges_of ((word ∷ fields) ∷ []) ≡ []

@@ -8,7 +8,7 @@ use Rattle.dimacs_col.specs.Reading.{IsFault, nodes_of, number_after, verdict}
 use Rattle.dimacs_col.specs.State.{Judged, Knows}
 use Rattle.dimacs_col.specs.declared.fault.ColFault.{ColFault}
 use Rattle.dimacs_col.specs.declared.fault.ColFault.TheVariants.{EarlyLine, EdgeBeforeProblem, Memory}
-use Rattle.dimacs_col.specs.declared.kind.Kind.TheVariants.{Bar, Edge, Identifier}
+use Rattle.dimacs_col.specs.declared.kind.Kind.TheVariants.{Bar, Edge}
 use Rattle.dimacs_col.specs.declared.reader.Reader.{Reader}
 
 -- an error says nothing of a good answer
@@ -60,10 +60,6 @@ module _ (before : List Line) (word : List ℕ) (fields : Line) (none : nodes_of
   pub edge_early : kind_of_word word ≡ Edge → verdict before (word ∷ fields) ≡ Some (EdgeBeforeProblem (number_after before))
   unfolding verdict
   edge_early kind = rw (kind, none) refl
-
-  pub identifier_early : kind_of_word word ≡ Identifier → verdict before (word ∷ fields) ≡ Some (EarlyLine (number_after before))
-  unfolding verdict
-  identifier_early kind = rw (kind, none) refl
 
   pub bar_early : kind_of_word word ≡ Bar → verdict before (word ∷ fields) ≡ Some (EarlyLine (number_after before))
   unfolding verdict

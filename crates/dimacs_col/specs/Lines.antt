@@ -6,6 +6,8 @@ use Rattle.std.specs.Str.{all_ascii_digits}
 use Rattle.std.specs.Str.Lines.{strip_carriage_return}
 use Rattle.std.specs.Str.Parse.{digits_value}
 use Rattle.dimacs_col.specs.declared.limits.TheConstants.{IDENTIFIER_DIGITS, MAX_CHANNEL}
+use Rattle.dimacs_col.specs.declared.fields.IdentifierField.{IdentifierField}
+use Rattle.dimacs_col.specs.declared.fields.IdentifierField.TheVariants.{NoNumber, TooGreat, Value}
 
 -- a line is the list of its fields, each a list of bytes
 abbrev pub Line : Type 0
@@ -53,6 +55,14 @@ fitting n = if is_identifier n then Some n else None
 -- the identifier that a field spells
 abbrev pub wide_number : List ℕ → Option ℕ
 wide_number field = option_and_then fitting (number_of field)
+
+-- what the number of a field says of an identifier
+abbrev pub identifier_of : Option ℕ → IdentifierField
+identifier_of None = NoNumber
+identifier_of (Some n) = if is_identifier n then Value n else TooGreat
+
+abbrev pub identifier_in : List ℕ → IdentifierField
+identifier_in field = identifier_of (number_of field)
 
 -- the field at a place of a line, counted from 0; if it is missing, the empty one, which is no number
 abbrev pub field_at : Line → ℕ → List ℕ

@@ -2,8 +2,9 @@
 
 ghost use Rattle.std.specs.Prelude.{◌≡◌, ◌≢◌, ◌≤◌, MatchOption, Option, drop, get_or, length, slice_get};
 ghost use Rattle.std.specs.List.{prefix_len};
-ghost use Rattle.std.specs.Option.{option_copied, option_map};
-ghost use Rattle.dimacs_col.specs.Lines.{fields_of, field_at, fitting, is_blank, is_part, number_of, wide_number};
+ghost use Rattle.std.specs.Option.{option_copied};
+ghost use Rattle.dimacs_col.specs.Lines.{fields_of, field_at, identifier_in, is_blank, is_part, number_of};
+ghost use Rattle.dimacs_col.specs.Lines.{wide_number};
 ghost use Rattle.dimacs_col.specs.State.{kept_number};
 
 use std::marker::Model;
@@ -22,6 +23,17 @@ impl<'a> Model for Fields<'a> {
     ghost Value = { List (List ℕ) };
 
     ghost view = { λ fields. fields_of fields.rest.now };
+}
+
+/// What a field says of an identifier.
+#[derive(Clone, Copy, Debug, PartialEq, Eq)]
+pub enum IdentifierField {
+    /// The field is missing or no number.
+    NoNumber,
+    /// The number has more than `IDENTIFIER_DIGITS` binary digits.
+    TooGreat,
+    /// The identifier.
+    Value(u128),
 }
 
 // Whether a byte parts fields.
@@ -74,15 +86,15 @@ impl<'a> Fields<'a> {
         number(self.next()?)
     }
 
-    /// Takes the next field as an identifier; `None` if it is missing or no number, `Some(None)` if the
-    /// number is too great.
-    pub fn next_identifier(&mut self) -> Option<Option<u128>>
-        ensures first { result ≡ option_map fitting (number_of (field_at self.old 0)) }
+    // Takes the next field as an identifier.
+    pub(crate) fn next_identifier(&mut self) -> IdentifierField
+        ensures first { result ≡ identifier_in (field_at self.old 0) }
         ensures rest { self.new ≡ drop 1 self.old }
     {
-        let field = self.next()?;
-        number(field)?;
-        Some(wide_number(field))
+        match self.next() {
+            Some(field) => identifier_in(field),
+            None => IdentifierField::NoNumber,
+        }
     }
 }
 
@@ -120,9 +132,22 @@ fn unsigned(field: &[u8]) -> Option<&str>
     from_utf8(field).ok()
 }
 
-/// The number that a field spells, if it has at most `IDENTIFIER_DIGITS` binary digits.
-pub fn wide_number(field: &[u8]) -> Option<u128>
+// The number that a field spells, if it has at most `IDENTIFIER_DIGITS` binary digits.
+fn wide_number(field: &[u8]) -> Option<u128>
     ensures { result ≡ wide_number field.now }
 {
     unsigned(field)?.parse().ok()
+}
+
+// What a field has in place of an identifier.
+fn identifier_in(field: &[u8]) -> IdentifierField
+    ensures { result ≡ identifier_in field.now }
+{
+    if number(field).is_none() {
+        return IdentifierField::NoNumber;
+    }
+    match wide_number(field) {
+        Some(id) => IdentifierField::Value(id),
+        None => IdentifierField::TooGreat,
+    }
 }

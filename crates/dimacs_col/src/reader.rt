@@ -15,7 +15,7 @@ ghost use Rattle.dimacs_col.specs.State.{Knows, Judged};
 use crate::bag::EdgeBag;
 use crate::bars::BarSet;
 use crate::fault::ColFault;
-use crate::fields::Fields;
+use crate::fields::{Fields, IdentifierField};
 use crate::kind::{Kind, is_format};
 use crate::limits::{MAX_CHANNEL, MAX_NODES};
 use std::alloc::{AllocError, Global};
@@ -154,13 +154,17 @@ impl Reader {
         let Some(nodes) = self.nodes else {
             return Err(ColFault::EarlyLine(self.line));
         };
-        let (Some(v), Some(id)) = (fields.next_number(), fields.next_identifier()) else {
+        let Some(v) = fields.next_number() else {
             return Err(ColFault::BadField(self.line));
         };
+        let id = fields.next_identifier();
+        if id == IdentifierField::NoNumber {
+            return Err(ColFault::BadField(self.line));
+        }
         if v == 0 || v > nodes {
             return Err(ColFault::VertexRange(self.line));
         }
-        let Some(id) = id else {
+        let IdentifierField::Value(id) = id else {
             return Err(ColFault::NumberRange(self.line));
         };
         if self.ids.insert(v, id)?.is_some() {

@@ -1,6 +1,5 @@
 -- What one entry more at the end of the list leaves of it.
 use Rattle.std.proofs.Common.{◌≡◌, ℕ, ◌+◌, ◌≤◌, List, [], ◌∷◌, ◌++◌, length, drop, map, refl, sym, ap, ap₂, ◌∙◌, arith}
-use Rattle.std.specs.List.{zip}
 use Rattle.std.proofs.lemmas.List.{append-nil, append_assoc, drop-append-le, length-append, length-drop, length-map}
 use Rattle.entries.specs.declared.entry.Entry.{Entry}
 use Rattle.entries.specs.declared.entry.Entry.TheVariants as entry
@@ -10,6 +9,7 @@ use Rattle.entries.specs.declared.bare.Act.TheVariants.{Pulse, Put, Take}
 use Rattle.entries.specs.declared.bare.WireKind.{WireKind}
 use Rattle.entries.specs.declared.bare.WireKind.TheVariants.{Payload, Ack, Safe, Close}
 use Rattle.entries.specs.Bare.{entries_of, entry_of, payload_count, payloads_by, payloads_in, wire_of}
+use Rattle.entries.specs.Rows.{stamp_each, stamped_entry}
 
 module _ {M : Type 0} where
   -- further payloads behind don't matter
@@ -66,10 +66,10 @@ pub payloads-more : (bares : List BareEntry) (bare : BareEntry) → payloads_in 
 payloads-more [] bare = omega arith
 payloads-more (b ∷ bs) bare = omega (arith, payloads-more bs bare)
 
--- two lists as long as each other that get one item more, side by side
-pub zip-more : {A B : Type 0} (xs : List A) (ys : List B) (x : A) (y : B) → length xs ≡ length ys
-    → zip (xs ++ x ∷ []) (ys ++ y ∷ []) ≡ zip xs ys ++ (x, y) ∷ []
-zip-more [] [] x y long = refl
-zip-more [] (b ∷ ys) x y long = absurd (omega (arith, long))
-zip-more (a ∷ xs) [] x y long = absurd (omega (arith, long))
-zip-more (a ∷ xs) (b ∷ ys) x y long = ap (λ l. (a, b) ∷ l) (zip-more xs ys x y (omega (arith, long)))
+-- as many stamps as entries, and one more of both
+pub stamp_each-more : {M : Type 0} (stamps : List ℕ) (entries : List (Entry M)) (s : ℕ) (e : Entry M) → length stamps ≡ length entries
+    → stamp_each (stamps ++ s ∷ []) (entries ++ e ∷ []) ≡ stamp_each stamps entries ++ stamped_entry s e ∷ []
+stamp_each-more [] [] s e long = refl
+stamp_each-more [] (b ∷ entries) s e long = absurd (omega (arith, long))
+stamp_each-more (a ∷ stamps) [] s e long = absurd (omega (arith, long))
+stamp_each-more (a ∷ stamps) (b ∷ entries) s e long = ap (λ l. stamped_entry a b ∷ l) (stamp_each-more stamps entries s e (omega (arith, long)))

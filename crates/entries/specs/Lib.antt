@@ -1,5 +1,7 @@
 pub mod Bare
 pub mod Blocks
 pub mod EntryList
+pub mod Recorded
+pub mod Rows
 pub mod alpha_core
 pub mod interference

@@ -5,6 +5,7 @@ ghost use Rattle.std.specs.Iterator.{YieldsFirst, item_count};
 use crate::bare::{Act, BareEntry, join_wire};
 use crate::blocks::BlockIter;
 use crate::entry::Entry;
+use crate::rows::StampedEntry;
 use std::marker::Model;
 
 /// The entries of an `Entries`, by value, seen as the list of those that are left.
@@ -61,28 +62,29 @@ pub struct StampedIter<'a, T> {
 }
 
 impl<'a, T> Model for StampedIter<'a, T> {
-    ghost use Rattle.std.specs.Prelude.{◌≡◌, ℕ, List, length};
-    ghost use Rattle.std.specs.List.{zip};
-    ghost use Rattle.entries.specs.declared.entry.Entry.{Entry};
+    ghost use Rattle.std.specs.Prelude.{◌≡◌, List, length};
+    ghost use Rattle.entries.specs.declared.rows.StampedEntry.{StampedEntry};
 
-    ghost Value = { List (ℕ × Entry T) };
+    ghost Value = { List (StampedEntry T) };
 
-    ghost view = { λ it. zip it.stamps it.entries };
+    ghost use Rattle.entries.specs.Rows.{stamp_each};
+
+    ghost view = { λ it. stamp_each it.stamps it.entries };
 
     // There is a stamp for each entry.
     ghost invariant = { λ it. length it.stamps ≡ length it.entries };
 }
 
 impl<'a, T: Copy> Iterator for StampedIter<'a, T> {
-    type Item = (u64, Entry<T>);
+    type Item = StampedEntry<T>;
 
     ghost next_gives = { YieldsFirst (λ rest. rest) };
 
     ghost remaining = { item_count (λ rest. rest) };
 
-    fn next(&mut self) -> Option<(u64, Entry<T>)> {
+    fn next(&mut self) -> Option<StampedEntry<T>> {
         let entry = self.entries.next()?;
         let stamp = self.stamps.next()?;
-        Some((stamp, entry))
+        Some(StampedEntry { stamp, entry })
     }
 }

@@ -1,15 +1,16 @@
 //! What a node writes down of each of its events, so that its run can be read and replayed.
 //!
-//! `actor` writes a node's own entries into an `Entries`, each with its stamp (`Counter` of `alpha_core`). It takes 20
-//! bytes an entry and the bytes of a payload where there is one. The 20 bytes lie in blocks that are never moved.
-//! `replay` plays lists of entries, and `transcripts` writes them as text and reads them.
+//! `actor` writes a node's own entries into a `Recorder`, each with its stamp (`Counter` of `alpha_core`): it has an
+//! `Entries`, or nothing. An `Entries` takes 20 bytes an entry and the bytes of a payload where there is one. The 20
+//! bytes lie in blocks that are never moved. `net_core` plays lists of entries, and `transcripts` writes them as text
+//! and reads them: `Row` and `StampedRow` are entries of such lists.
 //!
 //! ```text
 //! let mut entries = Entries::new(alloc);
 //! entries.reserve()?;                                             // room for one more, of any kind
 //! entries.push_reserved(1, Entry::Put(2, Wire::Payload(0, Payload::Hello(Long::new(1)))));  // can't be refused
 //! for entry in entries.iter() { .. }                              // each by value, from the first
-//! for (stamp, entry) in entries.stamped() { .. }
+//! for StampedEntry { stamp, entry } in entries.stamped() { .. }
 //! ```
 #![tactic(auto)]
 
@@ -18,10 +19,14 @@ mod blocks;
 mod entry;
 mod iter;
 mod list;
+mod recorder;
+mod rows;
 
 pub use entry::Entry;
 pub use iter::{Iter, StampedIter};
 pub use list::Entries;
+pub use recorder::Recorder;
+pub use rows::{Row, StampedEntry, StampedRow};
 
 // What crates above name of lower ones.
 pub use alpha_core::{Counter, Memory, StampFull, Stamped};

@@ -1,6 +1,7 @@
 //! The entries of a node.
 
 ghost use Rattle.std.specs.Prelude.{◌≡◌, ◌<◌, ◌≤◌, ◌+◌, ◌++◌, ◌∷◌, [], length, OnOk, OnErr, vec_capacity, vec_len};
+ghost use Rattle.entries.specs.Rows.{stamped_entry};
 
 use crate::bare::{BareEntry, split};
 use crate::blocks::Blocks;
@@ -24,16 +25,16 @@ pub struct Entries<T> {
 
 impl<T> Model for Entries<T> {
     ghost use Rattle.std.specs.Prelude.{◌≡◌, ◌-◌, length, min, vec_capacity, vec_len};
-    ghost use Rattle.std.specs.List.{zip};
     ghost use Rattle.entries.specs.EntryList.{EntryList};
 
     ghost Value = { EntryList T };
 
     ghost use Rattle.entries.specs.Bare.{entries_of, payloads_in};
+    ghost use Rattle.entries.specs.Rows.{stamp_each};
 
     ghost view = { λ e. record {
       items = entries_of e.bares.items e.payloads.items;
-      stamped = zip e.stamps.items (entries_of e.bares.items e.payloads.items);
+      stamped = stamp_each e.stamps.items (entries_of e.bares.items e.payloads.items);
       room = min e.stamps.room (min e.bares.room (vec_capacity e.payloads - vec_len e.payloads));
     } };
 
@@ -97,7 +98,7 @@ impl<T> Entries<T> {
     pub fn push_reserved(&mut self, stamp: u64, entry: Entry<T>)
         requires room { 0 < self.old.room }
         ensures items { self.new.items ≡ self.old.items ++ entry ∷ [] }
-        ensures stamped { self.new.stamped ≡ self.old.stamped ++ (stamp, entry) ∷ [] }
+        ensures stamped { self.new.stamped ≡ self.old.stamped ++ stamped_entry stamp entry ∷ [] }
         ensures room { self.old.room ≤ self.new.room + 1 }
     {
         self.stamps.push_reserved(stamp);

@@ -2,7 +2,7 @@
 use Rattle.std.proofs.Common.{◌≡◌, ℕ, suc, ◌<◌, ◌≤◌, ◌==◌, true, List, [], ◌∷◌, ◌++◌, length, get_or, refl, sym, ap, ◌∙◌, ⊎_elim}
 use Rattle.std.proofs.Common.{zero, arith, subst, Ok, Err}
 use Rattle.std.specs.Prelude.{All, max, Result, MatchResult, ◌&&◌}
-use Rattle.std.proofs.lemmas.Bool.{cases_Bool, eq-eqb}
+use Rattle.std.proofs.lemmas.Bool.{eq-eqb}
 use Rattle.std.proofs.lemmas.List.{get_or_append_left, get_or_at, length-append, length-map, map-append}
 use Rattle.std.proofs.lemmas.List.Elements.{All-cons, All-head, All-nil, All-tail, All-weaker, All-get_or}
 use Rattle.alpha_laws.specs.interference.Net.{Net, IsNetwork, IsVertex, count_of, degree_of, neighbour_of, neighbours, port_to, back_port_of}
@@ -15,6 +15,7 @@ use Rattle.alpha_laws.specs.alpha_core.Alpha.{pulse, put_done, reaction}
 use Rattle.alpha_laws.specs.alpha_core.Program.{start_node}
 use Rattle.actor.specs.entries.Entry.{Entry}
 use Rattle.actor.specs.entries.Entry.TheVariants.{Pulse, Put, Take}
+use Rattle.actor.specs.entries.Rows.{stamped_entry, stamped_row}
 use Rattle.actor.specs.Written.{Leads, takes_in}
 use Rattle.net_core.specs.event_machine.State.{State, node_of}
 use Rattle.actor.specs.alpha_core.Stamped.{Stamped}
@@ -24,7 +25,7 @@ use Rattle.actor.specs.stamps.Keeps.{came_to}
 use Rattle.actor.specs.stamps.Merged.{StampedRow, AreOrdered, AreStampedRows, IsMerge, Precedes, entries_at, puts_at, stamp_behind}
 use Rattle.net_core.specs.Whole.{IsStampedReplay, IsWholeReplay}
 use Rattle.actor.proofs.stamps.Appends.{not_above, puts_append, rest_ordered}
-use Rattle.actor.proofs.stamps.Lists.{entry_here, puts_are}
+use Rattle.actor.proofs.stamps.Lists.{entry_here, none_or_one, puts_are}
 use Rattle.actor.proofs.stamps.Unique.{entries_append}
 use Rattle.actor.proofs.stamps.Local.{taken_more}
 use Rattle.gather_laws.specs.MergedRuns.{HaveMet, IsReplayTo, links_of}
@@ -33,17 +34,16 @@ use Rattle.actor.proofs.StampedEntries.{wires_taken}
 use Rattle.gather_laws.proofs.Runs.{merged}
 
 module _ {M : Type 0} where
-  puts_above : (s : ℕ) (rows : List (StampedRow M)) (v w : ℕ) → All (λ row. s ≤ row.0) rows → All (λ x. s ≤ x.stamp) (puts_at rows v w)
+  puts_above : (s : ℕ) (rows : List (StampedRow M)) (v w : ℕ) → All (λ row. s ≤ row.stamp) rows → All (λ x. s ≤ x.stamp) (puts_at rows v w)
   puts_above s [] v w all = All-nil (λ (x : Stamped M). s ≤ x.stamp)
-  puts_above s ((t, u, Pulse p) ∷ rows) v w all = puts_above s rows v w (All-tail (λ (r : StampedRow M). s ≤ r.0) (t, u, Pulse p) rows all)
-  puts_above s ((t, u, Put to x) ∷ rows) v w all =
-      let more = puts_above s rows v w (All-tail (λ (r : StampedRow M). s ≤ r.0) (t, u, Put to x) rows all) in
+  puts_above s (row ∷ rows) v w all =
+      let more = puts_above s rows v w (All-tail (λ (r : StampedRow M). s ≤ r.stamp) row rows all) in
+      let P : List (Stamped M) → Type 0 = λ l. All (λ x. s ≤ x.stamp) (l ++ puts_at rows v w) in
       ⊎_elim
-      (λ yes. rw yes (All-cons (λ (y : Stamped M). s ≤ y.stamp) (stamped t x) (puts_at rows v w)
-      (All-head (λ (r : StampedRow M). s ≤ r.0) (t, u, Put to x) rows all) more))
-      (λ no. rw no more)
-      (cases_Bool ((u == v) && (to == w)))
-  puts_above s ((t, u, Take from x) ∷ rows) v w all = puts_above s rows v w (All-tail (λ (r : StampedRow M). s ≤ r.0) (t, u, Take from x) rows all)
+      (λ none. subst P (sym none) more)
+      (λ one. subst P (sym one.1) (All-cons (λ (y : Stamped M). s ≤ y.stamp) (stamped row.stamp one.0) (puts_at rows v w)
+      (All-head (λ (r : StampedRow M). s ≤ r.stamp) row rows all) more))
+      (none_or_one (λ to. (row.vertex == v) && (to == w)) row.stamp row.entry)
 
   -- A number that stands at k in a list, of which the first part is followed by numbers that are no less than s, stands in
   -- the first part if it is less than s.
@@ -64,41 +64,44 @@ matched (Err e) P is = absurd is
 
 module _ {S M E : Type 0} (program : Program S M E) (net : Net) (v : ℕ) where
   -- a take is by a port
-  take_port : (before : List (StampedEntry M)) (s w : ℕ) (x : Wire M) (after : List (StampedEntry M)) (from to : Node S M)
-      → Leads program net v (bare_of (before ++ ((s, Take w x) ∷ after))) from to → port_to net v w < degree_of net v
-  take_port [] s w x after from to is = is.0
-  take_port ((t, Pulse p) ∷ before) s w x after from to is =
-      let rest = bare_of (before ++ ((s, Take w x) ∷ after)) in
+  take_port : (before : List (Entry M)) (w : ℕ) (x : Wire M) (after : List (Entry M)) (from to : Node S M)
+      → Leads program net v (before ++ (Take w x ∷ after)) from to → port_to net v w < degree_of net v
+  take_port [] w x after from to is = is.0
+  take_port (Pulse p ∷ before) w x after from to is =
+      let rest = before ++ (Take w x ∷ after) in
       let got = matched (pulse program.next (last_pulse_on program net) from) (λ n. Leads program net v rest n to) is.1.1 in
-      take_port before s w x after got.0 to got.2
-  take_port ((t, Put u y) ∷ before) s w x after from to is =
-      take_port before s w x after record from { view = put_done from.view (port_to net v u) } to is.1.1
-  take_port ((t, Take u y) ∷ before) s w x after from to is =
-      let rest = bare_of (before ++ ((s, Take w x) ∷ after)) in
+      take_port before w x after got.0 to got.2
+  take_port (Put u y ∷ before) w x after from to is =
+      take_port before w x after record from { view = put_done from.view (port_to net v u) } to is.1.1
+  take_port (Take u y ∷ before) w x after from to is =
+      let rest = before ++ (Take w x ∷ after) in
       let got = matched (reaction (last_pulse_on program net) from.view (port_to net v u) y)
       (λ view. Leads program net v rest record from { view = view } to) is.1 in
-      take_port before s w x after record from { view = got.0 } to got.2
+      take_port before w x after record from { view = got.0 } to got.2
 
 module _ {S M E : Type 0} (program : Program S M E) (net : Net) (ok : IsNetwork net) (nodes : ℕ → Node S M) (counters : ℕ → ℕ)
     (puts takens held : ℕ → ℕ → List (Stamped M)) (wrote : ℕ → List (StampedEntry M)) (rows : List (StampedRow M))
     (met : HaveMet program net nodes counters puts takens held wrote) (merge : IsMerge (count_of net) wrote rows) where
   -- the entries of the vertex of a row
-  split_at : (before : List (StampedRow M)) (s v : ℕ) (e : Entry M) (after : List (StampedRow M)) → rows ≡ before ++ ((s, v, e) ∷ after) → IsVertex net v
-      → wrote v ≡ entries_at before v ++ ((s, e) ∷ entries_at after v)
+  split_at : (before : List (StampedRow M)) (s v : ℕ) (e : Entry M) (after : List (StampedRow M))
+      → rows ≡ before ++ (stamped_row s v e ∷ after) → IsVertex net v → wrote v ≡ entries_at before v ++ (stamped_entry s e ∷ entries_at after v)
   split_at before s v e after is vertex =
-      sym (merge.each v vertex) ∙ ap (λ l. entries_at l v) is ∙ entries_append before ((s, v, e) ∷ after) v
+      sym (merge.each v vertex) ∙ ap (λ l. entries_at l v) is ∙ entries_append before (stamped_row s v e ∷ after) v
       ∙ ap (λ l. entries_at before v ++ l) (entry_here s v e after)
 
-  stamp_taken : (before : List (StampedRow M)) (s v w : ℕ) (x : Wire M) (after : List (StampedRow M)) → rows ≡ before ++ ((s, v, Take w x) ∷ after)
+  stamp_taken : (before : List (StampedRow M)) (s v w : ℕ) (x : Wire M) (after : List (StampedRow M)) → rows ≡ before ++ (stamped_row s v (Take w x) ∷ after)
       → IsVertex net v
-      → s ≡ stamp_behind before (s, v, Take w x)
+      → s ≡ stamp_behind before (stamped_row s v (Take w x))
   stamp_taken before s v w x after is vertex =
       let b = entries_at before v in
       let split = split_at before s v (Take w x) after is vertex in
-      let right : s ≡ next_stamp (came_to net v (takens v)) b (Take w x) = (met.keeps v vertex).stamped b (s, Take w x) (entries_at after v) split in
+      let right : s ≡ next_stamp (came_to net v (takens v)) b (Take w x) =
+      (met.keeps v vertex).stamped b (stamped_entry s (Take w x)) (entries_at after v) split in
       let i = port_to net v w in
-      let lt : i < degree_of net v = take_port program net v b s w x (entries_at after v) (start_node program net v) (nodes v)
-      (subst (λ l. Leads program net v (bare_of l) (start_node program net v) (nodes v)) split (met.written v vertex).run) in
+      let lt : i < degree_of net v = take_port program net v (bare_of b) w x (bare_of (entries_at after v)) (start_node program net v) (nodes v)
+      (subst (λ l. Leads program net v l (start_node program net v) (nodes v))
+      (ap (λ l. bare_of l) split ∙ map-append (λ (e : StampedEntry M). e.entry) b (stamped_entry s (Take w x) ∷ entries_at after v))
+      (met.written v vertex).run) in
       let to : neighbour_of net v i ≡ w = place_of-is w (neighbours net v) 0 lt in
       let j = back_port_of net v i in
       let vertex' : IsVertex net w = subst (λ u. IsVertex net u) to (ok.vertices v i vertex lt) in
@@ -110,7 +113,7 @@ module _ {S M E : Type 0} (program : Program S M E) (net : Net) (ok : IsNetwork 
       let q = puts_at after w v in
       -- what w put for v
       let all : p ++ q ≡ took ++ held (neighbour_of net v i) j =
-      sym (puts_append before ((s, v, Take w x) ∷ after) w v) ∙ ap (λ l. puts_at l w v) (sym is) ∙ puts_are rows w v ∙ ap (λ l. put_in l v)
+      sym (puts_append before (stamped_row s v (Take w x) ∷ after) w v) ∙ ap (λ l. puts_at l w v) (sym is) ∙ puts_are rows w v ∙ ap (λ l. put_in l v)
       (merge.each w vertex')
       ∙ ap (λ u. put_in (wrote u) v) (sym to) ∙ ap (λ u. put_in (wrote (neighbour_of net v i)) u) (sym back)
       ∙ (met.keeps (neighbour_of net v i) (ok.vertices v i vertex lt)).put_are j (ok.symmetric v i vertex lt)
@@ -120,12 +123,13 @@ module _ {S M E : Type 0} (program : Program S M E) (net : Net) (ok : IsNetwork 
       -- how many it had taken
       let wires : wires_of (taken_in (wrote v) w) ≡ wires_of took =
       wires_taken (wrote v) w ∙ ap (λ u. takes_in (bare_of (wrote v)) u) (sym to) ∙ (met.written v vertex).takes_are i lt in
-      let here : taken_in (wrote v) w ≡ taken_in b w ++ taken_in ((s, Take w x) ∷ entries_at after v) w =
-      ap (λ l. taken_in l w) split ∙ taken_more b ((s, Take w x) ∷ entries_at after v) w in
-      let one : taken_in ((s, Take w x) ∷ entries_at after v) w ≡ stamped s x ∷ taken_in (entries_at after v) w = let yes = eq-eqb w w refl in rw yes refl in
+      let here : taken_in (wrote v) w ≡ taken_in b w ++ taken_in (stamped_entry s (Take w x) ∷ entries_at after v) w =
+      ap (λ l. taken_in l w) split ∙ taken_more b (stamped_entry s (Take w x) ∷ entries_at after v) w in
+      let one : taken_in (stamped_entry s (Take w x) ∷ entries_at after v) w ≡ stamped s x ∷ taken_in (entries_at after v) w =
+      let yes = eq-eqb w w refl in rw yes refl in
       let many : k < length took =
       let a = ap (λ l. length l) wires in let b' = ap (λ l. length l) here in let c = ap (λ l. length l) one in
-      let d = length-append (taken_in b w) (taken_in ((s, Take w x) ∷ entries_at after v) w) in
+      let d = length-append (taken_in b w) (taken_in (stamped_entry s (Take w x) ∷ entries_at after v) w) in
       let e = length-map (taken_in (wrote v) w) (λ z. z.wire) in let f = length-map took (λ z. z.wire) in
       omega (arith, a, b', c, d, e, f) in
       let came : get_or (stamps_of took) k 0 ≡ get_or (stamps_of (p ++ q)) k 0 =
@@ -135,27 +139,28 @@ module _ {S M E : Type 0} (program : Program S M E) (net : Net) (ok : IsNetwork 
       let low : get_or (stamps_of (p ++ q)) k 0 < s = omega (arith, right, came) in
       let long : k < length (p ++ q) =
       let a = ap (λ l. length l) all in let d = length-append took (held (neighbour_of net v i) j) in omega (arith, a, d, many) in
-      let ordered = rest_ordered before ((s, v, Take w x) ∷ after) (subst AreOrdered is merge.ordered) in
+      let ordered = rest_ordered before (stamped_row s v (Take w x) ∷ after) (subst AreOrdered is merge.ordered) in
       let high : All (λ (y : Stamped M). s ≤ y.stamp) q =
-      puts_above s after w v (All-weaker (Precedes (s, v, Take w x)) (λ (r : StampedRow M). s ≤ r.0)
-      (λ r pre. not_above (s, v, Take w x) r pre) after ordered.0) in
+      puts_above s after w v (All-weaker (Precedes (stamped_row s v (Take w x))) (λ (r : StampedRow M). s ≤ r.stamp)
+      (λ r pre. not_above (stamped_row s v (Take w x)) r pre) after ordered.0) in
       let same : get_or (stamps_of took) k 0 ≡ get_or (stamps_of p) k 0 = came ∙ first_part k s p q high long low in
       right ∙ ap (λ t. suc (max (counter_of b) t)) same
 
-  at_row : (row : StampedRow M) (before after : List (StampedRow M)) → rows ≡ before ++ (row ∷ after) → IsVertex net row.1 → row.0 ≡ stamp_behind before row
-  at_row (s, v, Pulse p) before after is vertex = (met.keeps v vertex).stamped (entries_at before v) (s, Pulse p) (entries_at after v)
-      (split_at before s v (Pulse p) after is vertex)
-  at_row (s, v, Put w x) before after is vertex = (met.keeps v vertex).stamped (entries_at before v) (s, Put w x) (entries_at after v)
-      (split_at before s v (Put w x) after is vertex)
-  at_row (s, v, Take w x) before after is vertex = stamp_taken before s v w x after is vertex
+  stamp_of_row : (s v : ℕ) (e : Entry M) (before after : List (StampedRow M)) → rows ≡ before ++ (stamped_row s v e ∷ after) → IsVertex net v
+      → s ≡ stamp_behind before (stamped_row s v e)
+  stamp_of_row s v (Pulse p) before after is vertex =
+      (met.keeps v vertex).stamped (entries_at before v) (stamped_entry s (Pulse p)) (entries_at after v) (split_at before s v (Pulse p) after is vertex)
+  stamp_of_row s v (Put w x) before after is vertex =
+      (met.keeps v vertex).stamped (entries_at before v) (stamped_entry s (Put w x)) (entries_at after v) (split_at before s v (Put w x) after is vertex)
+  stamp_of_row s v (Take w x) before after is vertex = stamp_taken before s v w x after is vertex
 
   stamped_rows : AreStampedRows rows
   stamped_rows before row after is =
-      let all = subst (λ l. All (λ (r : StampedRow M). IsVertex net r.1) l) is merge.vertices in
-      let vertex : IsVertex net row.1 = subst (λ (r : StampedRow M). IsVertex net r.1) (get_or_at before row after row (length before) refl)
-      (All-get_or (λ (r : StampedRow M). IsVertex net r.1) (before ++ (row ∷ after)) (length before) row
+      let all = subst (λ l. All (λ (r : StampedRow M). IsVertex net r.vertex) l) is merge.vertices in
+      let vertex : IsVertex net row.vertex = subst (λ (r : StampedRow M). IsVertex net r.vertex) (get_or_at before row after row (length before) refl)
+      (All-get_or (λ (r : StampedRow M). IsVertex net r.vertex) (before ++ (row ∷ after)) (length before) row
       (let d = length-append before (row ∷ after) in omega (arith, d)) all) in
-      at_row row before after is vertex
+      stamp_of_row row.stamp row.vertex row.entry before after is vertex
 
   pub met_replay : (to : IsReplayTo program net rows nodes (links_of net takens held)) × IsStampedReplay program net rows to.last
   met_replay =

@@ -16,6 +16,7 @@ use Rattle.net_core.specs.event_machine.State.{Link, State, link_at, no_link, st
 use Rattle.net_core.specs.event_machine.Step.{go_on, run_from, step}
 use Rattle.net_core.specs.Rows.{event_of, if_made, rows_from}
 use Rattle.actor.specs.alpha_core.StampedWires.{wires_of}
+use Rattle.actor.specs.entries.Rows.{without_stamp}
 use Rattle.actor.specs.stamps.Stamps.{StampedEntry, Carries, bare_of, put_in, taken_in}
 use Rattle.actor.specs.stamps.Merged.{StampedRow, AreOrdered, IsMerge, entries_at, puts_at, rows_in, takes_at}
 use Rattle.actor.proofs.stamps.Lists.{puts_are, takes_are}
@@ -31,19 +32,19 @@ module _ {S M E : Type 0} (program : Program S M E) (net : Net) (ok : IsNetwork 
     rows_are : rows_from program net state (map (λ row. event_of net row) (rows_in rows)) ≡ map Some (rows_in rows)
     left : Left program net nodes links [] last
 
-  reaches : (k : ℕ) (rows : List (StampedRow M)) (state : State S M) → AreOrdered rows → All (λ row. IsVertex net row.1) rows
+  reaches : (k : ℕ) (rows : List (StampedRow M)) (state : State S M) → AreOrdered rows → All (λ row. IsVertex net row.vertex) rows
       → Left program net nodes links rows state → Reaches k rows state
   reaches k [] state ordered vertices left = record { last = state; is_run = refl; rows_are = refl; left = left }
   reaches k (row ∷ rows) state ordered vertices left =
-      let made = row_made program net ok nodes links row rows state (All-head (λ r. IsVertex net r.1) row rows vertices) ordered.0 left in
-      let rest = reaches (suc k) rows made.next ordered.1 (All-tail (λ r. IsVertex net r.1) row rows vertices) made.left in
+      let made = row_made program net ok nodes links row rows state (All-head (λ r. IsVertex net r.vertex) row rows vertices) ordered.0 left in
+      let rest = reaches (suc k) rows made.next ordered.1 (All-tail (λ r. IsVertex net r.vertex) row rows vertices) made.left in
       let events = map (λ r. event_of net r) (rows_in rows) in
       record {
         last = rest.last;
         is_run = ap (λ r. go_on k r (λ next. run_from program net (suc k) events next)) made.leads ∙ rest.is_run;
-        rows_are = ap (λ o. o ∷ if_made (step program net state (event_of net (row.1, row.2))) (λ next. rows_from program net next events)) made.writes
-            ∙ ap (λ r. Some (row.1, row.2) ∷ if_made r (λ next. rows_from program net next events)) made.leads
-            ∙ ap (λ l. Some (row.1, row.2) ∷ l) rest.rows_are;
+        rows_are = ap (λ o. o ∷ if_made (step program net state (event_of net (without_stamp row))) (λ next. rows_from program net next events)) made.writes
+            ∙ ap (λ r. Some (without_stamp row) ∷ if_made r (λ next. rows_from program net next events)) made.leads
+            ∙ ap (λ l. Some (without_stamp row) ∷ l) rest.rows_are;
         left = rest.left;
       }
 

@@ -15,6 +15,7 @@ use Rattle.alpha_laws.specs.alpha_core.Alpha.{pulse, put_done, reaction}
 use Rattle.alpha_laws.specs.alpha_core.Program.{start_node}
 use Rattle.actor.specs.entries.Entry.{Entry}
 use Rattle.actor.specs.entries.Entry.TheVariants.{Pulse, Put, Take}
+use Rattle.actor.specs.entries.Rows.{stamped_row, vertex_row, without_stamp}
 use Rattle.actor.specs.Written.{Leads}
 use Rattle.net_core.specs.event_machine.State.{Link, State, link_at, node_of, set_link, set_link_to, set_node}
 use Rattle.net_core.specs.event_machine.Step.{after_put, after_take, else_old, step}
@@ -65,7 +66,7 @@ matched (Err e) P is = absurd is
 module _ {S M E : Type 0} (program : Program S M E) (net : Net) (ok : IsNetwork net) (nodes : ℕ → Node S M) (links : ℕ → ℕ → Link M) where
   -- ---- one node changes
   leads_on : (s v : ℕ) (e : Entry M) (rows : List (StampedRow M)) (state : State S M) (node : Node S M) (ls : List (List (Link M)))
-      → IsVertex net v → Left program net nodes links ((s, v, e) ∷ rows) state → Leads program net v (bare_of (entries_at rows v)) node (nodes v)
+      → IsVertex net v → Left program net nodes links (stamped_row s v e ∷ rows) state → Leads program net v (bare_of (entries_at rows v)) node (nodes v)
       → (u : ℕ) → IsVertex net u
       → Leads program net u (bare_of (entries_at rows u)) (node_of program net record { nodes = set_node state.nodes v node; links = ls } u) (nodes u)
   leads_on s v e rows state node ls vertex left new u vertex' = ⊎_elim
@@ -83,12 +84,13 @@ module _ {S M E : Type 0} (program : Program S M E) (net : Net) (ok : IsNetwork 
 
   -- what the first row leads its node to
   leads_first : (s v : ℕ) (e : Entry M) (rows : List (StampedRow M)) (state : State S M) → IsVertex net v
-      → Left program net nodes links ((s, v, e) ∷ rows) state → Leads program net v (e ∷ bare_of (entries_at rows v)) (node_of program net state v) (nodes v)
+      → Left program net nodes links (stamped_row s v e ∷ rows) state
+      → Leads program net v (e ∷ bare_of (entries_at rows v)) (node_of program net state v) (nodes v)
   leads_first s v e rows state vertex left =
       subst (λ l. Leads program net v (bare_of l) (node_of program net state v) (nodes v)) (entry_here s v e rows) (left.leads v vertex)
 
-  pulse_made : (s v p : ℕ) (rows : List (StampedRow M)) (state : State S M) → IsVertex net v → Left program net nodes links ((s, v, Pulse p) ∷ rows) state
-      → Made program net nodes links (v, Pulse p) rows state
+  pulse_made : (s v p : ℕ) (rows : List (StampedRow M)) (state : State S M) → IsVertex net v
+      → Left program net nodes links (stamped_row s v (Pulse p) ∷ rows) state → Made program net nodes links (vertex_row v (Pulse p)) rows state
   pulse_made s v p rows state vertex left =
       let node = node_of program net state v in
       let last = last_pulse_on program net in
@@ -100,7 +102,7 @@ module _ {S M E : Type 0} (program : Program S M E) (net : Net) (ok : IsNetwork 
       record {
         next = record { nodes = set_node state.nodes v got.0; links = state.links };
         leads = rw inside (rw can (ap (λ r. Ok record { nodes = set_node state.nodes v (else_old node r); links = state.links }) got.1));
-        writes = ap (λ k. Some (v, Pulse k)) number;
+        writes = ap (λ k. Some (vertex_row v (Pulse k))) number;
         left = record {
           table = record { nodes = length-set state.nodes (v - 1) got.0 ∙ left.table.nodes; rows = left.table.rows; row = left.table.row };
           leads = leads_on s v (Pulse p) rows state got.0 state.links vertex left got.2;
@@ -151,8 +153,8 @@ module _ {S M E : Type 0} (program : Program S M E) (net : Net) (ok : IsNetwork 
       (cases_eq u v)
 
   put_made : (s v w : ℕ) (x : Wire M) (rows : List (StampedRow M)) (state : State S M) → IsVertex net v
-      → Left program net nodes links ((s, v, Put w x) ∷ rows) state
-      → Made program net nodes links (v, Put w x) rows state
+      → Left program net nodes links (stamped_row s v (Put w x) ∷ rows) state
+      → Made program net nodes links (vertex_row v (Put w x)) rows state
   put_made s v w x rows state vertex left =
       let node = node_of program net state v in
       let here = leads_first s v (Put w x) rows state vertex left in
@@ -166,7 +168,7 @@ module _ {S M E : Type 0} (program : Program S M E) (net : Net) (ok : IsNetwork 
       let new : Link M = record link { held = link.held ++ (x ∷ []) } in
       let old : Comes link (stamped s x ∷ puts_at rows v w) (takes_at rows w v) (links v i) =
       subst (λ l. Comes link l (takes_at rows w v) (links v i)) (put_here s v w x rows)
-      (subst (λ k. Comes link (puts_at ((s, v, Put w x) ∷ rows) v k) (takes_at rows k v) (links v i)) to (left.comes v i vertex lt)) in
+      (subst (λ k. Comes link (puts_at (stamped_row s v (Put w x) ∷ rows) v k) (takes_at rows k v) (links v i)) to (left.comes v i vertex lt)) in
       let here_now : Comes new (puts_at rows v (neighbour_of net v i)) (takes_at rows (neighbour_of net v i) v) (links v i) =
       subst (λ k. Comes new (puts_at rows v k) (takes_at rows k v) (links v i)) (sym to) record {
         held = old.held ++ (stamped s x ∷ []);
@@ -182,7 +184,7 @@ module _ {S M E : Type 0} (program : Program S M E) (net : Net) (ok : IsNetwork 
         left = record {
           table = table_on state (set_node state.nodes v changed) v i new left.table vertex lt (length-set state.nodes (v - 1) changed);
           leads = leads_on s v (Put w x) rows state changed (set_link state.links v i new) vertex left here.1.1;
-          comes = comes_on rows ((s, v, Put w x) ∷ rows) state v i new vertex lt left here_now
+          comes = comes_on rows (stamped_row s v (Put w x) ∷ rows) state v i new vertex lt left here_now
               (λ u j vertex' lt' apart. put_other s v w u (neighbour_of net u j) x rows (λ a b. apart a (one_port u j vertex' lt' a b)))
               (λ u j vertex' lt' apart. refl);
         };
@@ -229,8 +231,8 @@ module _ {S M E : Type 0} (program : Program S M E) (net : Net) (ok : IsNetwork 
         },
       )
 
-  take_made : (s v w : ℕ) (x : Wire M) (rows : List (StampedRow M)) (state : State S M) → IsVertex net v → All (Precedes (s, v, Take w x)) rows
-      → Left program net nodes links ((s, v, Take w x) ∷ rows) state → Made program net nodes links (v, Take w x) rows state
+  take_made : (s v w : ℕ) (x : Wire M) (rows : List (StampedRow M)) (state : State S M) → IsVertex net v → All (Precedes (stamped_row s v (Take w x))) rows
+      → Left program net nodes links (stamped_row s v (Take w x) ∷ rows) state → Made program net nodes links (vertex_row v (Take w x)) rows state
   take_made s v w x rows state vertex least left =
       let node = node_of program net state v in
       let last = last_pulse_on program net in
@@ -249,10 +251,10 @@ module _ {S M E : Type 0} (program : Program S M E) (net : Net) (ok : IsNetwork 
       let link = link_at state.links u k in
       let old : Comes link (puts_at rows u v) (stamped s x ∷ takes_at rows v u) (links u k) =
       subst (λ l. Comes link (puts_at rows u v) l (links u k))
-      (ap (λ a. takes_at ((s, v, Take w x) ∷ rows) v a) from ∙ take_here s v w x rows ∙ ap (λ a. stamped s x ∷ takes_at rows v a) (sym from))
-      (subst (λ a. Comes link (puts_at rows u a) (takes_at ((s, v, Take w x) ∷ rows) a u) (links u k)) back (left.comes u k vertex' lt')) in
+      (ap (λ a. takes_at (stamped_row s v (Take w x) ∷ rows) v a) from ∙ take_here s v w x rows ∙ ap (λ a. stamped s x ∷ takes_at rows v a) (sym from))
+      (subst (λ a. Comes link (puts_at rows u a) (takes_at (stamped_row s v (Take w x) ∷ rows) a u) (links u k)) back (left.comes u k vertex' lt')) in
       let next = next_held s x link (links u k) (puts_at rows u v) (takes_at rows v u)
-      (λ y more is. first_put (s, v, Take w x) rows u v y more least is) old in
+      (λ y more is. first_put (stamped_row s v (Take w x)) rows u v y more least is) old in
       let new : Link M = record { taken = link.taken ++ (x ∷ []); held = next.0 } in
       let here_now : Comes new (puts_at rows u (neighbour_of net u k)) (takes_at rows (neighbour_of net u k) u) (links u k) =
       subst (λ a. Comes new (puts_at rows u a) (takes_at rows a u) (links u k)) (sym back) next.2 in
@@ -268,7 +270,7 @@ module _ {S M E : Type 0} (program : Program S M E) (net : Net) (ok : IsNetwork 
         left = record {
           table = table_on state (set_node state.nodes v changed) u k new left.table vertex' lt' (length-set state.nodes (v - 1) changed);
           leads = leads_on s v (Take w x) rows state changed (set_link_to net state.links v i new) vertex left got.2;
-          comes = comes_on rows ((s, v, Take w x) ∷ rows) state u k new vertex' lt' left here_now
+          comes = comes_on rows (stamped_row s v (Take w x) ∷ rows) state u k new vertex' lt' left here_now
               (λ a j vertex'' lt'' apart. refl)
               (λ a j vertex'' lt'' apart. take_other s v w (neighbour_of net a j) a x rows (λ to from'.
               let same : a ≡ u = from' ∙ sym from in
@@ -276,8 +278,12 @@ module _ {S M E : Type 0} (program : Program S M E) (net : Net) (ok : IsNetwork 
         };
       }
 
-  pub row_made : (row : StampedRow M) (rows : List (StampedRow M)) (state : State S M) → IsVertex net row.1 → All (Precedes row) rows
-      → Left program net nodes links (row ∷ rows) state → Made program net nodes links (row.1, row.2) rows state
-  row_made (s, v, Pulse p) rows state vertex least left = pulse_made s v p rows state vertex left
-  row_made (s, v, Put w x) rows state vertex least left = put_made s v w x rows state vertex left
-  row_made (s, v, Take w x) rows state vertex least left = take_made s v w x rows state vertex least left
+  made_by : (s v : ℕ) (e : Entry M) (rows : List (StampedRow M)) (state : State S M) → IsVertex net v → All (Precedes (stamped_row s v e)) rows
+      → Left program net nodes links (stamped_row s v e ∷ rows) state → Made program net nodes links (vertex_row v e) rows state
+  made_by s v (Pulse p) rows state vertex least left = pulse_made s v p rows state vertex left
+  made_by s v (Put w x) rows state vertex least left = put_made s v w x rows state vertex left
+  made_by s v (Take w x) rows state vertex least left = take_made s v w x rows state vertex least left
+
+  pub row_made : (row : StampedRow M) (rows : List (StampedRow M)) (state : State S M) → IsVertex net row.vertex → All (Precedes row) rows
+      → Left program net nodes links (row ∷ rows) state → Made program net nodes links (without_stamp row) rows state
+  row_made row rows state vertex least left = made_by row.stamp row.vertex row.entry rows state vertex least left

@@ -34,12 +34,9 @@ module _ {T : Type 0} where
   abbrev pub taken_list : TakeSide T → List (Wire T)
   taken_list end = wires_of (taken_stamped end)
 
-  -- the wires put and not taken when the ends met, oldest first, each with its stamp; and without
+  -- the wires put and not taken when the ends met, oldest first, each with its stamp
   abbrev pub held_stamped : Met T → List (Stamped T)
   held_stamped met = met.held.items
-
-  abbrev pub held_of : Met T → List (Wire T)
-  held_of met = wires_of (held_stamped met)
 
   -- Of a link whose ends met: its name, all that was put, and what was taken before. What was put is what was taken
   -- and then what is held.

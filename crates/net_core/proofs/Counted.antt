@@ -1,14 +1,17 @@
 -- Stamps, and how many rows there are.
 use Rattle.std.proofs.Common.{◌≡◌, ℕ, zero, suc, ◌+◌, ◌≤◌, Bool, true, false, ◌==◌, ◌&&◌, if◌then◌else◌, List, [], ◌∷◌, ◌++◌, length}
-use Rattle.std.proofs.Common.{append_assoc, arith, refl, sym, subst, ◌∙◌}
+use Rattle.std.proofs.Common.{append_assoc, arith, refl, sym, subst, ⊎_elim, ◌∙◌}
 use Rattle.std.specs.Prelude.{All, slice_index_or}
 use Rattle.std.proofs.lemmas.List.{append-nil, length-append}
 use Rattle.std.proofs.lemmas.List.Elements.{All-cons, All-head, All-nil, All-push, All-tail}
 use Rattle.stamps.specs.entries.Entry.{Entry}
 use Rattle.stamps.specs.entries.Entry.TheVariants.{Pulse, Put, Take}
-use Rattle.stamps.specs.Stamps.{counter_from, taken_in}
+use Rattle.stamps.specs.entries.Rows.{stamped_row, without_vertex}
+use Rattle.stamps.specs.alpha_core.Stamped.{Stamped}
+use Rattle.stamps.specs.Stamps.{counter_from, counter_of, taken_in}
 use Rattle.stamps.specs.Merged.{StampedRow, AreStampedRows, entries_at, puts_at, stamp_behind}
-use Rattle.alpha_laws.specs.alpha_core.StampedWires.{stamped, stamps_of}
+use Rattle.stamps.proofs.Lists.{none_or_one}
+use Rattle.alpha_laws.specs.alpha_core.StampedWires.{stamps_of}
 
 pick : {A : Type 0} (P : A → Type 0) (b : Bool) (x y : A) → P x → P y → P (if b then x else y)
 pick P true x y p q = p
@@ -22,32 +25,33 @@ index-within n (x ∷ xs) (suc k) all = index-within n xs k (All-tail (λ s. s �
 module _ {M : Type 0} where
   -- all stamps are at most n
   abbrev Within : ℕ → List (StampedRow M) → Type 0
-  Within n rows = All (λ row. row.0 ≤ n) rows
+  Within n rows = All (λ row. row.stamp ≤ n) rows
 
-  head-within : (n : ℕ) (row : StampedRow M) (rows : List (StampedRow M)) → Within n (row ∷ rows) → row.0 ≤ n
-  head-within n row rows all = All-head (λ (r : StampedRow M). r.0 ≤ n) row rows all
+  head-within : (n : ℕ) (row : StampedRow M) (rows : List (StampedRow M)) → Within n (row ∷ rows) → row.stamp ≤ n
+  head-within n row rows all = All-head (λ (r : StampedRow M). r.stamp ≤ n) row rows all
 
   tail-within : (n : ℕ) (row : StampedRow M) (rows : List (StampedRow M)) → Within n (row ∷ rows) → Within n rows
-  tail-within n row rows all = All-tail (λ (r : StampedRow M). r.0 ≤ n) row rows all
+  tail-within n row rows all = All-tail (λ (r : StampedRow M). r.stamp ≤ n) row rows all
 
   counter-within : (n c v : ℕ) (rows : List (StampedRow M)) → c ≤ n → Within n rows → counter_from c (entries_at rows v) ≤ n
   counter-within n c v [] le all = le
   counter-within n c v (row ∷ rows) le all =
       let tail = tail-within n row rows all in
-      pick (λ es. counter_from c es ≤ n) (row.1 == v) ((row.0, row.2) ∷ entries_at rows v) (entries_at rows v)
-      (counter-within n row.0 v rows (head-within n row rows all) tail) (counter-within n c v rows le tail)
+      pick (λ es. counter_from c es ≤ n) (row.vertex == v) (without_vertex row ∷ entries_at rows v) (entries_at rows v)
+      (counter-within n row.stamp v rows (head-within n row rows all) tail) (counter-within n c v rows le tail)
 
   puts-within : (n v w : ℕ) (rows : List (StampedRow M)) → Within n rows → All (λ s. s ≤ n) (stamps_of (puts_at rows v w))
   puts-within n v w [] all = All-nil (λ s. s ≤ n)
-  puts-within n v w ((s, u, Pulse p) ∷ rows) all = puts-within n v w rows (tail-within n (s, u, Pulse p) rows all)
-  puts-within n v w ((s, u, Take from wire) ∷ rows) all = puts-within n v w rows (tail-within n (s, u, Take from wire) rows all)
-  puts-within n v w ((s, u, Put to wire) ∷ rows) all =
-      let rest = puts-within n v w rows (tail-within n (s, u, Put to wire) rows all) in
-      pick (λ l. All (λ s. s ≤ n) (stamps_of l)) ((u == v) && (to == w)) (stamped s wire ∷ puts_at rows v w) (puts_at rows v w)
-      (All-cons (λ s. s ≤ n) s (stamps_of (puts_at rows v w)) (head-within n (s, u, Put to wire) rows all) rest) rest
+  puts-within n v w (row ∷ rows) all =
+      let rest = puts-within n v w rows (tail-within n row rows all) in
+      let P : List (Stamped M) → Type 0 = λ l. All (λ s. s ≤ n) (stamps_of (l ++ puts_at rows v w)) in
+      ⊎_elim
+      (λ none. subst P (sym none) rest)
+      (λ one. subst P (sym one.1) (All-cons (λ s. s ≤ n) row.stamp (stamps_of (puts_at rows v w)) (head-within n row rows all) rest))
+      (none_or_one (λ to. (row.vertex == v) && (to == w)) row.stamp row.entry)
 
   -- the stamp behind rows is at most one more than their stamps
-  behind-within : (n : ℕ) (rows : List (StampedRow M)) (s v : ℕ) (entry : Entry M) → Within n rows → stamp_behind rows (s, v, entry) ≤ suc n
+  behind-within : (n : ℕ) (rows : List (StampedRow M)) (s v : ℕ) (entry : Entry M) → Within n rows → stamp_behind rows (stamped_row s v entry) ≤ suc n
   behind-within n rows s v (Pulse p) all = let c = counter-within n 0 v rows (omega arith) all in omega (arith, c)
   behind-within n rows s v (Put to wire) all = let c = counter-within n 0 v rows (omega arith) all in omega (arith, c)
   behind-within n rows s v (Take from wire) all =
@@ -67,12 +71,16 @@ module _ {M : Type 0} where
   all-within rows before (row ∷ after) right e all =
       let one = before ++ (row ∷ []) in
       let size : length one ≡ length before + 1 = length-append before (row ∷ []) in
-      let s : row.0 ≤ suc (length before) =
-      subst (λ k. k ≤ suc (length before)) (sym (right before row after e)) (behind-within (length before) before row.0 row.1 row.2 all) in
+      let s : row.stamp ≤ suc (length before) =
+      subst (λ k. k ≤ suc (length before)) (sym (right before row after e)) (behind-within (length before) before row.stamp row.vertex row.entry all) in
       let n = length one in
       all-within rows one after right (e ∙ sym (append_assoc before (row ∷ []) after))
-      (All-push (λ (r : StampedRow M). r.0 ≤ n) before row (more-within (length before) n before (omega (arith, size)) all) (omega (arith, s, size)))
+      (All-push (λ (r : StampedRow M). r.stamp ≤ n) before row (more-within (length before) n before (omega (arith, size)) all) (omega (arith, s, size)))
 
   -- no stamp passes the number of rows
   pub stamps-within : (rows : List (StampedRow M)) → AreStampedRows rows → Within (length rows) rows
-  stamps-within rows right = all-within rows [] rows right refl (All-nil (λ (r : StampedRow M). r.0 ≤ 0))
+  stamps-within rows right = all-within rows [] rows right refl (All-nil (λ (r : StampedRow M). r.stamp ≤ 0))
+
+  -- nor does the counter of a vertex
+  pub counters-within : (rows : List (StampedRow M)) → AreStampedRows rows → (v : ℕ) → counter_of (entries_at rows v) ≤ length rows
+  counters-within rows right v = counter-within (length rows) 0 v rows (omega arith) (stamps-within rows right)

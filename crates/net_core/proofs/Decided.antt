@@ -9,6 +9,7 @@ use Rattle.alpha_laws.specs.node_api.Program.{Program}
 use Rattle.alpha_laws.specs.alpha_core.Wire.{Wire}
 use Rattle.alpha_laws.specs.alpha_core.View.{port_at}
 use Rattle.stamps.specs.entries.Entry.TheVariants as entry
+use Rattle.stamps.specs.entries.Rows.{vertex_row}
 use Rattle.event_machine.specs.declared.event.Event.{Event}
 use Rattle.event_machine.specs.declared.event.Event.TheVariants.{Pulse, Put, Take}
 use Rattle.event_machine.specs.declared.refused.StepRefused.{StepRefused}
@@ -69,24 +70,24 @@ module _ {S M E : Type 0} (program : Program S M E) (net : Net) (ok : IsNetwork 
   back v i t = let there = port_from net v i t in port_to-is net ok v i there.0 there.1
 
   put-row : (v i : ℕ) (row : Row M) (oldest : Option (Wire M)) → has_port net v i ≡ true →
-      option_map (λ wire. (v, entry.Put (neighbour_of net v i) wire)) oldest ≡ Some row → Put v i ≡ event_of net row
+      option_map (λ wire. vertex_row v (entry.Put (neighbour_of net v i) wire)) oldest ≡ Some row → Put v i ≡ event_of net row
   put-row v i row None t e = absurd cc
   put-row v i row (Some wire) t e =
-      let same : ◌≡◌ {A = Row M} (v, entry.Put (neighbour_of net v i) wire) row = cc in
+      let same : ◌≡◌ {A = Row M} (vertex_row v (entry.Put (neighbour_of net v i) wire)) row = cc in
       ap (λ k. Put v k) (sym (back v i t)) ∙ ap (λ r. event_of net r) same
 
   take-row : (v i : ℕ) (row : Row M) (oldest : Option (Wire M)) → has_port net v i ≡ true →
-      option_map (λ wire. (v, entry.Take (neighbour_of net v i) wire)) oldest ≡ Some row → Take v i ≡ event_of net row
+      option_map (λ wire. vertex_row v (entry.Take (neighbour_of net v i) wire)) oldest ≡ Some row → Take v i ≡ event_of net row
   take-row v i row None t e = absurd cc
   take-row v i row (Some wire) t e =
-      let same : ◌≡◌ {A = Row M} (v, entry.Take (neighbour_of net v i) wire) row = cc in
+      let same : ◌≡◌ {A = Row M} (vertex_row v (entry.Take (neighbour_of net v i) wire)) row = cc in
       ap (λ k. Take v k) (sym (back v i t)) ∙ ap (λ r. event_of net r) same
 
   -- an event that is possible is the one that its entry is of
   row-event : (state next : State S M) (event : Event) (row : Row M) → step program net state event ≡ Ok next →
       row_of program net state event ≡ Some row → event ≡ event_of net row
   row-event state next (Pulse v) row made writes =
-      let same : ◌≡◌ {A = Row M} (v, entry.Pulse ((node_of program net state v).view.pulse + 1)) row = cc in ap (λ r. event_of net r) same
+      let same : ◌≡◌ {A = Row M} (vertex_row v (entry.Pulse ((node_of program net state v).view.pulse + 1))) row = cc in ap (λ r. event_of net r) same
   row-event state next (Put v i) row made writes =
       put-row v i row (slice_get (port_at (node_of program net state v).view i).out 0) (put-there state next v i made) writes
   row-event state next (Take v i) row made writes =

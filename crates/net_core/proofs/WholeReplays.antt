@@ -1,5 +1,6 @@
 -- Stamped rows, one after the other, and whole replays.
-use Rattle.std.proofs.Common.{◌≡◌, ℕ, suc, ◌+◌, ◌<◌, ◌∙◌, List, [], ◌∷◌, ◌++◌, take, drop, length, get_or, Some, Ok}
+use Rattle.std.specs.Prelude.{All}
+use Rattle.std.proofs.Common.{◌≡◌, ℕ, suc, ◌+◌, ◌<◌, ◌≤◌, ◌∙◌, List, [], ◌∷◌, ◌++◌, take, drop, length, get_or, Some, Ok}
 use Rattle.std.proofs.Common.{ap, arith, refl, sym, subst, ⊎_elim}
 use Rattle.std.proofs.lemmas.List.{get_or-map, length-map, map-append, take-map}
 use Rattle.alpha_laws.specs.interference.Net.{IsNetwork, Net}
@@ -14,8 +15,11 @@ use Rattle.net_core.specs.declared.refused.ReplayRefused.{ReplayRefused}
 use Rattle.net_core.specs.Replays.{IsReplay, Stops, WhyNot, at_entry}
 use Rattle.net_core.specs.Rows.{Row, event_of, row_of}
 use Rattle.net_core.specs.Whole.{IsStampedReplay, IsWhole, IsWholeReplay, ReachesRow, StopsAtEntry, StopsAtStamp, WholeReplaysAreExact, WhyNotWhole}
+use Rattle.net_core.specs.Counted.{EventsBoundStamps}
+use Rattle.net_core.proofs.Counted.{stamps-within}
 use Rattle.net_core.proofs.Decided.{decided, refused-not, split-twice}
 use Rattle.net_core.proofs.Replayed.{replay-next, replay-start}
+use Rattle.stamps.specs.entries.Rows.{without_stamp}
 use Rattle.stamps.specs.Merged.{StampedRow, AreOrdered, AreStampedRows, IsInPlace, rows_in}
 use Rattle.stamps.proofs.Growing.{all_before, ordered_push, stamped_none, stamped_push}
 
@@ -30,11 +34,11 @@ module _ {S M E : Type 0} (program : Program S M E) (net : Net) where
   stamped-start = record { replay = replay-start program net; ordered = tt; stamped = stamped_none }
 
   replay-more : (rows : List (StampedRow M)) (i : ℕ) (row : StampedRow M) (state next : State S M) → i < length rows → row ≡ get_or rows i row
-      → IsReplay program net (rows_in (take i rows)) state → step program net state (event_of net (row.1, row.2)) ≡ Ok next
-      → row_of program net state (event_of net (row.1, row.2)) ≡ Some (row.1, row.2) → IsReplay program net (rows_in (take (i + 1) rows)) next
+      → IsReplay program net (rows_in (take i rows)) state → step program net state (event_of net (without_stamp row)) ≡ Ok next
+      → row_of program net state (event_of net (without_stamp row)) ≡ Some (without_stamp row) → IsReplay program net (rows_in (take (i + 1) rows)) next
   replay-more rows i row state next lt is replay leads writes =
-      let f : StampedRow M → Row M = λ r. (r.1, r.2) in
-      let one : Row M = (row.1, row.2) in
+      let f : StampedRow M → Row M = λ r. without_stamp r in
+      let one : Row M = without_stamp row in
       let bare = rows_in rows in
       let many : i < length bare = let n = length-map rows f in omega (arith, lt, n) in
       let at : one ≡ get_or bare i one = ap f is ∙ sym (get_or-map f rows i row one lt) in
@@ -42,8 +46,8 @@ module _ {S M E : Type 0} (program : Program S M E) (net : Net) where
       (replay-next program net bare i one state next many at (subst (λ l. IsReplay program net l state) (sym (take-map f i rows)) replay) leads writes)
 
   pub stamped-next : (rows : List (StampedRow M)) (i : ℕ) (row : StampedRow M) (state next : State S M) → i < length rows → row ≡ get_or rows i row
-      → IsStampedReplay program net (take i rows) state → step program net state (event_of net (row.1, row.2)) ≡ Ok next
-      → row_of program net state (event_of net (row.1, row.2)) ≡ Some (row.1, row.2) → IsInPlace (take i rows) row
+      → IsStampedReplay program net (take i rows) state → step program net state (event_of net (without_stamp row)) ≡ Ok next
+      → row_of program net state (event_of net (without_stamp row)) ≡ Some (without_stamp row) → IsInPlace (take i rows) row
       → IsStampedReplay program net (take (i + 1) rows) next
   stamped-next rows i row state next lt here is leads writes place =
       let more = rows-more rows i row lt here in
@@ -66,7 +70,7 @@ module _ {S M E : Type 0} (program : Program S M E) (net : Net) where
       is_replay = is;
     }
 
-    pub stops-entry : (reason : EntryRefused) (refused : ReplayRefused) → WhyNot program net state (row.1, row.2) reason → refused ≡ at_entry i reason
+    pub stops-entry : (reason : EntryRefused) (refused : ReplayRefused) → WhyNot program net state (without_stamp row) reason → refused ≡ at_entry i reason
         → StopsAtEntry program net rows refused
     stops-entry reason refused why index = record {
       at = reaches;
@@ -75,8 +79,9 @@ module _ {S M E : Type 0} (program : Program S M E) (net : Net) where
       index = index ∙ ap (λ k. at_entry k reason) (sym (take-split rows i row lt here).2);
     }
 
-    pub stops-stamp : (next : State S M) → step program net state (event_of net (row.1, row.2)) ≡ Ok next
-        → row_of program net state (event_of net (row.1, row.2)) ≡ Some (row.1, row.2) → (IsInPlace (take i rows) row → ⊥) → StopsAtStamp program net rows i
+    pub stops-stamp : (next : State S M) → step program net state (event_of net (without_stamp row)) ≡ Ok next
+        → row_of program net state (event_of net (without_stamp row)) ≡ Some (without_stamp row) → (IsInPlace (take i rows) row → ⊥)
+        → StopsAtStamp program net rows i
     stops-stamp next leads writes misplaced = record {
       at = reaches;
       next = next;
@@ -87,11 +92,21 @@ module _ {S M E : Type 0} (program : Program S M E) (net : Net) where
     }
 
   module _ (ok : IsNetwork net) where
+    -- there are as many events as rows
+    events-many : (rows : List (StampedRow M)) (last : State S M) → (is : IsReplay program net (rows_in rows) last) → length is.events ≡ length rows
+    events-many rows last is =
+        let events = (decided program net ok).events (rows_in rows) last is in
+        ap (λ l. length l) events ∙ length-map (rows_in rows) (λ row. event_of net row) ∙ length-map rows (λ r. without_stamp r)
+
+    pub stamps-within-events : EventsBoundStamps program net
+    stamps-within-events rows last is =
+        subst (λ n. All (λ (row : StampedRow M). row.stamp ≤ n) rows) (sym (events-many rows last is.replay)) (stamps-within rows is.stamped)
+
     -- where rows stop at an entry, the bare ones do
     stops-bare : (rows : List (StampedRow M)) (refused : ReplayRefused) → StopsAtEntry program net rows refused → Stops program net (rows_in rows) refused
     stops-bare rows refused stops =
         let at = stops.at in
-        let f : StampedRow M → Row M = λ r. (r.1, r.2) in
+        let f : StampedRow M → Row M = λ r. without_stamp r in
         record {
           before = rows_in at.before;
           row = f at.row;
@@ -165,7 +180,7 @@ module _ {S M E : Type 0} (program : Program S M E) (net : Net) where
     not-at-both : (rows : List (StampedRow M)) (refused : ReplayRefused) (i : ℕ) → StopsAtEntry program net rows refused → StopsAtStamp program net rows i → ⊥
     not-at-both rows refused i a b = ⊎_elim
         (λ same.
-        let f : StampedRow M → Row M = λ r. (r.1, r.2) in
+        let f : StampedRow M → Row M = λ r. without_stamp r in
         let reached : a.at.reached ≡ b.at.reached =
         state-is b.at.before a.at.reached b.at.reached (subst (λ l. IsStampedReplay program net l a.at.reached) same.0 a.at.is_replay) b.at.is_replay in
         let why = subst (λ r. WhyNot program net b.at.reached (f r) a.reason) same.1 (subst (λ s. WhyNot program net s (f a.at.row) a.reason) reached a.why) in

@@ -1,32 +1,28 @@
--- What the event of an entry writes down, by the wire that it carries.
-use Rattle.std.proofs.Common.{◌≡◌, ◌≢◌, ◌<◌, ◌+◌, ◌^◌, ◌∙◌, ℕ, true, false, eqb, Option, Some, None, ap, subst, sym}
-use Rattle.std.specs.Option.{SomeIff, option_eq, option_map}
-use Rattle.std.proofs.lemmas.Bool.{eqb-false, eqb-true}
+-- What the event of a row writes down, by the pulse or the wire that it comes to: a test of these is one of the row.
+use Rattle.std.proofs.Common.{◌≡◌, ◌≢◌, ◌<◌, ◌+◌, ◌∙◌, ℕ, Bool, true, false, Option, Some, None, ap, sym}
+use Rattle.std.specs.Prelude.{MatchBool}
+use Rattle.std.specs.Option.{option_map}
 use Rattle.alpha_laws.specs.interference.Net.{Net, neighbours, degree_of, neighbour_of, port_to}
 use Rattle.alpha_laws.proofs.interference.Members.{place_of-is}
+use Rattle.alpha_laws.specs.node_api.Program.{Program}
 use Rattle.alpha_laws.specs.alpha_core.Wire.{Wire}
 use Rattle.stamps.specs.entries.Entry.{Entry}
 use Rattle.stamps.specs.entries.Entry.TheVariants as entry
-use Rattle.net_core.specs.Rows.{Row}
+use Rattle.stamps.specs.entries.Rows.{vertex_row}
+use Rattle.event_machine.specs.declared.event.Event.{Event}
+use Rattle.event_machine.specs.declared.event.Event.TheVariants.{Pulse, Put, Take}
+use Rattle.event_machine.specs.State.{State, node_of}
+use Rattle.event_machine.specs.Step.{has_port}
+use Rattle.event_machine.proofs.NetKept.{port_from}
+use Rattle.net_core.specs.Rows.{Row, event_of, event_with, has_place, next_wire, row_of}
 
 leads : (net : Net) (v w : ℕ) → port_to net v w < degree_of net v → neighbour_of net v (port_to net v w) ≡ w
 leads net v w there = place_of-is w (neighbours net v) 0 there
 
--- the number after a pulse, if it fits, is the entry's pulse or another
-module _ (told pulse : ℕ) where
-  pub next-pulse : (next : Option ℕ) → SomeIff next (told + 1 < 2 ^ 32) (told + 1) → true ≡ option_eq eqb next (Some pulse) → told + 1 ≡ pulse
-  next-pulse None is e = absurd cc
-  next-pulse (Some n) is e = sym is.1 ∙ eqb-true n pulse (sym e)
-
-  pub other-pulse : (next : Option ℕ) → pulse < 2 ^ 32 → SomeIff next (told + 1 < 2 ^ 32) (told + 1) → false ≡ option_eq eqb next (Some pulse) →
-      told + 1 ≢ pulse
-  other-pulse None fits is e same = is (subst (λ n. n < 2 ^ 32) (sym same) fits)
-  other-pulse (Some n) fits is e same = eqb-false n pulse (sym e) (is.1 ∙ same)
-
-pub pulse-apart : {M : Type 0} (v a b : ℕ) → ◌≡◌ {A = Option (Row M)} (Some (v, entry.Pulse a)) (Some (v, entry.Pulse b)) → a ≡ b
+pulse-apart : {M : Type 0} (v a b : ℕ) → ◌≡◌ {A = Option (Row M)} (Some (vertex_row v (entry.Pulse a))) (Some (vertex_row v (entry.Pulse b))) → a ≡ b
 pulse-apart {M} v a b e =
-    let row : ◌≡◌ {A = Row M} (v, entry.Pulse a) (v, entry.Pulse b) = cc in
-    let same : ◌≡◌ {A = Entry M} (entry.Pulse a) (entry.Pulse b) = ap (λ r. r.1) row in
+    let row : ◌≡◌ {A = Row M} (vertex_row v (entry.Pulse a)) (vertex_row v (entry.Pulse b)) = cc in
+    let same : ◌≡◌ {A = Entry M} (entry.Pulse a) (entry.Pulse b) = ap (λ r. r.entry) row in
     cc
 
 put-apart : {M : Type 0} (w : ℕ) (x y : Wire M) → entry.Put w x ≡ entry.Put w y → x ≡ y
@@ -37,21 +33,69 @@ take-apart w x y e = cc
 
 module _ {M : Type 0} (net : Net) (v w : ℕ) (there : port_to net v w < degree_of net v) where
   pub row-is : (make : ℕ → Wire M → Entry M) (oldest : Option (Wire M)) (wire : Wire M) → oldest ≡ Some wire →
-      ◌≡◌ {A = Option (Row M)} (option_map (λ x. (v, make (neighbour_of net v (port_to net v w)) x)) oldest) (Some (v, make w wire))
+      ◌≡◌ {A = Option (Row M)} (option_map (λ x. vertex_row v (make (neighbour_of net v (port_to net v w)) x)) oldest) (Some (vertex_row v (make w wire)))
   row-is make oldest wire e =
-      ap (λ o. option_map (λ x. (v, make (neighbour_of net v (port_to net v w)) x)) o) e ∙ ap (λ u. Some (v, make u wire)) (leads net v w there)
+      ap (λ o. option_map (λ x. vertex_row v (make (neighbour_of net v (port_to net v w)) x)) o) e
+      ∙ ap (λ u. Some (vertex_row v (make u wire))) (leads net v w there)
 
   row-other : (make : ℕ → Wire M → Entry M) → ((x y : Wire M) → make w x ≡ make w y → x ≡ y) → (oldest : Option (Wire M)) (wire : Wire M) → oldest ≢ Some wire →
-      ◌≢◌ {A = Option (Row M)} (option_map (λ x. (v, make (neighbour_of net v (port_to net v w)) x)) oldest) (Some (v, make w wire))
+      ◌≢◌ {A = Option (Row M)} (option_map (λ x. vertex_row v (make (neighbour_of net v (port_to net v w)) x)) oldest) (Some (vertex_row v (make w wire)))
   row-other make apart None wire other e = absurd cc
   row-other make apart (Some x) wire other e =
-      let row : ◌≡◌ {A = Row M} (v, make (neighbour_of net v (port_to net v w)) x) (v, make w wire) = cc in
-      other (ap Some (apart x wire (ap (λ u. make u x) (sym (leads net v w there)) ∙ ap (λ r. r.1) row)))
+      let row : ◌≡◌ {A = Row M} (vertex_row v (make (neighbour_of net v (port_to net v w)) x)) (vertex_row v (make w wire)) = cc in
+      other (ap Some (apart x wire (ap (λ u. make u x) (sym (leads net v w there)) ∙ ap (λ r. r.entry) row)))
 
-  pub put-other : (oldest : Option (Wire M)) (wire : Wire M) → oldest ≢ Some wire →
-      ◌≢◌ {A = Option (Row M)} (option_map (λ x. (v, entry.Put (neighbour_of net v (port_to net v w)) x)) oldest) (Some (v, entry.Put w wire))
-  put-other = row-other (λ u x. entry.Put u x) (put-apart w)
+module _ {S M E : Type 0} (program : Program S M E) (net : Net) (state : State S M) (row : Row M) (event : Event) (of : event ≡ event_of net row) where
+  -- a test says whether the event writes down the row
+  abbrev Tells : Bool → Type 0
+  Tells b = MatchBool b (row_of program net state event ≡ Some row) (row_of program net state event ≢ Some row)
 
-  pub take-other : (oldest : Option (Wire M)) (wire : Wire M) → oldest ≢ Some wire →
-      ◌≢◌ {A = Option (Row M)} (option_map (λ x. (v, entry.Take (neighbour_of net v (port_to net v w)) x)) oldest) (Some (v, entry.Take w wire))
-  take-other = row-other (λ u x. entry.Take u x) (take-apart w)
+  pub pulse-tells : (told p : ℕ) → row.entry ≡ entry.Pulse p → told ≡ (node_of program net state row.vertex).view.pulse
+      → (b : Bool) → MatchBool b (p ≡ told + 1) (p ≢ told + 1) → Tells b
+  pulse-tells told p is told_is = by-test
+    where
+      v : ℕ
+      v = row.vertex
+
+      writes : row_of program net state event ≡ Some (vertex_row v (entry.Pulse (told + 1)))
+      writes =
+          ap (λ e. row_of program net state e) (of ∙ ap (λ e. event_with net v e) is)
+          ∙ ap (λ n. Some (vertex_row v (entry.Pulse (n + 1)))) (sym told_is)
+
+      row-has : row ≡ vertex_row v (entry.Pulse p)
+      row-has = ap (λ e. vertex_row v e) is
+
+      by-test : (b : Bool) → MatchBool b (p ≡ told + 1) (p ≢ told + 1) → Tells b
+      by-test true next = writes ∙ ap (λ n. Some (vertex_row v (entry.Pulse n))) (sym next) ∙ ap Some (sym row-has)
+      by-test false other = λ same. other (sym (pulse-apart v (told + 1) p (sym writes ∙ same ∙ ap Some row-has)))
+
+  -- of an entry with a wire
+  module _ (w : ℕ) (x : Wire M) (oldest : Option (Wire M)) (place : has_place net event ≡ true) (from : oldest ≡ next_wire program net state event) where
+    wire-tells : (make : ℕ → Wire M → Entry M) → ((x y : Wire M) → make w x ≡ make w y → x ≡ y) → row.entry ≡ make w x
+        → port_to net row.vertex w < degree_of net row.vertex
+        → row_of program net state event ≡ option_map (λ y. vertex_row row.vertex (make (neighbour_of net row.vertex (port_to net row.vertex w)) y)) oldest
+        → (b : Bool) → MatchBool b (oldest ≡ Some x) (oldest ≢ Some x) → Tells b
+    wire-tells make apart is there writes true same =
+        writes ∙ row-is net row.vertex w there make oldest x same ∙ ap (λ e. Some (vertex_row row.vertex e)) (sym is)
+    wire-tells make apart is there writes false other =
+        λ same. row-other net row.vertex w there make apart oldest x other (sym writes ∙ same ∙ ap (λ e. Some (vertex_row row.vertex e)) is)
+
+    pub put-tells : row.entry ≡ entry.Put w x → (b : Bool) → MatchBool b (oldest ≡ Some x) (oldest ≢ Some x) → Tells b
+    put-tells is =
+        let v = row.vertex in
+        let i = port_to net v w in
+        let here : event ≡ Put v i = of ∙ ap (λ e. event_with net v e) is in
+        let there : has_port net v i ≡ true = ap (λ e. has_place net e) (sym here) ∙ place in
+        wire-tells (λ u y. entry.Put u y) (put-apart w) is (port_from net v i there).1
+        (ap (λ e. row_of program net state e) here
+        ∙ ap (λ o. option_map (λ y. vertex_row v (entry.Put (neighbour_of net v i) y)) o) (ap (λ e. next_wire program net state e) (sym here) ∙ sym from))
+
+    pub take-tells : row.entry ≡ entry.Take w x → (b : Bool) → MatchBool b (oldest ≡ Some x) (oldest ≢ Some x) → Tells b
+    take-tells is =
+        let v = row.vertex in
+        let i = port_to net v w in
+        let here : event ≡ Take v i = of ∙ ap (λ e. event_with net v e) is in
+        let there : has_port net v i ≡ true = ap (λ e. has_place net e) (sym here) ∙ place in
+        wire-tells (λ u y. entry.Take u y) (take-apart w) is (port_from net v i there).1
+        (ap (λ e. row_of program net state e) here
+        ∙ ap (λ o. option_map (λ y. vertex_row v (entry.Take (neighbour_of net v i) y)) o) (ap (λ e. next_wire program net state e) (sym here) ∙ sym from))

@@ -6,8 +6,14 @@ use Rattle.event_machine.specs.State.{State}
 use Rattle.stamps.specs.Merged.{StampedRow}
 use Rattle.net_core.specs.Whole.{IsStampedReplay}
 
--- No stamp of a stamped replay passes the number of its entries, so that of its events.
+-- No stamp of a stamped replay passes the number of its entries.
 abbrev pub StampsAreCounted : {S M E : Type 0} → Program S M E → Net → Type 0
 StampsAreCounted {S} {M} program net =
     (rows : List (StampedRow M)) (last : State S M) → IsStampedReplay program net rows last
-    → All (λ row. row.0 ≤ length rows) rows
+    → All (λ row. row.stamp ≤ length rows) rows
+
+-- Nor does one pass the number of the events that write down these entries.
+abbrev pub EventsBoundStamps : {S M E : Type 0} → Program S M E → Net → Type 0
+EventsBoundStamps {S} {M} program net =
+    (rows : List (StampedRow M)) (last : State S M) → (is : IsStampedReplay program net rows last)
+    → All (λ row. row.stamp ≤ length is.replay.events) rows

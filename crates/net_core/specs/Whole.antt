@@ -11,6 +11,7 @@ use Rattle.net_core.specs.declared.refused.WholeRefused.{WholeRefused}
 use Rattle.net_core.specs.declared.refused.WholeRefused.TheVariants.{Replay, WrongStamp, NotWhole}
 use Rattle.net_core.specs.Replays.{IsReplay, WhyNot, at_entry}
 use Rattle.net_core.specs.Rows.{event_of, row_of}
+use Rattle.stamps.specs.entries.Rows.{without_stamp}
 use Rattle.stamps.specs.Merged.{StampedRow, AreOrdered, AreStampedRows, IsInPlace, rows_in}
 
 -- no link out of v holds a wire
@@ -54,7 +55,7 @@ pub record StopsAtEntry {S M E : Type 0} (program : Program S M E) (net : Net) (
     (refused : ReplayRefused) : Type 0 where
   pub at : ReachesRow program net rows
   pub reason : EntryRefused
-  pub why : WhyNot program net at.reached (at.row.1, at.row.2) reason
+  pub why : WhyNot program net at.reached (without_stamp at.row) reason
   pub index : refused ≡ at_entry (length at.before) reason
 
 -- Its event is possible and writes down just this entry, but the row has another stamp, or comes too late.
@@ -62,8 +63,8 @@ pub record StopsAtStamp {S M E : Type 0} (program : Program S M E) (net : Net) (
     : Type 0 where
   pub at : ReachesRow program net rows
   pub next : State S M
-  pub leads : step program net at.reached (event_of net (at.row.1, at.row.2)) ≡ Ok next
-  pub writes : row_of program net at.reached (event_of net (at.row.1, at.row.2)) ≡ Some (at.row.1, at.row.2)
+  pub leads : step program net at.reached (event_of net (without_stamp at.row)) ≡ Ok next
+  pub writes : row_of program net at.reached (event_of net (without_stamp at.row)) ≡ Some (without_stamp at.row)
   pub misplaced : IsInPlace at.before at.row → ⊥
   pub index : i ≡ length at.before
 

@@ -1,16 +1,15 @@
 //! One entry, made by the event that it is of.
 
-ghost use Rattle.std.specs.Prelude.{◌≡◌, ◌<◌, ◌≤◌, false, IfErr, IfNone, IfOk, IfSome};
+ghost use Rattle.std.specs.Prelude.{◌≡◌, ◌≢◌, ◌<◌, ◌≤◌, ◌+◌, true, false, IfErr, IfNone, IfOk, IfSome, MatchBool, Some};
 ghost use Rattle.alpha_laws.specs.interference.Net.{IsVertex, degree_of, port_to};
-ghost use Rattle.stamps.specs.entries.Entry.TheVariants.{Pulse, Put, Take};
 ghost use Rattle.net_core.specs.Replays.{IsMade, IsRefusedEntry};
-ghost use Rattle.net_core.specs.Rows.{event_of, has_place};
+ghost use Rattle.net_core.specs.Rows.{event_of, has_place, next_wire, row_of};
 
 use crate::refused::EntryRefused;
 use crate::same_wire::carries;
 use alpha_laws::{Network, NodeProgram, Wire};
 use event_machine::{Event, NetState, StepRefused};
-use stamps::Entry;
+use stamps::{Entry, Row};
 
 // The port of vertex `v` that leads to `w`; `None` if `w` isn't its neighbour.
 fn port_to(net: &Network, v: u32, w: u32) -> Option<u32>
@@ -26,86 +25,57 @@ fn port_to(net: &Network, v: u32, w: u32) -> Option<u32>
 }
 
 /// The event that an entry of a vertex is of; `None` if there is no such vertex, or the other is no neighbour.
-pub fn event_of<T: Copy>(net: &Network, row: &(u32, Entry<T>)) -> Option<Event>
+pub fn event_of<T: Copy>(net: &Network, row: &Row<T>) -> Option<Event>
     ensures event { IfSome result (λ event. event ≡ event_of net.now row.now) }
+    ensures place { IfSome result (λ event. has_place net.now event ≡ true) }
     ensures none { IfNone result (has_place net.now (event_of net.now row.now) ≡ false) }
 {
-    let (v, entry) = *row;
+    let v = row.vertex;
     if v == 0 || net.nodes() < v {
         return None;
     }
-    match entry {
+    match row.entry {
         Entry::Pulse(_) => Some(Event::Pulse(v)),
         Entry::Put(w, _) => Some(Event::Put(v, port_to(net, v, w)?)),
         Entry::Take(w, _) => Some(Event::Take(v, port_to(net, v, w)?)),
     }
 }
 
-// Makes the next pulse of a vertex, which is to be this one.
-fn make_pulse<P: NodeProgram>(
-    state: &mut NetState<P>,
-    v: u32,
-    pulse: u32,
-) -> Result<(), EntryRefused>
-    requires vertex { IsVertex state.old.net v }
-    ensures made { IfOk result (λ _. IsMade P.program state.old (v, Pulse pulse) state.new) }
-    ensures refused { IfErr result (IsRefusedEntry P.program state.old (v, Pulse pulse)) }
+// The wire that an event moves, if it is possible and moves one.
+fn next_wire<P: NodeProgram>(state: &NetState<P>, event: Event) -> Option<Wire<P::Payload>>
+    requires place { has_place state.now.net event ≡ true }
+    ensures { result ≡ next_wire P.program state.now.net state.now.state event }
 {
-    let next = state.pulse_of(v).checked_add(1);
-    state.step(Event::Pulse(v))?;
-    if next == Some(pulse) {
-        Ok(())
-    } else {
-        Err(EntryRefused::WrongWire)
-    }
-}
-
-// Puts the oldest wire for a neighbour on the link; it is to be this one.
-fn make_put<P: NodeProgram>(
-    state: &mut NetState<P>,
-    v: u32,
-    w: u32,
-    wire: Wire<P::Payload>,
-) -> Result<(), EntryRefused>
-    requires vertex { IsVertex state.old.net v }
-    ensures made { IfOk result (λ _. IsMade P.program state.old (v, Put w wire) state.new) }
-    ensures refused { IfErr result (IsRefusedEntry P.program state.old (v, Put w wire)) }
-{
-    let Some(port) = port_to(state.network(), v, w) else {
-        return Err(EntryRefused::Step(StepRefused::NoSuch));
-    };
     state.is_simulation();
-    let oldest = state.node(v).front(port);
-    state.step(Event::Put(v, port))?;
-    if carries(oldest, wire) {
-        Ok(())
-    } else {
-        Err(EntryRefused::WrongWire)
+    let net = state.network();
+    match event {
+        Event::Pulse(_) => None,
+        Event::Put(v, port) => state.node(v).front(port),
+        Event::Take(v, port) => {
+            let (_, held) = state.link(net.neighbour(v, port), net.back_port(v, port));
+            held.first().copied()
+        }
     }
 }
 
-// Takes the oldest wire of a neighbour from the link; it is to be this one.
-fn make_take<P: NodeProgram>(
-    state: &mut NetState<P>,
-    v: u32,
-    w: u32,
-    wire: Wire<P::Payload>,
-) -> Result<(), EntryRefused>
-    requires vertex { IsVertex state.old.net v }
-    ensures made { IfOk result (λ _. IsMade P.program state.old (v, Take w wire) state.new) }
-    ensures refused { IfErr result (IsRefusedEntry P.program state.old (v, Take w wire)) }
+// Whether a pulse is the next one after another.
+fn follows(pulse: u32, last: u32) -> bool
+    ensures { MatchBool result (pulse ≡ last + 1) (pulse ≢ last + 1) }
 {
-    let Some(port) = port_to(state.network(), v, w) else {
-        return Err(EntryRefused::Step(StepRefused::NoSuch));
-    };
-    let net = state.network();
-    let (_, held) = state.link(net.neighbour(v, port), net.back_port(v, port));
-    let oldest = held.first().copied();
-    state.step(Event::Take(v, port))?;
-    if carries(oldest, wire) {
-        Ok(())
-    } else {
-        Err(EntryRefused::WrongWire)
+    0 < pulse && pulse - 1 == last
+}
+
+// Whether the event of a row writes down just this row, if it is possible.
+fn writes<P: NodeProgram>(state: &NetState<P>, event: Event, row: &Row<P::Payload>) -> bool
+    requires event { event ≡ event_of state.now.net row.now }
+    requires place { has_place state.now.net event ≡ true }
+    ensures { MatchBool result (row_of P.program state.now.net state.now.state event ≡ Some row.now)
+        (row_of P.program state.now.net state.now.state event ≢ Some row.now) }
+{
+    match row.entry {
+        Entry::Pulse(pulse) => follows(pulse, state.pulse_of(row.vertex)),
+        Entry::Put(_, wire) => carries(next_wire(state, event), wire),
+        Entry::Take(_, wire) => carries(next_wire(state, event), wire),
     }
 }
 
@@ -117,18 +87,19 @@ fn make_take<P: NodeProgram>(
 /// then isn't said.
 pub(crate) fn make_entry<P: NodeProgram>(
     state: &mut NetState<P>,
-    row: &(u32, Entry<P::Payload>),
+    row: &Row<P::Payload>,
 ) -> Result<(), EntryRefused>
     ensures made { IfOk result (λ _. IsMade P.program state.old row.now state.new) }
     ensures refused { IfErr result (IsRefusedEntry P.program state.old row.now) }
 {
-    let (v, entry) = *row;
-    if v == 0 || state.network().nodes() < v {
+    let Some(event) = event_of(state.network(), row) else {
         return Err(EntryRefused::Step(StepRefused::NoSuch));
-    }
-    match entry {
-        Entry::Pulse(pulse) => make_pulse(state, v, pulse),
-        Entry::Put(w, wire) => make_put(state, v, w, wire),
-        Entry::Take(w, wire) => make_take(state, v, w, wire),
+    };
+    let is_written = writes(state, event, row);
+    state.step(event)?;
+    if is_written {
+        Ok(())
+    } else {
+        Err(EntryRefused::WrongWire)
     }
 }

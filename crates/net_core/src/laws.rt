@@ -3,7 +3,7 @@
 ghost use Rattle.alpha_laws.specs.interference.Net.{Net};
 ghost use Rattle.alpha_laws.specs.node_api.Program.{Program};
 ghost use Rattle.alpha_laws.specs.Laws.{OnEveryNetwork};
-ghost use Rattle.net_core.specs.Counted.{StampsAreCounted};
+ghost use Rattle.net_core.specs.Counted.{EventsBoundStamps, StampsAreCounted};
 ghost use Rattle.net_core.specs.Laws.{ReplaysAreExact};
 ghost use Rattle.net_core.specs.Whole.{WholeReplaysAreExact};
 
@@ -20,7 +20,8 @@ pub fn whole_replays_are_exact<S, M, E>()
 {}
 
 /// No stamp passes the number of events: in a stamped replay the stamp of each entry is at most the number of entries,
-/// and each is of one event.
+/// and the number of the events that they are of.
 pub fn stamps_are_counted<S, M, E>()
     ensures law { (program : Program S M E) (net : Net) → StampsAreCounted program net }
+    ensures events { (program : Program S M E) → OnEveryNetwork program (EventsBoundStamps program) }
 {}

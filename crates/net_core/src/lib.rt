@@ -1,19 +1,23 @@
 //! Lists, played by the machine of `event_machine`: of events, and of entries, which nodes wrote down of their events.
-//! The machine itself (`NetState` with `start` and `step`), its events, and entries with their `order` are passed on, so
-//! that a caller needs no other crate.
+//! The machine itself (`NetState` with `start` and `step`), its events, and entries with their `order` are passed on,
+//! so that a caller needs no other crate.
 //!
 //! `run` accepts a list of events, or says at which event, and why, it isn't one that can happen.
 //!
 //! `replay` takes entries, each with the vertex of its node, in the order of the events. It accepts exactly what the
 //! events of some list write down, and else names the first entry that can't be one, and why. So nothing is taken on
 //! trust: each pulse and each wire of an entry is compared with that of its event. `transcripts` reads such entries
-//! from a text.
+//! from a text. `replay_whole` takes stamped entries of a whole run, and returns the state with its stamps
+//! (`StampedState`).
 //!
 //! `specs/Runs.antt` has what `run` returns, `specs/Rows.antt` what an event writes down, `specs/Replays.antt` what a
 //! replay is and where it stops.
 //!
 //! ```text
-//! let entries = [(1, Entry::Put(2, Wire::Close)), (2, Entry::Take(1, Wire::Close))];
+//! let entries = [
+//!     Row { vertex: 1, entry: Entry::Put(2, Wire::Close) },
+//!     Row { vertex: 2, entry: Entry::Take(1, Wire::Close) },
+//! ];
 //! let state = replay::<Greatest<0>>(alloc, &network, &entries)?;
 //! ```
 //!
@@ -26,6 +30,7 @@ mod refused;
 mod replaying;
 mod running;
 mod same_wire;
+mod stamped_state;
 mod whole;
 mod whole_state;
 
@@ -33,8 +38,9 @@ pub use entry_event::event_of;
 pub use refused::{ReplayRefused, WholeRefused};
 pub use replaying::replay;
 pub use running::run;
+pub use stamped_state::StampedState;
 pub use whole::replay_whole;
 
 // What crates above name of lower ones.
 pub use event_machine::{Event, NetState, RunRefused, StepRefused};
-pub use stamps::{Entry, order};
+pub use stamps::{Entry, Row, StampedEntry, StampedRow, order};

@@ -45,11 +45,11 @@ pub enum WholeRefused {
 }
 
 impl From<Memory> for WholeRefused {
-    ghost use Rattle.event_machine.specs.declared.refused.RunRefused.TheVariants as run;
+    ghost use Rattle.event_machine.specs.declared.refused.RunRefused.TheVariants.{Memory};
     ghost use Rattle.net_core.specs.declared.refused.ReplayRefused.TheVariants.{Run};
     ghost use Rattle.net_core.specs.declared.refused.WholeRefused.TheVariants.{Replay};
 
-    ghost from_gives = { λ _ refused. refused ≡ Replay (Run run.Memory) };
+    ghost from_gives = { λ _ refused. refused ≡ Replay (Run Memory) };
 
     fn from(memory: Memory) -> WholeRefused {
         WholeRefused::Replay(memory.into())

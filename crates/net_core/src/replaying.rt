@@ -10,10 +10,10 @@ use crate::entry_event::make_entry;
 use crate::refused::ReplayRefused;
 use alpha_laws::{Network, NodeProgram};
 use event_machine::NetState;
-use stamps::Entry;
+use stamps::Row;
 use std::alloc::Global;
 
-/// Plays entries, each behind the vertex of its node, from the start, and returns the state that they lead to.
+/// Plays entries, each with the vertex of its node, from the start, and returns the state that they lead to.
 ///
 /// # Errors
 ///
@@ -23,7 +23,7 @@ use std::alloc::Global;
 pub fn replay<P: NodeProgram>(
     alloc: Global,
     net: &Network,
-    entries: &[(u32, Entry<P::Payload>)],
+    entries: &[Row<P::Payload>],
 ) -> Result<NetState<P>, ReplayRefused>
     ensures net { IfOk result (λ view. view.net ≡ net.now) }
     ensures accepts { IfOk result (λ view. IsReplay P.program net.now entries.now view.state) }

@@ -1,20 +1,23 @@
 //! Lists of stamped entries.
 
-ghost use Rattle.std.specs.Prelude.{◌≡◌, ◌≢◌, ◌<◌, ◌+◌, IfErr, IfOk, length, take};
+ghost use Rattle.std.specs.Prelude.{ℕ, ◌≡◌, ◌≢◌, ◌<◌, ◌≤◌, ◌+◌, IfErr, IfOk, length, take};
 ghost use Rattle.event_machine.specs.declared.refused.RunRefused.TheVariants.{Memory};
 ghost use Rattle.event_machine.specs.Simulation.{IsSimulation};
 ghost use Rattle.event_machine.specs.State.{start};
 ghost use Rattle.net_core.specs.declared.refused.ReplayRefused.TheVariants.{Run};
 ghost use Rattle.net_core.specs.declared.refused.WholeRefused.TheVariants.{Replay};
 ghost use Rattle.net_core.specs.Whole.{IsStampedReplay, IsWholeReplay, WhyNotWhole};
-ghost use Rattle.stamps.specs.Table.{IsTableOf};
+ghost use Rattle.stamps.specs.Merged.{entries_at};
+ghost use Rattle.stamps.specs.Stamps.{counter_of};
+ghost use Rattle.stamps.specs.Table.{IsTableOf, counter_at};
 
 use crate::entry_event::make_entry;
 use crate::refused::WholeRefused;
+use crate::stamped_state::StampedState;
 use crate::whole_state::is_whole;
 use alpha_laws::{Network, NodeProgram};
 use event_machine::NetState;
-use stamps::{Entry, StampTable};
+use stamps::{StampTable, StampedRow};
 use std::alloc::Global;
 
 // Plays the row of an index. Those before it led to the state, and the table is theirs.
@@ -22,7 +25,7 @@ fn replay_row<P: NodeProgram>(
     alloc: Global,
     state: &mut NetState<P>,
     table: &mut StampTable,
-    rows: &[(u64, u32, Entry<P::Payload>)],
+    rows: &[StampedRow<P::Payload>],
     index: usize,
 ) -> Result<(), WholeRefused>
     requires row { index < length rows.now }
@@ -36,7 +39,7 @@ fn replay_row<P: NodeProgram>(
         (λ refused. refused ≢ Replay (Run Memory) → WhyNotWhole P.program state.old.net rows.now refused) }
 {
     let row = &rows[index];
-    match make_entry(state, &(row.1, row.2)) {
+    match make_entry(state, &row.without_stamp()) {
         Ok(()) => {}
         Err(refused) => return Err(WholeRefused::Replay(refused.at(index))),
     }
@@ -47,15 +50,16 @@ fn replay_row<P: NodeProgram>(
     Ok(())
 }
 
-// Plays all rows, from the start.
+// Plays all rows, from the start, and returns their table.
 fn replay_rows<P: NodeProgram>(
     alloc: Global,
     state: &mut NetState<P>,
-    rows: &[(u64, u32, Entry<P::Payload>)],
-) -> Result<(), WholeRefused>
+    rows: &[StampedRow<P::Payload>],
+) -> Result<StampTable, WholeRefused>
     requires start { state.now.state ≡ start P.program state.now.net }
     ensures net { IfOk result (λ _. state.new.net ≡ state.old.net) }
     ensures replay { IfOk result (λ _. IsStampedReplay P.program state.old.net rows.now state.new.state) }
+    ensures table { IfOk result (λ table. IsTableOf rows.now table) }
     ensures refuses { IfErr result
         (λ refused. refused ≢ Replay (Run Memory) → WhyNotWhole P.program state.old.net rows.now refused) }
 {
@@ -63,11 +67,11 @@ fn replay_rows<P: NodeProgram>(
     for index in 0..rows.len() {
         replay_row(alloc, state, &mut table, rows, index)?;
     }
-    Ok(())
+    Ok(table)
 }
 
-/// Plays stamped entries, each behind the vertex of its node, from the start, and returns the state that they lead to.
-/// They have to end whole: every node drained, and every link empty.
+/// Plays stamped entries, each with the vertex of its node, from the start, and returns the state that they lead to,
+/// with the stamp of each vertex. They have to end whole: every node drained, and every link empty.
 ///
 /// # Errors
 ///
@@ -77,19 +81,22 @@ fn replay_rows<P: NodeProgram>(
 pub fn replay_whole<P: NodeProgram>(
     alloc: Global,
     net: &Network,
-    rows: &[(u64, u32, Entry<P::Payload>)],
-) -> Result<NetState<P>, WholeRefused>
-    ensures net { IfOk result (λ view. view.net ≡ net.now) }
-    ensures accepts { IfOk result (λ view. IsWholeReplay P.program net.now rows.now view.state) }
+    rows: &[StampedRow<P::Payload>],
+) -> Result<StampedState<P>, WholeRefused>
+    ensures net { IfOk result (λ stamped. stamped.state.net ≡ net.now) }
+    ensures accepts { IfOk result (λ stamped. IsWholeReplay P.program net.now rows.now stamped.state.state) }
+    ensures stamps { IfOk result
+        (λ stamped. (v : ℕ) → counter_at stamped.table v ≡ counter_of (entries_at rows.now v)) }
+    ensures counted { IfOk result (λ stamped. (v : ℕ) → counter_at stamped.table v ≤ length rows.now) }
     ensures refuses { IfErr result
         (λ refused. refused ≢ Replay (Run Memory) → WhyNotWhole P.program net.now rows.now refused) }
-    ensures simulates { IfOk result (λ view. IsSimulation P.program view.net view.state) }
+    ensures simulates { IfOk result (λ stamped. IsSimulation P.program stamped.state.net stamped.state.state) }
 {
     let mut state = NetState::start(alloc, net)?;
-    replay_rows(alloc, &mut state, rows)?;
+    let table = replay_rows(alloc, &mut state, rows)?;
     if !is_whole(&state) {
         return Err(WholeRefused::NotWhole);
     }
     state.is_simulation();
-    Ok(state)
+    Ok(StampedState { state, table })
 }

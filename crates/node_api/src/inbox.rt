@@ -58,6 +58,18 @@ impl<T: Copy> Inbox<T> {
         })
     }
 
+    /// What is at a port, if anything.
+    pub fn get(&self, port: u32) -> Option<T>
+        requires port { port < length self.now.slots }
+        ensures payload { result ≡ at_port self.now.slots port }
+    {
+        if self.marks.has(port) {
+            Some(self.slots[port as usize])
+        } else {
+            None
+        }
+    }
+
     /// Whether no payload is at a port.
     pub fn is_empty(&self, port: u32) -> bool
         requires port { port < length self.now.slots }

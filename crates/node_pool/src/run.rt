@@ -29,8 +29,8 @@ fn are_in_range(options: Options) -> bool
 }
 
 // Whether a node set a wire aside since the stamp of its take would be too great: that is the fault of the run.
-fn unless_full<J: Wiring, P: NodeProgram>(nodes: &Vec<Node<J, P>>) -> Result<(), PoolFault>
-    ensures full { result ≡ full_after tt (map (λ n. n.aside) nodes.now.items) }
+fn unless_full<J: Wiring, P: NodeProgram>(nodes: &[Node<J, P>]) -> Result<(), PoolFault>
+    ensures full { result ≡ full_after tt (map (λ n. n.aside) nodes.now) }
     ensures fault { IfErr result (λ fault. fault ≢ BadOptions) }
 {
     if some_full(nodes) {
@@ -70,7 +70,7 @@ fn run_made<J: Wiring + Send + Sync, P: NodeProgram, G: Gate + Sync, R: Threads 
         options.workers,
         options.turns,
     )?;
-    unless_full(&nodes)?;
+    unless_full(nodes.as_slice())?;
     Ok(gathered(rt, alloc, net, links.into_rows(), nodes)?)
 }
 
@@ -84,7 +84,7 @@ fn run_made<J: Wiring + Send + Sync, P: NodeProgram, G: Gate + Sync, R: Threads 
 ///
 /// `BadOptions`, which is looked at first, exactly if the options are out of range; `Memory` if memory is refused;
 /// `Spawn` if a thread is, and those that had begun are joined; `StampFull` if a stamp would pass
-/// 18446744073709551615, and no other fault is told. Nothing is left of the run.
+/// 18446744073709551615, and there is no other fault. Nothing is left of the run.
 pub fn run_workers<P: NodeProgram, G: Gate + Sync, R: Threads + Wait + Sync>(
     rt: &R,
     alloc: Global,

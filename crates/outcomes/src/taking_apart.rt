@@ -1,9 +1,10 @@
 //! A node after the run, and the nodes taken apart.
 
 ghost use Rattle.std.specs.Prelude.{◌≡◌, ◌≤◌, [], IfOk, map, vec_capacity};
+ghost use Rattle.actor.specs.entries.Recorded.{entries_by, stamped_by};
 ghost use Rattle.outcomes.specs.Full.{is_full, some_full};
 
-use actor::{AlphaNode, Entries, Node, WhyAside, WiredPut, WiredTake, Wiring};
+use actor::{AlphaNode, Aside, Entries, Node, WhyAside, WiredPut, WiredTake, Wiring};
 use gather_laws::NodeProgram;
 use std::alloc::{AllocError, Global};
 
@@ -50,20 +51,20 @@ pub struct NodesAndEnds<J: Wiring, P: NodeProgram> {
 fn is_full<J: Wiring, P: NodeProgram>(node: &Node<J, P>) -> bool
     ensures { result ≡ is_full node.now.aside }
 {
-    match &node.aside {
-        None => false,
-        Some(aside) => match aside.why {
-            WhyAside::Refused => false,
-            WhyAside::StampFull(_) => true,
-        },
-    }
+    matches!(
+        &node.aside,
+        Some(Aside {
+            why: WhyAside::StampFull(_),
+            ..
+        })
+    )
 }
 
 /// Whether one of the nodes has set a wire aside since the stamp of its take would be too great.
-pub fn some_full<J: Wiring, P: NodeProgram>(nodes: &Vec<Node<J, P>>) -> bool
-    ensures { result ≡ some_full (map (λ n. n.aside) nodes.now.items) }
+pub fn some_full<J: Wiring, P: NodeProgram>(nodes: &[Node<J, P>]) -> bool
+    ensures { result ≡ some_full (map (λ n. n.aside) nodes.now) }
 {
-    for node in nodes.as_slice() {
+    for node in nodes {
         if is_full(node) {
             return true;
         }
@@ -104,9 +105,9 @@ pub fn apart<J: Wiring, P: NodeProgram>(
     ensures alphas { IfOk result
         (λ both. map (λ a. a.alpha) both.actors.items ≡ map (λ n. n.alpha) nodes.items) }
     ensures entries { IfOk result
-        (λ both. map (λ a. a.entries.items) both.actors.items ≡ map (λ n. n.entries.items) nodes.items) }
+        (λ both. map (λ a. a.entries.items) both.actors.items ≡ map (λ n. entries_by n.recorder) nodes.items) }
     ensures stamped { IfOk result
-        (λ both. map (λ a. a.entries.stamped) both.actors.items ≡ map (λ n. n.entries.stamped) nodes.items) }
+        (λ both. map (λ a. a.entries.stamped) both.actors.items ≡ map (λ n. stamped_by n.recorder) nodes.items) }
     ensures puts { IfOk result
         (λ both. map (λ row. row.items) both.puts.items ≡ map (λ n. n.puts.items) nodes.items) }
     ensures takes { IfOk result
@@ -122,10 +123,10 @@ pub fn apart<J: Wiring, P: NodeProgram>(
             takes,
             aside: _,
             refusal: _,
-            transcript: _,
-            entries,
+            recorder,
             counter: _,
         } = node;
+        let entries = recorder.into_entries(alloc);
         all.actors.push_reserved(Actor {
             vertex,
             alpha,

@@ -1,6 +1,6 @@
 //! What a worker does.
 
-ghost use Rattle.std.specs.Prelude.{◌≡◌, ◌<◌, map, vec_len};
+ghost use Rattle.std.specs.Prelude.{◌≡◌, ◌<◌, length, map};
 ghost use Rattle.crossbeam_deque.specs.Handles.{stealer_deque, worker_deque};
 ghost use Rattle.worker_deques.specs.deque_rule.Deques.{deque_of};
 
@@ -78,14 +78,14 @@ fn turn_in_hand<J: Wiring, P: NodeProgram, R: Wait, G: Gate>(
 fn look<J: Wiring, P: NodeProgram, R: Wait, G: Gate>(
     rt: &R,
     crew: &Crew<J, P, G>,
-    thieves: &Vec<Thief<Node<J, P>>>,
+    thieves: &[Thief<Node<J, P>>],
     worker: u32,
     desk: &mut Desk<Node<J, P>>,
 ) -> Result<bool, TurnRefused>
-    requires worker { worker < vec_len thieves.now }
-    requires deques { map (λ g. deque_of g.pass) desk.old.guests.items ≡ map stealer_deque thieves.now.items }
+    requires worker { worker < length thieves.now }
+    requires deques { map (λ g. deque_of g.pass) desk.old.guests.items ≡ map stealer_deque thieves.now }
     ensures own { worker_deque desk.new.own ≡ worker_deque desk.old.own }
-    ensures deques { map (λ g. deque_of g.pass) desk.new.guests.items ≡ map stealer_deque thieves.now.items }
+    ensures deques { map (λ g. deque_of g.pass) desk.new.guests.items ≡ map stealer_deque thieves.now }
 {
     if !desk.find(thieves, worker) {
         return Ok(false);
@@ -99,15 +99,15 @@ fn look<J: Wiring, P: NodeProgram, R: Wait, G: Gate>(
 pub fn work<J: Wiring, P: NodeProgram, R: Wait, G: Gate>(
     rt: &R,
     crew: &Crew<J, P, G>,
-    thieves: &Vec<Thief<Node<J, P>>>,
+    thieves: &[Thief<Node<J, P>>],
     worker: u32,
     mut desk: Desk<Node<J, P>>,
     turns: u64,
 ) -> Desk<Node<J, P>>
-    requires worker { worker < vec_len thieves.now }
-    requires deques { map (λ g. deque_of g.pass) desk.guests.items ≡ map stealer_deque thieves.now.items }
+    requires worker { worker < length thieves.now }
+    requires deques { map (λ g. deque_of g.pass) desk.guests.items ≡ map stealer_deque thieves.now }
     ensures own { worker_deque result.own ≡ worker_deque desk.own }
-    ensures deques { map (λ g. deque_of g.pass) result.guests.items ≡ map stealer_deque thieves.now.items }
+    ensures deques { map (λ g. deque_of g.pass) result.guests.items ≡ map stealer_deque thieves.now }
 {
     for _ in 0..turns {
         if crew.signals.is_over(crew.nodes) {

@@ -1,6 +1,7 @@
 //! A run of workers over their deques.
 
-ghost use Rattle.std.specs.Prelude.{◌≡◌, ◌≢◌, ◌<◌, ◌≤◌, All, None, map, reverse, vec_len, IfOk, IfErr};
+ghost use Rattle.std.specs.Prelude.{◌≡◌, ◌≢◌, ◌<◌, ◌≤◌, All, None, length, map, reverse, vec_len};
+ghost use Rattle.std.specs.Prelude.{IfOk, IfErr};
 ghost use Rattle.actor.specs.interference.Net.{vertices};
 ghost use Rattle.crossbeam_deque.specs.Handles.{stealer_deque, worker_deque};
 ghost use Rattle.worker_deques.specs.deque_rule.Deques.{deque_of};
@@ -42,13 +43,13 @@ fn start<'s, E, J: Wiring + Send + Sync, P: NodeProgram, G: Gate + Sync, R: Thre
     scope: &Scope<'s, E>,
     rt: &'s R,
     crew: &'s Crew<'s, J, P, G>,
-    thieves: &'s Vec<Thief<Node<J, P>>>,
+    thieves: &'s [Thief<Node<J, P>>],
     worker: u32,
     desk: Desk<Node<J, P>>,
     turns: u64,
 ) -> Result<Child<Node<J, P>>, PoolFault>
-    requires worker { worker < vec_len thieves.now }
-    requires deques { map (λ g. deque_of g.pass) desk.guests.items ≡ map stealer_deque thieves.now.items }
+    requires worker { worker < length thieves.now }
+    requires deques { map (λ g. deque_of g.pass) desk.guests.items ≡ map stealer_deque thieves.now }
     ensures desk { IfOk result (λ h. h.promise.0.value ≡ desk) }
     ensures fault { IfErr result (λ fault. fault ≢ BadOptions) }
     ensures spawn { IfErr result (λ fault. fault ≡ Spawn) }
@@ -56,8 +57,8 @@ fn start<'s, E, J: Wiring + Send + Sync, P: NodeProgram, G: Gate + Sync, R: Thre
     let started = scope.spawn_with(
         SameDeques(Snapshot::of(&desk)),
         move || -> Desk<Node<J, P>>
-            requires { (worker < vec_len thieves.now)
-                × (map (λ g. deque_of g.pass) desk.guests.items ≡ map stealer_deque thieves.now.items) }
+            requires { (worker < length thieves.now)
+                × (map (λ g. deque_of g.pass) desk.guests.items ≡ map stealer_deque thieves.now) }
             ensures { (worker_deque result.own ≡ worker_deque desk.own)
                 × (map (λ g. deque_of g.pass) result.guests.items
                 ≡ map (λ g. deque_of g.pass) desk.guests.items) }
@@ -85,14 +86,14 @@ fn start_all<
     rt: &'s R,
     alloc: Global,
     crew: &'s Crew<'s, J, P, G>,
-    thieves: &'s Vec<Thief<Node<J, P>>>,
+    thieves: &'s [Thief<Node<J, P>>],
     desks: Vec<Desk<Node<J, P>>>,
     turns: u64,
 ) -> Result<Vec<Child<Node<J, P>>>, PoolFault>
     requires few { vec_len desks ≤ MAX_WORKERS }
-    requires workers { vec_len desks ≡ vec_len thieves.now }
+    requires workers { vec_len desks ≡ length thieves.now }
     requires deques { All (λ d. map (λ g. deque_of g.pass) d.guests.items
-        ≡ map stealer_deque thieves.now.items) desks.items }
+        ≡ map stealer_deque thieves.now) desks.items }
     ensures desks { IfOk result (λ hs. map (λ h. h.promise.0.value) hs.items ≡ desks.items) }
     ensures fault { IfErr result (λ fault. fault ≢ BadOptions) }
     ensures no_stamp { IfErr result (λ fault. fault ≢ StampFull) }
@@ -163,14 +164,14 @@ pub fn run_nodes<J: Wiring + Send + Sync, P: NodeProgram, G: Gate + Sync, R: Thr
         signals: &signals,
         nodes: count as u64,
     };
-    let (crew, thieves) = (&shared, &thieves);
+    let (crew, thieves) = (&shared, thieves.as_slice());
     let done = thread::scope(
         thread::scope_env(),
         rt,
         move |scope| -> Result<Vec<Desk<Node<J, P>>>, PoolFault>
-            requires { (vec_len desks ≤ MAX_WORKERS) × (vec_len desks ≡ vec_len thieves.now)
+            requires { (vec_len desks ≤ MAX_WORKERS) × (vec_len desks ≡ length thieves.now)
                 × All (λ d. map (λ g. deque_of g.pass) d.guests.items
-                ≡ map stealer_deque thieves.now.items) desks.items }
+                ≡ map stealer_deque thieves.now) desks.items }
             ensures owns { IfOk result (λ done. map (λ d. worker_deque d.own) done.items
                 ≡ map (λ d. worker_deque d.own) desks.items) }
             ensures guests { IfOk result (λ done. map (λ d. map (λ g. deque_of g.pass) d.guests.items) done.items

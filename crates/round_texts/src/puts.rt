@@ -1,39 +1,48 @@
 //! What a vertex sends at a pulse.
 
-ghost use Rattle.std.specs.Prelude.{◌≡◌, ◌++◌, IfOk, length};
-ghost use Rattle.alpha_core.specs.interference.Net.{IsVertex, degree_of};
+ghost use Rattle.std.specs.Prelude.{◌≡◌, ◌++◌, IfOk};
+ghost use Rattle.alpha_core.specs.interference.Net.{IsVertex};
+ghost use Rattle.alpha_core.specs.node_api.Run.{outbox_at};
 ghost use Rattle.round_texts.specs.PutsText.{puts_text};
 
-use alpha_core::{Network, Outbox, PayloadText, Wire};
-use entries::Entry;
+use alpha_core::Wire;
+use entries::{Entry, Row};
+use program_texts::ProgramText;
 use std::alloc::AllocError;
+use sync_rounds::Rounds;
 use transcripts::push_row;
 
-/// Appends what a vertex sends at a pulse, as entries of a transcript, by ascending neighbour.
+/// Appends what a vertex sends at the pulse, as entries of a transcript, by ascending neighbour.
 ///
 /// # Errors
 ///
 /// If a growth is refused.
-pub(crate) fn push_puts<T: PayloadText>(
+pub(crate) fn push_puts<P: ProgramText>(
     text: &mut Vec<u8>,
-    net: &Network,
-    pulse: u32,
+    rounds: &Rounds<'_, P>,
     v: u32,
-    out: &Outbox<T>,
 ) -> Result<(), AllocError>
-    requires vertex { IsVertex net.now v }
-    requires ports { length out.now ≡ degree_of net.now v }
+    requires vertex { IsVertex rounds.now.net v }
     ensures { IfOk result (λ _. text.new.items ≡ text.old.items
-        ++ puts_text T.word_of T.number_of net.now pulse v out.now) }
+        ++ puts_text P.Payload.word_of P.Payload.number_of rounds.now.net rounds.now.pulse v
+        (outbox_at P.program rounds.now.net rounds.now.pulse v)) }
 {
-    if out.is_quiet() {
+    if rounds.is_quiet(v) {
         return Ok(());
     }
+    let net = rounds.network();
     net.is_network();
     for port in 0..net.degree(v) {
-        if let Some(payload) = out.get(port) {
-            let put = Entry::Put(net.neighbour(v, port), Wire::Payload(pulse, payload));
-            push_row(text, &(v, put))?;
+        if let Some(payload) = rounds.sent(v, port) {
+            let put = Entry::Put(
+                net.neighbour(v, port),
+                Wire::Payload(rounds.pulse(), payload),
+            );
+            let row = Row {
+                vertex: v,
+                entry: put,
+            };
+            push_row(text, &row)?;
         }
     }
     Ok(())

@@ -39,7 +39,7 @@ fn push_vertex<P: ProgramText>(
     rounds
         .node(v)
         .push_lines(text, rounds.network(), rounds.pulse(), v)?;
-    push_puts(text, rounds.network(), rounds.pulse(), v, rounds.outbox(v))
+    push_puts(text, rounds, v)
 }
 
 // Appends the lines of a pulse.

@@ -2,18 +2,19 @@
 use Rattle.std.proofs.Common.{◌≡◌, ℕ, suc, ◌+◌, ◌<◌, ◌≤◌, List, [], ◌∷◌, ◌++◌, map, take, length, get_or, sym, ap, ◌∙◌, append_assoc, arith}
 use Rattle.std.proofs.lemmas.List.{append-nil, length-map, length-take-le, map-append}
 use Rattle.std.proofs.Math.Seq.{take-suc}
-use Rattle.stamps.specs.Stamps.{StampedEntry}
-use Rattle.stamps.specs.Merged.{StampedRow}
+use Rattle.entries.specs.declared.rows.StampedEntry.{StampedEntry}
+use Rattle.entries.specs.declared.rows.StampedRow.{StampedRow}
+use Rattle.entries.specs.Rows.{stamped_row}
 use Rattle.stamps.specs.Gathered.{rows_from, with_vertex}
 
 module _ {M : Type 0} where
   pub entry_more : (rows : List (StampedRow M)) (v : ℕ) (entries : List (StampedEntry M)) (i : ℕ) (e : StampedEntry M)
       → i < length entries → e ≡ get_or entries i e
-      → (rows ++ with_vertex v (take i entries)) ++ ((e.0, v, e.1) ∷ []) ≡ rows ++ with_vertex v (take (i + 1) entries)
+      → (rows ++ with_vertex v (take i entries)) ++ ((stamped_row e.stamp v e.entry) ∷ []) ≡ rows ++ with_vertex v (take (i + 1) entries)
   entry_more rows v entries i e lt is =
       let more : suc i ≡ i + 1 = omega arith in
-      append_assoc rows (with_vertex v (take i entries)) ((e.0, v, e.1) ∷ [])
-      ∙ ap (λ l. rows ++ l) (sym (map-append (λ x. (x.0, v, x.1)) (take i entries) (e ∷ [])) ∙ ap (λ l. with_vertex v l)
+      append_assoc rows (with_vertex v (take i entries)) ((stamped_row e.stamp v e.entry) ∷ [])
+      ∙ ap (λ l. rows ++ l) (sym (map-append (λ x. (stamped_row x.stamp v x.entry)) (take i entries) (e ∷ [])) ∙ ap (λ l. with_vertex v l)
       (sym (take-suc entries i e lt ∙ ap (λ x. take i entries ++ (x ∷ [])) (sym is)))
       ∙ ap (λ k. with_vertex v (take k entries)) more)
 

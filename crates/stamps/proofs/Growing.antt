@@ -3,7 +3,8 @@ use Rattle.std.proofs.Common.{◌≡◌, ◌<◌, List, [], ◌∷◌, ◌++◌,
 use Rattle.std.specs.Prelude.{All}
 use Rattle.std.proofs.lemmas.List.{get_or_at, length-append}
 use Rattle.std.proofs.lemmas.List.Elements.{All-cons, All-get_or, All-head, All-nil, All-push, All-tail}
-use Rattle.stamps.specs.Merged.{StampedRow, AreOrdered, AreStampedRows, Precedes, stamp_behind}
+use Rattle.entries.specs.declared.rows.StampedRow.{StampedRow}
+use Rattle.stamps.specs.Merged.{AreOrdered, AreStampedRows, Precedes, stamp_behind}
 use Rattle.stamps.proofs.Keeps.{split_push}
 
 module _ {M : Type 0} where
@@ -26,10 +27,10 @@ module _ {M : Type 0} where
       (All-get_or (Precedes x) all (length before) row within ordered.0) in
       All-cons (λ (r : StampedRow M). Precedes r row) x before here (all_before before row after ordered.1)
 
-  pub stamped_push : (rows : List (StampedRow M)) (row : StampedRow M) → AreStampedRows rows → row.0 ≡ stamp_behind rows row
+  pub stamped_push : (rows : List (StampedRow M)) (row : StampedRow M) → AreStampedRows rows → row.stamp ≡ stamp_behind rows row
       → AreStampedRows (rows ++ (row ∷ []))
   stamped_push rows row right is before x after split = ⊎_elim
-      (λ last. ap (λ (y : StampedRow M). y.0) last.1 ∙ is ∙ ap (λ l. stamp_behind l row) (sym last.0) ∙ ap (λ y. stamp_behind before y) (sym last.1))
+      (λ last. ap (λ (y : StampedRow M). y.stamp) last.1 ∙ is ∙ ap (λ l. stamp_behind l row) (sym last.0) ∙ ap (λ y. stamp_behind before y) (sym last.1))
       (λ more. right before x more.0 more.1)
       (split_push rows row before x after split)
 

@@ -1,17 +1,20 @@
 -- Each event of a node keeps its stamps.
 use Rattle.std.proofs.Common.{◌≡◌, ℕ, suc, ◌+◌, ◌<◌, ◌≤◌, ◌==◌, List, [], ◌∷◌, ◌++◌, length, get_or, refl, sym, ap, ◌∙◌, ⊎_elim, inl, inr}
-use Rattle.std.proofs.Common.{arith, subst}
+use Rattle.std.proofs.Common.{append_assoc, arith, subst}
 use Rattle.std.specs.Prelude.{max, ◌⊎◌}
-use Rattle.std.proofs.lemmas.Bool.{cases_Bool, cases_eq, cases_lt, eq-eqb, ne_eqb}
+use Rattle.std.proofs.lemmas.Bool.{cases_eq, cases_lt, eq-eqb, ne_eqb}
 use Rattle.std.proofs.lemmas.List.{append-nil, get_or_append_left, get_or_push, length-append, length-map, map-append}
 use Rattle.entries.specs.interference.Net.{Net, IsNetwork, IsVertex, degree_of, neighbour_of, neighbours, port_to}
 use Rattle.entries.proofs.interference.Members.{place_of-is}
 use Rattle.entries.proofs.interference.Neighbours.{port_to-is}
 use Rattle.entries.specs.alpha_core.Stamped.{Stamped}
 use Rattle.entries.specs.alpha_core.Wire.{Wire}
+use Rattle.entries.specs.declared.entry.Entry.{Entry}
 use Rattle.entries.specs.declared.entry.Entry.TheVariants.{Pulse, Put, Take}
 use Rattle.entries.specs.alpha_core.StampedWires.{stamped, stamps_of}
-use Rattle.stamps.specs.Stamps.{StampedEntry, AreStamped, counter_of, next_stamp, put_in, taken_in}
+use Rattle.entries.specs.declared.rows.StampedEntry.{StampedEntry}
+use Rattle.entries.specs.Rows.{stamped_entry}
+use Rattle.stamps.specs.Stamps.{AreStamped, counter_of, next_stamp, put_if, put_in, taken_in}
 use Rattle.stamps.specs.Keeps.{HasTaken, OneMore, came_to}
 use Rattle.stamps.specs.Laws.{EventsKeepStamps}
 use Rattle.stamps.proofs.Local.{counter_behind, taken_more}
@@ -33,33 +36,37 @@ split_push (y ∷ xs) e (b ∷ before) x after is =
 module _ {M : Type 0} where
   put_more : (xs ys : List (StampedEntry M)) (w : ℕ) → put_in (xs ++ ys) w ≡ put_in xs w ++ put_in ys w
   put_more [] ys w = refl
-  put_more ((s, Pulse p) ∷ xs) ys w = put_more xs ys w
-  put_more ((s, Put to x) ∷ xs) ys w = ⊎_elim
-      (λ yes. rw yes (ap (λ l. stamped s x ∷ l) (put_more xs ys w)))
-      (λ no. rw no (put_more xs ys w))
-      (cases_Bool (to == w))
-  put_more ((s, Take from x) ∷ xs) ys w = put_more xs ys w
+  put_more (e ∷ xs) ys w =
+      let first = put_if (λ to. to == w) e.stamp e.entry in
+      ap (λ l. first ++ l) (put_more xs ys w) ∙ sym (append_assoc first (put_in xs w) (put_in ys w))
 
-  stamped_push : (came : ℕ → List ℕ) (entries : List (StampedEntry M)) (e : StampedEntry M) → AreStamped came entries → e.0 ≡ next_stamp came entries e.1
-      → AreStamped came (entries ++ (e ∷ []))
+  stamped_push : (came : ℕ → List ℕ) (entries : List (StampedEntry M)) (e : StampedEntry M) → AreStamped came entries
+      → e.stamp ≡ next_stamp came entries e.entry → AreStamped came (entries ++ (e ∷ []))
   stamped_push came entries e right is before x after split = ⊎_elim
-      (λ last. ap (λ y. y.0) last.1 ∙ is ∙ ap (λ l. next_stamp came l e.1) (sym last.0) ∙ ap (λ y. next_stamp came before y.1) (sym last.1))
+      (λ last. ap (λ y. y.stamp) last.1 ∙ is ∙ ap (λ l. next_stamp came l e.entry) (sym last.0) ∙ ap (λ y. next_stamp came before y.entry) (sym last.1))
       (λ more. right before x more.0 more.1)
       (split_push entries e before x after split)
 
-  -- the stamps of the wires that were taken stay
+  -- the next stamp of an entry of a list, where the stamps of the wires that were taken stay
+  next_more : (came came' : ℕ → List ℕ) (entries before : List (StampedEntry M)) (s : ℕ) (e : Entry M) (after : List (StampedEntry M))
+      → ((w k : ℕ) → k < length (taken_in entries w) → get_or (came w) k 0 ≡ get_or (came' w) k 0) → entries ≡ before ++ (stamped_entry s e ∷ after)
+      → next_stamp came before e ≡ next_stamp came' before e
+  next_more came came' entries before s (Pulse p) after same split = refl
+  next_more came came' entries before s (Put w x) after same split = refl
+  next_more came came' entries before s (Take w x) after same split =
+      let all : taken_in entries w ≡ taken_in before w ++ taken_in (stamped_entry s (Take w x) ∷ after) w =
+      ap (λ l. taken_in l w) split ∙ taken_more before (stamped_entry s (Take w x) ∷ after) w in
+      let one : taken_in (stamped_entry s (Take w x) ∷ after) w ≡ stamped s x ∷ taken_in after w = let yes = eq-eqb w w refl in rw yes refl in
+      let lt : length (taken_in before w) < length (taken_in entries w) =
+      let a = ap (λ l. length l) all in let b = ap (λ l. length l) one in
+      let c = length-append (taken_in before w) (taken_in (stamped_entry s (Take w x) ∷ after) w) in
+      omega (arith, a, b, c) in
+      ap (λ t. suc (max (counter_of before) t)) (same w (length (taken_in before w)) lt)
+
   stamped_more : (came came' : ℕ → List ℕ) (entries : List (StampedEntry M))
       → ((w k : ℕ) → k < length (taken_in entries w) → get_or (came w) k 0 ≡ get_or (came' w) k 0) → AreStamped came entries → AreStamped came' entries
-  stamped_more came came' entries same right before (s, Pulse p) after split = right before (s, Pulse p) after split
-  stamped_more came came' entries same right before (s, Put w x) after split = right before (s, Put w x) after split
-  stamped_more came came' entries same right before (s, Take w x) after split =
-      let all : taken_in entries w ≡ taken_in before w ++ taken_in ((s, Take w x) ∷ after) w =
-      ap (λ l. taken_in l w) split ∙ taken_more before ((s, Take w x) ∷ after) w in
-      let one : taken_in ((s, Take w x) ∷ after) w ≡ stamped s x ∷ taken_in after w = let yes = eq-eqb w w refl in rw yes refl in
-      let lt : length (taken_in before w) < length (taken_in entries w) =
-      let a = ap (λ l. length l) all in let b = ap (λ l. length l) one in let c = length-append (taken_in before w) (taken_in ((s, Take w x) ∷ after) w) in
-      omega (arith, a, b, c) in
-      right before (s, Take w x) after split ∙ ap (λ t. suc (max (counter_of before) t)) (same w (length (taken_in before w)) lt)
+  stamped_more came came' entries same right before e after split =
+      right before e after split ∙ next_more came came' entries before e.stamp e.entry after same split
 
 module _ {M : Type 0} (net : Net) (ok : IsNetwork net) (v : ℕ) (vertex : IsVertex net v) where
   -- one wire more was taken
@@ -85,9 +92,9 @@ module _ {M : Type 0} (net : Net) (ok : IsNetwork net) (v : ℕ) (vertex : IsVer
   -- what is put at one port
   put_grown : (i : ℕ) (wire : Stamped M) (puts puts' : ℕ → List (Stamped M)) (entries : List (StampedEntry M)) (x : Wire M) (s : ℕ) → i < degree_of net v
       → wire ≡ stamped s x → OneMore i wire puts puts' → ((j : ℕ) → j < degree_of net v → put_in entries (neighbour_of net v j) ≡ puts j)
-      → (j : ℕ) → j < degree_of net v → put_in (entries ++ ((s, Put (neighbour_of net v i) x) ∷ [])) (neighbour_of net v j) ≡ puts' j
+      → (j : ℕ) → j < degree_of net v → put_in (entries ++ (stamped_entry s (Put (neighbour_of net v i) x) ∷ [])) (neighbour_of net v j) ≡ puts' j
   put_grown i wire puts puts' entries x s lt is more are j lt' =
-      let e : StampedEntry M = (s, Put (neighbour_of net v i) x) in
+      let e : StampedEntry M = stamped_entry s (Put (neighbour_of net v i) x) in
       put_more entries (e ∷ []) (neighbour_of net v j) ∙ ⊎_elim
       (λ here.
       let yes = eq-eqb (neighbour_of net v i) (neighbour_of net v j) (ap (λ k. neighbour_of net v k) (sym here)) in
@@ -116,7 +123,7 @@ module _ {M : Type 0} (net : Net) (ok : IsNetwork net) (v : ℕ) (vertex : IsVer
   keeps = record {
     starts = record { stamped = λ before e after is. absurd (no_split before e after is); counter_is = refl; put_are = λ i lt. refl };
     puts = λ i counter wire puts puts' takens entries lt kept more.
-        let e : StampedEntry M = (counter + 1, Put (neighbour_of net v i) wire) in
+        let e : StampedEntry M = stamped_entry (counter + 1) (Put (neighbour_of net v i) wire) in
         let n = kept.counter_is in
         record {
           stamped = stamped_push (came_to net v takens) entries e kept.stamped (let is : counter + 1 ≡ suc (counter_of entries) = omega (arith, n) in is);
@@ -126,7 +133,7 @@ module _ {M : Type 0} (net : Net) (ok : IsNetwork net) (v : ℕ) (vertex : IsVer
     takes = λ i counter wire puts takens takens' entries lt kept has count none more.
         let w = neighbour_of net v i in
         let s = max counter wire.stamp + 1 in
-        let e : StampedEntry M = (s, Take w wire.wire) in
+        let e : StampedEntry M = stamped_entry s (Take w wire.wire) in
         let n = kept.counter_is in
         let port = port_to-is net ok v i vertex lt in
         let at : get_or (came_to net v takens' w) (length (taken_in entries w)) 0 ≡ wire.stamp =
@@ -146,7 +153,7 @@ module _ {M : Type 0} (net : Net) (ok : IsNetwork net) (v : ℕ) (vertex : IsVer
       put_are = kept.put_are;
     };
     pulses = λ p counter puts takens entries kept.
-        let e : StampedEntry M = (counter + 1, Pulse p) in
+        let e : StampedEntry M = stamped_entry (counter + 1) (Pulse p) in
         let n = kept.counter_is in
         record {
           stamped = stamped_push (came_to net v takens) entries e kept.stamped (let is : counter + 1 ≡ suc (counter_of entries) = omega (arith, n) in is);

@@ -3,7 +3,7 @@ use Rattle.std.specs.Prelude.{ℕ, List}
 use Rattle.std.proofs.Props.{props}
 use Rattle.entries.specs.interference.Net.{Net}
 use Rattle.entries.specs.alpha_core.Stamped.{Stamped}
-use Rattle.stamps.specs.Stamps.{StampedEntry}
+use Rattle.entries.specs.declared.rows.StampedEntry.{StampedEntry}
 use Rattle.stamps.specs.Keeps.{KeepsStamps}
 
 module _ {M : Type 0} (payloads : IsSet M) where

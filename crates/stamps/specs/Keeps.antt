@@ -3,7 +3,8 @@ use Rattle.std.specs.Prelude.{◌≡◌, ℕ, ◌<◌, ◌≤◌, List, [], ◌�
 use Rattle.entries.specs.interference.Net.{Net, degree_of, neighbour_of, port_to}
 use Rattle.entries.specs.alpha_core.Stamped.{Stamped}
 use Rattle.entries.specs.alpha_core.StampedWires.{stamps_of}
-use Rattle.stamps.specs.Stamps.{StampedEntry, AreStamped, counter_of, put_in, taken_in}
+use Rattle.entries.specs.declared.rows.StampedEntry.{StampedEntry}
+use Rattle.stamps.specs.Stamps.{AreStamped, counter_of, put_in, taken_in}
 
 -- the stamps of the wires that came from a neighbour, by the lists of the ends
 abbrev pub came_to : {M : Type 0} → Net → ℕ → (ℕ → List (Stamped M)) → ℕ → List ℕ

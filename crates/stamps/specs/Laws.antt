@@ -5,7 +5,9 @@ use Rattle.entries.specs.alpha_core.Stamped.{Stamped}
 use Rattle.entries.specs.alpha_core.Wire.{Wire}
 use Rattle.entries.specs.declared.entry.Entry.TheVariants.{Pulse, Put, Take}
 use Rattle.entries.specs.alpha_core.StampedWires.{stamped}
-use Rattle.stamps.specs.Stamps.{StampedEntry, taken_in}
+use Rattle.entries.specs.declared.rows.StampedEntry.{StampedEntry}
+use Rattle.entries.specs.Rows.{stamped_entry}
+use Rattle.stamps.specs.Stamps.{taken_in}
 use Rattle.stamps.specs.Keeps.{HasTaken, KeepsStamps, OneMore, TakesAreByPorts}
 
 -- At the start, and by each event: a put, a take, a take that is set aside, a pulse.
@@ -15,17 +17,17 @@ pub record EventsKeepStamps (M : Type 0) (net : Net) (v : ℕ) : Type 0 where
       (entries : List (StampedEntry M)) → i < degree_of net v → KeepsStamps net v counter puts takens entries
       → OneMore i (stamped (counter + 1) wire) puts puts'
       → KeepsStamps net v (counter + 1) puts' takens
-      (entries ++ ((counter + 1, Put (neighbour_of net v i) wire) ∷ []))
+      (entries ++ (stamped_entry (counter + 1) (Put (neighbour_of net v i) wire) ∷ []))
   pub takes : (i counter : ℕ) (wire : Stamped M) (puts takens takens' : ℕ → List (Stamped M))
       (entries : List (StampedEntry M)) → i < degree_of net v → KeepsStamps net v counter puts takens entries
       → HasTaken net v takens entries → length (taken_in entries (neighbour_of net v i)) ≡ length (takens i)
       → TakesAreByPorts net v entries → OneMore i wire takens takens'
       → KeepsStamps net v (max counter wire.stamp + 1) puts takens'
-      (entries ++ ((max counter wire.stamp + 1, Take (neighbour_of net v i) wire.wire) ∷ []))
+      (entries ++ (stamped_entry (max counter wire.stamp + 1) (Take (neighbour_of net v i) wire.wire) ∷ []))
   pub asides : (i counter : ℕ) (wire : Stamped M) (puts takens takens' : ℕ → List (Stamped M))
       (entries : List (StampedEntry M)) → i < degree_of net v → KeepsStamps net v counter puts takens entries
       → HasTaken net v takens entries → TakesAreByPorts net v entries → OneMore i wire takens takens'
       → KeepsStamps net v counter puts takens' entries
   pub pulses : (p counter : ℕ) (puts takens : ℕ → List (Stamped M)) (entries : List (StampedEntry M))
       → KeepsStamps net v counter puts takens entries
-      → KeepsStamps net v (counter + 1) puts takens (entries ++ ((counter + 1, Pulse p) ∷ []))
+      → KeepsStamps net v (counter + 1) puts takens (entries ++ (stamped_entry (counter + 1) (Pulse p) ∷ []))

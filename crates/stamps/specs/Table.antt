@@ -8,7 +8,9 @@ use Rattle.std.specs.declared.vec.Vec.{Vec}
 use Rattle.stamps.specs.declared.table.StampTable.{StampTable}
 use Rattle.entries.specs.alpha_core.StampedWires.{stamps_of}
 use Rattle.stamps.specs.Stamps.{counter_of}
-use Rattle.stamps.specs.Merged.{StampedRow, Precedes, entries_at, puts_at, takes_at}
+use Rattle.entries.specs.declared.rows.StampedRow.{StampedRow}
+use Rattle.entries.specs.Rows.{stamped_row}
+use Rattle.stamps.specs.Merged.{Precedes, entries_at, puts_at, takes_at}
 
 -- one link, by two vertices
 abbrev pub same_link : ℕ × ℕ → ℕ × ℕ → Bool
@@ -65,6 +67,6 @@ pub record IsTableOf {M : Type 0} (rows : List (StampedRow M)) (table : StampTab
   pub counters : (v : ℕ) → counter_at table v ≡ counter_of (entries_at rows v)
   pub puts : (v w : ℕ) → list_in table.puts (v, w) ≡ stamps_of (puts_at rows v w)
   pub takes : (v w : ℕ) → count_in table.takes (v, w) ≡ length (takes_at rows v w)
-  pub below : All (λ r. Precedes r (table.last_stamp, table.last_vertex, Pulse 0)) rows
+  pub below : All (λ r. Precedes r (stamped_row table.last_stamp table.last_vertex (Pulse 0))) rows
   pub least : (row : StampedRow M) → All (λ r. Precedes r row) rows
-      → Precedes (table.last_stamp, table.last_vertex, Pulse 0) row
+      → Precedes (stamped_row table.last_stamp table.last_vertex (Pulse 0)) row

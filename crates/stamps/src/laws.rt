@@ -3,9 +3,10 @@
 ghost use Rattle.std.specs.Prelude.{ℕ, List};
 ghost use Rattle.entries.specs.interference.Net.{IsNetwork, IsVertex, Net};
 ghost use Rattle.entries.specs.alpha_core.Stamped.{Stamped};
+ghost use Rattle.entries.specs.declared.rows.StampedEntry.{StampedEntry};
 ghost use Rattle.stamps.specs.Keeps.{KeepsStamps};
 ghost use Rattle.stamps.specs.Laws.{EventsKeepStamps};
-ghost use Rattle.stamps.specs.Stamps.{StampedEntry, Rises};
+ghost use Rattle.stamps.specs.Stamps.{Rises};
 
 /// A node keeps its stamps by each event, if the event is stamped by its counter.
 pub fn events_keep_stamps<M>()

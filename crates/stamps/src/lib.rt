@@ -5,12 +5,12 @@
 //! stamp of its put. So a take has a greater stamp than the put of its wire.
 //!
 //! `specs/Stamps.antt` has the stamps of one node's entries, `specs/Merged.antt` those of all nodes in one list.
-//! `order` makes that list; `replay` plays it.
+//! `order` makes that list; `replay_whole` of `net_core` plays it.
 //!
 //! ```text
 //! let lists = [..];                            // the stamped entries of node v in place v - 1
 //! if rising(&lists) {
-//!     let rows = order(alloc, &lists)?;        // each behind its stamp and the vertex of its node
+//!     let rows = order(alloc, &lists)?;        // each a `StampedRow`, with its stamp and the vertex of its node
 //! }
 //! ```
 #![tactic(auto)]
@@ -25,4 +25,7 @@ pub use rise::rising;
 pub use table::StampTable;
 
 // What crates above name of lower ones.
-pub use entries::{Counter, Entries, Entry, StampFull, Stamped, StampedIter};
+pub use entries::{
+    Counter, Entries, Entry, Recorder, Row, StampFull, Stamped, StampedEntry, StampedIter,
+    StampedRow,
+};

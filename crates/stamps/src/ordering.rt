@@ -5,19 +5,23 @@ ghost use Rattle.stamps.specs.Stamps.{Rises};
 ghost use Rattle.stamps.specs.Merged.{IsMerge, list_of};
 ghost use Rattle.stamps.specs.Gathered.{rows_from, with_vertex};
 
-use entries::{Entry, Memory};
+use entries::{Memory, StampedEntry, StampedRow};
 use std::alloc::{AllocError, Global};
 
-// Appends the entries of a node, each after its stamp and the vertex, to the entries of other nodes.
+// Appends the entries of a node to those of other nodes.
 fn add_entries<T: Copy>(
-    rows: &mut Vec<(u64, u32, Entry<T>)>,
+    rows: &mut Vec<StampedRow<T>>,
     vertex: u32,
-    entries: &[(u64, Entry<T>)],
+    entries: &[StampedEntry<T>],
 ) -> Result<(), AllocError>
     ensures rows { OnOk result (rows.new.items ≡ rows.old.items ++ with_vertex vertex entries.now) }
 {
-    for (stamp, entry) in entries {
-        rows.push((*stamp, vertex, *entry))?;
+    for StampedEntry { stamp, entry } in entries {
+        rows.push(StampedRow {
+            stamp: *stamp,
+            vertex,
+            entry: *entry,
+        })?;
     }
     Ok(())
 }
@@ -25,8 +29,8 @@ fn add_entries<T: Copy>(
 // The entries of all nodes, by vertex.
 fn by_vertex<T: Copy>(
     alloc: Global,
-    lists: &[Vec<(u64, Entry<T>)>],
-) -> Result<Vec<(u64, u32, Entry<T>)>, AllocError>
+    lists: &[Vec<StampedEntry<T>>],
+) -> Result<Vec<StampedRow<T>>, AllocError>
     requires few { length lists.now < 2 ^ 32 }
     ensures rows { IfOk result (λ rows. rows.items ≡ rows_from 1 (map (λ list. list.items) lists.now)) }
 {
@@ -45,14 +49,14 @@ fn by_vertex<T: Copy>(
 /// `Memory` if memory is refused.
 pub fn order<T: Copy>(
     alloc: Global,
-    lists: &[Vec<(u64, Entry<T>)>],
-) -> Result<Vec<(u64, u32, Entry<T>)>, Memory>
+    lists: &[Vec<StampedEntry<T>>],
+) -> Result<Vec<StampedRow<T>>, Memory>
     requires few { length lists.now < 2 ^ 32 }
     requires rising { All (λ list. Rises list.items) lists.now }
     ensures merge { IfOk result
         (λ rows. IsMerge (length lists.now) (list_of (map (λ list. list.items) lists.now)) rows.items) }
 {
     let mut rows = by_vertex(alloc, lists)?;
-    rows.sort_by_key(|row| (row.0, row.1))?;
+    rows.sort_by_key(|row| (row.stamp, row.vertex))?;
     Ok(rows)
 }

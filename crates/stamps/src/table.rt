@@ -2,11 +2,13 @@
 
 ghost use Rattle.std.specs.Prelude.{◌≡◌, ◌≢◌, ◌++◌, ◌∷◌, [], suc, List, MatchBool, OnOk, slice_index_or};
 ghost use Rattle.entries.specs.declared.entry.Entry.TheVariants.{Pulse};
-ghost use Rattle.stamps.specs.Merged.{IsInPlace, Precedes, StampedRow, stamp_behind};
+ghost use Rattle.entries.specs.declared.rows.StampedRow.{StampedRow};
+ghost use Rattle.entries.specs.Rows.{stamped_row};
+ghost use Rattle.stamps.specs.Merged.{IsInPlace, Precedes, stamp_behind};
 ghost use Rattle.stamps.specs.Table.{IsCounted, IsPushed, IsEmptyTable, IsTableOf, count_in, counter_at};
 ghost use Rattle.stamps.specs.Table.{list_in, wire_stamp_at};
 
-use entries::{Entry, Memory};
+use entries::{Entry, Memory, StampedRow};
 use std::alloc::{AllocError, Global};
 use std::collections::HashMap;
 
@@ -37,11 +39,11 @@ fn follows(stamp: u64, counter: u64) -> bool
 }
 
 // Whether a row may come behind a row of this stamp and vertex.
-fn comes_behind<T: Copy>(stamp: u64, vertex: u32, row: &(u64, u32, Entry<T>)) -> bool
-    ensures { MatchBool result (Precedes (stamp, vertex, Pulse 0) row.now)
-        (Precedes (stamp, vertex, Pulse 0) row.now → ⊥) }
+fn comes_behind<T: Copy>(stamp: u64, vertex: u32, row: &StampedRow<T>) -> bool
+    ensures { MatchBool result (Precedes (stamped_row stamp vertex (Pulse 0)) row.now)
+        (Precedes (stamped_row stamp vertex (Pulse 0)) row.now → ⊥) }
 {
-    stamp < row.0 || (stamp == row.0 && vertex <= row.1)
+    stamp < row.stamp || (stamp == row.stamp && vertex <= row.vertex)
 }
 
 // The stamp of put number k on a link, from 0; 0 if there is none.
@@ -106,22 +108,23 @@ impl StampTable {
     }
 
     // Whether a row has the stamp that its node's counter gives it.
-    fn is_next<T: Copy>(&self, row: &(u64, u32, Entry<T>)) -> bool
+    fn is_next<T: Copy>(&self, row: &StampedRow<T>) -> bool
         ensures next { (rows : List (StampedRow T)) → IsTableOf rows self.now
-            → MatchBool result (row.now.0 ≡ stamp_behind rows row.now) (row.now.0 ≢ stamp_behind rows row.now) }
+            → MatchBool result (row.now.stamp ≡ stamp_behind rows row.now)
+            (row.now.stamp ≢ stamp_behind rows row.now) }
     {
-        let (stamp, v, entry) = *row;
+        let v = row.vertex;
         let counter = self.stamp_of(v);
-        match entry {
-            Entry::Pulse(_) => follows(stamp, counter),
-            Entry::Put(_, _) => follows(stamp, counter),
-            Entry::Take(w, _) => follows(stamp, counter.max(self.wire_stamp(v, w))),
+        match row.entry {
+            Entry::Pulse(_) => follows(row.stamp, counter),
+            Entry::Put(_, _) => follows(row.stamp, counter),
+            Entry::Take(w, _) => follows(row.stamp, counter.max(self.wire_stamp(v, w))),
         }
     }
 
     /// Whether a row is in place behind those rows: whether it has the stamp that its node's counter gives it, and none
     /// of them comes after it in the order.
-    pub fn is_in_place<T: Copy>(&self, row: &(u64, u32, Entry<T>)) -> bool
+    pub fn is_in_place<T: Copy>(&self, row: &StampedRow<T>) -> bool
         ensures place { (rows : List (StampedRow T)) → IsTableOf rows self.now
             → MatchBool result (IsInPlace rows row.now) (IsInPlace rows row.now → ⊥) }
     {
@@ -133,15 +136,15 @@ impl StampTable {
     /// # Errors
     ///
     /// `Memory` if memory is refused; the contents of the table are then unspecified.
-    pub fn add<T: Copy>(&mut self, alloc: Global, row: &(u64, u32, Entry<T>)) -> Result<(), Memory>
+    pub fn add<T: Copy>(&mut self, alloc: Global, row: &StampedRow<T>) -> Result<(), Memory>
         ensures added { OnOk result ((rows : List (StampedRow T)) → IsTableOf rows self.old
             → IsInPlace rows row.now → IsTableOf (rows ++ row.now ∷ []) self.new) }
     {
-        let (stamp, v, entry) = *row;
+        let (v, stamp) = (row.vertex, row.stamp);
         self.last_stamp = stamp;
         self.last_vertex = v;
         self.counters.insert(v, stamp)?;
-        match entry {
+        match row.entry {
             Entry::Pulse(_) => {}
             Entry::Put(w, _) => add_put(alloc, &mut self.puts, (v, w), stamp)?,
             Entry::Take(w, _) => add_take(&mut self.takes, (v, w))?,

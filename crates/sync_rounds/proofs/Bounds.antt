@@ -1,12 +1,9 @@
 -- Bounds of a loop over the vertices, and numbers that fit into their widths.
 use Rattle.std.proofs.Common.{◌≡◌, ℕ, suc, ◌+◌, ◌-◌, ◌*◌, ◌<◌, ◌≤◌, Fits, w32, w64, arith}
 
--- nothing is below 0, and 0 is the least
+-- nothing is below 0
 pub none_below : {A : Type 0} (k : ℕ) → k < 0 → A
 none_below k low = absurd (omega arith)
-
-pub at_least_none : (k : ℕ) → 0 ≤ k
-at_least_none k = omega arith
 
 -- the next number
 pub one_next : (n : ℕ) → 1 ≤ n + 1
@@ -48,17 +45,9 @@ below_count i end n low is = omega arith
 pub below_length : (i end n size : ℕ) → i < end → end ≡ n → size ≡ n → i < size
 below_length i end n size low is same = omega arith
 
--- and so is the place of any vertex
-pub vertex_below : (v n size : ℕ) → 1 ≤ v → v ≤ n → size ≡ n → v - 1 < size
-vertex_below v n size low high same = omega arith
-
 -- a number up to the greatest has its place among so many and one more
 pub upto_greatest : (k end greatest size len : ℕ) → k < end + 1 → end ≡ greatest → size ≡ greatest + 1 → len ≡ size → k < len
 upto_greatest k end greatest size len low is same long = omega arith
-
--- where there is room for all, there is room for one more
-pub room_left : (size i end n capacity : ℕ) → size ≤ i → i < end → end ≡ n → n ≤ capacity → size < capacity
-room_left size i end n capacity made low is room = omega arith
 
 -- once the loop has ended, each place has had its turn
 pub had_turn : (i end n k : ℕ) → end ≤ i → end ≡ n → k < n → k < i

@@ -1,7 +1,5 @@
 pub mod Bounds
 pub mod Received
-pub mod Turns
-pub mod Clearing
 pub mod Deliveries
 pub mod Messages
 pub mod Walks

@@ -1,8 +1,8 @@
 -- What every vertex sends as one list, and vertices that are passed over.
 use Rattle.std.proofs.Common.{◌≡◌, ℕ, suc, ◌+◌, ◌-◌, ◌<◌, List, [], ◌∷◌, length, get_or, set}
-use Rattle.std.proofs.Common.{replicate, take, drop, ◌++◌, Bool, true, false, inl, inr, refl, ap, sym, ◌∙◌, arith, subst}
-use Rattle.std.specs.Prelude.{Option, Ok, Result}
-use Rattle.std.proofs.lemmas.List.{get_or-replicate, get_or_append_left, get_or_push, length-replicate, length-set, take-append-le, take_all}
+use Rattle.std.proofs.Common.{take, drop, ◌++◌, Bool, true, false, inl, inr, refl, ap, sym, ◌∙◌, arith, subst}
+use Rattle.std.specs.Prelude.{◌↔◌, Option, Ok, Result}
+use Rattle.std.proofs.lemmas.List.{get_or_append_left, get_or_push, length-set, take-append-le, take_all}
 use Rattle.std.proofs.lemmas.List.FromFn.{length-map-range_with_len, get_or-map-range_with_len}
 use Rattle.node_api.specs.interference.Net.{Net, IsVertex, count_of, degree_of}
 use Rattle.node_api.specs.Boxes.{Mail, nothing, unread, HasFrom}
@@ -12,7 +12,7 @@ use Rattle.node_api.specs.Laws.{KeepsPorts}
 use Rattle.node_api.proofs.Runs.{node_at-ports, node_at-more}
 use Rattle.node_api.proofs.Reading.{nothing-came}
 use Rattle.sync_rounds.specs.Lists.{Lists}
-use Rattle.sync_rounds.specs.Rests.{AreResting, HasDegrees, HasOutboxes, sent_by}
+use Rattle.sync_rounds.specs.Rests.{HasDegrees, HasOutboxes, sent_by}
 use Rattle.sync_rounds.proofs.Received.{below_or_last, set_cases}
 
 module _ {S M E : Type 0} (program : Program S M E) (net : Net) where
@@ -49,6 +49,13 @@ module _ {S M E : Type 0} (program : Program S M E) (net : Net) where
     pub sent-length : (p v : ℕ) → length (outbox_at program net p v) ≡ degree_of net v
     sent-length p v = (node_at-ports program net laws p v).1
 
+-- whether an outbox isn't empty, said of what is the same
+pub is_loud : {M : Type 0} (loud : Bool) (n : ℕ) (out same : List (Option M)) → out ≡ same → length out ≡ n
+    → (loud ≡ false) ↔ (out ≡ nothing (length out)) → (loud ≡ false) ↔ (same ≡ nothing n)
+is_loud loud n out same is size h =
+    subst (λ (slots : List (Option _)). (loud ≡ false) ↔ (slots ≡ nothing n)) is
+    (subst (λ (k : ℕ). (loud ≡ false) ↔ (out ≡ nothing k)) size h)
+
 -- an outbox that is empty again leaves the others as they are
 pub outboxes_kept : {M : Type 0} (net : Net) (outs : List (List (Option M))) (v : ℕ) (out : List (Option M)) → IsVertex net v → HasOutboxes net outs →
     out ≡ nothing (degree_of net v) → HasOutboxes net (set outs (degree_of net v) out)
@@ -68,16 +75,6 @@ nothing_came inbox slots n is size none =
 pub own_out : {M : Type 0} (net : Net) (outs : List (List (Option M))) (v degree : ℕ) (d : List (Option M)) → IsVertex net v → HasOutboxes net outs →
     degree ≡ degree_of net v → get_or outs degree d ≡ nothing (degree_of net v)
 own_out net outs v degree d is_vertex has is = ap (λ (k : ℕ). get_or outs k d) is ∙ has.empty v d is_vertex
-
--- of nodes at the start nothing is known
-pub rests-unknown : {S M E : Type 0} (program : Program S M E) (net : Net) (p n : ℕ) (untils : List ℕ) → n ≡ count_of net → untils ≡ replicate n 0 →
-    AreResting program net p untils
-rests-unknown program net p n untils size is = record {
-  count = ap length is ∙ (length-replicate n 0 ∙ size);
-  rest = λ k d below q above before.
-      let at : get_or untils k d ≡ 0 = ap (λ (l : List ℕ). get_or l k d) is ∙ get_or-replicate n k 0 d (omega arith) in
-      absurd (omega arith);
-}
 
 -- a slice of a whole list that keeps its length
 pub whole_written : {X : Type 0} (xs ys : List X) (n : ℕ) → length ys ≡ length xs → length xs ≡ n → take n (ys ++ drop (length ys) xs) ≡ ys

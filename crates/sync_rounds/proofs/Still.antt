@@ -1,17 +1,20 @@
 -- A pulse at which nothing came to anybody and all nodes rest: the nodes and the inboxes of the next pulse are those of this one.
-use Rattle.std.proofs.Common.{◌≡◌, ℕ, suc, ◌+◌, ◌-◌, ◌<◌, List, [], length, get_or, refl, ap, sym, ◌∙◌, arith}
-use Rattle.std.specs.Prelude.{None, slice_index_or}
-use Rattle.std.proofs.lemmas.List.{length-replicate}
-use Rattle.node_api.specs.interference.Net.{Net, IsNetwork, IsVertex, count_of, degree_of}
-use Rattle.node_api.specs.Boxes.{Mail, nothing, unread}
+use Rattle.std.proofs.Common.{◌≡◌, ℕ, Bool, suc, ◌+◌, ◌-◌, ◌<◌, List, [], length, get_or, refl, ap, sym, ◌∙◌, arith}
+use Rattle.std.specs.Prelude.{None, Option, slice_index_or}
+use Rattle.std.proofs.lemmas.List.{ext_get_or, length-replicate}
+use Rattle.node_api.specs.interference.Net.{Net, IsNetwork, IsVertex, back_port_of, count_of, degree_of, neighbour_of}
+use Rattle.node_api.specs.Boxes.{Mail, at_port, nothing, unread}
 use Rattle.node_api.specs.Program.{Program}
-use Rattle.node_api.specs.Run.{node_at, state_at, inbox_at}
+use Rattle.node_api.specs.Run.{node_at, state_at, outbox_at, inbox_at}
+use Rattle.node_api.proofs.Runs.{node_at-ports}
+use Rattle.node_api.proofs.Slots.{at_port-nothing}
 use Rattle.node_api.specs.Laws.{KeepsPorts}
 use Rattle.sync_rounds.specs.Lists.{Lists, empty_inbox}
-use Rattle.sync_rounds.specs.Rests.{AreResting, sent_by}
+use Rattle.sync_rounds.specs.Rests.{AreLoud, AreResting, sent_by}
 use Rattle.sync_rounds.proofs.Deliveries.{delivered_all, delivered_over, delivered_start}
 use Rattle.sync_rounds.proofs.Resting.{rested, rests_on, sent_by-at, sent_by-lists}
-use Rattle.sync_rounds.proofs.Steps.{Lists-received}
+use Rattle.sync_rounds.proofs.Steps.{Lists-received, sent-to}
+use Rattle.sync_rounds.proofs.Received.{at_vertex}
 
 module _ {S M E : Type 0} (program : Program S M E) (laws : KeepsPorts program) (net : Net) (ok : IsNetwork net) (p : ℕ) (untils : List ℕ)
     (now : List (Mail M)) (rests : AreResting program net p untils)
@@ -45,6 +48,30 @@ module _ {S M E : Type 0} (program : Program S M E) (laws : KeepsPorts program) 
       let node = ap (λ node. node.1) (stays (w - 1) (omega arith)) in
       let row = sent_by-at program net (suc p) w is_vertex ∙ (ap (λ (u : ℕ). (node_at program net (suc p) u).1) (sym back) ∙ (node ∙ none)) in
       row ∙ ap (λ (n : ℕ). nothing n) (sym (ap length row ∙ length-replicate (degree_of net w) None))
+
+  -- nobody sent anything at this pulse: it would be in an inbox
+  silent : (v : ℕ) → IsVertex net v → outbox_at program net p v ≡ nothing (degree_of net v)
+  silent v is_vertex =
+      let size = (node_at-ports program net laws p v).1 in
+      ext_get_or None (outbox_at program net p v) (nothing (degree_of net v)) (size ∙ sym (length-replicate (degree_of net v) None)) (λ port low.
+      let below : port < degree_of net v = omega (arith, size) in
+      let w : ℕ = neighbour_of net v port in
+      let is_w = ok.vertices v port is_vertex below in
+      let d : Mail M = empty_inbox net w in
+      let none : inbox_at program net (suc p) w ≡ nothing (degree_of net w) = ap (λ (mail : Mail M). mail.slots)
+      (sym (at_vertex net (λ u. unread (inbox_at program net (suc p) u)) now w d came is_w) ∙ at_vertex net (empty_inbox net) now w d empty is_w) in
+      sym (sent-to net (node_at program net p) v port ok is_vertex below)
+      ∙ (ap (λ (slots : List (Option M)). at_port slots (back_port_of net v port)) none
+      ∙ (at_port-nothing (degree_of net w) (back_port_of net v port) ∙ sym (at_port-nothing (degree_of net v) port))))
+
+  pub still-loud : (loud : List Bool) → AreLoud program net p loud → AreLoud program net (suc p) loud
+  still-loud loud h = record {
+    count = h.count;
+    loud = λ k d below. (
+      λ same. ap (λ node. node.1) (stays k below),
+      λ quiet. (h.loud k d below).1 (silent (k + 1) (omega arith, omega arith)),
+    );
+  }
 
   pub still-inboxes : Lists (count_of net) (λ v. unread (inbox_at program net (suc (suc p)) v)) now
   still-inboxes =

@@ -1,5 +1,4 @@
 pub mod Lists
-pub mod Senders
 pub mod Rounds
 pub mod Delivery
 pub mod Greatest

@@ -1,54 +1,15 @@
-//! From the outboxes of a pulse to the inboxes of the next one.
+//! From an outbox of a pulse to the inboxes of the next one.
 
-ghost use Rattle.std.specs.Prelude.{◌≡◌, ◌<◌, ◌-◌, ◌+◌, ◌++◌, ◌∷◌, ℕ, List, Option, [], false, length};
-ghost use Rattle.std.specs.Prelude.{slice_index_or, slice_set};
-ghost use Rattle.node_api.specs.interference.Net.{Net, IsNetwork, IsVertex, count_of, degree_of};
-ghost use Rattle.node_api.specs.Boxes.{Mail, nothing, unread, FilledPorts};
-ghost use Rattle.sync_rounds.specs.Lists.{Lists, empty_inbox, empty_outbox, received};
+ghost use Rattle.std.specs.Prelude.{◌≡◌, ◌<◌, ◌+◌, ◌++◌, ◌∷◌, ◌↔◌, ℕ, List, Option, [], false, length};
+ghost use Rattle.node_api.specs.interference.Net.{IsVertex, degree_of};
+ghost use Rattle.node_api.specs.Boxes.{nothing, FilledPorts};
 ghost use Rattle.sync_rounds.specs.Delivery.{Broadcasts, Delivered, IsNext, Sends};
-ghost use Rattle.sync_rounds.specs.Senders.{Senders};
 
 use node_api::{Inbox, Network, Outbox, Sent};
 
-// Puts what was sent into the empty inboxes, and empties the outboxes; only those of the senders are looked at. They
-// ascend by vertex, so an inbox gets its payloads by ascending port.
-pub(crate) fn deliver<T: Copy>(
-    net: &Network,
-    outs: &mut [Outbox<T>],
-    senders: &[u32],
-    inboxes: &mut [Inbox<T>],
-)
-    requires outs { length outs.old ≡ count_of net.now }
-    requires ports { (w : ℕ) → IsVertex net.now w → length (slice_index_or outs.old (w - 1) []) ≡ degree_of net.now w }
-    requires inboxes { Lists (count_of net.now) (empty_inbox net.now) inboxes.old }
-    requires senders { Senders (count_of net.now) (λ w. slice_index_or outs.old (w - 1) []) senders.now }
-    ensures received { Lists (count_of net.now) (λ v. unread (received net.now outs.old v)) inboxes.new }
-    ensures outs { Lists (count_of net.now) (empty_outbox net.now) outs.new }
-{
-    net.is_network();
-    for &w in senders {
-        deliver_from(net, w, outs, inboxes);
-    }
-}
-
-// Puts what one vertex sent into its neighbours' inboxes, and empties its outbox while it is at hand.
-fn deliver_from<T: Copy>(net: &Network, w: u32, outs: &mut [Outbox<T>], inboxes: &mut [Inbox<T>])
-    requires vertex { IsVertex net.now w }
-    requires outs { length outs.old ≡ count_of net.now }
-    requires ports { length (slice_index_or outs.old (w - 1) []) ≡ degree_of net.now w }
-    requires before { (sent : List (List (Option T)))
-        × Sends net.now sent w (slice_index_or outs.old (w - 1) []) inboxes.old }
-    ensures after { (sent : List (List (Option T)))
-        → Sends net.now sent w (slice_index_or outs.old (w - 1) []) inboxes.old
-        → Delivered net.now sent (w + 1) [] inboxes.new }
-    ensures outs { outs.new ≡ slice_set outs.old (w - 1) (nothing (length (slice_index_or outs.old (w - 1) []))) }
-{
-    let out = &mut outs[(w - 1) as usize];
-    send_out(net, w, out, inboxes);
-}
-
 // Puts what one vertex sent into its neighbours' inboxes, and empties its outbox; an outbox that sends nothing isn't
-// looked into. Returns whether something was sent.
+// looked into. Returns whether something was sent. Inlined, since after most turns nothing is.
+#[inline(always)]
 pub(crate) fn send_out<T: Copy>(
     net: &Network,
     w: u32,
@@ -61,6 +22,7 @@ pub(crate) fn send_out<T: Copy>(
     ensures after { (outs : List (List (Option T))) → Sends net.now outs w out.old inboxes.old
         → Delivered net.now outs (w + 1) [] inboxes.new }
     ensures out { out.new ≡ nothing (length out.old) }
+    ensures sent { (result ≡ false) ↔ (out.old ≡ nothing (length out.old)) }
     ensures quiet { result ≡ false → inboxes.new ≡ inboxes.old }
 {
     net.is_network();
@@ -73,6 +35,8 @@ pub(crate) fn send_out<T: Copy>(
 }
 
 // Puts what is in the outbox of one vertex into its neighbours' inboxes, each payload at the port that leads back.
+// Never inlined, so that a turn that sends nothing has nothing of it.
+#[inline(never)]
 fn deliver_out<T: Copy>(net: &Network, w: u32, out: &Outbox<T>, inboxes: &mut [Inbox<T>])
     requires vertex { IsVertex net.now w }
     requires ports { length out.now ≡ degree_of net.now w }

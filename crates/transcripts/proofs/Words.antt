@@ -17,6 +17,7 @@ use Rattle.dimacs_col.specs.Lines.{number_of}
 use Rattle.alpha_core.specs.declared.wire.Wire.{Wire}
 use Rattle.alpha_core.specs.declared.wire.Wire.TheVariants.{Payload, Ack, Safe, Close}
 use Rattle.entries.specs.declared.entry.Entry.{Entry}
+use Rattle.entries.specs.Rows.{vertex_row}
 use Rattle.entries.specs.declared.entry.Entry.TheVariants.{Pulse, Put, Take}
 use Rattle.channel_plan.specs.Reading.{small_number}
 use Rattle.wire_texts.specs.WireText
@@ -183,7 +184,7 @@ module _ {M : Type 0} (word_of : M → List ℕ) (number_of' : M → ℕ) (paylo
   abbrev pub IsReadableRow : Row M → Type 0
   IsReadableRow row = IsReadable word_of number_of' payload_of row
 
-  pub reads-row : (row : Row M) → IsReadableRow row → row_of payload_of (decimal row.0 ∷ entry_words row.1) ≡ Some row
+  pub reads-row : (row : Row M) → IsReadableRow row → row_of payload_of (decimal row.vertex ∷ entry_words row.entry) ≡ Some row
   reads-row row h =
-      ap (option_and_then (λ n. option_map (λ entry. (n, entry)) (entry_of payload_of (entry_words row.1)))) (small-decimal row.0 h.0)
-      ∙ ap (option_map (λ entry. (row.0, entry))) (reads-entry row.1 h.1)
+      ap (option_and_then (λ n. option_map (λ entry. vertex_row n entry) (entry_of payload_of (entry_words row.entry)))) (small-decimal row.vertex h.0)
+      ∙ ap (option_map (λ entry. vertex_row row.vertex entry)) (reads-entry row.entry h.1)

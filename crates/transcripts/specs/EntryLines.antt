@@ -7,6 +7,7 @@ use Rattle.alpha_core.specs.declared.wire.Wire.{Wire}
 use Rattle.alpha_core.specs.declared.wire.Wire.TheVariants.{Payload, Ack, Safe, Close}
 use Rattle.entries.specs.declared.entry.Entry.{Entry}
 use Rattle.entries.specs.declared.entry.Entry.TheVariants.{Pulse, Put, Take}
+use Rattle.entries.specs.Rows.{stamped_row, vertex_row}
 use Rattle.channel_plan.specs.Reading.{small_number}
 use Rattle.transcripts.specs.TranscriptText.{Row, StampedRow}
 
@@ -73,12 +74,12 @@ module _ {M : Type 0} (payload_of : List ℕ → ℕ → Option M) where
 
   -- the vertex and the entry that a line is
   abbrev pub row_of : Line → Option (Row M)
-  row_of line = with_number (λ v others. option_map (λ entry. (v, entry)) (entry_of others)) line
+  row_of line = with_number (λ v others. option_map (λ entry. vertex_row v entry) (entry_of others)) line
 
   -- the stamp, the vertex and the entry that a line is
   abbrev pub stamped_row_of : Line → Option (StampedRow M)
   stamped_row_of line = with_next (λ field others. option_and_then (λ stamp.
-      option_map (λ row. (stamp, row.0, row.1)) (row_of others)) (stamp_number field)) line
+      option_map (λ row. stamped_row stamp row.vertex row.entry) (row_of others)) (stamp_number field)) line
 
 -- how many nodes the first line says that there are: it is `transcript EDITION NODES`
 abbrev pub header_of : List ℕ → Line → Option ℕ

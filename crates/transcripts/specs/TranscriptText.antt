@@ -3,16 +3,12 @@ use Rattle.std.specs.Prelude.{ℕ, ◌<◌, ◌^◌, Option, List, [], ◌∷◌
 use Rattle.std.specs.Fmt.{decimal}
 use Rattle.entries.specs.declared.entry.Entry.{Entry}
 use Rattle.entries.specs.declared.entry.Entry.TheVariants.{Pulse, Put, Take}
+use Rattle.entries.specs.Rows.{without_stamp}
 use Rattle.wire_texts.specs.WireText
 use Rattle.wire_texts.specs.WireText.{numbered, wire_text}
-
--- an entry, behind the vertex of its node
-abbrev pub Row : Type 0 → Type 0
-Row M = ℕ × Entry M
-
--- the same behind its stamp
-abbrev pub StampedRow : Type 0 → Type 0
-StampedRow M = ℕ × ℕ × Entry M
+-- an entry with the vertex of its node, and the same with its stamp
+pub use Rattle.entries.specs.declared.rows.Row.{Row}
+pub use Rattle.entries.specs.declared.rows.StampedRow.{StampedRow}
 
 -- the line `transcript EDITION NODES`
 abbrev pub first_line_of : List ℕ → ℕ → List ℕ
@@ -35,11 +31,11 @@ module _ {M : Type 0} (word_of : M → List ℕ) (number_of : M → ℕ) where
 
   -- the line of an entry: its vertex, the entry, and a line feed
   abbrev pub row_text : Row M → List ℕ
-  row_text row = (decimal row.0 ++ entry_text row.1) ++ 10 ∷ []
+  row_text row = (decimal row.vertex ++ entry_text row.entry) ++ 10 ∷ []
 
   -- the same with the stamp and a space before it
   abbrev pub stamped_row_text : StampedRow M → List ℕ
-  stamped_row_text row = decimal row.0 ++ 32 ∷ row_text (row.1, row.2)
+  stamped_row_text row = decimal row.stamp ++ 32 ∷ row_text (without_stamp row)
 
   -- the line `transcript 1 NODES`, and a line for each entry
   abbrev pub transcript_of : ℕ → List (Row M) → List ℕ
@@ -56,7 +52,7 @@ module _ {M : Type 0} (word_of : M → List ℕ) (number_of : M → ℕ) where
   IsReadableEntry payload_of (Take w wire) = (w < 2 ^ 32) × WireText.IsReadable word_of number_of payload_of wire
 
   abbrev pub IsReadable : (List ℕ → ℕ → Option M) → Row M → Type 0
-  IsReadable payload_of row = (row.0 < 2 ^ 32) × IsReadableEntry payload_of row.1
+  IsReadable payload_of row = (row.vertex < 2 ^ 32) × IsReadableEntry payload_of row.entry
 
   abbrev pub IsReadableStamped : (List ℕ → ℕ → Option M) → StampedRow M → Type 0
-  IsReadableStamped payload_of row = (row.0 < 2 ^ 64) × IsReadable payload_of (row.1, row.2)
+  IsReadableStamped payload_of row = (row.stamp < 2 ^ 64) × IsReadable payload_of (without_stamp row)

@@ -11,7 +11,7 @@ use crate::reading::read_lines;
 use alpha_core::PayloadText;
 use channel_plan::{text_before, text_start};
 use dimacs_col::{Fields, Lines};
-use entries::Entry;
+use entries::Row;
 use std::alloc::{AllocError, Global};
 
 /// The network text that an input begins with: all before the first line whose first field is `transcript`.
@@ -31,7 +31,7 @@ pub fn network_text(input: &[u8]) -> &[u8]
 pub fn read_behind_network<T: PayloadText>(
     alloc: Global,
     input: &[u8],
-) -> Result<(u32, Vec<(u32, Entry<T>)>), TextFault>
+) -> Result<(u32, Vec<Row<T>>), TextFault>
     ensures ok { IfOk result (λ read. reading_behind T.payload_of (lines_of input.now) ≡ Ok (read.0, read.1.items)) }
     ensures fault { IfErr result (IsFaultOf (reading_behind T.payload_of (lines_of input.now))) }
 {

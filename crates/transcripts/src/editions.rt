@@ -12,16 +12,16 @@ use crate::stamped::read_stamped_lines;
 use alpha_core::PayloadText;
 use channel_plan::text_start;
 use dimacs_col::{Fields, Lines};
-use entries::Entry;
+use entries::{Row, StampedRow};
 use std::alloc::Global;
 
 /// A transcript of either edition: how many nodes there are, and the entries.
 #[derive(Drop)]
 pub enum Transcript<T> {
-    /// Each entry behind the vertex of its node.
-    One(u32, Vec<(u32, Entry<T>)>),
-    /// Each entry behind its stamp and the vertex of its node.
-    Two(u32, Vec<(u64, u32, Entry<T>)>),
+    /// Each entry with the vertex of its node.
+    One(u32, Vec<Row<T>>),
+    /// Each entry with its stamp too.
+    Two(u32, Vec<StampedRow<T>>),
 }
 
 // Whether a line begins with `transcript 2`, of which the first field was taken.

@@ -8,7 +8,7 @@ use crate::numbers::{stamp_number, wide_number};
 use alpha_core::{PayloadText, Wire};
 use channel_plan::small_number;
 use dimacs_col::Fields;
-use entries::Entry;
+use entries::{Entry, Row, StampedRow};
 use std::str::from_utf8;
 
 // A value, if no field is left.
@@ -92,24 +92,29 @@ fn entry_of<T: PayloadText>(mut fields: Fields) -> Option<Entry<T>>
 }
 
 /// The vertex and the entry that a line is, of which the first field was taken.
-pub(crate) fn row_of<T: PayloadText>(first: &[u8], others: Fields) -> Option<(u32, Entry<T>)>
+pub(crate) fn row_of<T: PayloadText>(first: &[u8], others: Fields) -> Option<Row<T>>
     ensures { result ≡ row_of T.payload_of (first.now ∷ others.entry) }
 {
-    let v = small_number(first)?;
-    Some((v, entry_of(others)?))
+    let vertex = small_number(first)?;
+    let entry = entry_of(others)?;
+    Some(Row { vertex, entry })
 }
 
 /// The stamp, the vertex and the entry that a line is, of which the first field was taken.
 pub(crate) fn stamped_row_of<T: PayloadText>(
     first: &[u8],
     mut others: Fields,
-) -> Option<(u64, u32, Entry<T>)>
+) -> Option<StampedRow<T>>
     ensures { result ≡ stamped_row_of T.payload_of (first.now ∷ others.entry) }
 {
     let stamp = stamp_number(first)?;
     let vertex = others.next()?;
-    let (v, entry) = row_of(vertex, others)?;
-    Some((stamp, v, entry))
+    let row = row_of(vertex, others)?;
+    Some(StampedRow {
+        stamp,
+        vertex: row.vertex,
+        entry: row.entry,
+    })
 }
 
 /// How many nodes a first line of an edition says that there are, of which the first field was taken.

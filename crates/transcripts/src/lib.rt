@@ -9,7 +9,10 @@
 //! writes it, `push_stamped_row` one entry of it, and `read_any` reads both editions.
 //!
 //! ```text
-//! let rows = [(1, Entry::Put(2, Wire::Close)), (2, Entry::Take(1, Wire::Close))];
+//! let rows = [
+//!     Row { vertex: 1, entry: Entry::Put(2, Wire::Close) },
+//!     Row { vertex: 2, entry: Entry::Take(1, Wire::Close) },
+//! ];
 //! let text = transcript_text(alloc, 2, &rows)?;          // "transcript 1 2", "1 put 2 close", "2 take 1 close"
 //! let (nodes, rows) = read_transcript::<Best>(alloc, text.as_slice())?;
 //! ```

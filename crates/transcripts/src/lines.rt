@@ -1,6 +1,7 @@
 //! The line of an entry.
 
 ghost use Rattle.std.specs.Prelude.{◌≡◌, ◌≤◌, ◌+◌, ◌++◌, ◌∷◌, [], IfOk, IsTrue, length};
+ghost use Rattle.entries.specs.Rows.{vertex_row};
 ghost use Rattle.transcripts.specs.TranscriptText.{IsReadable, IsReadableStamped, row_text, stamped_row_text};
 ghost use Rattle.transcripts.specs.declared.line_end.TheConstants.{ROOM};
 ghost use Rattle.wire_texts.specs.WireText.{wire_text};
@@ -8,21 +9,21 @@ ghost use Rattle.wire_texts.specs.WireText;
 
 use crate::line_end::LineEnd;
 use alpha_core::{PayloadText, Wire};
-use entries::Entry;
+use entries::{Entry, Row, StampedRow};
 use std::alloc::AllocError;
 use wire_texts::{push_numbered, push_wire};
 
-/// Appends the line of an entry, behind the vertex of its node.
+/// Appends the line of an entry, which begins with the vertex of its node.
 ///
 /// # Errors
 ///
 /// If a growth is refused; `text` may then end in a beginning of the line.
-pub fn push_row<T: PayloadText>(text: &mut Vec<u8>, row: &(u32, Entry<T>)) -> Result<(), AllocError>
+pub fn push_row<T: PayloadText>(text: &mut Vec<u8>, row: &Row<T>) -> Result<(), AllocError>
     ensures text { IfOk result (λ _. text.new.items ≡ text.old.items ++ row_text T.word_of T.number_of row.now) }
     ensures readable { IfOk result (λ _. IsReadable T.word_of T.number_of T.payload_of row.now) }
 {
-    let (v, entry) = *row;
-    push_numbered(text, b"", u128::from(v))?;
+    let Row { vertex, entry } = *row;
+    push_numbered(text, b"", u128::from(vertex))?;
     match entry {
         Entry::Pulse(pulse) => push_numbered(text, b" pulse ", u128::from(pulse))?,
         Entry::Put(w, wire) => {
@@ -62,8 +63,8 @@ fn put_wire<T: PayloadText>(line: &mut LineEnd, wire: Wire<T>) -> bool
 
 // Writes the line of an entry, and returns whether it could: it can't if there is a payload.
 fn put_row<T: PayloadText>(line: &mut LineEnd, vertex: u32, entry: Entry<T>) -> bool
-    ensures text { IsTrue result → line.new ≡ row_text T.word_of T.number_of (vertex, entry) }
-    ensures readable { IsTrue result → IsReadable T.word_of T.number_of T.payload_of (vertex, entry) }
+    ensures text { IsTrue result → line.new ≡ row_text T.word_of T.number_of (vertex_row vertex entry) }
+    ensures readable { IsTrue result → IsReadable T.word_of T.number_of T.payload_of (vertex_row vertex entry) }
     ensures room { length line.new ≤ 43 }
 {
     line.clear();
@@ -100,37 +101,43 @@ pub(crate) fn push_line<T: PayloadText>(
     vertex: u32,
     entry: Entry<T>,
 ) -> Result<(), AllocError>
-    ensures { IfOk result (λ _. text.new.items ≡ text.old.items ++ row_text T.word_of T.number_of (vertex, entry)) }
+    ensures { IfOk result (λ _. text.new.items
+        ≡ text.old.items ++ row_text T.word_of T.number_of (vertex_row vertex entry)) }
 {
     if put_row(line, vertex, entry) {
         text.extend_from_slice(line.as_slice())
     } else {
-        push_row(text, &(vertex, entry))
+        push_row(text, &Row { vertex, entry })
     }
 }
 
-/// Appends the line of an entry, behind its stamp and the vertex of its node.
+/// Appends the line of an entry, which begins with its stamp and the vertex of its node.
 ///
 /// # Errors
 ///
 /// If a growth is refused; `text` may then end in a beginning of the line.
 pub fn push_stamped_row<T: PayloadText>(
     text: &mut Vec<u8>,
-    row: &(u64, u32, Entry<T>),
+    row: &StampedRow<T>,
 ) -> Result<(), AllocError>
     ensures text { IfOk result (λ _.
         text.new.items ≡ text.old.items ++ stamped_row_text T.word_of T.number_of row.now) }
     ensures readable { IfOk result (λ _. IsReadableStamped T.word_of T.number_of T.payload_of row.now) }
 {
-    let (stamp, v, entry) = *row;
+    let StampedRow {
+        stamp,
+        vertex,
+        entry,
+    } = *row;
     let mut line = LineEnd::new();
-    if put_row(&mut line, v, entry) {
+    if put_row(&mut line, vertex, entry) {
         line.put_bytes(b" ");
         line.put_stamp(stamp);
         text.extend_from_slice(line.as_slice())
     } else {
         push_numbered(text, b"", u128::from(stamp))?;
         text.push(b' ')?;
-        push_row(text, &(v, entry))
+        let row = Row { vertex, entry };
+        push_row(text, &row)
     }
 }

@@ -1,6 +1,7 @@
 //! The lines of a node's entries.
 
 ghost use Rattle.std.specs.Prelude.{◌≡◌, ◌++◌, IfOk, flat_map, map};
+ghost use Rattle.entries.specs.Rows.{vertex_row};
 ghost use Rattle.transcripts.specs.TranscriptText.{row_text};
 
 use crate::line_end::LineEnd;
@@ -9,7 +10,7 @@ use alpha_core::PayloadText;
 use entries::Entries;
 use std::alloc::AllocError;
 
-/// Appends the lines of a node's entries, each behind its vertex.
+/// Appends the lines of a node's entries, each with its vertex first.
 ///
 /// # Errors
 ///
@@ -20,7 +21,7 @@ pub fn push_entries<T: PayloadText>(
     entries: &Entries<T>,
 ) -> Result<(), AllocError>
     ensures text { IfOk result (λ _. text.new.items ≡ text.old.items
-        ++ flat_map (row_text T.word_of T.number_of) (map (λ entry. (vertex, entry)) entries.now.items)) }
+        ++ flat_map (row_text T.word_of T.number_of) (map (λ entry. vertex_row vertex entry) entries.now.items)) }
 {
     let mut line = LineEnd::new();
     for entry in entries.iter() {

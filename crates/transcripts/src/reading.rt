@@ -9,7 +9,7 @@ use crate::entry_line::{header_of, row_of};
 use crate::fault::TextFault;
 use alpha_core::PayloadText;
 use dimacs_col::{Fields, Lines};
-use entries::Entry;
+use entries::Row;
 use std::alloc::Global;
 use std::marker::Model;
 
@@ -54,7 +54,7 @@ impl<R: Drop> Reader<R> {
 
 // Takes the fields of the next line, whose number this is.
 fn step<T: PayloadText>(
-    reader: &mut Reader<(u32, Entry<T>)>,
+    reader: &mut Reader<Row<T>>,
     alloc: Global,
     number: usize,
     mut fields: Fields,
@@ -92,7 +92,7 @@ pub(crate) fn read_lines<T: PayloadText>(
     alloc: Global,
     before: usize,
     text: &[u8],
-) -> Result<(u32, Vec<(u32, Entry<T>)>), TextFault>
+) -> Result<(u32, Vec<Row<T>>), TextFault>
     requires room { before + length text.now + 1 < 2 ^ 64 }
     ensures ok { IfOk result (λ read.
         entries_from T.payload_of (before + 1) (lines_of text.now) ≡ Ok (read.0, read.1.items)) }
@@ -106,7 +106,7 @@ pub(crate) fn read_lines<T: PayloadText>(
     reader.finish()
 }
 
-/// How many nodes there are, and the entries of a transcript, each behind the vertex of its node: the first line that
+/// How many nodes there are, and the entries of a transcript, each with the vertex of its node: the first line that
 /// has a field is `transcript 1 NODES`, and each later one `V pulse P`, `V put W WIRE` or `V take W WIRE`.
 ///
 /// # Errors
@@ -116,7 +116,7 @@ pub(crate) fn read_lines<T: PayloadText>(
 pub fn read_transcript<T: PayloadText>(
     alloc: Global,
     text: &[u8],
-) -> Result<(u32, Vec<(u32, Entry<T>)>), TextFault>
+) -> Result<(u32, Vec<Row<T>>), TextFault>
     ensures ok { IfOk result (λ read. reading_of T.payload_of (lines_of text.now) ≡ Ok (read.0, read.1.items)) }
     ensures fault { IfErr result (IsFaultOf (reading_of T.payload_of (lines_of text.now))) }
 {

@@ -10,12 +10,12 @@ use crate::fault::TextFault;
 use crate::reading::{Beginning, Reader};
 use alpha_core::PayloadText;
 use dimacs_col::{Fields, Lines};
-use entries::Entry;
+use entries::StampedRow;
 use std::alloc::Global;
 
 // Takes the fields of the next line, whose number this is.
 fn stamped_step<T: PayloadText>(
-    reader: &mut Reader<(u64, u32, Entry<T>)>,
+    reader: &mut Reader<StampedRow<T>>,
     alloc: Global,
     number: usize,
     mut fields: Fields,
@@ -54,7 +54,7 @@ pub(crate) fn read_stamped_lines<T: PayloadText>(
     alloc: Global,
     before: usize,
     text: &[u8],
-) -> Result<(u32, Vec<(u64, u32, Entry<T>)>), TextFault>
+) -> Result<(u32, Vec<StampedRow<T>>), TextFault>
     requires room { before + length text.now + 1 < 2 ^ 64 }
     ensures ok { IfOk result (λ read.
         stamped_from T.payload_of (before + 1) (lines_of text.now) ≡ Ok (read.0, read.1.items)) }

@@ -10,12 +10,12 @@ ghost use Rattle.wire_texts.specs.WireText.{numbered};
 
 use crate::lines::{push_row, push_stamped_row};
 use alpha_core::{Memory, PayloadText};
-use entries::Entry;
+use entries::{Row, StampedRow};
 use std::alloc::{AllocError, Global};
 use wire_texts::push_numbered;
 
 // Appends the lines of entries.
-fn push_rows<T: PayloadText>(text: &mut Vec<u8>, rows: &[(u32, Entry<T>)]) -> Result<(), AllocError>
+fn push_rows<T: PayloadText>(text: &mut Vec<u8>, rows: &[Row<T>]) -> Result<(), AllocError>
     ensures text { IfOk result (λ _. text.new.items
         ≡ text.old.items ++ flat_map (row_text T.word_of T.number_of) rows.now) }
     ensures readable { IfOk result (λ _. All (IsReadable T.word_of T.number_of T.payload_of) rows.now) }
@@ -29,7 +29,7 @@ fn push_rows<T: PayloadText>(text: &mut Vec<u8>, rows: &[(u32, Entry<T>)]) -> Re
 // Appends the lines of entries with their stamps.
 fn push_stamped_rows<T: PayloadText>(
     text: &mut Vec<u8>,
-    rows: &[(u64, u32, Entry<T>)],
+    rows: &[StampedRow<T>],
 ) -> Result<(), AllocError>
     ensures text { IfOk result (λ _. text.new.items
         ≡ text.old.items ++ flat_map (stamped_row_text T.word_of T.number_of) rows.now) }
@@ -69,7 +69,7 @@ pub fn push_first_line(text: &mut Vec<u8>, nodes: u32) -> Result<(), AllocError>
 pub fn transcript_text<T: PayloadText>(
     alloc: Global,
     nodes: u32,
-    rows: &[(u32, Entry<T>)],
+    rows: &[Row<T>],
 ) -> Result<Vec<u8>, Memory>
     ensures text { IfOk result (λ text. text.items ≡ transcript_of T.word_of T.number_of nodes rows.now) }
     ensures reads_back { IfOk result (λ text. reading_of T.payload_of (lines_of text.items) ≡ Ok (nodes, rows.now)) }
@@ -89,7 +89,7 @@ pub fn transcript_text<T: PayloadText>(
 pub fn stamped_text<T: PayloadText>(
     alloc: Global,
     nodes: u32,
-    rows: &[(u64, u32, Entry<T>)],
+    rows: &[StampedRow<T>],
 ) -> Result<Vec<u8>, Memory>
     ensures text { IfOk result (λ text. text.items ≡ stamped_transcript_of T.word_of T.number_of nodes rows.now) }
     ensures reads_back { IfOk result (λ text.

@@ -5,7 +5,7 @@ ghost use Rattle.std.specs.Prelude.{◌≡◌};
 ghost use Rattle.byte_functions.specs.interference.Net.{count_of};
 
 use crate::runs::pair;
-use byte_functions::{Entry, Network, ReplayRefused, Wire, read_transcript, replay};
+use byte_functions::{Entry, Network, ReplayRefused, Row, Wire, read_transcript, replay};
 use event_machine::{NetState, RunRefused};
 use std::alloc::Global;
 use sync_rounds::{Best, Greatest};
@@ -24,7 +24,7 @@ fn are_drained(state: &NetState<Greatest<0>>) -> bool
 }
 
 // Whether rows are replayed to the end, or why they are refused.
-fn ends(alloc: Global, net: &Network, rows: &[(u32, Entry<Best>)]) -> Result<bool, ReplayRefused>
+fn ends(alloc: Global, net: &Network, rows: &[Row<Best>]) -> Result<bool, ReplayRefused>
     requires two { count_of net.now ≡ 2 }
 {
     match replay::<Greatest<0>>(alloc, net, rows) {
@@ -34,33 +34,54 @@ fn ends(alloc: Global, net: &Network, rows: &[(u32, Entry<Best>)]) -> Result<boo
 }
 
 // Rows that neither node can do at the start, and why.
-static REFUSALS: [((u32, Entry<Best>), ReplayRefused); 7] = [
+static REFUSALS: [(Row<Best>, ReplayRefused); 7] = [
     (
-        (1, Entry::Take(2, Wire::Close)),
+        Row {
+            vertex: 1,
+            entry: Entry::Take(2, Wire::Close),
+        },
         ReplayRefused::Run(RunRefused::LinkEmpty(0)),
     ),
     (
-        (1, Entry::Put(2, Wire::Safe(0))),
+        Row {
+            vertex: 1,
+            entry: Entry::Put(2, Wire::Safe(0)),
+        },
         ReplayRefused::WrongWire(0),
     ),
     (
-        (1, Entry::Put(3, Wire::Close)),
+        Row {
+            vertex: 1,
+            entry: Entry::Put(3, Wire::Close),
+        },
         ReplayRefused::Run(RunRefused::NoSuch(0)),
     ),
     (
-        (1, Entry::Pulse(1)),
+        Row {
+            vertex: 1,
+            entry: Entry::Pulse(1),
+        },
         ReplayRefused::Run(RunRefused::NotReady(0)),
     ),
     (
-        (1, Entry::Put(1, Wire::Close)),
+        Row {
+            vertex: 1,
+            entry: Entry::Put(1, Wire::Close),
+        },
         ReplayRefused::Run(RunRefused::NoSuch(0)),
     ),
     (
-        (3, Entry::Pulse(1)),
+        Row {
+            vertex: 3,
+            entry: Entry::Pulse(1),
+        },
         ReplayRefused::Run(RunRefused::NoSuch(0)),
     ),
     (
-        (0, Entry::Put(2, Wire::Close)),
+        Row {
+            vertex: 0,
+            entry: Entry::Put(2, Wire::Close),
+        },
         ReplayRefused::Run(RunRefused::NoSuch(0)),
     ),
 ];

@@ -5,7 +5,8 @@ use crate::replay_checks::MERGED;
 use crate::runs::{pair, small};
 use byte_functions::{
     Counter, Entries, Entry, Network, OpenGate, Options, Outcome, ReplayRefused, StampFull,
-    WholeRefused, Wire, order, replay_whole, rising, run_workers, stamped_text,
+    StampedEntry, StampedRow, WholeRefused, Wire, order, replay_whole, rising, run_workers,
+    stamped_text,
 };
 use event_machine::RunRefused;
 use std::alloc::Global;
@@ -13,7 +14,7 @@ use std::sync::Wait;
 use std::thread::Threads;
 use sync_rounds::{Best, Greatest};
 
-type Row = (u64, u32, Entry<Best>);
+type Row = StampedRow<Best>;
 
 // Both nodes put a close, and both take one.
 const TO_1: Entry<Best> = Entry::Put(1, Wire::Close);
@@ -24,13 +25,29 @@ const FROM_1: Entry<Best> = Entry::Take(1, Wire::Close);
 
 const FROM_2: Entry<Best> = Entry::Take(2, Wire::Close);
 
-const A: Row = (1, 1, TO_2);
+const A: Row = StampedRow {
+    stamp: 1,
+    vertex: 1,
+    entry: TO_2,
+};
 
-const B: Row = (2, 2, FROM_1);
+const B: Row = StampedRow {
+    stamp: 2,
+    vertex: 2,
+    entry: FROM_1,
+};
 
-const C: Row = (3, 2, TO_1);
+const C: Row = StampedRow {
+    stamp: 3,
+    vertex: 2,
+    entry: TO_1,
+};
 
-const D: Row = (4, 1, FROM_2);
+const D: Row = StampedRow {
+    stamp: 4,
+    vertex: 1,
+    entry: FROM_2,
+};
 
 static WHOLE: [Row; 4] = [A, B, C, D];
 
@@ -60,13 +77,72 @@ const WRONG_AT_2: Option<WholeRefused> = Some(WholeRefused::WrongStamp(2));
 const WRONG_AT_3: Option<WholeRefused> = Some(WholeRefused::WrongStamp(3));
 
 // Each node puts first, and the two puts come by vertex.
-const FIRST: Row = (1, 1, TO_2);
+const FIRST: Row = StampedRow {
+    stamp: 1,
+    vertex: 1,
+    entry: TO_2,
+};
 
-const SECOND: Row = (1, 2, TO_1);
+const SECOND: Row = StampedRow {
+    stamp: 1,
+    vertex: 2,
+    entry: TO_1,
+};
 
-const LAST: Row = (2, 1, FROM_2);
+const LAST: Row = StampedRow {
+    stamp: 2,
+    vertex: 1,
+    entry: FROM_2,
+};
 
-const OTHER: Row = (2, 2, FROM_1);
+const OTHER: Row = StampedRow {
+    stamp: 2,
+    vertex: 2,
+    entry: FROM_1,
+};
+
+// Rows at other stamps than those of the merged run.
+const PUT_AT_2: Row = StampedRow {
+    stamp: 2,
+    vertex: 2,
+    entry: TO_1,
+};
+
+const PUT_AT_4: Row = StampedRow {
+    stamp: 4,
+    vertex: 2,
+    entry: TO_1,
+};
+
+const PUT_AT_MAX: Row = StampedRow {
+    stamp: u64::MAX,
+    vertex: 2,
+    entry: TO_1,
+};
+
+const PUT_AT_0: Row = StampedRow {
+    stamp: 0,
+    vertex: 1,
+    entry: TO_2,
+};
+
+const TAKE_AT_1: Row = StampedRow {
+    stamp: 1,
+    vertex: 2,
+    entry: FROM_1,
+};
+
+const TAKE_AT_2: Row = StampedRow {
+    stamp: 2,
+    vertex: 1,
+    entry: FROM_2,
+};
+
+const WRONG_AT_9: Row = StampedRow {
+    stamp: 9,
+    vertex: 2,
+    entry: WRONG_PUT,
+};
 
 // Four rows, and why they are refused.
 static CASES: [(Row, Row, Row, Row, Option<WholeRefused>); 12] = [
@@ -74,15 +150,15 @@ static CASES: [(Row, Row, Row, Row, Option<WholeRefused>); 12] = [
     (FIRST, SECOND, LAST, OTHER, None),
     (SECOND, FIRST, LAST, OTHER, WRONG_AT_1),
     (FIRST, SECOND, OTHER, LAST, WRONG_AT_3),
-    (A, B, (2, 2, TO_1), D, WRONG_AT_2),
-    (A, B, (4, 2, TO_1), D, WRONG_AT_2),
-    (A, B, (u64::MAX, 2, TO_1), D, WRONG_AT_2),
-    ((0, 1, TO_2), B, C, D, WRONG_AT_0),
+    (A, B, PUT_AT_2, D, WRONG_AT_2),
+    (A, B, PUT_AT_4, D, WRONG_AT_2),
+    (A, B, PUT_AT_MAX, D, WRONG_AT_2),
+    (PUT_AT_0, B, C, D, WRONG_AT_0),
     // By the counter of the node alone.
-    (A, (1, 2, FROM_1), (2, 2, TO_1), D, WRONG_AT_1),
-    (A, B, C, (2, 1, FROM_2), WRONG_AT_3),
+    (A, TAKE_AT_1, PUT_AT_2, D, WRONG_AT_1),
+    (A, B, C, TAKE_AT_2, WRONG_AT_3),
     (A, A, B, C, Some(NOTHING_TO_PUT)),
-    (A, B, (9, 2, WRONG_PUT), D, Some(WRONG_WIRE)),
+    (A, B, WRONG_AT_9, D, Some(WRONG_WIRE)),
 ];
 
 fn fours_are_refused(alloc: Global, net: &Network) -> bool {
@@ -107,7 +183,7 @@ fn a_merged_run_is_replayed_or_refused_by_the_first_row_out_of_place(rt: HostRun
     assert!(rt; fewer_are_refused(rt.alloc(), &net));
 }
 
-type List = Vec<(u64, Entry<Best>)>;
+type List = Vec<StampedEntry<Best>>;
 
 // The entries of a node with their stamps.
 fn list_of(alloc: Global, entries: &Entries<Best>) -> Option<List> {

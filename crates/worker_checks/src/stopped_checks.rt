@@ -7,8 +7,8 @@ ghost use Rattle.byte_functions.specs.gather_laws.Outcome.{row_in};
 
 use crate::runs::{greeted, holds, of_one, run_of_one, triangle};
 use byte_functions::{
-    Colouring, Entries, Entry, Network, OpenGate, Options, Outcome, Payload, Stamped, Wire,
-    run_workers,
+    Colouring, Entries, Entry, Network, OpenGate, Options, Outcome, Payload, Stamped, StampedEntry,
+    Wire, run_workers,
 };
 use std::alloc::Global;
 use std::sync::Wait;
@@ -19,22 +19,50 @@ const FROM_1: Wire<u128> = Wire::Payload(0, 1);
 
 const FROM_2: Wire<u128> = Wire::Payload(0, 2);
 
-type StampedEntry = (u64, Entry<u128>);
-
 // What nodes 1 and 2 of the triangle did by the first and by the second look, and node 2 over links that hold one wire.
-const FIRST: &[StampedEntry] = &[(1, Entry::Put(2, FROM_1)), (2, Entry::Put(3, FROM_1))];
-
-const SECOND: &[StampedEntry] = &[
-    (2, Entry::Take(1, FROM_1)),
-    (3, Entry::Put(1, FROM_2)),
-    (4, Entry::Put(1, Wire::Ack(0))),
-    (5, Entry::Put(3, FROM_2)),
+const FIRST: &[StampedEntry<u128>] = &[
+    StampedEntry {
+        stamp: 1,
+        entry: Entry::Put(2, FROM_1),
+    },
+    StampedEntry {
+        stamp: 2,
+        entry: Entry::Put(3, FROM_1),
+    },
 ];
 
-const SECOND_OF_ONE: &[StampedEntry] = &[
-    (2, Entry::Take(1, FROM_1)),
-    (3, Entry::Put(1, FROM_2)),
-    (4, Entry::Put(3, FROM_2)),
+const SECOND: &[StampedEntry<u128>] = &[
+    StampedEntry {
+        stamp: 2,
+        entry: Entry::Take(1, FROM_1),
+    },
+    StampedEntry {
+        stamp: 3,
+        entry: Entry::Put(1, FROM_2),
+    },
+    StampedEntry {
+        stamp: 4,
+        entry: Entry::Put(1, Wire::Ack(0)),
+    },
+    StampedEntry {
+        stamp: 5,
+        entry: Entry::Put(3, FROM_2),
+    },
+];
+
+const SECOND_OF_ONE: &[StampedEntry<u128>] = &[
+    StampedEntry {
+        stamp: 2,
+        entry: Entry::Take(1, FROM_1),
+    },
+    StampedEntry {
+        stamp: 3,
+        entry: Entry::Put(1, FROM_2),
+    },
+    StampedEntry {
+        stamp: 4,
+        entry: Entry::Put(3, FROM_2),
+    },
 ];
 
 // What they have put, by stamp.
@@ -78,16 +106,17 @@ fn greeted_entry(entry: Entry<u128>) -> Entry<Payload> {
 }
 
 // Whether these are the entries of a node.
-fn are(entries: &Entries<Payload>, wanted: &[StampedEntry]) -> bool {
+fn are(entries: &Entries<Payload>, wanted: &[StampedEntry<u128>]) -> bool {
     entries.stamped().eq(
-        wanted
-            .iter()
-            .map(|(stamp, entry)| (*stamp, greeted_entry(*entry))),
+        wanted.iter().map(|wanted| StampedEntry {
+            stamp: wanted.stamp,
+            entry: greeted_entry(wanted.entry),
+        }),
     )
 }
 
 // Whether the node with this index has these entries.
-fn has_entries(outcome: &Outcome<Colouring>, index: usize, wanted: &[StampedEntry]) -> bool {
+fn has_entries(outcome: &Outcome<Colouring>, index: usize, wanted: &[StampedEntry<u128>]) -> bool {
     match outcome.actors().get(index) {
         Some(actor) => {
             actor.node() as usize == index.wrapping_add(1) && are(actor.entries(), wanted)
@@ -97,7 +126,7 @@ fn has_entries(outcome: &Outcome<Colouring>, index: usize, wanted: &[StampedEntr
 }
 
 // Whether nodes have these entries.
-fn have_entries(outcome: &Outcome<Colouring>, entries: &[&[StampedEntry]]) -> bool {
+fn have_entries(outcome: &Outcome<Colouring>, entries: &[&[StampedEntry<u128>]]) -> bool {
     for (index, wanted) in entries.iter().enumerate() {
         if !has_entries(outcome, index, *wanted) {
             return false;
@@ -137,7 +166,7 @@ struct Left {
     capacity: u32,
     looks: u64,
     // By node.
-    entries: &'static [&'static [StampedEntry]],
+    entries: &'static [&'static [StampedEntry<u128>]],
     // By node and port.
     links: &'static [[&'static [Stamped<u128>]; 2]],
 }

@@ -1,6 +1,6 @@
 //! What a worker has.
 
-ghost use Rattle.std.specs.Prelude.{◌≡◌, ◌≢◌, ◌<◌, ◌≤◌, ◌+◌, ◌⊎◌, ◌++◌, ◌∷◌, None, map, vec_len};
+ghost use Rattle.std.specs.Prelude.{◌≡◌, ◌≢◌, ◌<◌, ◌≤◌, ◌+◌, ◌⊎◌, ◌++◌, ◌∷◌, None, length, map, vec_len};
 ghost use Rattle.crossbeam_deque.specs.Handles.{stealer_deque, view, worker_deque, worker_view};
 ghost use Rattle.deque_rule.specs.Ledgers.{AreOut, all_shares, in_hand};
 ghost use Rattle.deque_rule.specs.Deques.{deque_of};
@@ -50,10 +50,10 @@ impl<T: Task> Desk<T> {
     }
 
     // One attempt to take the first task of another worker's deque.
-    fn steal(&mut self, thieves: &Vec<Thief<T>>, from: usize)
+    fn steal(&mut self, thieves: &[Thief<T>], from: usize)
         requires empty { self.old.task ≡ None }
-        requires from { from < vec_len thieves.now }
-        requires deques { map (λ g. deque_of g.pass) self.old.guests.items ≡ map stealer_deque thieves.now.items }
+        requires from { from < length thieves.now }
+        requires deques { map (λ g. deque_of g.pass) self.old.guests.items ≡ map stealer_deque thieves.now }
         ensures own { self.new.own ≡ self.old.own }
         ensures deques { map (λ g. deque_of g.pass) self.new.guests.items
             ≡ map (λ g. deque_of g.pass) self.old.guests.items }
@@ -63,11 +63,11 @@ impl<T: Task> Desk<T> {
 
     /// Takes a task in hand, if none is: the first of its own deque; if there is none, by one attempt at each other
     /// worker's deque, going up from its own number plus one and round. Returns whether a task is in hand.
-    pub fn find(&mut self, thieves: &Vec<Thief<T>>, worker: u32) -> bool
-        requires worker { worker < vec_len thieves.now }
-        requires deques { map (λ g. deque_of g.pass) self.old.guests.items ≡ map stealer_deque thieves.now.items }
+    pub fn find(&mut self, thieves: &[Thief<T>], worker: u32) -> bool
+        requires worker { worker < length thieves.now }
+        requires deques { map (λ g. deque_of g.pass) self.old.guests.items ≡ map stealer_deque thieves.now }
         ensures own { worker_deque self.new.own ≡ worker_deque self.old.own }
-        ensures deques { map (λ g. deque_of g.pass) self.new.guests.items ≡ map stealer_deque thieves.now.items }
+        ensures deques { map (λ g. deque_of g.pass) self.new.guests.items ≡ map stealer_deque thieves.now }
     {
         if self.task.is_none() {
             self.pop();

@@ -1,6 +1,6 @@
 //! What workers begin with.
 
-ghost use Rattle.std.specs.Prelude.{◌≡◌, ◌<◌, ◌≤◌, ◌-◌, [], All, IfOk, map, vec_len};
+ghost use Rattle.std.specs.Prelude.{◌≡◌, ◌<◌, ◌≤◌, ◌-◌, [], All, IfOk, map, vec_capacity, vec_len};
 ghost use Rattle.crossbeam_deque.specs.Handles.{view, worker_deque, worker_view};
 ghost use Rattle.deque_rule.specs.run_options.TheConstants.{MAX_WORKERS};
 ghost use Rattle.deque_rule.specs.Ledgers.{AreOut, all_shares, ledger};
@@ -48,6 +48,7 @@ fn desk<T: Task>(
     requires fresh { AreOut (map (λ g. view g.pass) guests.items) [] }
     ensures own { IfOk result (λ d. d.own ≡ own) }
     ensures guests { IfOk result (λ d. d.guests ≡ guests) }
+    ensures places { IfOk result (λ d. tasks ≤ vec_capacity d.finished) }
 {
     let mut finished = Vec::new(alloc);
     finished.reserve_exact(tasks)?;
@@ -70,6 +71,7 @@ pub fn make_desks<T: Task>(
     ensures owns { IfOk result (λ ds. map (λ d. worker_deque d.own) ds.items ≡ map worker_deque owns.items) }
     ensures guests { IfOk result (λ ds. All (λ d. map (λ g. deque_of g.pass) d.guests.items
         ≡ map worker_deque owns.items) ds.items) }
+    ensures places { IfOk result (λ ds. All (λ d. tasks ≤ vec_capacity d.finished) ds.items) }
 {
     let (owns, mut rows) = hire(alloc, owns)?;
     let mut all = Vec::with_capacity(alloc, owns.len())?;

@@ -1,10 +1,11 @@
--- The plan: the inbox of the pulse's parity has what was taken of this pulse (present-odd, present-even). The program reads it from its beginning,
+-- The plan: the inbox of the pulse's parity has what was taken of this pulse (odd-slots, even-slots). The program reads it from its beginning,
 -- and leaves its payloads as they are.
 use Rattle.std.proofs.Common.{ℕ, length, sym, ap, ◌∙◌, subst}
 use Rattle.node_api.specs.Boxes.{nothing}
 use Rattle.node_api.specs.Program.{Matches}
 use Rattle.alpha_core.specs.Rows.{taken_by}
-use Rattle.alpha_core.proofs.Taken.{present-even, present-odd}
+use Rattle.alpha_core.specs.declared.when.When.TheVariants.{Now}
+use Rattle.alpha_core.proofs.Taken.{even-slots, odd-slots}
 use Rattle.alpha_core.proofs.inboxes.hand_over.Goals as goal
 
 pub handle_messages-requires-clause-rewound : goal.handle_messages-requires-clause-rewound
@@ -13,7 +14,7 @@ handle_messages-requires-clause-rewound g c = ap (λ m. m.cursor) c.rewind.ensur
 pub handle_messages-requires-clause-inbox : goal.handle_messages-requires-clause-inbox
 handle_messages-requires-clause-inbox g c =
     let a = c.inboxes.inside in
-    let present = present-odd a.at_odd a.even.slots a.odd.slots c.args.inboxes.now c.inboxes.view_is c.if-inboxes.true in
+    let present = odd-slots Now a.at_odd a.even.slots a.odd.slots c.inboxes.view_is c.if-inboxes.true in
     ap (λ m. length m.slots) c.rewind.ensures.unread
     ∙ ap length present ∙ sym c.requires.ports
 
@@ -28,7 +29,7 @@ returns-then-inboxes-clause-same g c =
 pub returns-then-inboxes-clause-answer : goal.returns-then-inboxes-clause-answer
 returns-then-inboxes-clause-answer g c =
     let a = c.inboxes.inside in
-    let present = present-odd a.at_odd a.even.slots a.odd.slots c.args.inboxes.now c.inboxes.view_is c.if-inboxes.true in
+    let present = odd-slots Now a.at_odd a.even.slots a.odd.slots c.inboxes.view_is c.if-inboxes.true in
     let next = g.P.NodeProgram.program.next in
     subst (λ slots. Matches c.handle_messages.result (next c.args.program.now c.args.pulse slots)
     (c.handle_messages.new.self, c.handle_messages.new.out))
@@ -44,7 +45,7 @@ handle_messages-requires-else-inboxes-clause-rewound g c = ap (λ m. m.cursor) c
 pub handle_messages-requires-else-inboxes-clause-inbox : goal.handle_messages-requires-else-inboxes-clause-inbox
 handle_messages-requires-else-inboxes-clause-inbox g c =
     let a = c.inboxes.inside in
-    let present = present-even a.at_odd a.even.slots a.odd.slots c.args.inboxes.now c.inboxes.view_is c.if-inboxes.false in
+    let present = even-slots Now a.at_odd a.even.slots a.odd.slots c.inboxes.view_is c.if-inboxes.false in
     ap (λ m. length m.slots) c.rewind-else-inboxes.ensures.unread
     ∙ ap length present ∙ sym c.requires.ports
 
@@ -60,7 +61,7 @@ returns-else-inboxes-clause-same g c =
 pub returns-else-inboxes-clause-answer : goal.returns-else-inboxes-clause-answer
 returns-else-inboxes-clause-answer g c =
     let a = c.inboxes.inside in
-    let present = present-even a.at_odd a.even.slots a.odd.slots c.args.inboxes.now c.inboxes.view_is c.if-inboxes.false in
+    let present = even-slots Now a.at_odd a.even.slots a.odd.slots c.inboxes.view_is c.if-inboxes.false in
     let next = g.P.NodeProgram.program.next in
     subst (λ slots. Matches c.handle_messages-else-inboxes.result (next c.args.program.now c.args.pulse slots)
     (c.handle_messages-else-inboxes.new.self, c.handle_messages-else-inboxes.new.out))

@@ -1,4 +1,4 @@
-use Rattle.std.proofs.Common.{◌≡◌, ◌∙◌, Ok, ap, subst}
+use Rattle.std.proofs.Common.{◌≡◌, ◌∙◌, Ok, ap, subst, sym}
 use Rattle.std.proofs.lemmas.Result.{IfOk-weaker}
 use Rattle.dimacs_col.specs.Lines.{lines_of}
 use Rattle.net_core.specs.Replays.{IsReplay}
@@ -28,3 +28,11 @@ returns-in-Two-clause-ok g c =
     IfOk-weaker c.replayed_whole.result _ _
     (λ view is. (Two (nodes, rows), read, subst (λ l. IsWholeReplay program c.args.network.now l view.state) c.as_slice-in-Two.ensures.value is))
     c.replayed_whole.ensures.ok
+
+pub replayed_whole-requires-clause-read : goal.replayed_whole-requires-clause-read
+replayed_whole-requires-clause-read g c κs within =
+    let m = g.P.Payload.PayloadText in
+    let nodes = c.in-Two.field-0 in
+    let rows = c.in-Two.rows.items in
+    let read : transcript_in m.payload_of (lines_of c.args.input.now) ≡ Ok (Two (nodes, rows)) = c.in_ok-rows.ensures.ok ∙ ap (λ r. Ok (said_by r)) c.in-Two.is in
+    (nodes, subst (λ l. transcript_in m.payload_of (lines_of c.args.input.now) ≡ Ok (Two (nodes, l))) (sym c.as_slice-in-Two.ensures.value) read)

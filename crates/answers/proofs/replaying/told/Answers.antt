@@ -1,20 +1,28 @@
 use Rattle.std.proofs.Common.{◌∙◌, ap, sym}
 use Rattle.answers.specs.ReplayAnswers.{words_text}
-use Rattle.answers.proofs.RefusedLines.{get-here, is-told}
+use Rattle.answers.proofs.RefusedLines.{get-here, index-within, is-told}
 use Rattle.answers.proofs.replaying.told.Goals as goal
+
+-- the refused entry is one of the entries
+pub bounds-rows-index : goal.bounds-rows-index
+bounds-rows-index g c =
+    index-within g.P.NodeProgram.program c.args.network.now c.args.rows.now c.args.refused c.in-Some.index c.requires.stops
+    (sym c.index_of.ensures ∙ c.in-Some.is)
 
 pub returns-in-Ok-words_of : goal.returns-in-Ok-words_of
 returns-in-Ok-words_of g c =
     let program = g.P.NodeProgram.program in
     let m = g.P.Payload.PayloadText in
-    let row = c.in-Some-get.row.now in
+    let row = c.index-rows-index.result in
+    let is = sym c.index_of.ensures ∙ c.in-Some.is in
+    let within = index-within program c.args.network.now c.args.rows.now c.args.refused c.in-Some.index c.requires.stops is in
     let reached = c.in-Ok.state.state in
     is-told program m.word_of m.number_of c.args.network.now c.args.rows.now c.args.lines.now c.args.refused c.fault_at.result
     (record {
       index = c.in-Some.index;
-      is_index = sym c.index_of.ensures ∙ c.in-Some.is;
+      is_index = is;
       row = row;
-      is_row = get-here c.args.rows.now c.in-Some.index row c.in-Some-get.ensures.lookup.3.0 c.in-Some-get.ensures.lookup.1;
+      is_row = get-here c.args.rows.now c.in-Some.index row within c.index-rows-index.is;
       reached = reached;
       is_replay = c.in-Ok.ensures.accepts;
       words = c.in-Ok-words_of.words;

@@ -4,4 +4,4 @@ use Rattle.worker_deques.specs.deque_rule.Deques.{deque_of}
 use Rattle.checks.proofs.deque_checks.find_all.Given as goal
 
 abbrev pub invariant-loop : goal.invariant-loop
-invariant-loop l = map (λ g'. deque_of g'.pass) l.desk.guests.items ≡ map stealer_deque l.thieves.items
+invariant-loop l = map (λ g'. deque_of g'.pass) l.desk.guests.items ≡ map stealer_deque l.thieves

@@ -1,64 +1,53 @@
--- The plan: if there is no such vertex, the definition refuses the event as the call does (no-vertex); else each call does
--- with the entry's parts what is to be done with the entry.
-use Rattle.std.proofs.Common.{◌<◌, ◌≤◌, ◌∙◌, IfErr, IfOk, ap, subst, sym}
-use Rattle.alpha_laws.specs.interference.Net.{IsVertex, count_of}
-use Rattle.net_core.specs.Replays.{IsMade, IsRefusedEntry}
-use Rattle.net_core.proofs.Missing.{before-first, behind-last, from-first, no-vertex}
+-- The plan: the event of the row names a vertex and a port that are there, or none (nowhere). It is that of the definition
+-- (is-of); so its step is the definition's, and the test of what it writes down is one of the row.
+use Rattle.std.proofs.Common.{◌≡◌, ◌∙◌, false, ap, subst, sym}
+use Rattle.std.proofs.lemmas.Result.{IfOk-from_err}
+use Rattle.event_machine.specs.Step.{step}
+use Rattle.net_core.specs.declared.refused.EntryRefused.TheVariants.{Step}
+use Rattle.net_core.specs.Replays.{IsRefusedEntry}
+use Rattle.net_core.specs.Rows.{event_of, has_place, row_of}
+use Rattle.net_core.proofs.Missing.{nowhere, refused-step}
 use Rattle.net_core.proofs.entry_event.make_entry.Goals as goal
-use Rattle.net_core.proofs.entry_event.make_entry.Goals.{Else-nodes-v, then-v-eq0-via-then-v-eq0, then-v-eq0-via-else-v-eq0+then-nodes-v}
+use Rattle.net_core.proofs.entry_event.make_entry.Goals.{In-Some}
 
-vertex : (g : _) (c : Else-nodes-v g) → IsVertex c.args.state.now.net c.args.row.now.0
-vertex g c = (
-  from-first c.args.row.now.0 c.if-v-eq0.false,
-  subst (λ k. c.args.row.now.0 ≤ k) (c.nodes.ensures.count ∙ ap count_of c.network.ensures.network) c.if-nodes-v.false,
-)
+is-of : (g : _) (c : In-Some g) → c.in-Some.event ≡ event_of c.args.state.now.net c.args.row.now
+is-of g c = c.in-Some.ensures.event ∙ ap (λ n. event_of n c.args.row.now) c.network.ensures.network
 
-pub returns-then-v-eq0-clause-refused : goal.returns-then-v-eq0-clause-refused
-returns-then-v-eq0-clause-refused g c =
+pub returns-in_default-clause-refused : goal.returns-in_default-clause-refused
+returns-in_default-clause-refused g c =
     let old = c.args.state.now in
     let row = c.args.row.now in
-    λ never. elim c.then-v-eq0.branch [
-      | then-v-eq0-via-then-v-eq0 w ↦ no-vertex g.P.NodeProgram.program old.net old.state row.0 row.1 (before-first old.net row.0 w.if-v-eq0.true)
-      | then-v-eq0-via-else-v-eq0+then-nodes-v w ↦
-          no-vertex g.P.NodeProgram.program old.net old.state row.0 row.1
-          (behind-last old.net row.0 (subst (λ k. k < row.0) (w.nodes.ensures.count ∙ ap count_of w.network.ensures.network) w.if-nodes-v.true))
-    ]
+    λ never. nowhere g.P.NodeProgram.program old.net old.state (event_of old.net row)
+    (subst (λ n. has_place n (event_of n row) ≡ false) c.network.ensures.network c.in_default.ensures.none)
 
-pub make_pulse-requires : goal.make_pulse-requires
-make_pulse-requires g c = (c.type_bounds.send-P, (c.type_bounds.send-P-Payload, vertex g (goal.at.make_pulse-requires g c).Else-nodes-v))
+pub returns-in_err-step-clause-made : goal.returns-in_err-step-clause-made
+returns-in_err-step-clause-made g c = IfOk-from_err c.from_residual.result _ c.from_residual.ensures.0
 
-pub make_put-requires : goal.make_put-requires
-make_put-requires g c = (c.type_bounds.send-P, (c.type_bounds.send-P-Payload, vertex g (goal.at.make_put-requires g c).Else-nodes-v))
+pub returns-in_err-step-clause-refused : goal.returns-in_err-step-clause-refused
+returns-in_err-step-clause-refused g c =
+    let old = c.args.state.now in
+    let at = (goal.at.returns-in_err-step-clause-refused g c).In-Some in
+    refused-step c.from_residual.result (IsRefusedEntry g.P.NodeProgram.program old c.args.row.now) c.in_err-step.field-0.0 c.from_residual.ensures.1
+    (λ never. ap (λ e. step g.P.NodeProgram.program old.net old.state e) (sym (is-of g at)) ∙ c.in_err-step.ensures.step (λ e. never (ap Step e)))
 
-pub make_take-requires : goal.make_take-requires
-make_take-requires g c = (c.type_bounds.send-P, (c.type_bounds.send-P-Payload, vertex g (goal.at.make_take-requires g c).Else-nodes-v))
+pub returns-then-is_written-clause-made : goal.returns-then-is_written-clause-made
+returns-then-is_written-clause-made g c =
+    let program = g.P.NodeProgram.program in
+    let old = c.args.state.now in
+    let of = is-of g (goal.at.returns-then-is_written-clause-made g c).In-Some in
+    record {
+      net = c.step.ensures.net;
+      leads = ap (λ e. step program old.net old.state e) (sym of) ∙ c.in_ok-step.ensures.step;
+      writes = ap (λ e. row_of program old.net old.state e) (sym of) ∙ c.if-is_written.ensures;
+    }
 
-pub returns-in-Pulse-clause-made : goal.returns-in-Pulse-clause-made
-returns-in-Pulse-clause-made g c =
-    subst (λ e. IfOk c.make_pulse.result (λ _. IsMade g.P.NodeProgram.program c.args.state.now (c.args.row.now.0, e) c.make_pulse.new.state))
-    (sym c.in-Pulse.is) c.make_pulse.ensures.made
-
-pub returns-in-Pulse-clause-refused : goal.returns-in-Pulse-clause-refused
-returns-in-Pulse-clause-refused g c =
-    subst (λ e. IfErr c.make_pulse.result (IsRefusedEntry g.P.NodeProgram.program c.args.state.now (c.args.row.now.0, e))) (sym c.in-Pulse.is)
-    c.make_pulse.ensures.refused
-
-pub returns-in-Put-clause-made : goal.returns-in-Put-clause-made
-returns-in-Put-clause-made g c =
-    subst (λ e. IfOk c.make_put.result (λ _. IsMade g.P.NodeProgram.program c.args.state.now (c.args.row.now.0, e) c.make_put.new.state))
-    (sym c.in-Put.is) c.make_put.ensures.made
-
-pub returns-in-Put-clause-refused : goal.returns-in-Put-clause-refused
-returns-in-Put-clause-refused g c =
-    subst (λ e. IfErr c.make_put.result (IsRefusedEntry g.P.NodeProgram.program c.args.state.now (c.args.row.now.0, e))) (sym c.in-Put.is)
-    c.make_put.ensures.refused
-
-pub returns-in-Take-clause-made : goal.returns-in-Take-clause-made
-returns-in-Take-clause-made g c =
-    subst (λ e. IfOk c.make_take.result (λ _. IsMade g.P.NodeProgram.program c.args.state.now (c.args.row.now.0, e) c.make_take.new.state))
-    (sym c.in-Take.is) c.make_take.ensures.made
-
-pub returns-in-Take-clause-refused : goal.returns-in-Take-clause-refused
-returns-in-Take-clause-refused g c =
-    subst (λ e. IfErr c.make_take.result (IsRefusedEntry g.P.NodeProgram.program c.args.state.now (c.args.row.now.0, e))) (sym c.in-Take.is)
-    c.make_take.ensures.refused
+pub returns-else-is_written-clause-refused : goal.returns-else-is_written-clause-refused
+returns-else-is_written-clause-refused g c =
+    let program = g.P.NodeProgram.program in
+    let old = c.args.state.now in
+    let of = is-of g (goal.at.returns-else-is_written-clause-refused g c).In-Some in
+    λ never. (
+      c.step.new.self.state,
+      ap (λ e. step program old.net old.state e) (sym of) ∙ c.in_ok-step.ensures.step,
+      λ same. c.if-is_written.ensures (ap (λ e. row_of program old.net old.state e) of ∙ same),
+    )

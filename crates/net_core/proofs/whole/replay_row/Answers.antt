@@ -1,7 +1,7 @@
 use Rattle.std.proofs.Common.{◌≡◌, ◌∙◌, ap, subst, sym, take}
 use Rattle.event_machine.specs.Step.{step}
 use Rattle.net_core.specs.declared.refused.WholeRefused.TheVariants.{Replay}
-use Rattle.net_core.specs.Replays.{WhyNot, at_entry}
+use Rattle.net_core.specs.Replays.{IsMade, WhyNot, at_entry}
 use Rattle.net_core.specs.Rows.{event_of}
 use Rattle.stamps.specs.Table.{IsTableOf}
 use Rattle.net_core.proofs.WholeReplays.{rows-more, stamped-next, stops-entry, stops-stamp}
@@ -14,7 +14,8 @@ returns-in-Err-clause-refuses g c =
     let i = c.args.index in
     λ never. stops-entry program old.net c.args.rows.now i c.index-rows-index.result old.state c.requires.row c.index-rows-index.is c.requires.replay
     c.in-Err.refused c.at.result
-    (c.in-Err.ensures.refused (λ e. never (ap Replay (c.at.ensures.index ∙ ap (λ r. at_entry i r) e))))
+    (subst (λ r. WhyNot program old.net old.state r c.in-Err.refused) c.without_stamp.ensures.row
+    (c.in-Err.ensures.refused (λ e. never (ap Replay (c.at.ensures.index ∙ ap (λ r. at_entry i r) e)))))
     c.at.ensures.index
 
 pub returns-then-not-is_in_place-clause-refuses : goal.returns-then-not-is_in_place-clause-refuses
@@ -22,7 +23,7 @@ returns-then-not-is_in_place-clause-refuses g c =
     let program = g.P.NodeProgram.program in
     let old = c.args.state.now in
     let i = c.args.index in
-    let made = c.in-Ok.ensures.made in
+    let made = subst (λ r. IsMade program old r c.make_entry.new.state) c.without_stamp.ensures.row c.in-Ok.ensures.made in
     λ never. stops-stamp program old.net c.args.rows.now i c.index-rows-index.result old.state c.requires.row c.index-rows-index.is c.requires.replay
     c.make_entry.new.state.state made.leads made.writes (c.if-not-is_in_place.ensures.place (take i c.args.rows.now) c.requires.table)
 
@@ -31,7 +32,7 @@ returns-clause-replay g c =
     let program = g.P.NodeProgram.program in
     let old = c.args.state.now in
     let i = c.args.index in
-    let made = c.in-Ok.ensures.made in
+    let made = subst (λ r. IsMade program old r c.make_entry.new.state) c.without_stamp.ensures.row c.in-Ok.ensures.made in
     stamped-next program old.net c.args.rows.now i c.index-rows-index.result old.state c.make_entry.new.state.state c.requires.row
     c.index-rows-index.is c.requires.replay made.leads made.writes (c.if-not-is_in_place.ensures.place (take i c.args.rows.now) c.requires.table)
 

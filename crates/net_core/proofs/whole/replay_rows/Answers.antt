@@ -2,6 +2,7 @@ use Rattle.std.proofs.Common.{◌≡◌, ◌+◌, ◌∙◌, [], ap, arith, refl
 use Rattle.std.proofs.lemmas.List.{take_all}
 use Rattle.std.proofs.lemmas.Result.{err_from_is_err_and}
 use Rattle.net_core.specs.Whole.{IsStampedReplay, WhyNotWhole}
+use Rattle.stamps.specs.Table.{IsTableOf}
 use Rattle.stamps.proofs.Tables.{empty_table}
 use Rattle.net_core.proofs.WholeReplays.{stamped-start}
 use Rattle.net_core.proofs.whole.replay_rows.Goals as goal
@@ -53,3 +54,10 @@ returns-clause-replay g c =
     let i = c.loop-index.index in
     let all : take i rows ≡ rows = take_all i rows (let past = c.loop-index-test.false in omega (arith, past)) in
     subst (λ l. IsStampedReplay program c.args.state.now.net l c.loop-index.state.state) all c.loop-index.invariant.replay
+
+pub returns-clause-table : goal.returns-clause-table
+returns-clause-table g c =
+    let rows = c.args.rows.now in
+    let i = c.loop-index.index in
+    let all : take i rows ≡ rows = take_all i rows (let past = c.loop-index-test.false in omega (arith, past)) in
+    subst (λ l. IsTableOf l c.loop-index.table) all c.loop-index.invariant.table

@@ -1,10 +1,11 @@
-use Rattle.std.proofs.Common.{◌≡◌, ◌≤◌, Bool, true, false, if◌then◌else◌, Ok, Err, map, refl, sym, ◌∙◌, subst}
+use Rattle.std.proofs.Common.{◌≡◌, ◌≤◌, Bool, true, false, if◌then◌else◌, Ok, Err, ap, map, refl, sym, ◌∙◌, subst}
 use Rattle.std.specs.Prelude.{All, Result}
 use Rattle.pool.specs.link_queue.Ends.{link_capacity}
 use Rattle.outcomes.specs.Full.{some_full}
 use Rattle.outcomes.specs.gather_laws.Outcome.{IsOutcome}
 use Rattle.pool.specs.declared.fault.PoolFault.{PoolFault}
 use Rattle.pool.specs.declared.fault.PoolFault.TheVariants.{StampFull}
+use Rattle.node_pool.specs.Ends.{full_after}
 use Rattle.node_pool.specs.Makes.{AreMade}
 use Rattle.node_pool.proofs.MadeRows.{made_are_new, made_within}
 use Rattle.node_pool.proofs.run.run_made.Goals as goal
@@ -27,7 +28,7 @@ not_full done x told false e is = refl
 pub gathered-requires-clause-stamps : goal.gathered-requires-clause-stamps
 gathered-requires-clause-stamps g c κs within =
     not_full (tt {0}) (tt {0}) c.unless_full.result (some_full (map (λ n. n.aside) c.in_ok-nodes-2.nodes.items))
-    c.unless_full.ensures.full c.in_ok-unless_full.was
+    (c.unless_full.ensures.full ∙ ap (λ nodes. full_after (tt {0}) (map (λ n. n.aside) nodes)) c.as_slice.ensures.value) c.in_ok-unless_full.was
 
 -- the links that are gathered are those that the nodes used
 pub gathered-requires-clause-tables : goal.gathered-requires-clause-tables

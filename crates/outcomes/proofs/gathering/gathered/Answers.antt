@@ -9,6 +9,7 @@ use Rattle.outcomes.proofs.ReadLists.{map-twice}
 use Rattle.outcomes.specs.Rows.{AreCrossed, HasShape}
 use Rattle.actor.specs.Tables.{table_at, table_of}
 use Rattle.actor.specs.HasStamps.{HasStamps}
+use Rattle.actor.specs.entries.Recorded.{entries_by, stamped_by}
 use Rattle.actor.specs.alpha_core.StampedWires.{wires_of}
 use Rattle.actor.specs.link_queue.Ends.{held_stamped, put_list, put_stamped, taken_list, taken_stamped}
 use Rattle.outcomes.proofs.Full.{all_refused}
@@ -91,14 +92,14 @@ returns g c =
     let takens_are = met.takens_are ∙ of_items (λ row. row.items) c.in_ok-takes.takes.items (λ e. taken_stamped e.end) _ refl in
     let splits = all_by (λ mets. All (λ met. put_of met ≡ taken_of met ++ held_stamped met) mets) (λ row. row.items) mets met.splits in
     let gathered : AreGathered program net nodes (λ n. n.vertex) (λ n. n.alpha) (λ n. n.aside) (λ n. map (λ e. put_list e.end) n.puts.items)
-    (λ n. n.takes.items) (λ e. taken_list e.end) crossed g.J.Wiring.transcript (λ n. n.entries.items) outcome = record {
+    (λ n. n.takes.items) (λ e. taken_list e.end) crossed g.J.Wiring.transcript (λ n. entries_by n.recorder) outcome = record {
       last = λ n. n.kept.last_is;
       keeps = λ n. n.kept.keeps;
       set_aside = λ n x e. n.kept.set_aside x e;
       by_refusal = all_refused (λ n. n.aside) nodes c.requires.stamps;
       writes = λ n.
           subst (λ t. IsTranscript program net n.vertex t n.alpha.node (by_port (map (λ e. put_list e.end) n.puts.items))
-          (by_port (reacted_to n.aside (map (λ e. taken_list e.end) n.takes.items))) n.entries.items) n.kept.recorded n.kept.writes;
+          (by_port (reacted_to n.aside (map (λ e. taken_list e.end) n.takes.items))) (entries_by n.recorder)) n.kept.recorded n.kept.writes;
       outs = λ n. length-map n.puts.items (λ e. put_list e.end) ∙ as_long _ _ n.puts.items _ n.kept.outs;
       ins = λ n. as_long _ _ n.takes.items _ n.kept.ins;
       order = c.requires.nodes;
@@ -107,7 +108,8 @@ returns g c =
       alphas_are = map-twice (λ g. g.alpha) gathered_of actors ∙ c.in_ok-actors.ensures.alphas;
       entries_are = map-twice (λ g. g.entries) gathered_of actors ∙ c.in_ok-actors.ensures.entries;
       puts_are = of_fields (λ row. row.items) mets history_of_met (λ h. h.put) ∙ bare_rows put_of (map (λ row. row.items) mets)
-          ∙ ap (map (λ row. map (λ l. wires_of l) row)) puts_are ∙ map-twice (λ row. map (λ l. wires_of l) row) (λ n. map (λ e. put_stamped e.end) n.puts.items) nodes
+          ∙ ap (map (λ row. map (λ l. wires_of l) row)) puts_are
+          ∙ map-twice (λ row. map (λ l. wires_of l) row) (λ n. map (λ e. put_stamped e.end) n.puts.items) nodes
           ∙ map_same _ _ (λ n. map-twice (λ l. wires_of l) (λ e. put_stamped e.end) n.puts.items) nodes;
       takens_are = of_fields (λ row. row.items) mets history_of_met (λ h. h.taken) ∙ bare_rows taken_of (map (λ row. row.items) mets)
           ∙ ap (map (λ row. map (λ l. wires_of l) row)) takens_are ∙ sym (bare_rows (λ e. taken_stamped e.end) crossed);
@@ -116,13 +118,13 @@ returns g c =
           (held_stamped (get_or (get_or mets k d).items i e)) (splits k d lt i e lt'));
     } in
     let stamping : AreStampedNodes net nodes (λ n. n.vertex) (λ n. n.counter) (λ n. map (λ e. put_stamped e.end) n.puts.items) (λ n. n.takes.items)
-    (λ e. taken_stamped e.end) crossed g.J.Wiring.transcript (λ n. n.entries.items) (λ n. n.entries.stamped) linked outcome = record {
+    (λ e. taken_stamped e.end) crossed g.J.Wiring.transcript (λ n. entries_by n.recorder) (λ n. stamped_by n.recorder) linked outcome = record {
       order = c.requires.nodes;
       crosses = crosses;
       outs = λ n. length-map n.puts.items (λ e. put_stamped e.end) ∙ as_long _ _ n.puts.items _ n.kept.outs;
       stamps = λ n.
           subst (λ t. HasStamps net n.vertex t n.counter (by_port (map (λ e. put_stamped e.end) n.puts.items))
-          (by_port (map (λ e. taken_stamped e.end) n.takes.items)) n.entries.items n.entries.stamped) n.kept.recorded n.kept.stamps;
+          (by_port (map (λ e. taken_stamped e.end) n.takes.items)) (entries_by n.recorder) (stamped_by n.recorder)) n.kept.recorded n.kept.stamps;
       entries_are = map-twice (λ g. g.entries) gathered_of actors ∙ c.in_ok-actors.ensures.entries;
       stamped_are = map-twice (λ g. g.stamped) gathered_of actors ∙ c.in_ok-actors.ensures.stamped;
       links_are = sym (of_fields (λ row. row.items) mets stamped_history_of history_of ∙ map-twice (λ row. map history_of_met row) (λ row. row.items) mets);
@@ -131,25 +133,25 @@ returns g c =
       splits = all_rows (λ row. row.items) mets (λ h. h.put ≡ h.taken ++ h.held) stamped_history_of splits;
     } in
     let wrote = written program g.P.NodeProgram.laws net ok nodes (λ n. n.vertex) (λ n. n.alpha) (λ n. n.aside)
-    (λ n. map (λ e. put_list e.end) n.puts.items) (λ n. n.takes.items) (λ e. taken_list e.end) crossed g.J.Wiring.transcript (λ n. n.entries.items) outcome
-    gathered in
+    (λ n. map (λ e. put_list e.end) n.puts.items) (λ n. n.takes.items) (λ e. taken_list e.end) crossed g.J.Wiring.transcript
+    (λ n. entries_by n.recorder) outcome gathered in
     record {
       outcome = λ capacity below.
           subst (λ net. IsOutcome program net capacity g.J.Wiring.transcript outcome) c.requires.network
           (is_outcome program g.P.NodeProgram.laws net ok nodes (λ n. n.vertex) (λ n. n.alpha) (λ n. n.aside) (λ n. map (λ e. put_list e.end) n.puts.items)
-          (λ n. n.takes.items) (λ e. taken_list e.end) crossed g.J.Wiring.transcript (λ n. n.entries.items) outcome gathered capacity
+          (λ n. n.takes.items) (λ e. taken_list e.end) crossed g.J.Wiring.transcript (λ n. entries_by n.recorder) outcome gathered capacity
           (all_rows (λ row. row.items) mets (λ h. length h.held ≤ capacity) history_of_met
           (λ k d lt i e lt'.
           let few = c.in_ok-links.ensures.room capacity below k d lt i e lt' in
           let long = length-map (held_stamped (get_or (get_or mets k d).items i e)) (λ x. x.wire) in
           omega (arith, few, long)))
           (wires_are program net ok nodes (λ n. n.vertex) (λ n. n.counter) (λ n. map (λ e. put_stamped e.end) n.puts.items) (λ n. n.takes.items)
-          (λ e. taken_stamped e.end) crossed g.J.Wiring.transcript (λ n. n.entries.items) (λ n. n.entries.stamped) linked outcome stamping wrote)
+          (λ e. taken_stamped e.end) crossed g.J.Wiring.transcript (λ n. entries_by n.recorder) (λ n. stamped_by n.recorder) linked outcome stamping wrote)
           (stamped_split program net ok nodes (λ n. n.vertex) (λ n. n.counter) (λ n. map (λ e. put_stamped e.end) n.puts.items) (λ n. n.takes.items)
-          (λ e. taken_stamped e.end) crossed g.J.Wiring.transcript (λ n. n.entries.items) (λ n. n.entries.stamped) linked outcome stamping wrote)
+          (λ e. taken_stamped e.end) crossed g.J.Wiring.transcript (λ n. entries_by n.recorder) (λ n. stamped_by n.recorder) linked outcome stamping wrote)
           (same_entries program net ok nodes (λ n. n.vertex) (λ n. n.counter) (λ n. map (λ e. put_stamped e.end) n.puts.items) (λ n. n.takes.items)
-          (λ e. taken_stamped e.end) crossed g.J.Wiring.transcript (λ n. n.entries.items) (λ n. n.entries.stamped) linked outcome stamping wrote)
+          (λ e. taken_stamped e.end) crossed g.J.Wiring.transcript (λ n. entries_by n.recorder) (λ n. stamped_by n.recorder) linked outcome stamping wrote)
           _ _ _ _
           (are_stamped program net ok nodes (λ n. n.vertex) (λ n. n.counter) (λ n. map (λ e. put_stamped e.end) n.puts.items) (λ n. n.takes.items)
-          (λ e. taken_stamped e.end) crossed g.J.Wiring.transcript (λ n. n.entries.items) (λ n. n.entries.stamped) linked outcome stamping wrote));
+          (λ e. taken_stamped e.end) crossed g.J.Wiring.transcript (λ n. entries_by n.recorder) (λ n. stamped_by n.recorder) linked outcome stamping wrote));
     }

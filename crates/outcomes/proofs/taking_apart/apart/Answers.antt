@@ -1,7 +1,8 @@
 -- There is room for what is taken off each node; at the end all nodes were taken apart.
-use Rattle.std.proofs.Common.{◌≡◌, ◌<◌, List, length, map, refl, sym, ap, ◌∙◌, arith, rules, map-id}
+use Rattle.std.proofs.Common.{◌<◌, length, map, refl, sym, ap, ◌∙◌, arith, rules, map-id}
 use Rattle.std.proofs.lemmas.Iterator.Consumers.{YieldsList-end, YieldsList-turn}
 use Rattle.std.proofs.lemmas.Iterator.Adapters.{YieldsList-from_vec}
+use Rattle.actor.specs.entries.Recorded.{entries_by, stamped_by}
 use Rattle.actor.proofs.worker_deques.Views.{as_many}
 use Rattle.outcomes.proofs.ReadLists.{both_pushed}
 use Rattle.outcomes.proofs.taking_apart.apart.Given.{Over}
@@ -75,8 +76,10 @@ loop-node-preserved g c =
       room = (omega (arith, actors.capacity, inv.room.0), omega (arith, puts.capacity, inv.room.1), omega (arith, takes.capacity, inv.room.2));
       vertices = both_pushed (λ a. a.vertex) (λ n. n.vertex) _ _ yielded _ node actors.items refl inv.vertices;
       alphas = both_pushed (λ a. a.alpha) (λ n. n.alpha) _ _ yielded _ node actors.items refl inv.alphas;
-      entries = both_pushed (λ a. a.entries.items) (λ n. n.entries.items) _ _ yielded _ node actors.items refl inv.entries;
-      stamped = both_pushed (λ a. a.entries.stamped) (λ n. n.entries.stamped) _ _ yielded _ node actors.items refl inv.stamped;
+      entries = both_pushed (λ a. a.entries.items) (λ n. entries_by n.recorder) _ _ yielded _ node actors.items
+          c.into_entries-entries.ensures.entries inv.entries;
+      stamped = both_pushed (λ a. a.entries.stamped) (λ n. stamped_by n.recorder) _ _ yielded _ node actors.items
+          c.into_entries-entries.ensures.stamped inv.stamped;
       puts = both_pushed (λ row. row.items) (λ n. n.puts.items) _ _ yielded _ node puts.items refl inv.puts;
       takes = both_pushed (λ row. row.items) (λ n. n.takes.items) _ _ yielded _ node takes.items refl inv.takes;
     }
@@ -90,8 +93,8 @@ returns g c =
     record {
       vertices = inv.vertices ∙ ap (map (λ n. n.vertex)) all;
       alphas = inv.alphas ∙ ap (map (λ n. n.alpha)) all;
-      entries = inv.entries ∙ ap (map (λ n. n.entries.items)) all;
-      stamped = inv.stamped ∙ ap (map (λ n. n.entries.stamped)) all;
+      entries = inv.entries ∙ ap (map (λ n. entries_by n.recorder)) all;
+      stamped = inv.stamped ∙ ap (map (λ n. stamped_by n.recorder)) all;
       puts = inv.puts ∙ ap (map (λ n. n.puts.items)) all;
       takes = inv.takes ∙ ap (map (λ n. n.takes.items)) all;
     }

@@ -6,5 +6,5 @@ use Rattle.pool.proofs.looks.work.Given as goal
 abbrev pub invariant-loop : goal.invariant-loop
 invariant-loop g l = record {
   own : worker_deque l.desk.own ≡ worker_deque l.fn.desk.own;
-  deques : map (λ g'. deque_of g'.pass) l.desk.guests.items ≡ map stealer_deque l.thieves.items;
+  deques : map (λ g'. deque_of g'.pass) l.desk.guests.items ≡ map stealer_deque l.thieves;
 }

@@ -1,4 +1,4 @@
-use Rattle.std.proofs.Common.{◌≡◌, ◌-◌, [], false, map, refl, sym, ap, ◌∙◌, arith, rules, vec_len}
+use Rattle.std.proofs.Common.{◌≡◌, ◌-◌, [], false, length, map, refl, sym, ap, ◌∙◌, arith, rules, vec_len}
 use Rattle.std.specs.List.{range_with_len}
 use Rattle.actor.specs.interference.Net.{count_of}
 use Rattle.crossbeam_deque.specs.Handles.{stealer_deque, view, worker_deque, worker_view}
@@ -56,8 +56,8 @@ scoped-requires g c =
       at = λ a. (
         (
           omega (arith, made.ok.0, c.in_ok-desks.desks.ok.0),
-          omega (arith, c.in_ok-owns.thieves.ok.0, c.in_ok-desks.desks.ok.0),
-          λ k d lt. c.in_ok-desks.ensures.guests k d lt ∙ deques,
+          omega (arith, c.in_ok-owns.thieves.ok.0, c.in_ok-desks.desks.ok.0, ap (λ l. length l) c.as_slice-thieves.ensures.value),
+          λ k d lt. c.in_ok-desks.ensures.guests k d lt ∙ deques ∙ ap (map stealer_deque) (sym c.as_slice-thieves.ensures.value),
         ),
         (search rules, search rules, may.send-P-Payload, search rules, search rules, search rules),
       );

@@ -1,9 +1,10 @@
 -- The neighbour of a port has that port; so the text has the lines of the neighbours up to the port.
-use Rattle.std.proofs.Common.{◌≡◌, ◌∙◌, ◌+◌, ◌<◌, ◌++◌, ℕ, List, Option, Some, ap, append-nil, flat_map, length, refl, subst, sym, take}
+use Rattle.std.proofs.Common.{◌≡◌, ◌∙◌, ◌+◌, ◌<◌, ◌++◌, ℕ, List, Option, Some, ap, append-nil, flat_map, refl, subst, sym, take}
 use Rattle.std.proofs.lemmas.List.{flat_map_more, take_more}
 use Rattle.alpha_core.specs.interference.Net.{Net, IsNetwork, IsVertex, degree_of, neighbour_of, neighbours, port_to}
 use Rattle.alpha_core.proofs.interference.Neighbours.{port_to-is}
 use Rattle.alpha_core.specs.node_api.Boxes.{at_port}
+use Rattle.alpha_core.specs.node_api.Run.{outbox_at}
 use Rattle.round_texts.specs.PutsText.{put_text, puts_text}
 use Rattle.round_texts.proofs.Quiet.{quiet_text}
 use Rattle.round_texts.proofs.puts.push_puts.Goals as goal
@@ -27,31 +28,37 @@ one_more word_of number_of net p v port out front so_far next ok vertex below e 
 
 pub returns-then-is_quiet : goal.returns-then-is_quiet
 returns-then-is_quiet g c =
-    let m = g.T.PayloadText in
+    let words = g.P.Payload.PayloadText in
+    let at = c.args.rounds.now in
     let text = c.args.text.now.items in
-    sym (ap (λ out. text ++ puts_text m.word_of m.number_of c.args.net.now c.args.pulse c.args.v out) (c.if-is_quiet.ensures.nothing.0 refl)
-    ∙ ap (λ t. text ++ t) (quiet_text m.word_of m.number_of c.args.net.now c.args.pulse c.args.v (length c.args.out.now)) ∙ append-nil text)
+    sym (ap (λ out. text ++ puts_text words.word_of words.number_of at.net at.pulse c.args.v out) (c.if-is_quiet.ensures.quiet.0 refl)
+    ∙ ap (λ t. text ++ t) (quiet_text words.word_of words.number_of at.net at.pulse c.args.v (degree_of at.net c.args.v)) ∙ append-nil text)
 
 pub loop-port-preserved : goal.loop-port-preserved
 loop-port-preserved g c =
-    let m = g.T.PayloadText in
-    let net = c.args.net.now in
+    let words = g.P.Payload.PayloadText in
+    let at = c.args.rounds.now in
+    let net = c.network-net.result.now in
+    let v = c.args.v in
     let port = c.loop-port.port in
-    let out = c.args.out.now in
+    let out = outbox_at g.P.NodeProgram.program at.net at.pulse v in
     let so_far = c.loop-port.text.items in
-    let below = subst (λ (n : ℕ). port < n) c.degree-port-end.ensures.value c.loop-port-test.true in
-    one_more m.word_of m.number_of net c.args.pulse c.args.v port out c.args.text.now.items so_far c.match-get.text.items c.is_network.ensures
+    let put : ℕ → ℕ → Option _ → List ℕ = λ p w sent. put_text words.word_of words.number_of p v w sent in
+    let ok = subst (λ (n : Net). IsNetwork n) c.network-net.ensures.net c.is_network.ensures in
+    let below = subst (λ (n : Net). port < degree_of n v) c.network-net.ensures.net
+    (subst (λ (n : ℕ). port < n) c.degree-port-end.ensures.value c.loop-port-test.true) in
+    one_more words.word_of words.number_of at.net at.pulse v port out c.args.text.now.items so_far c.match-sent.text.items ok
     c.requires.vertex below c.loop-port.invariant
-    (elim c.match-get.branch [
+    (elim c.match-sent.branch [
       | in-Some+in_ok-push_row w ↦
           ap (λ t. t.items) w.text-is
           ∙ w.in_ok-push_row.ensures.text
-          ∙ ap (λ k. so_far ++ put_text m.word_of m.number_of c.args.pulse c.args.v k (Some w.in-Some.payload)) w.neighbour.ensures.value
-          ∙ ap (λ sent. so_far ++ put_text m.word_of m.number_of c.args.pulse c.args.v (neighbour_of net c.args.v port) sent)
-          (sym w.in-Some.is ∙ c.get.ensures.payload)
+          ∙ ap (λ p. so_far ++ put p w.neighbour.result (Some w.in-Some.payload)) w.pulse.ensures.pulse
+          ∙ ap (λ k. so_far ++ put at.pulse k (Some w.in-Some.payload)) w.neighbour.ensures.value
+          ∙ ap (λ (n : Net). so_far ++ put at.pulse (neighbour_of n v port) (Some w.in-Some.payload)) c.network-net.ensures.net
+          ∙ ap (λ sent. so_far ++ put at.pulse (neighbour_of at.net v port) sent) (sym w.in-Some.is ∙ c.sent.ensures.payload)
       | in_default w ↦
           ap (λ t. t.items) w.text-is
           ∙ sym (append-nil so_far)
-          ∙ ap (λ sent. so_far ++ put_text m.word_of m.number_of c.args.pulse c.args.v (neighbour_of net c.args.v port) sent)
-          (sym w.in_default.is ∙ c.get.ensures.payload)
+          ∙ ap (λ sent. so_far ++ put at.pulse (neighbour_of at.net v port) sent) (sym w.in_default.is ∙ c.sent.ensures.payload)
     ])

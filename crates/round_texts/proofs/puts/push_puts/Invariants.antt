@@ -1,11 +1,14 @@
 use Rattle.std.proofs.Common.{◌≡◌, ◌++◌, flat_map, take}
 use Rattle.alpha_core.specs.interference.Net.{neighbours, port_to}
 use Rattle.alpha_core.specs.node_api.Boxes.{at_port}
+use Rattle.alpha_core.specs.node_api.Run.{outbox_at}
 use Rattle.round_texts.specs.PutsText.{put_text}
 use Rattle.round_texts.proofs.puts.push_puts.Given as goal
 
 abbrev pub invariant-loop-port : goal.invariant-loop-port
 invariant-loop-port g l =
-    let m = g.T.PayloadText in
+    let at = l.rounds in
+    let words = g.P.Payload.PayloadText in
     l.text.items ≡ l.fn.text.items
-    ++ flat_map (λ w. put_text m.word_of m.number_of l.pulse l.v w (at_port l.out (port_to l.net l.v w))) (take l.port (neighbours l.net l.v))
+    ++ flat_map (λ w. put_text words.word_of words.number_of at.pulse l.v w
+    (at_port (outbox_at g.P.NodeProgram.program at.net at.pulse l.v) (port_to at.net l.v w))) (take l.port (neighbours at.net l.v))

@@ -4,7 +4,7 @@ use Rattle.node_api.specs.interference.Net.{degree_of}
 use Rattle.node_api.specs.Boxes.{nothing}
 use Rattle.node_api.specs.Program.{own_of}
 use Rattle.sync_rounds.specs.Rests.{HasOutboxes, sent_by}
-use Rattle.sync_rounds.proofs.Resting.{outboxes_kept, own_out, sent_by-at, sent-length}
+use Rattle.sync_rounds.proofs.Resting.{is_loud, outboxes_kept, own_out, sent_by-at, sent-length}
 use Rattle.sync_rounds.proofs.Steps.{started}
 use Rattle.sync_rounds.proofs.engine.greet.Goals as goal
 
@@ -60,4 +60,5 @@ returns g c =
         before = c.requires.before;
         row = sent_by-at m.program net 0 v c.requires.vertex ∙ sym (ap (λ x. x.1) node);
       });
+      sent = is_loud c.send_out.result (degree_of net v) _ _ (ap (λ x. x.1) node) size c.send_out.ensures.sent;
     }

@@ -1,10 +1,11 @@
 -- The node makes the run's next pulse (`stepped`), so its outbox is the run's, and what is in it goes to the neighbours.
 use Rattle.std.proofs.Common.{◌≡◌, ◌<◌, ◌+◌, ℕ, suc, length, set, ap, sym, ◌∙◌, arith, subst}
+use Rattle.node_api.specs.interference.Net.{degree_of}
 use Rattle.node_api.specs.Boxes.{Mail, nothing}
 use Rattle.node_api.specs.Program.{RestsUntil}
 use Rattle.sync_rounds.specs.Rests.{HasOutboxes, sent_by}
 use Rattle.sync_rounds.proofs.Bounds.{one_next}
-use Rattle.sync_rounds.proofs.Resting.{outboxes_kept, own_out, sent_by-at, sent-length}
+use Rattle.sync_rounds.proofs.Resting.{is_loud, outboxes_kept, own_out, sent_by-at, sent-length}
 use Rattle.sync_rounds.proofs.Steps.{inbox_fits, left_empty, out_empty, stepped, unread_is}
 use Rattle.sync_rounds.proofs.engine.turn.Goals as goal
 
@@ -80,5 +81,6 @@ returns g c =
         row = sent_by-at m.program net next v c.requires.vertex ∙ sym (ap (λ x. x.1) node);
       });
       quiet = c.send_out-is_loud.ensures.quiet;
+      sent = is_loud c.send_out-is_loud.result (degree_of net v) _ _ (ap (λ x. x.1) node) size c.send_out-is_loud.ensures.sent;
       rests = subst (λ s. RestsUntil m.program s next c.rests_until-until.result) (ap (λ x. x.0) node) rests;
     }

@@ -1,4 +1,4 @@
-use Rattle.std.proofs.Common.{◌≡◌, ◌-◌, [], Some, map, refl, sym, ap, subst, ◌∙◌, arith, rules, map-id, vec_len}
+use Rattle.std.proofs.Common.{◌≡◌, ◌-◌, ◌≤◌, [], Some, map, refl, sym, ap, subst, ◌∙◌, arith, rules, map-id, vec_capacity, vec_len}
 use Rattle.std.proofs.lemmas.List.{length_push}
 use Rattle.std.proofs.lemmas.List.Elements.{All-pop, All-push, All-same}
 use Rattle.std.proofs.lemmas.Iterator.Consumers.{YieldsList-end, YieldsList-turn}
@@ -58,6 +58,8 @@ loop-own-preserved g c =
       guests = All-same (λ d. map (λ g'. deque_of g'.pass) d.guests.items ≡ map worker_deque c.args.owns.items) _ _ more.items
           (All-push (λ d. map (λ g'. deque_of g'.pass) d.guests.items ≡ map worker_deque c.args.owns.items) c.loop-own.all.items _ inv.guests
           (ap (λ gs. map (λ g'. deque_of g'.pass) gs.items) said.guests ∙ theirs.1));
+      places = All-same (λ d. c.args.tasks ≤ vec_capacity d.finished) _ _ more.items
+          (All-push (λ d. c.args.tasks ≤ vec_capacity d.finished) c.loop-own.all.items _ inv.places said.places);
       room = omega (arith, more.capacity, inv.room);
       rows = let l = c.in-Some-pop.ensures.len in let i = inv.rows in omega (arith, length_push c.loop-own.yielded c.in-Some.own);
       theirs = theirs.0;

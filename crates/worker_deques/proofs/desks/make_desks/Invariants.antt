@@ -9,6 +9,7 @@ abbrev pub invariant-loop-own : goal.invariant-loop-own
 invariant-loop-own g l = record {
   owns : map (λ d. worker_deque d.own) l.all.items ≡ map worker_deque l.yielded;
   guests : All (λ d. map (λ g'. deque_of g'.pass) d.guests.items ≡ map worker_deque l.fn.owns.items) l.all.items;
+  places : All (λ d. l.tasks ≤ vec_capacity d.finished) l.all.items;
   room : vec_len l.fn.owns ≤ vec_capacity l.all;
   rows : vec_len l.rows + length l.yielded ≡ vec_len l.fn.owns;
   theirs : All (λ row. map (λ g'. deque_of g'.pass) row.items ≡ map worker_deque l.fn.owns.items) l.rows.items;

@@ -18,20 +18,21 @@ unreachable-requires g c =
 
 -- room for an entry was made
 pub invariant_of-self : goal.invariant_of-self
-invariant_of-self g c = record { kept = kept-room c.args.self.now.kept c.keep_room.ensures.same c.keep_room.ensures.stamped }
+invariant_of-self g c = record { kept = kept-room c.args.self.now.kept c.reserve.ensures.same }
 
 pub invariant_of-self-in-Ok : goal.invariant_of-self-in-Ok
 invariant_of-self-in-Ok g c = record {
-  kept = kept-pulsed (kept-room c.args.self.now.kept c.keep_room.ensures.same c.keep_room.ensures.stamped) g.P.NodeProgram.laws c.requires.going (sym c.can_pulse.ensures.can ∙ c.if-not-can_pulse.false)
+  kept = kept-pulsed (kept-room c.args.self.now.kept c.reserve.ensures.same) g.P.NodeProgram.laws c.requires.going
+      (sym c.can_pulse.ensures.can ∙ c.if-not-can_pulse.false)
       c.in-Ok.ensures.pulse c.pulse_number-number.ensures.pulse c.in-Ok.ensures.last
-      c.in_ok-stamp.ensures.stamp c.advance.ensures.value c.write.ensures.entries c.write.ensures.stamped;
+      c.in_ok-stamp.ensures.stamp c.advance.ensures.value c.write.ensures.written;
 }
 
 pub advance-requires : goal.advance-requires
 advance-requires g c = record { above = next_above c.in_ok-stamp.stamp c.args.self.now.counter c.in_ok-stamp.ensures.stamp }
 
 pub write-requires : goal.write-requires
-write-requires g c = record { room = c.in_ok-keep_room.ensures.room }
+write-requires g c = record { room = c.in_ok-reserve.ensures.room }
 
 -- the stamp would be too great
 pub returns-in_err-stamp : goal.returns-in_err-stamp
@@ -45,11 +46,12 @@ returns-in_err-stamp g c =
     }
 
 -- memory was refused
-pub returns-in_err-keep_room : goal.returns-in_err-keep_room
-returns-in_err-keep_room g c = record {
-  stepped = stepped-memory c.from_residual-in_err-keep_room.ensures.1 refl refl refl (subst IsTrue c.args.self.now.kept.recorded c.in_err-keep_room.ensures.refused);
-  counted = IfOk-from_err c.from_residual-in_err-keep_room.result _ c.from_residual-in_err-keep_room.ensures.0;
-  blocked = IfOk-from_err c.from_residual-in_err-keep_room.result _ c.from_residual-in_err-keep_room.ensures.0;
+pub returns-in_err-reserve : goal.returns-in_err-reserve
+returns-in_err-reserve g c = record {
+  stepped = stepped-memory c.from_residual-in_err-reserve.ensures.1 refl refl refl
+      (subst IsTrue c.args.self.now.kept.recorded c.in_err-reserve.ensures.refused);
+  counted = IfOk-from_err c.from_residual-in_err-reserve.result _ c.from_residual-in_err-reserve.ensures.0;
+  blocked = IfOk-from_err c.from_residual-in_err-reserve.result _ c.from_residual-in_err-reserve.ensures.0;
   going = c.requires.going;
 }
 

@@ -1,5 +1,5 @@
 -- The plan: each exit is an event of the node, and what it keeps after it is a lemma of `Keeping`.
-use Rattle.std.proofs.Common.{[], ◌∷◌, ◌++◌, ◌<◌, ◌^◌, length, refl, sym, ap, ◌∙◌, subst, arith, true≢false}
+use Rattle.std.proofs.Common.{[], ◌∷◌, ◌++◌, ◌<◌, ◌^◌, length, refl, sym, ap, ◌∙◌, inl, inr, subst, arith, true≢false}
 use Rattle.std.specs.Prelude.{IsTrue}
 use Rattle.std.proofs.lemmas.Result.{IfOk-from_err}
 use Rattle.alpha_laws.specs.alpha_core.StampedWires.{last_stamp, wires_of}
@@ -11,7 +11,7 @@ use Rattle.alpha_laws.specs.interference.Net.{degree_of, neighbour_of}
 use Rattle.alpha_laws.specs.alpha_core.Program.{IsLegal}
 use Rattle.actor.specs.HasStamps.{aside_stamp}
 use Rattle.actor.proofs.Refusals.{first_there, next_above, past_greater}
-use Rattle.actor.proofs.Stepping.{stepped-did, stepped-full, stepped-memory, stepped-not}
+use Rattle.actor.proofs.Stepping.{full-there, stepped-did, stepped-full, stepped-memory, stepped-not}
 use Rattle.actor.proofs.node.Node.put_one.Goals as goal
 
 -- there is an end for each port
@@ -53,17 +53,17 @@ put-requires-clause-above g c κs within =
 
 pub invariant_of-self-in-Err : goal.invariant_of-self-in-Err
 invariant_of-self-in-Err g c = record {
-  kept = kept-none-put (kept-room c.args.self.now.kept c.keep_room.ensures.same c.keep_room.ensures.stamped) c.requires.going
+  kept = kept-none-put (kept-room c.args.self.now.kept c.reserve.ensures.same) c.requires.going
       record { is = c.index_mut.ensures.value; place = c.in-Err.ensures.place; same = c.in-Err.ensures.unchanged };
 }
 
 pub invariant_of-self-in-Ok : goal.invariant_of-self-in-Ok
 invariant_of-self-in-Ok g c = record {
-  kept = kept-put (kept-room c.args.self.now.kept c.keep_room.ensures.same c.keep_room.ensures.stamped) c.requires.going c.requires.port
+  kept = kept-put (kept-room c.args.self.now.kept c.reserve.ensures.same) c.requires.going c.requires.port
       record { is = c.index_mut.ensures.value; place = c.in-Ok.ensures.place; more = c.in-Ok.ensures.stamped }
       c.index-neighbour.ensures (sym c.in-Some.ensures.oldest) c.put_done.ensures.view c.put_done.ensures.state
       c.put_done.ensures.last c.in_ok-stamp.ensures.stamp c.advance.ensures.value
-      c.write.ensures.entries c.write.ensures.stamped;
+      c.write.ensures.written;
 }
 
 -- the port is one of the node's
@@ -82,18 +82,19 @@ put_done-requires-clause-some g c κs within = first_there _ c.in-Some.wire (sym
 
 -- room for an entry was made
 pub invariant_of-self : goal.invariant_of-self
-invariant_of-self g c = record { kept = kept-room c.args.self.now.kept c.keep_room.ensures.same c.keep_room.ensures.stamped }
+invariant_of-self g c = record { kept = kept-room c.args.self.now.kept c.reserve.ensures.same }
 
 pub advance-requires : goal.advance-requires
 advance-requires g c = record { above = next_above c.in_ok-stamp.stamp c.args.self.now.counter c.in_ok-stamp.ensures.stamp }
 
 pub write-requires : goal.write-requires
-write-requires g c = record { room = c.in_ok-keep_room.ensures.room }
+write-requires g c = record { room = c.in_ok-reserve.ensures.room }
 
 pub returns-in_default : goal.returns-in_default
 returns-in_default g c = record {
   stepped = stepped-not refl refl refl record { alpha = refl; aside = refl; puts = refl; takes = refl; entries = refl; counter = refl };
   counted = λ did. absurd (true≢false (sym did));
+  blocked = λ did. inl (sym c.in_default.ensures.oldest);
   going = c.requires.going;
 }
 
@@ -104,31 +105,42 @@ returns-in_err-stamp g c =
     record {
       stepped = stepped-full c.from_residual.ensures.1 refl refl refl (past_greater (2 ^ 64) old.counter (aside_stamp old.aside) c.in_err-stamp.ensures.full);
       counted = IfOk-from_err c.from_residual.result _ c.from_residual.ensures.0;
+      blocked = IfOk-from_err c.from_residual.result _ c.from_residual.ensures.0;
       going = c.requires.going;
     }
 
 -- memory was refused
-pub returns-in_err-keep_room : goal.returns-in_err-keep_room
-returns-in_err-keep_room g c = record {
-  stepped = stepped-memory c.from_residual-in_err-keep_room.ensures.1 refl refl refl (subst IsTrue c.args.self.now.kept.recorded c.in_err-keep_room.ensures.refused);
-  counted = IfOk-from_err c.from_residual-in_err-keep_room.result _ c.from_residual-in_err-keep_room.ensures.0;
+pub returns-in_err-reserve : goal.returns-in_err-reserve
+returns-in_err-reserve g c = record {
+  stepped = stepped-memory c.from_residual-in_err-reserve.ensures.1 refl refl refl
+      (subst IsTrue c.args.self.now.kept.recorded c.in_err-reserve.ensures.refused);
+  counted = IfOk-from_err c.from_residual-in_err-reserve.result _ c.from_residual-in_err-reserve.ensures.0;
+  blocked = IfOk-from_err c.from_residual-in_err-reserve.result _ c.from_residual-in_err-reserve.ensures.0;
   going = c.requires.going;
 }
 
 -- the link was full
 pub returns-in-Err : goal.returns-in-Err
-returns-in-Err g c = record {
-  stepped = stepped-not refl refl refl record {
-    alpha = refl;
-    aside = refl;
-    puts = same_all (λ e. put_list e.end) _ _ _ _ c.index_mut.ensures.value (ap (λ l. wires_of l) c.in-Err.ensures.unchanged);
-    takes = refl;
-    entries = c.keep_room.ensures.same;
-    counter = refl;
-  };
-  counted = λ did. absurd (true≢false (sym did));
-  going = c.requires.going;
-}
+returns-in-Err g c =
+    let old = c.args.self.now in
+    let is = c.index_mut.ensures.value in
+    let lt = port_below old.kept c.args.port c.requires.port in
+    let inside = below_as_many c.args.port (length old.puts.items) (degree_of g.J.Wiring.net old.vertex) (count_puts old.kept) lt in
+    let place = at_place (λ e. (e.vertex, e.port)) (λ i. (old.vertex, i)) old.puts.items (degree_of g.J.Wiring.net old.vertex) c.args.port _ old.kept.outs lt is in
+    let here = get_map (λ e. put_list e.end) old.puts.items c.args.port _ [] inside is in
+    record {
+      stepped = stepped-not refl refl refl record {
+        alpha = refl;
+        aside = refl;
+        puts = same_all (λ e. put_list e.end) _ _ _ _ is (ap (λ l. wires_of l) c.in-Err.ensures.unchanged);
+        takes = refl;
+        entries = c.reserve.ensures.same.entries;
+        counter = refl;
+      };
+      counted = λ did. absurd (true≢false (sym did));
+      blocked = λ did. inr (full-there g.J.Wiring.tables old.vertex c.args.port place here c.in-Err.ensures.full);
+      going = c.requires.going;
+    }
 
 -- a wire was put
 pub returns-in-Ok : goal.returns-in-Ok
@@ -136,6 +148,7 @@ returns-in-Ok g c =
     let old = c.args.self.now in
     record {
       stepped = stepped-did refl refl refl;
+      blocked = λ did. absurd (true≢false did);
       counted = λ did. record {
         one_more = c.advance.ensures.value ∙ c.in_ok-stamp.ensures.stamp;
         stamp = last_went old.kept c.requires.port record { is = c.index_mut.ensures.value; place = c.in-Ok.ensures.place; more = c.in-Ok.ensures.stamped }

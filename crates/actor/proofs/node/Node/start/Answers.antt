@@ -5,6 +5,7 @@ use Rattle.alpha_laws.specs.alpha_core.Program.{start_node}
 use Rattle.alpha_laws.proofs.NodeLaws.{starts_keep}
 use Rattle.alpha_laws.specs.Kept.{NodeKept}
 use Rattle.alpha_laws.proofs.Runs.{runs}
+use Rattle.stamps.specs.entries.Recorded.{entries_by, is_on, stamped_by}
 use Rattle.link_queue.specs.Ends.{put_list, put_stamped, taken_list, taken_stamped}
 use Rattle.actor.specs.Node.{by_port, links_in, links_out}
 use Rattle.actor.proofs.Lists.{none_at}
@@ -29,7 +30,7 @@ invariant_of-result g c =
       kept = record {
         network = subst (λ net. IsNetwork net) same c.is_network.ensures;
         is_vertex = subst (λ net. IsVertex net c.args.vertex) same c.requires.vertex;
-        recorded = sym c.requires.transcript;
+        recorded = c.new-2.ensures.on ∙ sym c.requires.transcript;
         ports = c.degree.ensures.value ∙ ap (λ net. degree_of net c.args.vertex) same;
         outs = c.requires.outs ∙ ap (λ net. links_out net c.args.vertex) same;
         ins = c.requires.ins ∙ ap (λ net. links_in net c.args.vertex) same;
@@ -38,14 +39,16 @@ invariant_of-result g c =
             taken) same (subst (λ n. NodeKept program c.args.net.now c.args.vertex n sent
             taken) (sym c.in_ok-alpha.ensures.node) kept);
         set_aside = λ a none. absurd cc;
-        writes = subst (λ net. IsTranscript program net c.args.vertex c.args.transcript c.in_ok-alpha.alpha.node sent taken c.new-2.result.items) same
-            (subst (λ n. IsTranscript program c.args.net.now c.args.vertex c.args.transcript n sent taken c.new-2.result.items) (sym c.in_ok-alpha.ensures.node)
-            (starts_transcript program c.args.net.now c.args.vertex c.args.transcript sent taken c.new-2.result.items
+        writes = subst (λ net. IsTranscript program net c.args.vertex (is_on c.new-2.result) c.in_ok-alpha.alpha.node sent taken
+            (entries_by c.new-2.result)) same
+            (subst (λ n. IsTranscript program c.args.net.now c.args.vertex (is_on c.new-2.result) n sent taken (entries_by c.new-2.result))
+            (sym c.in_ok-alpha.ensures.node)
+            (starts_transcript program c.args.net.now c.args.vertex (is_on c.new-2.result) sent taken (entries_by c.new-2.result)
             (none_at (λ e. put_list e.end) c.args.puts.items c.requires.nothing_put)
-            (none_at (λ e. taken_list e.end) c.args.takes.items c.requires.nothing_taken) c.new-2.ensures.items));
-        stamps = has_at_start g.J.Wiring.net c.args.vertex c.args.transcript c.new.result (by_port (map (λ e. put_stamped e.end) c.args.puts.items))
-            (by_port (map (λ e. taken_stamped e.end) c.args.takes.items)) c.new-2.result.items c.new-2.result.stamped c.new.ensures.zero
-            (none_stamped_at (λ e. put_stamped e.end) c.args.puts.items c.requires.nothing_put) c.new-2.ensures.items c.new-2.ensures.stamped;
+            (none_at (λ e. taken_list e.end) c.args.takes.items c.requires.nothing_taken) c.new-2.ensures.entries));
+        stamps = has_at_start g.J.Wiring.net c.args.vertex (is_on c.new-2.result) c.new.result (by_port (map (λ e. put_stamped e.end) c.args.puts.items))
+            (by_port (map (λ e. taken_stamped e.end) c.args.takes.items)) (entries_by c.new-2.result) (stamped_by c.new-2.result) c.new.ensures.zero
+            (none_stamped_at (λ e. put_stamped e.end) c.args.puts.items c.requires.nothing_put) c.new-2.ensures.entries c.new-2.ensures.stamped;
         full = λ a none. absurd cc;
       };
     }

@@ -18,21 +18,22 @@ index_mut-end-requires g c =
 
 pub invariant_of-self-in-None : goal.invariant_of-self-in-None
 invariant_of-self-in-None g c = record {
-  kept = kept-none-came (kept-room c.args.self.now.kept c.keep_room.ensures.same c.keep_room.ensures.stamped) c.requires.going
+  kept = kept-none-came (kept-room c.args.self.now.kept c.reserve.ensures.same) c.requires.going
       record { is = c.index_mut-end.ensures.value; place = c.in-None.ensures.place; same = c.in-None.ensures.unchanged };
 }
 
 pub invariant_of-self-in-Ok-on_wire : goal.invariant_of-self-in-Ok-on_wire
 invariant_of-self-in-Ok-on_wire g c = record {
-  kept = kept-took (kept-room c.args.self.now.kept c.keep_room.ensures.same c.keep_room.ensures.stamped) c.requires.going c.requires.port
+  kept = kept-took (kept-room c.args.self.now.kept c.reserve.ensures.same) c.requires.going c.requires.port
       (came c.in-Some.item c.index_mut-end.ensures.value c.in-Some.ensures.place c.in-Some.ensures.stamped
       c.stamp-stamp.ensures c.wire_of-wire.ensures.wire)
-      c.in-Some.ensures.legal c.in-Ok-on_wire.ensures.reaction c.in-Ok-on_wire.ensures.state c.in-Ok-on_wire.ensures.last c.in-Ok.ensures.stamp c.advance.ensures.value c.write.ensures.entries c.write.ensures.stamped;
+      c.in-Some.ensures.legal c.in-Ok-on_wire.ensures.reaction c.in-Ok-on_wire.ensures.state c.in-Ok-on_wire.ensures.last
+      c.in-Ok.ensures.stamp c.advance.ensures.value c.write.ensures.written;
 }
 
 pub invariant_of-self-in-Err : goal.invariant_of-self-in-Err
 invariant_of-self-in-Err g c = record {
-  kept = kept-refused (kept-room c.args.self.now.kept c.keep_room.ensures.same c.keep_room.ensures.stamped) c.requires.going c.requires.port
+  kept = kept-refused (kept-room c.args.self.now.kept c.reserve.ensures.same) c.requires.going c.requires.port
       (came c.in-Some.item c.index_mut-end.ensures.value c.in-Some.ensures.place c.in-Some.ensures.stamped
       c.stamp-stamp.ensures c.wire_of-wire.ensures.wire)
       c.in-Err.ensures.reaction (ap (λ a. a.node) c.in-Err.ensures.refused) c.in-Err.ensures.last;
@@ -41,14 +42,14 @@ invariant_of-self-in-Err g c = record {
 -- the stamp of the take would be too great
 pub invariant_of-self-in_default : goal.invariant_of-self-in_default
 invariant_of-self-in_default g c = record {
-  kept = kept-full (kept-room c.args.self.now.kept c.keep_room.ensures.same c.keep_room.ensures.stamped) c.requires.going c.requires.port
+  kept = kept-full (kept-room c.args.self.now.kept c.reserve.ensures.same) c.requires.going c.requires.port
       (came c.in-Some.item c.index_mut-end.ensures.value c.in-Some.ensures.place c.in-Some.ensures.stamped
       c.stamp-stamp.ensures c.wire_of-wire.ensures.wire)
       c.in_default.ensures.full;
 }
 
 pub invariant_of-self : goal.invariant_of-self
-invariant_of-self g c = record { kept = kept-room c.args.self.now.kept c.keep_room.ensures.same c.keep_room.ensures.stamped }
+invariant_of-self g c = record { kept = kept-room c.args.self.now.kept c.reserve.ensures.same }
 
 pub on_wire-requires-clause-port : goal.on_wire-requires-clause-port
 on_wire-requires-clause-port g c κs within =
@@ -62,7 +63,7 @@ pub advance-requires : goal.advance-requires
 advance-requires g c = record { above = past_above c.in-Ok.next c.args.self.now.counter _ c.in-Ok.ensures.stamp }
 
 pub write-requires : goal.write-requires
-write-requires g c = record { room = c.in_ok-keep_room.ensures.room }
+write-requires g c = record { room = c.in_ok-reserve.ensures.room }
 
 -- the link was empty
 pub returns-in-None : goal.returns-in-None
@@ -72,16 +73,16 @@ returns-in-None g c = record {
     aside = refl;
     puts = refl;
     takes = same_all (λ e. taken_list e.end) _ _ _ _ c.index_mut-end.ensures.value (ap (λ l. wires_of l) c.in-None.ensures.unchanged);
-    entries = c.keep_room.ensures.same;
+    entries = c.reserve.ensures.same.entries;
     counter = refl;
   };
   counted = λ did. absurd (true≢false (sym did));
 }
 
 -- memory was refused
-pub returns-in_err-keep_room : goal.returns-in_err-keep_room
-returns-in_err-keep_room g c = record {
-  stepped = stepped-memory c.from_residual.ensures.1 refl refl refl (subst IsTrue c.args.self.now.kept.recorded c.in_err-keep_room.ensures.refused);
+pub returns-in_err-reserve : goal.returns-in_err-reserve
+returns-in_err-reserve g c = record {
+  stepped = stepped-memory c.from_residual.ensures.1 refl refl refl (subst IsTrue c.args.self.now.kept.recorded c.in_err-reserve.ensures.refused);
   counted = IfOk-from_err c.from_residual.result _ c.from_residual.ensures.0;
 }
 

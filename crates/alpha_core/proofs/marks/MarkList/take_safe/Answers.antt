@@ -1,45 +1,15 @@
-use Rattle.std.proofs.Common.{◌≡◌, ℕ, true, cond, refl, ap, ◌∙◌, arith}
-use Rattle.alpha_core.specs.declared.marks.Marks.{Marks}
-use Rattle.alpha_core.proofs.Kept.{are-counted, inside, lt-false, marks-set, one_more, safes-seen, safe-taken}
+-- The plan: there were as many safes as come before this one (safes-seen). So it sets one flag (safe-taken), and one count counts it
+-- (now-counted, next-counted).
+use Rattle.std.proofs.Common.{◌+◌, ap, ◌∙◌, arith}
+use Rattle.alpha_core.specs.When.{mark_safe, safes_before}
+use Rattle.alpha_core.proofs.Kept.{inside, marks-set, next-counted, now-counted, one_more, safes-seen, safe-taken}
 use Rattle.alpha_core.proofs.KeptFlags.{count-fits}
 use Rattle.alpha_core.proofs.marks.MarkList.take_safe.Goals as goal
-
-pub invariant_of-self : goal.invariant_of-self
-invariant_of-self c =
-    let a = c.self.inside in
-    let o = c.index-kept.result.now in
-    let at : o.safes ≡ a.pulse =
-    safes-seen a.pulse a.kept.items c.args.self.now c.self.view_is c.args.port o c.index-kept.ensures c.requires.port c.self.invariant.in_step
-    ∙ omega (arith, c.requires.none) in
-    let taken = safe-taken a.pulse o at in
-    are-counted a.pulse a.kept.items c.args.self.now c.self.view_is c.args.port o (one_more o) c.index-kept.ensures c.requires.port c.self.invariant
-    (omega (arith, at), omega (arith, at))
-    refl
-    (omega (arith, ap (λ (x : Marks). cond {A = ℕ} x.safe 1 0) taken, ap (λ b. cond {A = ℕ} b 1 0) (lt-false a.pulse o.safes (omega (arith, at)))))
-    (omega (arith, ap (λ (x : Marks). cond {A = ℕ} x.early_safe 1 0) taken))
-    refl
-
-pub returns : goal.returns
-returns c =
-    let a = c.self.inside in
-    let o = c.index-kept.result.now in
-    let at : o.safes ≡ a.pulse =
-    safes-seen a.pulse a.kept.items c.args.self.now c.self.view_is c.args.port o c.index-kept.ensures c.requires.port c.self.invariant.in_step
-    ∙ omega (arith, c.requires.none) in
-    record {
-      set = marks-set a.pulse a.kept.items c.args.self.now c.self.view_is c.args.port o (one_more o) c.index-kept.ensures c.requires.port
-          (λ (x : Marks). record x { safe = true }) (safe-taken a.pulse o at);
-    }
 
 pub index-kept-requires : goal.index-kept-requires
 index-kept-requires c =
     let a = c.self.inside in
     omega (arith, inside a.pulse a.kept.items c.args.self.now c.self.view_is c.args.port c.requires.port, a.kept.ok.0)
-
-pub overflow_add-self : goal.overflow_add-self
-overflow_add-self c =
-    let a = c.self.inside in
-    omega (arith, c.self.invariant.safes, count-fits a.pulse a.kept.items (λ m. m.safe), a.kept.ok.0)
 
 pub overflow_add-kept : goal.overflow_add-kept
 overflow_add-kept c =
@@ -48,7 +18,7 @@ overflow_add-kept c =
       arith,
       safes-seen a.pulse a.kept.items c.args.self.now c.self.view_is c.args.port c.index-kept.result.now c.index-kept.ensures
           c.requires.port c.self.invariant.in_step,
-      c.requires.none,
+      c.requires.next,
       c.requires.room,
       ap (λ v. v.pulse) c.self.view_is,
     )
@@ -57,3 +27,53 @@ pub index_mut-requires : goal.index_mut-requires
 index_mut-requires c =
     let a = c.self.inside in
     omega (arith, inside a.pulse a.kept.items c.args.self.now c.self.view_is c.args.port c.requires.port, a.kept.ok.0)
+
+pub overflow_add-self : goal.overflow_add-self
+overflow_add-self c =
+    let a = c.self.inside in
+    omega (arith, c.self.invariant.safes, count-fits a.pulse a.kept.items (λ m. m.safe), a.kept.ok.0)
+
+pub overflow_add-self-in-Next : goal.overflow_add-self-in-Next
+overflow_add-self-in-Next c =
+    let a = c.self.inside in
+    omega (arith, c.self.invariant.early_safes, count-fits a.pulse a.kept.items (λ m. m.early_safe), a.kept.ok.0)
+
+pub invariant_of-self : goal.invariant_of-self
+invariant_of-self c =
+    let a = c.self.inside in
+    let o = c.index-kept.result.now in
+    now-counted a.pulse a.kept.items c.args.self.now c.self.view_is c.args.port o c.index-kept.ensures c.requires.port c.self.invariant
+    (safes-seen a.pulse a.kept.items c.args.self.now c.self.view_is c.args.port o c.index-kept.ensures c.requires.port c.self.invariant.in_step
+    ∙ ap (λ n. a.pulse + n) (c.requires.next ∙ ap (λ w. safes_before w) c.in-Now.is))
+
+pub returns-in-Now : goal.returns-in-Now
+returns-in-Now c =
+    let a = c.self.inside in
+    let o = c.index-kept.result.now in
+    let at =
+    safes-seen a.pulse a.kept.items c.args.self.now c.self.view_is c.args.port o c.index-kept.ensures c.requires.port c.self.invariant.in_step
+    ∙ ap (λ n. a.pulse + n) c.requires.next in
+    record {
+      set = marks-set a.pulse a.kept.items c.args.self.now c.self.view_is c.args.port o (one_more o) c.index-kept.ensures c.requires.port
+          (λ m. mark_safe c.args.when m) (safe-taken a.pulse o c.args.when at);
+    }
+
+pub invariant_of-self-in-Next : goal.invariant_of-self-in-Next
+invariant_of-self-in-Next c =
+    let a = c.self.inside in
+    let o = c.index-kept.result.now in
+    next-counted a.pulse a.kept.items c.args.self.now c.self.view_is c.args.port o c.index-kept.ensures c.requires.port c.self.invariant
+    (safes-seen a.pulse a.kept.items c.args.self.now c.self.view_is c.args.port o c.index-kept.ensures c.requires.port c.self.invariant.in_step
+    ∙ ap (λ n. a.pulse + n) (c.requires.next ∙ ap (λ w. safes_before w) c.in-Next.is))
+
+pub returns-in-Next : goal.returns-in-Next
+returns-in-Next c =
+    let a = c.self.inside in
+    let o = c.index-kept.result.now in
+    let at =
+    safes-seen a.pulse a.kept.items c.args.self.now c.self.view_is c.args.port o c.index-kept.ensures c.requires.port c.self.invariant.in_step
+    ∙ ap (λ n. a.pulse + n) c.requires.next in
+    record {
+      set = marks-set a.pulse a.kept.items c.args.self.now c.self.view_is c.args.port o (one_more o) c.index-kept.ensures c.requires.port
+          (λ m. mark_safe c.args.when m) (safe-taken a.pulse o c.args.when at);
+    }

@@ -33,17 +33,17 @@ index_mut-left-requires g c =
     let size = c.args.self.now.lefts.ok.0 in
     omega (arith, within, size)
 
-pub returns-in_err-stamp-clause-keys : goal.returns-in_err-stamp-clause-keys
-returns-in_err-stamp-clause-keys g c =
+pub returns-in_err-first-clause-keys : goal.returns-in_err-first-clause-keys
+returns-in_err-first-clause-keys g c =
     let keys = heap_items c.args.self.now.keys in
     absurd (top_some c.args.self.now.lefts.items keys (drop 1 keys) c.in_ok-index.field-0.now c.index_mut-left.result.now c.requires.keys
-    (first g (goal.at.returns-in_err-stamp-clause-keys g c).In_ok-index) c.index_mut-left.ensures.value c.in_err-stamp.ensures)
+    (first g (goal.at.returns-in_err-first-clause-keys g c).In_ok-index) c.index_mut-left.ensures.value c.in_err-first.ensures)
 
-pub returns-in_err-stamp-clause-taken : goal.returns-in_err-stamp-clause-taken
-returns-in_err-stamp-clause-taken g c =
+pub returns-in_err-first-clause-taken : goal.returns-in_err-first-clause-taken
+returns-in_err-first-clause-taken g c =
     let keys = heap_items c.args.self.now.keys in
     absurd (top_some c.args.self.now.lefts.items keys (drop 1 keys) c.in_ok-index.field-0.now c.index_mut-left.result.now c.requires.keys
-    (first g (goal.at.returns-in_err-stamp-clause-taken g c).In_ok-index) c.index_mut-left.ensures.value c.in_err-stamp.ensures)
+    (first g (goal.at.returns-in_err-first-clause-taken g c).In_ok-index) c.index_mut-left.ensures.value c.in_err-first.ensures)
 
 pub overflow_add-result : goal.overflow_add-result
 overflow_add-result g c = let within = in_range g (goal.at.overflow_add-result g c).In_ok-index in let few = c.requires.few in omega (arith, within, few)
@@ -62,5 +62,5 @@ pub returns-clause-taken : goal.returns-clause-taken
 returns-clause-taken g c =
     let keys = heap_items c.args.self.now.keys in
     top_taken c.args.self.now.lefts.items keys (drop 1 keys) c.in_ok-index.field-0.now c.index_mut-left.result.now c.take.new.self
-    c.in_ok-stamp.stamp c.in_ok-stamp.entry c.requires.keys (first g (goal.at.returns-clause-taken g c).In_ok-index)
-    (c.in_ok-index.ensures.greatest c.requires.keys.heap) c.index_mut-left.ensures.value c.in_ok-stamp.ensures
+    c.in_ok-first.first.stamp c.in_ok-first.first.entry c.requires.keys (first g (goal.at.returns-clause-taken g c).In_ok-index)
+    (c.in_ok-index.ensures.greatest c.requires.keys.heap) c.index_mut-left.ensures.value c.in_ok-first.ensures

@@ -1,4 +1,4 @@
-use Rattle.colour_rules.proofs.Turning.{seeded-all}
+use Rattle.colour_rules.proofs.Turned.{seeded-all}
 use Rattle.colour_rules.proofs.colours.InForests.seed.Goals as goal
 
 pub returns-clause-colours : goal.returns-clause-colours

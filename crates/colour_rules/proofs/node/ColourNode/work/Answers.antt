@@ -1,119 +1,105 @@
-use Rattle.std.proofs.Common.{lit≤}
+-- The plan: each port to a parent brought a colour (Working.brought), so every forest is ready to be turned
+-- (Working.ready); then colours and those kept are the definition's (turned), the node is the definition's (worked) and
+-- keeps its invariant (stays), whether or not its children are told.
+use Rattle.std.proofs.Common.{◌≡◌, ◌≤◌, ℕ, List, length, ap, sym, ◌∙◌, subst}
 use Rattle.node_api.below.interference.specs.declared.limits.TheConstants.{MAX_DEGREE}
-use Rattle.colour_rules.specs.declared.work.TheConstants.{FEW_FORESTS, SOME_FORESTS, MORE_FORESTS, MANY_FORESTS, MOST_FORESTS}
-use Rattle.colour_rules.proofs.Valid.{forests-seen}
+use Rattle.std.proofs.lemmas.List.FromFn.{length-map-range_with_len}
+use Rattle.forests.specs.declared.numbering.Role.{Role}
+use Rattle.colour_rules.specs.Node.{HasForests, Node}
+use Rattle.colour_rules.specs.InForests.{before_in, colours_in}
+use Rattle.colour_rules.specs.Program.{AreReady, BringColours, from_parent, kept_all, next_colours, next_kept, turned_all}
+use Rattle.colour_rules.specs.contracts.node.ColourNode.{the_view}
+use Rattle.colour_rules.proofs.Valid.{IsValid, valid-seen, valid-colours}
+use Rattle.colour_rules.proofs.Working.{brought, ready, kept-below}
+use Rattle.colour_rules.proofs.Worked.{colours-are, kept-are, tells-on, tells-nothing}
 use Rattle.colour_rules.proofs.node.ColourNode.work.Goals as goal
+use Rattle.colour_rules.proofs.node.ColourNode.work.Goals.{After-turn_all}
 
-pub work_in-requires-clause-few : goal.work_in-requires-clause-few
-work_in-requires-clause-few c =
-    (forests-seen c.self.inside c.args.self.now FEW_FORESTS c.self.view_is c.if-forests-le-FEW_FORESTS.true, lit≤ tt)
+pub turn_all-requires-clause-brought : goal.turn_all-requires-clause-brought
+turn_all-requires-clause-brought c =
+    let node = c.args.self.now in
+    let slots = c.args.inbox.now.slots in
+    let v : IsValid node = valid-seen c.self.inside node c.self.view_is c.self.invariant in
+    let size : length node.before ≡ node.sizes.forests = v.4 in
+    let came : BringColours (length node.before) node.roles slots =
+    record {
+      few = subst (λ (n : ℕ). n ≤ MAX_DEGREE) (sym size) v.1;
+      ports = c.requires.accepted.size;
+      known = subst (λ (n : ℕ). HasForests n node.roles) (sym size) v.5;
+      colours = λ port f h up. let b = brought node c.args.reduction slots c.requires.accepted port f h up in (b.0, b.1);
+    } in
+    subst (λ (roles : List Role). BringColours (length (before_in c.self.inside.colours)) roles slots) (sym c.deref.ensures.value)
+    (subst (λ (n : Node). BringColours (length n.before) n.roles slots) (sym c.self.view_is) came)
 
-pub work_in-requires-clause-accepted : goal.work_in-requires-clause-accepted
-work_in-requires-clause-accepted c = c.requires.accepted
+pub turn_all-requires-clause-ready : goal.turn_all-requires-clause-ready
+turn_all-requires-clause-ready c =
+    let node = c.args.self.now in
+    let slots = c.args.inbox.now.slots in
+    let v : IsValid node = valid-seen c.self.inside node c.self.view_is c.self.invariant in
+    let inside = the_view c.self.inside in
+    subst (λ (roles : List Role). AreReady c.args.reduction inside.colours inside.before (λ f. from_parent f roles slots)) (sym c.deref.ensures.value)
+    (subst (λ (n : Node). AreReady c.args.reduction n.colours n.before (λ f. from_parent f n.roles slots)) (sym c.self.view_is)
+    (λ f h. ready node c.args.reduction slots c.requires.accepted v.6 (v.4 ∙ sym v.3) f h))
 
-pub work_in-requires-clause-unread : goal.work_in-requires-clause-unread
-work_in-requires-clause-unread c = c.requires.unread
+-- the colours after the turn, and those kept beside them
+turned : (c : After-turn_all) → (colours_in c.self.inside.id c.turn_all.new.self ≡ next_colours c.args.self.now c.args.reduction c.args.inbox.now.slots) ×
+    (before_in c.turn_all.new.self ≡ next_kept c.args.self.now c.args.reduction)
+turned c =
+    let node = c.args.self.now in
+    let slots = c.args.inbox.now.slots in
+    let inside = the_view c.self.inside in
+    let v : IsValid node = valid-seen c.self.inside node c.self.view_is c.self.invariant in (
+      c.turn_all.ensures.colours
+          ∙ (ap (λ (roles : List Role). turned_all c.args.reduction inside.colours inside.before (λ f. from_parent f roles slots)) c.deref.ensures.value
+          ∙ ap (λ (n : Node). turned_all c.args.reduction n.colours n.before (λ f. from_parent f n.roles slots)) c.self.view_is
+          ∙ colours-are node c.args.reduction v.3 slots),
+      c.turn_all.ensures.before ∙ (ap (λ (n : Node). kept_all c.args.reduction n.colours n.before) c.self.view_is ∙ kept-are node c.args.reduction v.3),
+    )
 
-pub work_in-requires-clause-out : goal.work_in-requires-clause-out
-work_in-requires-clause-out c = c.requires.out
+worked : (c : After-turn_all) → record (the_view c.self.inside) {
+  colours = colours_in c.self.inside.id c.turn_all.new.self;
+  before = before_in c.turn_all.new.self;
+} ≡ record c.args.self.now {
+  colours =
+      next_colours c.args.self.now c.args.reduction c.args.inbox.now.slots;
+  before = next_kept c.args.self.now c.args.reduction;
+}
+worked c =
+    let node = c.args.self.now in
+    let colours : List ℕ = colours_in c.self.inside.id c.turn_all.new.self in
+    let before : List ℕ = before_in c.turn_all.new.self in
+    ap (λ (n : Node). record n { colours = colours; before = before }) c.self.view_is
+    ∙ (ap (λ (cs : List ℕ). record node { colours = cs; before = before }) (turned c).0
+    ∙ ap (λ (cs : List ℕ). record node { colours = next_colours node c.args.reduction c.args.inbox.now.slots; before = cs }) (turned c).1)
 
-pub work_in-requires-then-forests-le-SOME_FORESTS-clause-few : goal.work_in-requires-then-forests-le-SOME_FORESTS-clause-few
-work_in-requires-then-forests-le-SOME_FORESTS-clause-few c =
-    (forests-seen c.self.inside c.args.self.now SOME_FORESTS c.self.view_is c.if-forests-le-SOME_FORESTS.true, lit≤ tt)
+stays : (c : After-turn_all) → IsValid (record (the_view c.self.inside) {
+  colours = colours_in c.self.inside.id c.turn_all.new.self;
+  before = before_in c.turn_all.new.self;
+})
+stays c =
+    let node = c.args.self.now in
+    let valid : IsValid node = valid-seen c.self.inside node c.self.view_is c.self.invariant in
+    subst IsValid (sym (worked c))
+    (valid-colours node (next_colours node c.args.reduction c.args.inbox.now.slots) (next_kept node c.args.reduction) valid
+    (length-map-range_with_len _ 0 node.sizes.forests) (length-map-range_with_len _ 0 node.sizes.forests)
+    (kept-below node c.args.reduction c.args.inbox.now.slots c.requires.accepted valid.6 (valid.4 ∙ sym valid.3) valid.3))
 
-pub work_in-requires-then-forests-le-SOME_FORESTS-clause-accepted : goal.work_in-requires-then-forests-le-SOME_FORESTS-clause-accepted
-work_in-requires-then-forests-le-SOME_FORESTS-clause-accepted c = c.requires.accepted
+pub invariant_of-self : goal.invariant_of-self
+invariant_of-self c =
+    let v = stays (goal.at.invariant_of-self c).After-turn_all in
+    (v.0, v.1, v.2, v.3, v.4, v.5, v.6, v.7, v.8, v.9, v.10, c.self.invariant.11)
 
-pub work_in-requires-then-forests-le-SOME_FORESTS-clause-unread : goal.work_in-requires-then-forests-le-SOME_FORESTS-clause-unread
-work_in-requires-then-forests-le-SOME_FORESTS-clause-unread c = c.requires.unread
+pub invariant_of-self-else-not-is_last : goal.invariant_of-self-else-not-is_last
+invariant_of-self-else-not-is_last c =
+    let v = stays (goal.at.invariant_of-self-else-not-is_last c).After-turn_all in
+    (v.0, v.1, v.2, v.3, v.4, v.5, v.6, v.7, v.8, v.9, v.10, c.self.invariant.11)
 
-pub work_in-requires-then-forests-le-SOME_FORESTS-clause-out : goal.work_in-requires-then-forests-le-SOME_FORESTS-clause-out
-work_in-requires-then-forests-le-SOME_FORESTS-clause-out c = c.requires.out
+pub returns-then-not-is_last-clause-node : goal.returns-then-not-is_last-clause-node
+returns-then-not-is_last-clause-node c =
+    tells-on c.args.self.now _ c.args.reduction _ _ (worked (goal.at.returns-then-not-is_last-clause-node c).After-turn_all) c.tell_colours.new.out
+    (sym c.if-not-is_last.ensures) c.tell_colours.ensures
 
-pub work_in-requires-then-forests-le-MORE_FORESTS-clause-few : goal.work_in-requires-then-forests-le-MORE_FORESTS-clause-few
-work_in-requires-then-forests-le-MORE_FORESTS-clause-few c =
-    (forests-seen c.self.inside c.args.self.now MORE_FORESTS c.self.view_is c.if-forests-le-MORE_FORESTS.true, lit≤ tt)
-
-pub work_in-requires-then-forests-le-MORE_FORESTS-clause-accepted : goal.work_in-requires-then-forests-le-MORE_FORESTS-clause-accepted
-work_in-requires-then-forests-le-MORE_FORESTS-clause-accepted c = c.requires.accepted
-
-pub work_in-requires-then-forests-le-MORE_FORESTS-clause-unread : goal.work_in-requires-then-forests-le-MORE_FORESTS-clause-unread
-work_in-requires-then-forests-le-MORE_FORESTS-clause-unread c = c.requires.unread
-
-pub work_in-requires-then-forests-le-MORE_FORESTS-clause-out : goal.work_in-requires-then-forests-le-MORE_FORESTS-clause-out
-work_in-requires-then-forests-le-MORE_FORESTS-clause-out c = c.requires.out
-
-pub work_in-requires-then-forests-le-MANY_FORESTS-clause-few : goal.work_in-requires-then-forests-le-MANY_FORESTS-clause-few
-work_in-requires-then-forests-le-MANY_FORESTS-clause-few c =
-    (forests-seen c.self.inside c.args.self.now MANY_FORESTS c.self.view_is c.if-forests-le-MANY_FORESTS.true, lit≤ tt)
-
-pub work_in-requires-then-forests-le-MANY_FORESTS-clause-accepted : goal.work_in-requires-then-forests-le-MANY_FORESTS-clause-accepted
-work_in-requires-then-forests-le-MANY_FORESTS-clause-accepted c = c.requires.accepted
-
-pub work_in-requires-then-forests-le-MANY_FORESTS-clause-unread : goal.work_in-requires-then-forests-le-MANY_FORESTS-clause-unread
-work_in-requires-then-forests-le-MANY_FORESTS-clause-unread c = c.requires.unread
-
-pub work_in-requires-then-forests-le-MANY_FORESTS-clause-out : goal.work_in-requires-then-forests-le-MANY_FORESTS-clause-out
-work_in-requires-then-forests-le-MANY_FORESTS-clause-out c = c.requires.out
-
-pub work_in-requires-then-forests-le-MOST_FORESTS-clause-few : goal.work_in-requires-then-forests-le-MOST_FORESTS-clause-few
-work_in-requires-then-forests-le-MOST_FORESTS-clause-few c =
-    (forests-seen c.self.inside c.args.self.now MOST_FORESTS c.self.view_is c.if-forests-le-MOST_FORESTS.true, lit≤ tt)
-
-pub work_in-requires-then-forests-le-MOST_FORESTS-clause-accepted : goal.work_in-requires-then-forests-le-MOST_FORESTS-clause-accepted
-work_in-requires-then-forests-le-MOST_FORESTS-clause-accepted c = c.requires.accepted
-
-pub work_in-requires-then-forests-le-MOST_FORESTS-clause-unread : goal.work_in-requires-then-forests-le-MOST_FORESTS-clause-unread
-work_in-requires-then-forests-le-MOST_FORESTS-clause-unread c = c.requires.unread
-
-pub work_in-requires-then-forests-le-MOST_FORESTS-clause-out : goal.work_in-requires-then-forests-le-MOST_FORESTS-clause-out
-work_in-requires-then-forests-le-MOST_FORESTS-clause-out c = c.requires.out
-
-pub work_in-requires-else-forests-le-MOST_FORESTS-clause-few : goal.work_in-requires-else-forests-le-MOST_FORESTS-clause-few
-work_in-requires-else-forests-le-MOST_FORESTS-clause-few c =
-    (forests-seen c.self.inside c.args.self.now MAX_DEGREE c.self.view_is c.self.invariant.1, lit≤ tt)
-
-pub work_in-requires-else-forests-le-MOST_FORESTS-clause-accepted : goal.work_in-requires-else-forests-le-MOST_FORESTS-clause-accepted
-work_in-requires-else-forests-le-MOST_FORESTS-clause-accepted c = c.requires.accepted
-
-pub work_in-requires-else-forests-le-MOST_FORESTS-clause-unread : goal.work_in-requires-else-forests-le-MOST_FORESTS-clause-unread
-work_in-requires-else-forests-le-MOST_FORESTS-clause-unread c = c.requires.unread
-
-pub work_in-requires-else-forests-le-MOST_FORESTS-clause-out : goal.work_in-requires-else-forests-le-MOST_FORESTS-clause-out
-work_in-requires-else-forests-le-MOST_FORESTS-clause-out c = c.requires.out
-
-pub returns-then-forests-le-FEW_FORESTS-clause-node : goal.returns-then-forests-le-FEW_FORESTS-clause-node
-returns-then-forests-le-FEW_FORESTS-clause-node c = c.work_in.ensures.node
-
-pub returns-then-forests-le-FEW_FORESTS-clause-slots : goal.returns-then-forests-le-FEW_FORESTS-clause-slots
-returns-then-forests-le-FEW_FORESTS-clause-slots c = c.work_in.ensures.slots
-
-pub returns-then-forests-le-SOME_FORESTS-clause-node : goal.returns-then-forests-le-SOME_FORESTS-clause-node
-returns-then-forests-le-SOME_FORESTS-clause-node c = c.work_in-then-forests-le-SOME_FORESTS.ensures.node
-
-pub returns-then-forests-le-SOME_FORESTS-clause-slots : goal.returns-then-forests-le-SOME_FORESTS-clause-slots
-returns-then-forests-le-SOME_FORESTS-clause-slots c = c.work_in-then-forests-le-SOME_FORESTS.ensures.slots
-
-pub returns-then-forests-le-MORE_FORESTS-clause-node : goal.returns-then-forests-le-MORE_FORESTS-clause-node
-returns-then-forests-le-MORE_FORESTS-clause-node c = c.work_in-then-forests-le-MORE_FORESTS.ensures.node
-
-pub returns-then-forests-le-MORE_FORESTS-clause-slots : goal.returns-then-forests-le-MORE_FORESTS-clause-slots
-returns-then-forests-le-MORE_FORESTS-clause-slots c = c.work_in-then-forests-le-MORE_FORESTS.ensures.slots
-
-pub returns-then-forests-le-MANY_FORESTS-clause-node : goal.returns-then-forests-le-MANY_FORESTS-clause-node
-returns-then-forests-le-MANY_FORESTS-clause-node c = c.work_in-then-forests-le-MANY_FORESTS.ensures.node
-
-pub returns-then-forests-le-MANY_FORESTS-clause-slots : goal.returns-then-forests-le-MANY_FORESTS-clause-slots
-returns-then-forests-le-MANY_FORESTS-clause-slots c = c.work_in-then-forests-le-MANY_FORESTS.ensures.slots
-
-pub returns-then-forests-le-MOST_FORESTS-clause-node : goal.returns-then-forests-le-MOST_FORESTS-clause-node
-returns-then-forests-le-MOST_FORESTS-clause-node c = c.work_in-then-forests-le-MOST_FORESTS.ensures.node
-
-pub returns-then-forests-le-MOST_FORESTS-clause-slots : goal.returns-then-forests-le-MOST_FORESTS-clause-slots
-returns-then-forests-le-MOST_FORESTS-clause-slots c = c.work_in-then-forests-le-MOST_FORESTS.ensures.slots
-
-pub returns-else-forests-le-MOST_FORESTS-clause-node : goal.returns-else-forests-le-MOST_FORESTS-clause-node
-returns-else-forests-le-MOST_FORESTS-clause-node c = c.work_in-else-forests-le-MOST_FORESTS.ensures.node
-
-pub returns-else-forests-le-MOST_FORESTS-clause-slots : goal.returns-else-forests-le-MOST_FORESTS-clause-slots
-returns-else-forests-le-MOST_FORESTS-clause-slots c = c.work_in-else-forests-le-MOST_FORESTS.ensures.slots
+pub returns-else-not-is_last-clause-node : goal.returns-else-not-is_last-clause-node
+returns-else-not-is_last-clause-node c =
+    tells-nothing c.args.self.now _ c.args.reduction _ _ (worked (goal.at.returns-else-not-is_last-clause-node c).After-turn_all) c.args.out.now
+    (sym c.if-not-is_last.ensures) c.requires.out

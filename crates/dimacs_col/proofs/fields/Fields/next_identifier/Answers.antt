@@ -1,6 +1,8 @@
-use Rattle.std.proofs.Common.{◌∙◌, sym}
-use Rattle.dimacs_col.proofs.FieldNumbers.{fitting-missing}
+use Rattle.std.proofs.Common.{◌∙◌, ap, sym}
+use Rattle.std.specs.Option.{option_copied}
+use Rattle.dimacs_col.proofs.FieldNumbers.{identifier-missing}
 use Rattle.dimacs_col.proofs.fields.Fields.next_identifier.Goals as goal
 
-pub returns-in_err-field-clause-first : goal.returns-in_err-field-clause-first
-returns-in_err-field-clause-first c = c.from_residual.ensures ∙ sym (fitting-missing c.args.self.now 0 (sym c.in_err-field.ensures.first))
+pub returns-in-None-clause-first : goal.returns-in-None-clause-first
+returns-in-None-clause-first c =
+    sym (identifier-missing c.args.self.now 0 (sym c.next.ensures.first ∙ ap (λ o. option_copied o) c.in-None.is))

@@ -1,9 +1,9 @@
-use Rattle.std.proofs.Common.{◌≡◌, ◌∷◌, ◌++◌, [], length, arith, sym, ap, ap₂, ◌∙◌}
-use Rattle.std.specs.List.{zip}
+use Rattle.std.proofs.Common.{◌∷◌, ◌++◌, [], length, arith, sym, ap, ap₂, ◌∙◌}
 use Rattle.std.specs.Option.{option_to_list}
 use Rattle.std.proofs.lemmas.List.{append-nil, length-append}
 use Rattle.entries.specs.Bare.{entries_of, payloads_in}
-use Rattle.entries.proofs.More.{entries-long, entries-more, payloads-more, zip-more}
+use Rattle.entries.specs.Rows.{stamp_each, stamped_entry}
+use Rattle.entries.proofs.More.{entries-long, entries-more, payloads-more, stamp_each-more}
 use Rattle.entries.proofs.list.Entries.push_reserved.Goals as goal
 
 -- there is a payload more
@@ -83,15 +83,15 @@ returns-in-Some-clause-stamped g c =
     let e = c.self.inside in
     let count = entries-long e.bares.items e.payloads.items c.self.invariant.0 in
     let items = ap (λ v. v.items) c.self.view_is in
-    ap₂ zip c.push_reserved.ensures.items (more-in-Some g c ∙ ap (λ l. l ++ c.args.entry ∷ []) (sym items))
-    ∙ zip-more e.stamps.items (entries_of e.bares.items e.payloads.items) c.args.stamp c.args.entry (c.self.invariant.1 ∙ sym count)
-    ∙ ap (λ v. v.stamped ++ (c.args.stamp, c.args.entry) ∷ []) c.self.view_is
+    ap₂ stamp_each c.push_reserved.ensures.items (more-in-Some g c ∙ ap (λ l. l ++ c.args.entry ∷ []) (sym items))
+    ∙ stamp_each-more e.stamps.items (entries_of e.bares.items e.payloads.items) c.args.stamp c.args.entry (c.self.invariant.1 ∙ sym count)
+    ∙ ap (λ v. v.stamped ++ stamped_entry c.args.stamp c.args.entry ∷ []) c.self.view_is
 
 pub returns-in_default-clause-stamped : goal.returns-in_default-clause-stamped
 returns-in_default-clause-stamped g c =
     let e = c.self.inside in
     let count = entries-long e.bares.items e.payloads.items c.self.invariant.0 in
     let items = ap (λ v. v.items) c.self.view_is in
-    ap₂ zip c.push_reserved.ensures.items (more-in_default g c ∙ ap (λ l. l ++ c.args.entry ∷ []) (sym items))
-    ∙ zip-more e.stamps.items (entries_of e.bares.items e.payloads.items) c.args.stamp c.args.entry (c.self.invariant.1 ∙ sym count)
-    ∙ ap (λ v. v.stamped ++ (c.args.stamp, c.args.entry) ∷ []) c.self.view_is
+    ap₂ stamp_each c.push_reserved.ensures.items (more-in_default g c ∙ ap (λ l. l ++ c.args.entry ∷ []) (sym items))
+    ∙ stamp_each-more e.stamps.items (entries_of e.bares.items e.payloads.items) c.args.stamp c.args.entry (c.self.invariant.1 ∙ sym count)
+    ∙ ap (λ v. v.stamped ++ stamped_entry c.args.stamp c.args.entry ∷ []) c.self.view_is

@@ -1,55 +1,76 @@
--- A round leaves each list as the next pulse asks for it; it writes each back whole.
-use Rattle.std.proofs.Common.{◌<◌, ◌+◌, List, length, ap, sym, ◌∙◌, subst}
-use Rattle.std.specs.Prelude.{Option}
+-- A pulse that changes nothing leaves all as it is (`Still`); a round leaves all as the next one asks for it, once the inboxes have changed places.
+use Rattle.std.proofs.Common.{Bool, ◌<◌, ◌≤◌, ◌+◌, ℕ, suc, List, length, ap, sym, ◌∙◌, arith, subst}
+use Rattle.std.specs.Prelude.{Option, slice_index_or}
 use Rattle.node_api.specs.interference.Net.{count_of}
-use Rattle.node_api.specs.Boxes.{Mail}
-use Rattle.node_api.specs.Run.{outbox_at, state_at}
+use Rattle.node_api.specs.Boxes.{Mail, unread}
+use Rattle.node_api.specs.Run.{inbox_at, state_at}
 use Rattle.sync_rounds.specs.Lists.{Lists, empty_inbox}
-use Rattle.sync_rounds.specs.Rounds.{AtPulse}
+use Rattle.sync_rounds.specs.Rests.{AreLoud, AreResting, HasOutboxes}
+use Rattle.sync_rounds.proofs.Bounds.{next_is}
 use Rattle.sync_rounds.proofs.Resting.{whole_written}
+use Rattle.sync_rounds.proofs.Still.{still-inboxes, still-loud, still-nodes, still-rests}
 use Rattle.sync_rounds.proofs.rounds.Rounds.step.Goals as goal
-
-pub round-requires-clause-done : goal.round-requires-clause-done
-round-requires-clause-done g c κs within = subst (λ (at : AtPulse). at.pulse + 1 < 4294967296) (sym c.self.view_is) c.requires.pulse
-
-pub round-requires-clause-nodes : goal.round-requires-clause-nodes
-round-requires-clause-nodes g c κs within =
-    let at = c.self.inside in
-    subst (λ (xs : List _). Lists (count_of at.net.now) (state_at g.P.NodeProgram.program at.net.now at.pulse) xs) (sym c.deref_mut.ensures.value)
-    c.self.invariant.0
-
-pub round-requires-clause-inboxes : goal.round-requires-clause-inboxes
-round-requires-clause-inboxes g c κs within =
-    let at = c.self.inside in
-    subst (λ (xs : List (Mail _)). Lists (count_of at.net.now) (empty_inbox at.net.now) xs) (sym c.deref_mut-2.ensures.value) c.self.invariant.1
-
-pub round-requires-clause-outs : goal.round-requires-clause-outs
-round-requires-clause-outs g c κs within =
-    let at = c.self.inside in
-    subst (λ (xs : List (List (Option _))). Lists (count_of at.net.now) (outbox_at g.P.NodeProgram.program at.net.now at.pulse) xs)
-    (sym c.deref_mut-3.ensures.value) c.self.invariant.2
-
-pub round-requires-clause-senders : goal.round-requires-clause-senders
-round-requires-clause-senders g c κs within = c.self.invariant.3
 
 pub invariant_of-self : goal.invariant_of-self
 invariant_of-self g c =
     let m = g.P.NodeProgram in
+    let laws = m.laws.keeps_ports in
     let at = c.self.inside in
-    let r = c.round in (
-      subst (λ (xs : List _). Lists (count_of at.net.now) (state_at m.program at.net.now (at.pulse + 1)) xs)
-          (sym (whole_written at.nodes.items r.new.nodes at.nodes.len (r.auto.nodes ∙ ap length c.deref_mut.ensures.value) (sym at.nodes.ok.0)))
-          r.ensures.nodes,
-      subst (λ (xs : List (Mail _)). Lists (count_of at.net.now) (empty_inbox at.net.now) xs)
-          (sym (whole_written at.inboxes.items r.new.inboxes at.inboxes.len (r.auto.inboxes ∙ ap length c.deref_mut-2.ensures.value)
-          (sym at.inboxes.ok.0))) r.ensures.inboxes,
-      subst (λ (xs : List (List (Option _))). Lists (count_of at.net.now) (outbox_at m.program at.net.now (at.pulse + 1)) xs)
-          (sym (whole_written at.outs.items r.new.outs at.outs.len (r.auto.outs ∙ ap length c.deref_mut-3.ensures.value) (sym at.outs.ok.0)))
-          r.ensures.outs,
-      r.ensures.senders,
+    let net = c.self.inside.net.now in
+    let p = c.self.inside.pulse in
+    let n = count_of net in
+    let (nodes, loud, outs, rests, came, later, quiet, least) = c.self.invariant in
+    let ok = c.is_network.ensures in
+    let empty = quiet c.if-not-self.true in
+    let early : (k d : ℕ) → k < count_of c.self.inside.net.now → suc c.self.inside.pulse < slice_index_or c.self.inside.untils.items k d =
+    λ k d below. omega (arith, least k d below, c.if-done-self.true) in (
+      subst (λ (q : ℕ). Lists n (state_at m.program net q) at.nodes.items) (next_is p)
+          (still-nodes m.program laws net ok p at.untils.items at.inboxes.items rests came empty early at.nodes.items nodes),
+      subst (λ (q : ℕ). AreLoud m.program net q at.loud.items) (next_is p)
+          (still-loud m.program laws net ok p at.untils.items at.inboxes.items rests came empty early at.loud.items loud),
+      outs,
+      subst (λ (q : ℕ). AreResting m.program net q at.untils.items) (next_is p)
+          (still-rests m.program laws net ok p at.untils.items at.inboxes.items rests came empty early),
+      subst (λ (q : ℕ). Lists n (λ v. unread (inbox_at m.program net (suc q) v)) at.inboxes.items) (next_is p)
+          (still-inboxes m.program laws net ok p at.untils.items at.inboxes.items rests came empty early),
+      later,
+      quiet,
+      least,
     )
 
-pub returns : goal.returns
-returns g c =
-    let next : AtPulse → AtPulse = λ at. record { net = at.net; pulse = at.pulse + 1 } in
-    record { step = ap next c.self.view_is }
+pub round-self-inside-requires-clause-now : goal.round-self-inside-requires-clause-now
+round-self-inside-requires-clause-now g c κs within =
+    let at = c.self.inside in
+    subst (λ (xs : List (Mail _)). Lists (count_of at.net.now) (λ v. unread (inbox_at g.P.NodeProgram.program at.net.now (suc at.pulse) v)) xs)
+    (sym c.deref_mut-5.ensures.value) c.self.invariant.4
+
+pub invariant_of-self-2 : goal.invariant_of-self-2
+invariant_of-self-2 g c =
+    let m = g.P.NodeProgram in
+    let at = c.self.inside in
+    let net = c.self.inside.net.now in
+    let n = count_of net in
+    let r = c.round-self-inside in
+    let next = next_is c.self.inside.pulse in
+    let untils_is = whole_written at.untils.items r.new.untils at.untils.len (r.auto.untils ∙ ap length c.deref_mut-3.ensures.value) (sym at.untils.ok.0) in
+    let inboxes_is = ap (λ v. v.items) c.swap.ensures.x_after
+    ∙ whole_written at.later.items r.new.later at.later.len (r.auto.later ∙ ap length c.deref_mut-6.ensures.value) (sym at.later.ok.0) in
+    let later_is = ap (λ v. v.items) c.swap.ensures.y_after
+    ∙ whole_written at.inboxes.items r.new.now at.inboxes.len (r.auto.now ∙ ap length c.deref_mut-5.ensures.value) (sym at.inboxes.ok.0) in (
+      subst (λ (xs : List _). Lists n (state_at m.program net (at.pulse + 1)) xs)
+          (sym (whole_written at.nodes.items r.new.nodes at.nodes.len (r.auto.nodes ∙ ap length c.deref_mut.ensures.value) (sym at.nodes.ok.0)))
+          (subst (λ (q : ℕ). Lists n (state_at m.program net q) r.new.nodes) next r.ensures.nodes),
+      subst (λ (xs : List Bool). AreLoud m.program net (at.pulse + 1) xs)
+          (sym (whole_written at.loud.items r.new.loud at.loud.len (r.auto.loud ∙ ap length c.deref_mut-4.ensures.value) (sym at.loud.ok.0)))
+          (subst (λ (q : ℕ). AreLoud m.program net q r.new.loud) next r.ensures.loud),
+      subst (λ (xs : List (List (Option _))). HasOutboxes net xs)
+          (sym (whole_written at.outs.items r.new.outs at.outs.len (r.auto.outs ∙ ap length c.deref_mut-2.ensures.value) (sym at.outs.ok.0)))
+          r.ensures.outs,
+      subst (λ (xs : List ℕ). AreResting m.program net (at.pulse + 1) xs) (sym untils_is)
+          (subst (λ (q : ℕ). AreResting m.program net q r.new.untils) next r.ensures.rests),
+      subst (λ (xs : List (Mail _)). Lists n (λ v. unread (inbox_at m.program net (suc (at.pulse + 1)) v)) xs) (sym inboxes_is)
+          (subst (λ (q : ℕ). Lists n (λ v. unread (inbox_at m.program net (suc q) v)) r.new.later) next r.ensures.later),
+      subst (λ (xs : List (Mail _)). Lists n (empty_inbox net) xs) (sym later_is) r.ensures.now,
+      λ none. subst (λ (xs : List (Mail _)). Lists n (empty_inbox net) xs) (sym inboxes_is) (r.ensures.quiet none),
+      λ k d below. subst (λ (xs : List ℕ). r.result.rests_until ≤ slice_index_or xs k d) (sym untils_is) (r.ensures.least k d below),
+    )

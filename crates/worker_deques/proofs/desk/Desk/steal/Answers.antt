@@ -9,18 +9,18 @@ pub steal-requires : goal.steal-requires
 steal-requires g c =
     let old = c.args.self.now in
     let thieves = c.args.thieves.now in
-    let lt : c.args.from < length thieves.items = (let q = c.requires.from in omega (arith, thieves.ok.0)) in
+    let lt : c.args.from < length thieves = c.requires.from in
     record {
-      deque = same_at (λ g'. deque_of g'.pass) stealer_deque old.guests.items thieves.items c.args.from _ _ c.requires.deques lt
-          c.index_mut.ensures.value c.index.ensures;
+      deque = same_at (λ g'. deque_of g'.pass) stealer_deque old.guests.items thieves c.args.from _ _ c.requires.deques lt
+          c.index_mut.ensures.value c.index-thieves-from.is;
     }
 
 pub invariant_of-self : goal.invariant_of-self
 invariant_of-self g c =
     let old = c.args.self.now in
     let thieves = c.args.thieves.now in
-    let many = as_many stealer_deque (λ g'. deque_of g'.pass) thieves.items old.guests.items c.requires.deques in
-    let lt : c.args.from < length old.guests.items = (let q = c.requires.from in omega (arith, thieves.ok.0, many)) in
+    let many = as_many stealer_deque (λ g'. deque_of g'.pass) thieves old.guests.items c.requires.deques in
+    let lt : c.args.from < length old.guests.items = (let q = c.requires.from in omega (arith, many)) in
     record {
       shares = old.shares;
       some = old.some;
@@ -32,6 +32,6 @@ pub returns-clause-deques : goal.returns-clause-deques
 returns-clause-deques g c =
     let old = c.args.self.now in
     let thieves = c.args.thieves.now in
-    let many = as_many stealer_deque (λ g'. deque_of g'.pass) thieves.items old.guests.items c.requires.deques in
-    let lt : c.args.from < length old.guests.items = (let q = c.requires.from in omega (arith, thieves.ok.0, many)) in
+    let many = as_many stealer_deque (λ g'. deque_of g'.pass) thieves old.guests.items c.requires.deques in
+    let lt : c.args.from < length old.guests.items = (let q = c.requires.from in omega (arith, many)) in
     map_change (λ g'. deque_of g'.pass) old.guests.items c.args.from _ _ lt c.index_mut.ensures.value c.steal.ensures.deque

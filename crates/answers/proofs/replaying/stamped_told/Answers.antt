@@ -1,0 +1,13 @@
+use Rattle.std.proofs.Common.{◌∙◌, subst, sym}
+use Rattle.answers.specs.ReplayAnswers.{SaysWhyNot, StopsThere}
+use Rattle.answers.proofs.WholeRefusals.{stops-there}
+use Rattle.answers.proofs.replaying.stamped_told.Goals as goal
+
+-- the entries without their stamps stop where those with them do
+pub told-requires-clause-stops : goal.told-requires-clause-stops
+told-requires-clause-stops g c κs within =
+    let program = g.P.NodeProgram.program in
+    let net = c.args.network.now in
+    let refused = c.in-Replay.refused in
+    subst (λ rows. StopsThere program net rows refused) (sym (c.as_slice.ensures.value ∙ c.in-Ok.ensures))
+    (stops-there program net c.args.rows.now refused (subst (λ r. SaysWhyNot program net c.args.rows.now r) c.in-Replay.is c.requires.why))

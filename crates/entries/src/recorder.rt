@@ -1,0 +1,71 @@
+//! What a node writes down, if it writes down what it does.
+
+ghost use Rattle.std.specs.Prelude.{◌≡◌, IsTrue, OnErr, OnOk, []};
+ghost use Rattle.entries.specs.Recorded.{HasRoom, HasSame, HasWritten, entries_by, is_on, stamped_by};
+
+use crate::entry::Entry;
+use crate::list::Entries;
+use alpha_core::Memory;
+use std::alloc::Global;
+
+/// The entries of a node that writes down what it does, or nothing.
+#[derive(Drop)]
+pub enum Recorder<T> {
+    Off,
+    On(Entries<T>),
+}
+
+impl<T: Copy> Recorder<T> {
+    /// A recorder without entries, which takes no memory: one that writes, or one that doesn't.
+    pub fn new(alloc: Global, on: bool) -> Recorder<T>
+        ensures on { is_on result ≡ on }
+        ensures entries { entries_by result ≡ [] }
+        ensures stamped { stamped_by result ≡ [] }
+    {
+        if on {
+            Recorder::On(Entries::new(alloc))
+        } else {
+            Recorder::Off
+        }
+    }
+
+    /// Room for one entry more, of any kind, if entries are written down.
+    ///
+    /// # Errors
+    ///
+    /// `Memory` if memory is refused.
+    #[inline(always)]
+    pub fn reserve(&mut self) -> Result<(), Memory>
+        ensures same { HasSame self.old self.new }
+        ensures room { OnOk result (HasRoom self.new) }
+        ensures refused { OnErr result (IsTrue (is_on self.old)) }
+    {
+        match self {
+            Recorder::Off => Ok(()),
+            Recorder::On(entries) => entries.reserve(),
+        }
+    }
+
+    /// Writes an entry down with its stamp, if entries are written down; there is room for it.
+    #[inline(always)]
+    pub fn write(&mut self, stamp: u64, entry: Entry<T>)
+        requires room { HasRoom self.old }
+        ensures written { HasWritten stamp entry self.old self.new }
+    {
+        match self {
+            Recorder::Off => {}
+            Recorder::On(entries) => entries.push_reserved(stamp, entry),
+        }
+    }
+
+    /// The entries that it wrote down; none if it wrote nothing.
+    pub fn into_entries(self, alloc: Global) -> Entries<T>
+        ensures entries { result.items ≡ entries_by self }
+        ensures stamped { result.stamped ≡ stamped_by self }
+    {
+        match self {
+            Recorder::Off => Entries::new(alloc),
+            Recorder::On(entries) => entries,
+        }
+    }
+}

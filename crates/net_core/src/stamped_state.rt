@@ -1,0 +1,28 @@
+//! The state that stamped entries lead to.
+
+ghost use Rattle.std.specs.Prelude.{◌≡◌};
+ghost use Rattle.stamps.specs.Table.{counter_at};
+
+use alpha_laws::NodeProgram;
+use event_machine::NetState;
+use stamps::StampTable;
+
+/// A state of the event machine with the stamps of its nodes: what `replay_whole` returns.
+///
+/// `NetState` itself has no stamps: nodes come to one state in whatever order each made its own events, but not with
+/// the same stamps.
+#[derive(Drop)]
+pub struct StampedState<P: NodeProgram> {
+    pub state: NetState<P>,
+    /// What the entries that lead to the state say of the next one.
+    pub table: StampTable,
+}
+
+impl<P: NodeProgram> StampedState<P> {
+    /// The stamp of a vertex: that of its last entry, or 0 if it has none.
+    pub fn stamp_of(&self, v: u32) -> u64
+        ensures stamp { result ≡ counter_at self.now.table v }
+    {
+        self.table.stamp_of(v)
+    }
+}
