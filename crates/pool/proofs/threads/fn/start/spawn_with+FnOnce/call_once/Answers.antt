@@ -1,4 +1,4 @@
-use Rattle.pool.proofs.run.fn.start.spawn_with+FnOnce.call_once.Goals as goal
+use Rattle.pool.proofs.threads.fn.start.spawn_with+FnOnce.call_once.Goals as goal
 
 -- the bounds of what the thread calls, and what its closure requires
 pub spawn_with-requires : goal.spawn_with-requires

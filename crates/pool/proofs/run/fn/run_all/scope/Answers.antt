@@ -4,7 +4,7 @@ use Rattle.crossbeam_deque.specs.Handles.{worker_deque}
 use Rattle.worker_deques.specs.deque_rule.Deques.{deque_of}
 use Rattle.pool.specs.declared.fault.PoolFault.TheVariants.{BadOptions, Memory, StampFull}
 use Rattle.worker_deques.proofs.Each.{err_says}
-use Rattle.pool.proofs.run.fn.run_nodes.scope.Goals as goal
+use Rattle.pool.proofs.run.fn.run_all.scope.Goals as goal
 
 memory_is_other : Memory ≡ BadOptions → ⊥
 memory_is_other e = absurd cc

@@ -6,9 +6,9 @@ use Rattle.std.proofs.lemmas.Iterator.Adapters.{YieldsList-from_vec}
 use Rattle.crossbeam_deque.specs.Handles.{stealer_deque}
 use Rattle.worker_deques.specs.deque_rule.Deques.{deque_of}
 use Rattle.worker_deques.proofs.Pushed.{image_pushed}
-use Rattle.pool.proofs.run.start_all.Given.{Over}
-use Rattle.pool.proofs.run.start_all.Goals.{In-Some}
-use Rattle.pool.proofs.run.start_all.Goals as goal
+use Rattle.pool.proofs.threads.start_all.Given.{Over}
+use Rattle.pool.proofs.threads.start_all.Goals.{In-Some}
+use Rattle.pool.proofs.threads.start_all.Goals as goal
 
 -- the desk of a turn is that of its worker
 turn : (g : Over) (c : In-Some g)

@@ -2,7 +2,7 @@ use Rattle.std.proofs.Common.{map, arith}
 use Rattle.crossbeam_deque.specs.Handles.{worker_deque}
 use Rattle.worker_deques.specs.deque_rule.Deques.{deque_of}
 use Rattle.pool.proofs.Joined.{kept_images}
-use Rattle.pool.proofs.run.join_all.Goals as goal
+use Rattle.pool.proofs.threads.join_all.Goals as goal
 
 pub returns-in-Ok-clause-owns : goal.returns-in-Ok-clause-owns
 returns-in-Ok-clause-owns g c =
