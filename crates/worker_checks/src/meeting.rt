@@ -82,7 +82,7 @@ impl Meeting {
         met && workers && nodes && pairs
     }
 
-    // Waits until a worker has left a turn. Returns whether it has, after so many looks at most.
+    // Waits until a worker has left a turn. Returns whether it has, after at most `TRIES` looks.
     fn sees(&self, worker: u32) -> bool {
         for _ in 0..TRIES {
             if self.by_worker.of(worker) > 0 {
