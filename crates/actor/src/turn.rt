@@ -14,7 +14,7 @@ use crate::links::Links;
 use crate::node::Node;
 use crate::refused::TurnRefused;
 use crate::wiring::Wiring;
-use alpha_laws::{NodeProgram, Stamped, Wire};
+use alpha_laws::{NodeProgram, PayloadText, Stamped, Wire};
 use link_queue::Queued;
 use stamps::Entry;
 use std::sync::Wait;
@@ -26,11 +26,11 @@ const TAKES: u32 = 4;
 const PUTS: u32 = 4;
 
 // The wire that the queue of a link held, without its stamp.
-fn wire_of<T>(item: Queued<T>) -> Wire<T>
+fn wire_of<T: PayloadText>(item: Queued<T>) -> Wire<T>
     ensures wire { result ≡ (stamped_of item).wire }
 {
     match item {
-        Queued::Payload(pulse, _, payload) => Wire::Payload(pulse, payload),
+        Queued::Payload(pulse, _, payload) => Wire::Payload(pulse, payload.by_words()),
         Queued::Ack(pulse, _) => Wire::Ack(pulse),
         Queued::Safe(pulse, _) => Wire::Safe(pulse),
         Queued::Close(_) => Wire::Close,

@@ -36,4 +36,5 @@ module _ {M : Type 0} where
   pub record HasWritten (stamp : ℕ) (entry : Entry M) (old new : Recorder M) : Type 0 where
     pub on : is_on new ≡ is_on old
     pub entries : entries_by new ≡ (if is_on old then entries_by old ++ (entry ∷ []) else entries_by old)
-    pub stamped : stamped_by new ≡ (if is_on old then stamped_by old ++ (stamped_entry stamp entry ∷ []) else stamped_by old)
+    pub stamped : stamped_by new
+        ≡ (if is_on old then stamped_by old ++ (stamped_entry stamp entry ∷ []) else stamped_by old)
