@@ -4,11 +4,11 @@ use Rattle.std.proofs.Common.{Some, slice_get}
 use Rattle.std.specs.Prelude.{option_map}
 use Rattle.std.specs.List.{range_with_len}
 use Rattle.std.proofs.lemmas.Option.{slice_get-map}
+use Rattle.std.proofs.lemmas.Simd.{map-map}
 use Rattle.atomic_table.specs.Seated.{TableId}
 use Rattle.gather_laws.specs.alpha_laws.Net.{Net, IsNetwork, degree_of, neighbour_of, back_port_of, vertices}
 use Rattle.gather_laws.proofs.alpha_laws.Across.{over}
 use Rattle.actor.specs.Node.{links_in, links_out}
-use Rattle.outcomes.proofs.ReadLists.{map-twice}
 use Rattle.outcomes.specs.Rows.{AreCrossed, HasShape, row_at}
 use Rattle.actor.specs.Tables.{table_at}
 use Rattle.outcomes.proofs.Rows.{by_entries, by_nodes, entry_of, row_by, row_map}
@@ -17,8 +17,8 @@ module _ {A E : Type 0} (net : Net) (ok : IsNetwork net) (vertex_of : A → ℕ)
     (puts : A → List E) (put_place : E → ℕ × ℕ) (outs : (a : A) → map put_place (puts a) ≡ links_out net (vertex_of a)) where
   -- what is read of the places of the ends of a node
   read_out : {B : Type 0} (f : ℕ × ℕ → B) (a : A) → map (λ e. f (put_place e)) (puts a) ≡ row_by net (λ v i. f (v, i)) (vertex_of a)
-  read_out f a = sym (map-twice f put_place (puts a)) ∙ ap (map f) (outs a)
-      ∙ map-twice f (λ i. (vertex_of a, i)) (range_with_len 0 (degree_of net (vertex_of a)))
+  read_out f a = sym (map-map f put_place (puts a)) ∙ ap (map f) (outs a)
+      ∙ map-map f (λ i. (vertex_of a, i)) (range_with_len 0 (degree_of net (vertex_of a)))
 
   -- the ends that put stand in the rows of the links
   pub links_meet : {L : Type 0} (tables : List (List TableId)) (table : L → TableId) (links : List (List L))

@@ -9,12 +9,9 @@ use Rattle.entries.specs.alpha_core.Wire.{Wire}
 use Rattle.entries.specs.declared.entry.Entry.{Entry}
 use Rattle.entries.specs.declared.entry.Entry.TheVariants.{Pulse, Put, Take}
 pub use Rattle.entries.specs.declared.rows.StampedEntry.{StampedEntry}
+pub use Rattle.entries.specs.Rows.{bare_of}
 
 module _ {M : Type 0} where
-  -- the entries without their stamps
-  abbrev pub bare_of : List (StampedEntry M) → List (Entry M)
-  bare_of entries = map (λ e. e.entry) entries
-
   -- the wire that an entry put, if its neighbour is one of these, with the stamp of the entry
   abbrev pub put_if : (ℕ → Bool) → ℕ → Entry M → List (Stamped M)
   put_if is_to s (Pulse p) = []
