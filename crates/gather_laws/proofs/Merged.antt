@@ -1,6 +1,5 @@
 -- The merged entries of an outcome.
-use Rattle.std.proofs.Common.{◌≡◌, ℕ, ◌<◌, true, List, refl, sym, ap, ap₂, ◌∙◌, subst}
-use Rattle.std.specs.Prelude.{IsTrue}
+use Rattle.std.proofs.Common.{◌≡◌, ℕ, ◌<◌, true, List, refl, sym, ap, ◌∙◌, subst}
 use Rattle.alpha_laws.specs.interference.Net.{Net, IsNetwork, IsVertex, count_of, degree_of, neighbour_of, back_port_of}
 use Rattle.alpha_laws.specs.node_api.Program.{Program, last_pulse_on}
 use Rattle.actor.specs.alpha_core.Stamped.{Stamped}

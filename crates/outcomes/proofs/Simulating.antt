@@ -2,7 +2,7 @@
 -- 1. The ends have met, with what the links say was put and taken (`Linked`).
 -- 2. So no wire was set aside, and each node keeps its links with the lists of the links (`kept`).
 -- 3. So the nodes simulate the synchronous run, and keep their stamps (`Stamping`); the rest is read of the rows (`is_outcome`).
-use Rattle.std.proofs.Common.{◌≡◌, ℕ, ◌-◌, ◌<◌, ◌≤◌, List, [], ◌++◌, length, map, get_or, sym, ap, ◌∙◌, subst, arith, Some, None}
+use Rattle.std.proofs.Common.{◌≡◌, ℕ, ◌-◌, ◌<◌, ◌≤◌, List, [], ◌++◌, length, map, get_or, sym, ap, ◌∙◌, subst, arith, None}
 use Rattle.std.specs.Prelude.{Bool, Option, All}
 use Rattle.std.proofs.Math.Path.{transport}
 use Rattle.std.proofs.lemmas.List.{length-map}
@@ -17,7 +17,7 @@ use Rattle.gather_laws.proofs.alpha_laws.Runs.{runs}
 use Rattle.gather_laws.proofs.alpha_laws.Claims.{simulates}
 use Rattle.actor.specs.alpha_core.Stamped.{Stamped}
 use Rattle.actor.specs.alpha_core.StampedWires.{wires_of}
-use Rattle.actor.specs.alpha_core.View.{Alpha, Node}
+use Rattle.actor.specs.alpha_core.View.{Alpha}
 use Rattle.actor.specs.alpha_core.Wire.{Wire}
 use Rattle.actor.specs.declared.aside.Aside.{Aside}
 use Rattle.actor.specs.stamps.Stamps.{StampedEntry, bare_of}
@@ -48,7 +48,7 @@ use Rattle.outcomes.proofs.Linked.{
   takens_at,
   takens_here,
 }
-use Rattle.outcomes.proofs.Stamping.{counters, have_met}
+use Rattle.outcomes.proofs.Stamping.{have_met}
 
 module _ {S M E A X Y : Type 0} {program : Program S M E} {net : Net} {nodes : List A} {vertex : A → ℕ} {alpha : A → Alpha S M}
     {aside : A → Option (Aside M)} {counter : A → ℕ} {puts : A → List X} {put : X → List (Stamped M)} {takes : A → List Y} {taken : Y → List (Stamped M)}

@@ -1,6 +1,6 @@
 -- The nodes that were gathered keep their stamps with the lists of the links, and are written down, and their ends have met: so their
 -- stamps rise, and their entries in order are one run (`gather_laws`).
-use Rattle.std.proofs.Common.{◌≡◌, ℕ, ◌-◌, List, ◌++◌, map, get_or, sym, ap, ◌∙◌}
+use Rattle.std.proofs.Common.{ℕ, ◌-◌, List, ◌++◌, map, get_or, sym, ap, ◌∙◌}
 use Rattle.std.proofs.Math.Path.{transport}
 use Rattle.std.specs.Prelude.{Bool, IsTrue, Option}
 use Rattle.gather_laws.specs.alpha_laws.Net.{Net, IsVertex}

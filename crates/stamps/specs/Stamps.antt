@@ -1,7 +1,7 @@
 -- The stamps of one node's entries. A node has a counter, from 0. A pulse or a put adds one to it; a take makes it one
 -- more than the greater of itself and the wire's stamp. The stamp of an entry is the counter after its event, and a
 -- wire has the stamp of its put (Lamport 1978).
-use Rattle.std.specs.Prelude.{◌≡◌, ℕ, suc, max, ◌<◌, ◌==◌, Bool, if◌then◌else◌, List, [], ◌∷◌, ◌++◌, map, length}
+use Rattle.std.specs.Prelude.{◌≡◌, ℕ, suc, max, ◌<◌, ◌==◌, Bool, if◌then◌else◌, List, [], ◌∷◌, ◌++◌, length}
 use Rattle.std.specs.Prelude.{All, slice_index_or}
 use Rattle.entries.specs.alpha_core.StampedWires.{stamped, wires_of}
 use Rattle.entries.specs.alpha_core.Stamped.{Stamped}
