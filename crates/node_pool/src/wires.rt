@@ -22,10 +22,10 @@ pub(crate) fn wired_puts<J: Wiring, P: NodeProgram>(
     ensures places { IfOk result (λ all. map (λ e. (e.vertex, e.port)) all.items ≡ links_out J.net v) }
     ensures nothing_put { IfOk result (λ all. All (λ e. put_list e.end ≡ []) all.items) }
 {
-    let mut all = Vec::new(alloc);
+    let mut all = Vec::with_capacity(alloc, ends.len())?;
     let mut port = 0;
     for end in ends {
-        all.push(WiredPut::<J, P::Payload>::new(v, port, end))?;
+        all.push_reserved(WiredPut::<J, P::Payload>::new(v, port, end));
         port += 1;
     }
     Ok(all)
@@ -45,11 +45,11 @@ pub(crate) fn wired_takes<J: Wiring, P: NodeProgram>(
     ensures nothing_taken { IfOk result (λ all. All (λ e. taken_list e.end ≡ []) all.items) }
 {
     net.is_network();
-    let mut all = Vec::new(alloc);
+    let mut all = Vec::with_capacity(alloc, ends.len())?;
     let mut port = 0;
     for end in ends {
         let (w, j) = (net.neighbour(v, port), net.back_port(v, port));
-        all.push(WiredTake::<J, P::Payload>::new(w, j, end))?;
+        all.push_reserved(WiredTake::<J, P::Payload>::new(w, j, end));
         port += 1;
     }
     Ok(all)

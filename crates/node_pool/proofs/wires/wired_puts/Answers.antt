@@ -14,6 +14,13 @@ new-requires g c =
     let at = handed c.args.ends.items c.loop-end.port (length c.loop-end.yielded) c.in-Some.end c.loop-end.invariant.port turn in
     record { place = (c.requires.ends.each c.loop-end.port c.in-Some.end at).place }
 
+pub push_reserved-requires : goal.push_reserved-requires
+push_reserved-requires g c =
+    let turn = YieldsList-turn (YieldsList-from_vec {s = c.into_iter-end-iterator.result} c.args.ends.items (search rules) (search rules))
+    c.loop-end.yielded c.loop-end.end-iterator c.loop-end.yielded_by c.next.result c.next.new.self c.in-Some.end c.in-Some.is c.next.ensures.steps in
+    let inv = c.loop-end.invariant in
+    omega (arith, turn.0, inv.many, inv.room, c.args.ends.ok.0)
+
 pub loop-end-preserved : goal.loop-end-preserved
 loop-end-preserved g c =
     let turn = YieldsList-turn (YieldsList-from_vec {s = c.into_iter-end-iterator.result} c.args.ends.items (search rules) (search rules))
@@ -21,13 +28,15 @@ loop-end-preserved g c =
     let at = handed c.args.ends.items c.loop-end.port (length c.loop-end.yielded) c.in-Some.end c.loop-end.invariant.port turn in
     let new = c.requires.ends.each c.loop-end.port c.in-Some.end at in
     let inv = c.loop-end.invariant in
-    let more = c.in_ok-push.ensures.items in
+    let more = c.push_reserved.ensures.items in
     record {
       port = omega (arith, length_push c.loop-end.yielded c.in-Some.end, inv.port);
+      many = omega (arith, c.push_reserved.ensures.len, length_push c.loop-end.yielded c.in-Some.end, inv.many);
+      room = omega (arith, c.push_reserved.ensures.capacity, inv.room);
       places = place_more {D = ℕ × ℕ} (λ e. (e.vertex, e.port)) (λ i. (c.args.v, i)) c.loop-end.all.items
-          c.push.new.self.items c.new.result c.loop-end.port more
+          c.push_reserved.new.self.items c.new.result c.loop-end.port more
           (both _ _ _ _ c.new.ensures.place.0 c.new.ensures.place.1) inv.places;
-      nothing_put = All-same (λ e. put_list e.end ≡ []) c.push.new.self.items (c.loop-end.all.items ++ c.new.result ∷ []) more
+      nothing_put = All-same (λ e. put_list e.end ≡ []) c.push_reserved.new.self.items (c.loop-end.all.items ++ c.new.result ∷ []) more
           (All-push (λ e. put_list e.end ≡ []) c.loop-end.all.items c.new.result inv.nothing_put
           (ap (λ e. put_list e) c.new.ensures.end ∙ new.put));
     }
