@@ -1,6 +1,6 @@
 //! What a node does in a turn.
 
-ghost use Rattle.std.specs.Prelude.{◌≡◌, ◌<◌, ◌≤◌, ◌+◌, ◌^◌, max, IfErr, IfOk, IsSome, IsTrue, None, false, true};
+ghost use Rattle.std.specs.Prelude.{◌≡◌, ◌<◌, ◌≤◌, ◌+◌, ◌^◌, ℕ, max, IfErr, IfOk, IsSome, IsTrue, None, false, true};
 ghost use Rattle.alpha_laws.specs.alpha_core.View.{can_pulse, can_take};
 ghost use Rattle.link_queue.specs.Queued.{stamped_of};
 ghost use Rattle.actor.specs.Blocked.{IsUnmoved, PutBlocked};
@@ -184,22 +184,23 @@ impl<J: Wiring, P: NodeProgram> Node<J, P> {
         requires port { port < self.old.degree }
         requires going { self.old.aside ≡ None }
         ensures stepped { Stepped self.old self.new result }
+        ensures blocked { IfOk result (λ did. did ≡ false → PutBlocked port self.old) }
         ensures going { self.new.aside ≡ None }
     {
-        let mut put = false;
-        for _ in 0..PUTS {
+        for put in 0..PUTS {
             if !self.put_one(rt, links, port)? {
-                break;
+                return Ok(put > 0);
             }
-            put = true;
         }
-        Ok(put)
+        Ok(true)
     }
 
     // Puts by each port, ascending. Returns whether it put a wire.
     fn put_all<R: Wait>(&mut self, rt: &R, links: &Links<J, P>) -> Result<bool, TurnRefused>
         requires going { self.old.aside ≡ None }
         ensures stepped { Stepped self.old self.new result }
+        ensures blocked { IfOk result
+            (λ did. did ≡ false → (port : ℕ) → port < self.old.degree → PutBlocked port self.old) }
         ensures going { self.new.aside ≡ None }
     {
         let mut put = false;
@@ -252,6 +253,8 @@ impl<J: Wiring, P: NodeProgram> Node<J, P> {
             (λ did. did ≡ false → self.new.aside ≡ self.old.aside → IsUnmoved self.old self.new) }
         ensures blocked { IfOk result (λ did. did ≡ false → self.new.aside ≡ None
             → can_pulse self.new.alpha.last self.new.alpha.node.view ≡ false) }
+        ensures puts_blocked { IfOk result (λ did. did ≡ false → self.new.aside ≡ None
+            → (port : ℕ) → port < self.new.degree → PutBlocked port self.new) }
         ensures refused { IfErr result (λ error. error ≡ TurnRefused.Memory → IsTrue J.transcript) }
         ensures full { IfErr result (λ error. error ≡ TurnRefused.StampFull
             → 2 ^ 64 ≤ max self.new.counter (aside_stamp self.new.aside) + 1) }
