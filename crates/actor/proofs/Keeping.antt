@@ -19,7 +19,6 @@ use Rattle.link_queue.specs.link_rule.Legal.{IsLegalOn, LegalFor}
 use Rattle.stamps.specs.entries.Recorded.{HasSame, HasWritten, entries_by, is_on, stamped_by}
 use Rattle.stamps.specs.entries.Recorder.{Recorder}
 use Rattle.stamps.specs.entries.Entry.TheVariants.{Pulse, Put, Take}
-use Rattle.stamps.specs.entries.Rows.{stamped_entry}
 use Rattle.actor.specs.Kept.{IsKept}
 use Rattle.alpha_laws.specs.Kept.{NodeKept}
 use Rattle.actor.specs.HasStamps.{HasStamps}

@@ -7,7 +7,6 @@ use Rattle.actor.specs.Node.{by_port, reacted_to}
 use Rattle.actor.specs.Written.{IsTranscript}
 use Rattle.outcomes.proofs.ReadLists.{map-twice}
 use Rattle.outcomes.specs.Rows.{AreCrossed, HasShape}
-use Rattle.actor.specs.Tables.{table_at, table_of}
 use Rattle.actor.specs.HasStamps.{HasStamps}
 use Rattle.actor.specs.entries.Recorded.{entries_by, stamped_by}
 use Rattle.actor.specs.alpha_core.StampedWires.{wires_of}
@@ -20,7 +19,7 @@ use Rattle.outcomes.specs.Meets.{history_of_met, put_of, stamped_history_of, tak
 use Rattle.gather_laws.specs.Outcome.{IsOutcome, Outcome, StampedHistory, history_of}
 use Rattle.outcomes.specs.Gathers.{gathered_of}
 use Rattle.outcomes.proofs.Rows.{all_rows, map_same, of_fields, of_items, shape_of}
-use Rattle.outcomes.proofs.Places.{links_meet, ends_meet}
+use Rattle.outcomes.proofs.Places.{ends_meet}
 use Rattle.outcomes.proofs.Simulating.{AreGathered, is_outcome, written}
 use Rattle.outcomes.proofs.gathering.gathered.Goals as goal
 
@@ -34,18 +33,6 @@ crossed-requires g c =
           (subst (λ net. HasShape net (map (λ n. n.takes.items) nodes)) c.requires.network
           (shape_of net (λ n. n.vertex) nodes c.requires.nodes (λ n. n.takes.items) (λ n. as_long _ _ n.takes.items _ n.kept.ins)));
     }
-
-pub meet_rows-requires-clause-links : goal.meet_rows-requires-clause-links
-meet_rows-requires-clause-links g c κs within =
-    let net = g.J.Wiring.net in
-    let tables = g.J.Wiring.tables in
-    let nodes = c.args.nodes.items in
-    let ok = subst IsNetwork (sym c.requires.network) c.is_network.ensures in
-    of_items (λ row. row.items) c.in_ok-actors.field-0.puts.items (λ e. table_at tables e.vertex e.port) _ c.in_ok-actors.ensures.puts
-    ∙ links_meet net ok (λ n. n.vertex) nodes c.requires.nodes (λ n. n.puts.items) (λ e. (e.vertex, e.port)) (λ n. n.kept.outs) tables table_of
-    (map (λ row. row.items) c.args.links.items) (sym c.requires.tables)
-    (subst (λ net. HasShape net (map (λ row. row.items) c.args.links.items)) (sym c.requires.network) c.requires.shape)
-    ∙ sym (of_items (λ row. row.items) c.args.links.items (λ link. Some (table_of link)) _ refl)
 
 pub meet_rows-requires-clause-takes : goal.meet_rows-requires-clause-takes
 meet_rows-requires-clause-takes g c κs within =
