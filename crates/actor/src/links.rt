@@ -105,7 +105,8 @@ impl<J: Wiring, P: NodeProgram> Links<J, P> {
         take: WiredTake<J, P::Payload>,
     ) -> Result<Met<P::Payload>, Memory>
         requires same { (take.vertex ≡ put.vertex) × (take.port ≡ put.port) }
-        ensures met { IfOk result (λ met. HasMet met (put_name put.end) (put_stamped put.end) (taken_stamped take.end)) }
+        ensures met { IfOk result
+            (λ met. HasMet met (put_name put.end) (put_stamped put.end) (taken_stamped take.end)) }
         ensures room { IfOk result (λ met. (capacity : ℕ)
             → All (λ link. link_capacity link ≤ capacity) self.now.list.items → length (held_stamped met) ≤ capacity) }
     {

@@ -3,18 +3,17 @@
 -- The plan: a thing of the new rows is one of the old rows, or one of the two that were pushed; where these are, Before.antt
 -- says. So the ports that have ends are those of one edge more, old ends stay what they were, since the list of links only
 -- grew, and the two new ends that put and take on a link belong together.
-use Rattle.std.proofs.Common.{◌≡◌, ◌≢◌, ◌⊎◌, inl, inr, ⊎_elim, ℕ, zero, suc, ◌+◌, ◌*◌, ◌-◌, ◌<◌, ◌≤◌, List, [], ◌∷◌, ◌++◌, length, map, get_or, refl, sym, ap}
+use Rattle.std.proofs.Common.{◌≡◌, ◌⊎◌, inl, inr, ⊎_elim, ℕ, zero, suc, ◌+◌, ◌-◌, ◌<◌, ◌≤◌, List, [], ◌∷◌, ◌++◌, length, refl, sym, ap}
 use Rattle.std.proofs.Common.{subst, ◌∙◌, arith, Some, slice_get}
-use Rattle.std.specs.Prelude.{◌↔◌, All, slice_set}
+use Rattle.std.specs.Prelude.{◌↔◌}
 use Rattle.std.proofs.lemmas.Bool.{cases_eq, cases_lt}
 use Rattle.std.proofs.lemmas.List.{get_or-set_same, get_or-set_other, length-append, length-set, length_push}
-use Rattle.outcomes.below.interference.specs.declared.limits.TheConstants.{MAX_DEGREE}
 use Rattle.outcomes.specs.interference.Net.{Net, IsNetwork, IsVertex, back_port_of, count_of, degree_of, neighbour_of}
 use Rattle.pool.specs.link_queue.Link.{Link}
 use Rattle.pool.specs.link_rule.Legal.{name_of}
 use Rattle.pool.specs.link_queue.Ends.{IsNewPutEnd, IsNewTakeEnd, link_capacity}
 use Rattle.outcomes.specs.Rows.{row_at, thing_at}
-use Rattle.node_pool.specs.Makes.{AreEnds, AreEndsAt, AreMade, AreMadeBefore, HasEndBefore, row_more}
+use Rattle.node_pool.specs.Makes.{AreEndsAt, AreMade, AreMadeBefore, HasEndBefore, row_more}
 use Rattle.node_pool.specs.declared.making.PortEnds.{PortEnds}
 use Rattle.node_pool.proofs.Before.{back-port, back-vertex, ends-there, last-port, made-before, more-end_before, next-vertex}
 use Rattle.node_pool.proofs.Before.{none-before, other-length, own-length, split-end_before}
@@ -236,7 +235,8 @@ module _ {P T : Type 0} (net : Net) (capacity : ℕ) where
       let at_back : slice_get two (length links + 1) ≡ Some back =
       ap (slice_get two) next ∙ ap (λ l. slice_get l (suc (length links))) more ∙ second-there links out back in
       let there = name_of net w j in
-      let same : there ≡ name_of net (neighbour_of net v i) (back_port_of net v i) = ap (λ u. name_of net u j) at_w ∙ ap (name_of net (neighbour_of net v i)) at_j in
+      let same : there ≡ name_of net (neighbour_of net v i) (back_port_of net v i) =
+      ap (λ u. name_of net u j) at_w ∙ ap (name_of net (neighbour_of net v i)) at_j in
       let home : name_of net v i ≡ name_of net (neighbour_of net (neighbour_of net v i) (back_port_of net v i))
       (back_port_of net (neighbour_of net v i) (back_port_of net v i)) =
       ap (λ u. name_of net u i) (sym (back-vertex net ok v i vertex lt)) ∙ ap (name_of net _) (sym (back-port net ok v i vertex lt)) in

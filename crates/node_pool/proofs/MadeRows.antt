@@ -1,6 +1,6 @@
 -- What is made is what the nodes start with.
 use Rattle.std.specs.Prelude.{All, Option}
-use Rattle.std.proofs.Common.{◌≡◌, ℕ, zero, suc, ◌-◌, ◌<◌, ◌≤◌, List, [], ◌∷◌, length, map, get_or, sym, ap, subst, ◌∙◌, arith, Some, slice_get}
+use Rattle.std.proofs.Common.{◌≡◌, ℕ, zero, suc, ◌-◌, ◌<◌, ◌≤◌, List, [], ◌∷◌, map, get_or, sym, ap, subst, ◌∙◌, arith, Some, slice_get}
 use Rattle.atomic_table.specs.Seated.{TableId}
 use Rattle.outcomes.specs.interference.Net.{Net, IsNetwork, IsVertex, degree_of, neighbour_of, back_port_of}
 use Rattle.pool.specs.link_queue.Link.{Link}

@@ -1,5 +1,6 @@
 -- The links that are made, with their ends.
-use Rattle.std.specs.Prelude.{◌≡◌, ◌⊎◌, ◌↔◌, ◌<◌, ◌≤◌, ◌+◌, ◌*◌, ◌-◌, ℕ, List, ◌++◌, ◌∷◌, [], All, length, map, Some, slice_get, slice_set}
+use Rattle.std.specs.Prelude.{◌≡◌, ◌⊎◌, ◌↔◌, ◌<◌, ◌≤◌, ◌+◌, ◌*◌, ◌-◌, ℕ, List, ◌++◌, ◌∷◌, [], All, length, map, Some}
+use Rattle.std.specs.Prelude.{slice_get, slice_set}
 use Rattle.atomic_table.specs.Seated.{TableId}
 use Rattle.outcomes.specs.interference.Net.{Net, IsVertex, back_port_of, count_of, degree_of, neighbour_of}
 use Rattle.outcomes.below.interference.specs.declared.limits.TheConstants.{MAX_DEGREE}
@@ -29,15 +30,18 @@ module _ {P T : Type 0} (net : Net) (capacity : ℕ) where
   -- New ends at port i of v: one that puts on the link out by the port, and one that takes from the link that comes in
   -- there. Both links are in this list, at the index that stands beside the end.
   pub record AreEndsAt (links : List (Link P T)) (v i : ℕ) (ends : PortEnds P T) : Type 0 where
-    pub out : (link : Link P T) × ((slice_get links ends.put_index ≡ Some link) × IsNewPutEnd link ends.put (name_of net v i))
+    pub out : (link : Link P T) × ((slice_get links ends.put_index ≡ Some link)
+        × IsNewPutEnd link ends.put (name_of net v i))
     pub back : (link : Link P T) × ((slice_get links ends.take_index ≡ Some link)
         × IsNewTakeEnd link ends.take (name_of net (neighbour_of net v i) (back_port_of net v i)))
 
   -- Links of this capacity with their ends, so far: the end that takes is of the link on which the neighbour puts.
   pub record AreEnds (links : List (Link P T)) (rows : List (List (PortEnds P T))) : Type 0 where
     pub capacities : All (λ link. link_capacity link ≡ capacity) links
-    pub each : (v i : ℕ) (ends : PortEnds P T) → IsVertex net v → thing_at rows v i ≡ Some ends → AreEndsAt links v i ends
-    pub joined : (v i : ℕ) (ends other : PortEnds P T) → IsVertex net v → i < degree_of net v → thing_at rows v i ≡ Some ends
+    pub each : (v i : ℕ) (ends : PortEnds P T) → IsVertex net v → thing_at rows v i ≡ Some ends
+        → AreEndsAt links v i ends
+    pub joined : (v i : ℕ) (ends other : PortEnds P T) → IsVertex net v → i < degree_of net v
+        → thing_at rows v i ≡ Some ends
         → thing_at rows (neighbour_of net v i) (back_port_of net v i) ≡ Some other → ends.take_index ≡ other.put_index
 
   -- The links of all edges that have an end before port i of v.
@@ -46,7 +50,8 @@ module _ {P T : Type 0} (net : Net) (capacity : ℕ) where
     pub count : length rows ≡ count_of net
     pub few : length links ≤ 2 * (MAX_DEGREE * v + i)
     pub shorter : (u : ℕ) → IsVertex net u → length (row_at rows u) ≤ degree_of net u
-    pub there : (u p : ℕ) → IsVertex net u → p < degree_of net u → (p < length (row_at rows u)) ↔ HasEndBefore net u p v i
+    pub there : (u p : ℕ) → IsVertex net u → p < degree_of net u
+        → (p < length (row_at rows u)) ↔ HasEndBefore net u p v i
 
   -- The links of all edges, with two new ends for each port.
   pub record AreMade (links : List (Link P T)) (rows : List (List (PortEnds P T))) : Type 0 where

@@ -14,7 +14,8 @@ module _ {P T : Type 0} (net : Net) (tables : List (List TableId)) (links : List
     pub put_place : IsEndAt net tables v i ends.put.pass.table_id (put_name ends.put)
     pub put_link : slice_get links ends.put_index ≡ Some ends.put.pass.table_id
     pub put : put_list ends.put ≡ []
-    pub take_place : IsEndAt net tables (neighbour_of net v i) (back_port_of net v i) ends.take.pass.table_id (take_name ends.take)
+    pub take_place : IsEndAt net tables (neighbour_of net v i) (back_port_of net v i) ends.take.pass.table_id
+        (take_name ends.take)
     pub take_link : slice_get links ends.take_index ≡ Some ends.take.pass.table_id
     pub taken : taken_list ends.take ≡ []
 

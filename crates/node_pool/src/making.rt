@@ -20,8 +20,8 @@ pub struct PortEnds<P: NodeProgram> {
     pub take: TakeEnd<P>,
 }
 
-/// The links of a network, both directions of an edge side by side, and their ends: row `v - 1` has those of the node of
-/// vertex `v`, by port.
+/// The links of a network, both directions of an edge side by side, and their ends: row `v - 1` has those of the node
+/// of vertex `v`, by port.
 #[derive(Drop)]
 pub struct Made<P: NodeProgram> {
     pub links: Vec<Link<P>>,
@@ -67,7 +67,8 @@ fn make_edge<P: NodeProgram>(
     requires vertex { IsVertex net.now v }
     requires port { i < degree_of net.now v }
     requires greater { v < neighbour_of net.now v i }
-    requires before { AreMadeBefore net.now capacity v i made.old.links.items (map (λ row. row.items) made.old.ends.items) }
+    requires before { AreMadeBefore net.now capacity v i made.old.links.items
+        (map (λ row. row.items) made.old.ends.items) }
     ensures made { IfOk result (λ _. AreMadeBefore net.now capacity v (i + 1) made.new.links.items
         (map (λ row. row.items) made.new.ends.items)) }
 {
@@ -106,7 +107,8 @@ fn make_edges<P: NodeProgram>(
 ) -> Result<(), Memory>
     requires capacity { (0 < capacity) × (capacity ≤ MAX_CAPACITY) }
     requires vertex { IsVertex net.now v }
-    requires before { AreMadeBefore net.now capacity v 0 made.old.links.items (map (λ row. row.items) made.old.ends.items) }
+    requires before { AreMadeBefore net.now capacity v 0 made.old.links.items
+        (map (λ row. row.items) made.old.ends.items) }
     ensures made { IfOk result (λ _. AreMadeBefore net.now capacity (v + 1) 0 made.new.links.items
         (map (λ row. row.items) made.new.ends.items)) }
 {

@@ -12,10 +12,12 @@ loop-i-preserved g c =
     record {
       made = elim c.if-v-neighbour.branch [
         | then-v-neighbour+in_ok-make_edge w ↦
-            subst (λ made. AreMadeBefore net c.args.capacity c.args.v (c.loop-i.i + 1) made.links.items (map (λ row. row.items) made.ends.items)) (sym w.made-is)
+            subst (λ made. AreMadeBefore net c.args.capacity c.args.v (c.loop-i.i + 1) made.links.items (map (λ row. row.items) made.ends.items))
+            (sym w.made-is)
             w.in_ok-make_edge.ensures.made
         | else-v-neighbour w ↦
-            subst (λ made. AreMadeBefore net c.args.capacity c.args.v (c.loop-i.i + 1) made.links.items (map (λ row. row.items) made.ends.items)) (sym w.made-is)
+            subst (λ made. AreMadeBefore net c.args.capacity c.args.v (c.loop-i.i + 1) made.links.items (map (λ row. row.items) made.ends.items))
+            (sym w.made-is)
             (edge-was_made net c.args.capacity c.is_network.ensures c.args.v c.requires.vertex _ _ c.loop-i.i lt
             (λ less. omega (arith, less, w.if-v-neighbour.false, c.neighbour.ensures.value)) c.loop-i.invariant.made)
       ];

@@ -1,5 +1,4 @@
 use Rattle.std.proofs.Common.{◌≡◌, ◌-◌, [], arith}
-use Rattle.outcomes.specs.interference.Net.{count_of}
 use Rattle.node_pool.proofs.Growth.{all_more, none_in}
 use Rattle.node_pool.proofs.making.none_made.Goals as goal
 

@@ -38,7 +38,8 @@ push_reserved-requires g c =
     let turn = YieldsList-turn (YieldsList-from_vec {s = c.into_iter-puts-iterator.result} c.args.rows.items (search rules) (search rules))
     c.loop-puts.yielded c.loop-puts.puts-iterator c.loop-puts.yielded_by c.next.result c.next.new.self _ c.in-Some.is c.next.ensures.steps in
     let inv = c.loop-puts.invariant in
-    let many = as_many (λ x. map (λ e. put_stamped e.end) x.0.items) (map put_of) c.loop-puts.yielded (map (λ mets. mets.items) c.loop-puts.all.items) inv.met.puts_are in
+    let many = as_many (λ x. map (λ e. put_stamped e.end) x.0.items) (map put_of) c.loop-puts.yielded (map (λ mets. mets.items) c.loop-puts.all.items)
+    inv.met.puts_are in
     omega (arith, turn.0, many, length-map c.loop-puts.all.items (λ mets. mets.items), inv.places, c.args.rows.ok.0, c.loop-puts.all.ok.0)
 
 pub loop-puts-preserved : goal.loop-puts-preserved

@@ -4,7 +4,6 @@ use Rattle.actor.specs.interference.Net.{count_of}
 use Rattle.crossbeam_deque.specs.Handles.{stealer_deque, view, worker_deque, worker_view}
 use Rattle.worker_deques.specs.deque_rule.Deques.{deque_of}
 use Rattle.worker_deques.specs.deque_rule.Ledgers.{all_shares, ledger, shares_of}
-use Rattle.worker_deques.proofs.Each.{ok_says}
 use Rattle.worker_deques.proofs.Holds.{dealt_on}
 use Rattle.worker_deques.proofs.deque_rule.Rule.{deals}
 use Rattle.worker_deques.proofs.Views.{as_many, carried}

@@ -1,4 +1,4 @@
-use Rattle.std.proofs.Common.{◌≡◌, false, map, sym, ap, ◌∙◌}
+use Rattle.std.proofs.Common.{false, map, sym, ap, ◌∙◌}
 use Rattle.pool.specs.Ends.{told_after}
 use Rattle.pool.proofs.Ends.{none_refused}
 use Rattle.pool.proofs.run.run_nodes.Goals as goal
