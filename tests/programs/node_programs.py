@@ -29,7 +29,7 @@ ENDS = [
     # A triangle with a tail, which has the root.
     ("leader", network([3, 6, 8, 1], TAIL), 4, ["leader 8"] * 4),
     ("layers", network([8, 6, 3, 1], TAIL), 4, ["layer 2 by 1", "layer 2 by 1", "layer 1 by 2", "layer 0"]),
-    # Two components and a vertex alone.
+    # Two components, and for the election a vertex alone; without a root nobody is reached.
     ("leader", network([7, 5, 3, 2, 9], PAIRS), 5, ["leader 7", "leader 7", "leader 3", "leader 3", "leader 9"]),
     ("layers", network([7, 5, 3, 2], PAIRS), 4, ["layer none"] * 4),
     # A path with the root at vertex 2, and vertex 6 alone.
