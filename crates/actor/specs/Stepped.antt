@@ -30,8 +30,8 @@ module _ {J P T : Type 0} {j : wiring.Ghosts J} {p : program.Ghosts P T} {t : te
     pub full : IfErr result
         (λ error. error ≡ StampFull → 2 ^ 64 ≤ max new.counter (aside_stamp new.aside) + 1)
 
-  -- The three parts of a turn, one after the other. If they did nothing and set no wire aside, the node is as it was,
-  -- can't make its next pulse, and by no port has a wire for which there was room on its link.
+  -- The three parts of a turn, one after the other. If they did nothing and set no wire aside, the node is as it was
+  -- and can't make its next pulse, and by each port no wire waits or its link was full, as `PutBlocked` says it.
   pub record Turned (old new : Node J P T j p t q) (result : Result Bool TurnRefused) : Type 0 where
     pub vertex : new.vertex ≡ old.vertex
     pub refusal : new.refusal ≡ old.refusal

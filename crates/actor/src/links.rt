@@ -96,7 +96,7 @@ impl<J: Wiring, P: NodeProgram> Links<J, P> {
     /// What a link holds once both its ends are back: `link_queue::Link::meet`, at the link that the ends are of.
     ///
     /// # Errors
-    /// `Memory` if memory for what is held was refused.
+    /// `Memory` if memory for what is held was refused; the ends are dropped then, and the links stay.
     pub fn meet<R: Wait>(
         &self,
         rt: &R,

@@ -14,7 +14,7 @@ pub trait Wiring {
     /// Entry `v - 1` has the queues of the links out of vertex `v`, by port.
     ghost tables: { List (List TableId) };
 
-    /// The same queues in the order in which `Links` has them.
+    /// The queues in the order in which `Links` has them.
     ghost links: { List TableId };
 
     /// Whether its nodes write down what they do.

@@ -32,7 +32,7 @@ pub struct Link<P: NodeProgram> {
     queue: RuledArrayQueue<Queued<P::Payload>, EndView<P::Payload>, LinkRule<P>>,
 }
 
-/// The ends, as they were, where memory for what is held was refused.
+/// The ends, as they were, if memory for what is held was refused.
 #[derive(Drop)]
 pub struct MeetRefused<P: NodeProgram> {
     pub put_end: PutEnd<P>,
@@ -210,7 +210,7 @@ impl<P: NodeProgram> Link<P> {
     /// legal list, and no more is held than the capacity.
     ///
     /// # Errors
-    /// `MeetRefused` hands the ends back as they were, if memory for what is held was refused.
+    /// `MeetRefused` hands the ends back as they were, if memory for what is held was refused; they can meet again.
     pub fn meet<R: Wait>(
         &self,
         rt: &R,

@@ -28,14 +28,15 @@ HasEndBefore net u p v i = IsBefore u p v i ⊎ IsBefore (neighbour_of net u p) 
 
 module _ {P T : Type 0} (net : Net) (capacity : ℕ) where
   -- New ends at port i of v: one that puts on the link out by the port, and one that takes from the link that comes in
-  -- there. Both links are in this list, at the index that stands beside the end.
+  -- there. Both links are in this list, at the index beside the end.
   pub record AreEndsAt (links : List (Link P T)) (v i : ℕ) (ends : PortEnds P T) : Type 0 where
     pub out : (link : Link P T) × ((slice_get links ends.put_index ≡ Some link)
         × IsNewPutEnd link ends.put (name_of net v i))
     pub back : (link : Link P T) × ((slice_get links ends.take_index ≡ Some link)
         × IsNewTakeEnd link ends.take (name_of net (neighbour_of net v i) (back_port_of net v i)))
 
-  -- Links of this capacity with their ends, so far: the end that takes is of the link on which the neighbour puts.
+  -- Links of this capacity, and the ends made until now, in rows by vertex: the end that takes is of the link on which
+  -- the neighbour puts.
   pub record AreEnds (links : List (Link P T)) (rows : List (List (PortEnds P T))) : Type 0 where
     pub capacities : All (λ link. link_capacity link ≡ capacity) links
     pub each : (v i : ℕ) (ends : PortEnds P T) → IsVertex net v → thing_at rows v i ≡ Some ends
@@ -44,7 +45,8 @@ module _ {P T : Type 0} (net : Net) (capacity : ℕ) where
         → thing_at rows v i ≡ Some ends
         → thing_at rows (neighbour_of net v i) (back_port_of net v i) ≡ Some other → ends.take_index ≡ other.put_index
 
-  -- The links of all edges that have an end before port i of v.
+  -- The links of all edges that have an end before port i of v, with their ends: each row has those of its first ports
+  -- (`there`). `few` keeps the indices below 2^32.
   pub record AreMadeBefore (v i : ℕ) (links : List (Link P T)) (rows : List (List (PortEnds P T))) : Type 0 where
     pub ends : AreEnds links rows
     pub count : length rows ≡ count_of net

@@ -44,7 +44,7 @@ fn none_made<P: NodeProgram>(alloc: Global, net: &Network) -> Result<Made<P>, Al
     })
 }
 
-// Puts a thing into the row of a vertex.
+// Appends a thing to the row of a vertex.
 fn push_to<T: Drop>(rows: &mut Vec<Vec<T>>, v: u32, thing: T) -> Result<(), AllocError>
     requires row { (1 ≤ v) × (v ≤ vec_len rows.old) }
     ensures rows { IfOk result (λ _. map (λ row. row.items) rows.new.items
@@ -121,7 +121,7 @@ fn make_edges<P: NodeProgram>(
     Ok(())
 }
 
-/// Makes all links of a network, each for at most `capacity` wires.
+/// Makes all links of a network, each for at most `capacity` wires, 1 to `MAX_CAPACITY`.
 ///
 /// # Errors
 ///

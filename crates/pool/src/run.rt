@@ -32,7 +32,8 @@ impl Split<Ledger> for Dealt {
     ghost right = { λ v. ledger 1 v.pushed v.taken };
 }
 
-// The run without what its nodes remember: each node once, ascending, also if its last turn was refused.
+// A run whose nodes aren't asked for their refusals yet: each node once, ascending, also one whose last turn was
+// refused.
 fn run_all<J: Wiring + Send + Sync, P: NodeProgram, G: Gate + Sync, R: Threads + Wait + Sync>(
     rt: &R,
     alloc: Global,
@@ -83,8 +84,8 @@ fn run_all<J: Wiring + Send + Sync, P: NodeProgram, G: Gate + Sync, R: Threads +
     Ok(gather(rt, alloc, places, dealt, done)?)
 }
 
-/// Runs the nodes, given from the last vertex down, by so many workers, which make at most so many looks each, and
-/// returns each node once, ascending. No node of them remembers a refusal of a turn.
+/// Runs the nodes, given from the last vertex down, by `workers` workers, each of which makes at most `turns` looks,
+/// and returns each node once, ascending. None of them remembers a refusal of a turn.
 ///
 /// # Errors
 ///

@@ -55,7 +55,12 @@ fn start<'s, E, J: Wiring + Send + Sync, P: NodeProgram, G: Gate + Sync, R: Thre
     }
 }
 
-/// Starts a worker for each desk, in threads of the scope.
+/// Starts a worker for each desk, in threads of the scope: worker k has desk k, from 0.
+///
+/// # Errors
+///
+/// `Memory` if memory for the list of threads is refused, before any begins. `Spawn` if a thread is refused; the others
+/// stop, and the scope joins them.
 pub fn start_all<
     's,
     E,
@@ -89,7 +94,11 @@ pub fn start_all<
     Ok(children)
 }
 
-/// All workers come back.
+/// Joins all workers, and returns their desks in the same order.
+///
+/// # Errors
+///
+/// `Memory` if memory for what they return is refused.
 pub fn join_all<T: Task, R: Threads + Wait>(
     rt: &R,
     signals: &Signals,

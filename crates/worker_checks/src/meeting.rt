@@ -54,6 +54,7 @@ pub struct Meeting {
     was_outside: AtomicBool,
     entered_by_worker: Counts,
     entered_by_node: Counts,
+    middles: Counts,
     by_worker: Counts,
     by_node: Counts,
 }
@@ -67,20 +68,22 @@ impl Meeting {
             was_outside: AtomicBool::new(false),
             entered_by_worker: Counts::new(),
             entered_by_node: Counts::new(),
+            middles: Counts::new(),
             by_worker: Counts::new(),
             by_node: Counts::new(),
         }
     }
 
     /// Whether a worker was held once, until the other had left a turn, both left turns, and so did each node, at least
-    /// this often; and whether they left as many turns as they entered, none before its middle.
+    /// this often; and whether they left as many turns as they entered, each with one middle, and none before it.
     pub fn saw_two_at_once(&self, least: u64) -> bool {
         let met = self.holds.load(Ordering::SeqCst) == 1 && !self.was_alone.load(Ordering::SeqCst);
         let workers = self.by_worker.of(0) > 0 && self.by_worker.of(1) > 0;
         let nodes = self.by_node.of(1) >= least
             && self.by_node.of(2) >= least
             && self.by_node.of(3) >= least;
-        let pairs = self.entered_by_worker.are_those_of(&self.by_worker)
+        let pairs = self.entered_by_worker.are_those_of(&self.middles)
+            && self.entered_by_worker.are_those_of(&self.by_worker)
             && self.entered_by_node.are_those_of(&self.by_node);
         let inside = !self.was_outside.load(Ordering::SeqCst);
         met && workers && nodes && pairs && inside
@@ -105,6 +108,7 @@ impl Gate for Meeting {
     }
 
     fn middle<R: Wait>(&self, _rt: &R, worker: u32, _node: u32) {
+        self.middles.add(worker);
         if self.entered_by_worker.of(worker) <= self.by_worker.of(worker) {
             self.was_outside.store(true, Ordering::SeqCst);
         }
