@@ -21,6 +21,8 @@ LIMIT = 300
 TRIANGLE = "p edge 3 3|e 1 2|e 1 3|e 2 3|"
 TRIANGLE_FORESTS = "forests 3 2|0 1 2|0 2 3|1 1 3|"
 STREAM_LINE = b"forestplan: stream\n"
+# The last line of a refusal of a word that isn't known.
+READS = "forestplan reads the network from standard input: forestplan plan < FILE|"
 # Networks on which `plan` takes seconds: it is run of another star with as great a span, and of that with as great a
 # degree.
 LONG = ("the greatest star", "the greatest span")
@@ -311,7 +313,7 @@ class BlackBox(Case):
 
     def test_refused_words(self):
         """Each text whole. The first line is the fault, then maybe a tip, the usage of what was named, and where help
-        is."""
+        is; after a word that isn't known, which may be the name of a file, where the network is read from."""
         program, (forests, plain, plan, *_) = "forestplan <COMMAND>", [it.usage for it in commands_of("forestplan")]
         names = ", ".join(command.name for command in commands_of("forestplan"))
         none = f"'forestplan' requires a subcommand but one was not provided|  [subcommands: {names}]"
@@ -338,11 +340,14 @@ class BlackBox(Case):
             (["plan", "--workers", "1", "--workers", "1"], "the argument '--workers <N>' cannot be used multiple times",
              plan),
             (["plan", "--turns=1", "--turns=2"], "the argument '--turns <N>' cannot be used multiple times", plan),
+            (["plan", "net.col"], "unexpected argument 'net.col' found", plan),
+            (["net.col"], "unrecognized subcommand 'net.col'", program),
             (["plain", b"\xff"], "unrecognized subcommand '\N{REPLACEMENT CHARACTER}'", program),
             ([b"\xff"], "unrecognized subcommand '\N{REPLACEMENT CHARACTER}'", program),
         ]
         for words, fault, usage in rows:
-            self.expect_refused(words, f"{fault}||Usage: {usage}")
+            is_unknown = fault.startswith(("unexpected argument", "unrecognized subcommand"))
+            self.expect_refused(words, f"{fault}||Usage: {usage}", READS if is_unknown else "")
 
     def test_refused_values(self):
         """Values of options that are refused. Each text whole; it has no usage."""
@@ -376,8 +381,8 @@ class BlackBox(Case):
         self.expect_refused(["plan", "--workers", "65", "--turns", "x"],
                             "invalid value '65' for '--workers <N>': 65 is not in 1..=64")
 
-    def expect_refused(self, words, fault):
-        wanted = f"error: {fault}||For more information, try '--help'.|".replace("|", "\n")
+    def expect_refused(self, words, fault, hint=""):
+        wanted = f"error: {fault}||For more information, try '--help'.|{hint}".replace("|", "\n")
         self.expect(f"refused words {words}", run_program(PLAN, words, text(TRIANGLE)), 2, b"", wanted.encode())
 
     def test_example_streams(self):

@@ -20,6 +20,8 @@ from tests.settings import PLAY, SECOND_PLAY
 LIMIT = 60
 SEED = 2026
 STREAM_LINE = b"forestplay: stream\n"
+# The last line of a refusal of a word that isn't known.
+READS = "forestplay reads the network from standard input: forestplay rounds < FILE|"
 EDGE = "p edge 2 1|e 1 2|"
 TRIANGLE = "p edge 3 3|e 1 2|e 1 3|e 2 3|"
 ALL_PUT = "put 1 0|put 1 1|put 2 0|put 2 1|put 3 0|put 3 1|"
@@ -331,7 +333,8 @@ class Events(Case):
             ([b"\xff"], "unrecognized subcommand '\N{REPLACEMENT CHARACTER}'", "forestplay <COMMAND>"),
         ]
         for words, fault, usage in rows:
-            wanted = f"error: {fault}||Usage: {usage}||For more information, try '--help'.|".replace("|", "\n")
+            hint = "" if fault == none else READS
+            wanted = f"error: {fault}||Usage: {usage}||For more information, try '--help'.|{hint}".replace("|", "\n")
             self.expect(f"refused words {words}", run_program(PLAY, words, text(EDGE)), 2, b"", wanted.encode())
 
     def test_streams(self):

@@ -6,6 +6,15 @@ from tests.settings import PLAY
 EDGE, ROW = "p edge 2 1|e 1 2|", "p edge 3 2|e 1 2|e 2 3|"
 # Node 1 has the identifier 9 and no neighbour, and nobody the identifier 1.
 APART = "p edge 3 1|i 1 9|e 2 3|"
+
+
+def network(numbers, edges):
+    """A network whose vertices have these identifiers."""
+    lines = [f"p edge {len(numbers)} {len(edges)}", *(f"i {v} {number}" for v, number in enumerate(numbers, 1))]
+    return "".join(f"{line}|" for line in [*lines, *(f"e {v} {w}" for v, w in edges)])
+
+
+PATH, TAIL, PAIRS = [(1, 2), (2, 3), (3, 4), (4, 5)], [(1, 2), (1, 3), (2, 3), (3, 4)], [(1, 2), (3, 4)]
 # What the nodes end with: by program and network, the last pulse and the result of each node.
 ENDS = [
     ("colouring", EDGE, 18, ["channel 1", "channel 2"]),
@@ -14,13 +23,36 @@ ENDS = [
     ("layers", ROW, 3, ["layer 0", "layer 1 by 0", "layer 2 by 0"]),
     ("layers", APART, 3, ["layer none"] * 3),
     ("leader", "p edge 0 0|", 0, []),
+    ("layers", "p edge 0 0|", 0, []),
+    # A path whose ends are as far apart as can be, with the greatest identifier at one of them.
+    ("leader", network([9, 1, 4, 5, 20], PATH), 5, ["leader 20"] * 5),
+    # A triangle with a tail, which has the root.
+    ("leader", network([3, 6, 8, 1], TAIL), 4, ["leader 8"] * 4),
+    ("layers", network([8, 6, 3, 1], TAIL), 4, ["layer 2 by 1", "layer 2 by 1", "layer 1 by 2", "layer 0"]),
+    # Two components, and for the election a vertex alone; without a root nobody is reached.
+    ("leader", network([7, 5, 3, 2, 9], PAIRS), 5, ["leader 7", "leader 7", "leader 3", "leader 3", "leader 9"]),
+    ("layers", network([7, 5, 3, 2], PAIRS), 4, ["layer none"] * 4),
+    # A path with the root at vertex 2, and vertex 6 alone.
+    ("layers", network([9, 1, 20, 5, 8, 6], PATH), 6,
+     ["layer 1 by 0", "layer 0", "layer 1 by 0", "layer 2 by 0", "layer 3 by 0", "layer none"]),
+    # A square: two ways lead from vertex 1 to the root 4, and the one by the lesser port is taken.
+    ("layers", network([8, 6, 3, 1], [(1, 2), (1, 3), (2, 4), (3, 4)]), 4,
+     ["layer 2 by 0", "layer 1 by 1", "layer 1 by 1", "layer 0"]),
 ]
-# Of an edge, node 2 has the greater identifier, and node 1 is the root. No node sends at the last pulse.
+# By program and network. Of an edge, node 2 has the greater identifier, and node 1 is the root. No node sends at the
+# last pulse.
 ROUNDS = [
-    ("leader", "rounds 3 leader 2 1 2|pulse 0|1 put 2 payload 0 leader 1|2 put 1 payload 0 leader 2|pulse 1|"
-               "1 put 2 payload 1 leader 2|pulse 2|1 leader 2|2 leader 2|"),
-    ("layers", "rounds 3 layers 2 1 2|pulse 0|1 put 2 payload 0 hops 0|pulse 1|2 put 1 payload 1 hops 1|pulse 2|"
-               "1 layer 0|2 layer 1 by 0|"),
+    ("leader", EDGE, "rounds 3 leader 2 1 2|pulse 0|1 put 2 payload 0 leader 1|2 put 1 payload 0 leader 2|pulse 1|"
+                     "1 put 2 payload 1 leader 2|pulse 2|1 leader 2|2 leader 2|"),
+    ("leader", network([4, 7], [(1, 2)]),
+     "rounds 3 leader 2 1 2|pulse 0|1 put 2 payload 0 leader 4|2 put 1 payload 0 leader 7|pulse 1|"
+     "1 put 2 payload 1 leader 7|pulse 2|1 leader 7|2 leader 7|"),
+    ("layers", EDGE, "rounds 3 layers 2 1 2|pulse 0|1 put 2 payload 0 hops 0|pulse 1|2 put 1 payload 1 hops 1|pulse 2|"
+                     "1 layer 0|2 layer 1 by 0|"),
+    ("layers", network([1, 5, 4, 3], [(1, 2), (2, 3)]),
+     "rounds 3 layers 4 2 4|pulse 0|1 put 2 payload 0 hops 0|pulse 1|2 put 1 payload 1 hops 1|"
+     "2 put 3 payload 1 hops 1|pulse 2|3 put 2 payload 2 hops 2|pulse 3|pulse 4|"
+     "1 layer 0|2 layer 1 by 0|3 layer 2 by 0|4 layer none|"),
 ]
 FIRST = "transcript 1 2|1 put 2 payload 0 "
 # Entries of a transcript of an edge, and what is said of them: words of another program, and numbers out of range.
@@ -44,11 +76,19 @@ def play(words, data):
 
 class Programs(Case):
     def test_ends(self):
-        for program, network, last, results in ENDS:
+        """By one worker, by three, and in rounds, which show no channels."""
+        for program, net, last, results in ENDS:
             wanted = "".join(f"node {v} pulse {last} {end}|" for v, end in enumerate(results, 1))
             for workers in ("1", "3"):
-                done = play(["run", "--program", program, "--workers", workers], network)
-                self.expect(f"run of {program} on {network} by {workers}", done, 0, text(wanted), b"")
+                done = play(["run", "--program", program, "--workers", workers], net)
+                self.expect(f"run of {program} on {net} by {workers}", done, 0, text(wanted), b"")
+            if program == "colouring":
+                continue
+            done = play(["rounds", "--program", program], net)
+            ends = "".join(f"{v} {end}|" for v, end in enumerate(results, 1))
+            self.note(f"rounds of {program} on {net}",
+                      (done.returncode, done.stderr) == (0, b"") and done.stdout.endswith(text(f"pulse {last}|{ends}")),
+                      done)
 
     def test_transcripts(self):
         """The transcript of a run is one run, which its own program replays and the others refuse."""
@@ -61,8 +101,9 @@ class Programs(Case):
                 self.note(f"{program} replayed as {other}", good, again)
 
     def test_rounds(self):
-        for program, wanted in ROUNDS:
-            self.expect(program, play(["rounds", "--program", program], EDGE), 0, text(wanted), b"")
+        for program, net, wanted in ROUNDS:
+            done = play(["rounds", "--program", program], net)
+            self.expect(f"rounds of {program} on {net}", done, 0, text(wanted), b"")
 
     def test_events(self):
         """Node 2 sends nothing in pulse 0, so it said safe 0 before node 1's payload came: that is put first."""

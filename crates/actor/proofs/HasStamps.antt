@@ -4,7 +4,7 @@ use Rattle.std.proofs.Common.{refl, sym, ap}
 use Rattle.std.proofs.Common.{ap₂, ◌∙◌, subst, arith, ⊎_elim, Some, None, Ok, Err}
 use Rattle.std.specs.Prelude.{All, Bool, Option, Result, IsTrue, MatchResult, max}
 use Rattle.std.proofs.lemmas.Bool.{cases_Bool, cases_eq, eqb-true}
-use Rattle.std.proofs.lemmas.List.{length-map, map-append}
+use Rattle.std.proofs.lemmas.List.{length-map}
 use Rattle.alpha_laws.specs.interference.Net.{Net, IsNetwork, IsVertex, degree_of, neighbour_of, port_to}
 use Rattle.alpha_laws.specs.node_api.Program.{Program, last_pulse_on}
 use Rattle.alpha_laws.specs.alpha_core.Stamped.{Stamped}
@@ -63,138 +63,126 @@ module _ {S M E : Type 0} (program : Program S M E) (net : Net) (v : ℕ) where
       (λ view more. none_from entries record from { view = view } to more w none)))
       (cases_Bool (u == w))
 
-  module _ {Y : Type 0} (taken : Y → List (Stamped M)) (ys : List Y) (node : Node S M) (puts : ℕ → List (Wire M)) (es : List (Entry M))
-      (st : List (StampedEntry M)) (same : bare_of st ≡ es) (is : IsWritten program net v node puts (by_port (map (λ y. wires_of (taken y)) ys)) es) where
+  module _ {Y : Type 0} (taken : Y → List (Stamped M)) (ys : List Y) (node : Node S M) (puts : ℕ → List (Wire M))
+      (es : List (StampedEntry M)) (is : IsWritten program net v node puts (by_port (map (λ y. wires_of (taken y)) ys)) (bare_of es)) where
     -- the entries took as many wires as the ends
-    counts : (i : ℕ) → i < degree_of net v → length (taken_in st (neighbour_of net v i)) ≡ length (by_port (map taken ys) i)
+    counts : (i : ℕ) → i < degree_of net v → length (taken_in es (neighbour_of net v i)) ≡ length (by_port (map taken ys) i)
     counts i lt =
         let w = neighbour_of net v i in
-        let wires : wires_of (taken_in st w) ≡ wires_of (by_port (map taken ys) i) =
-        wires_taken st w ∙ ap (λ l. takes_in l w) same ∙ is.takes_are i lt ∙ wires_at taken ys i in
-        sym (length-map (taken_in st w) (λ x. x.wire)) ∙ ap (λ l. length l) wires ∙ length-map (by_port (map taken ys) i) (λ x. x.wire)
+        let wires : wires_of (taken_in es w) ≡ wires_of (by_port (map taken ys) i) = wires_taken es w ∙ is.takes_are i lt ∙ wires_at taken ys i in
+        sym (length-map (taken_in es w) (λ x. x.wire)) ∙ ap (λ l. length l) wires ∙ length-map (by_port (map taken ys) i) (λ x. x.wire)
 
-    has_taken_all : HasTaken net v (by_port (map taken ys)) st
+    has_taken_all : HasTaken net v (by_port (map taken ys)) es
     has_taken_all i lt = let n = counts i lt in omega (arith, n)
 
-    by_ports : TakesAreByPorts net v st
+    by_ports : TakesAreByPorts net v es
     by_ports w none =
-        let wires : wires_of (taken_in st w) ≡ [] =
-        wires_taken st w ∙ ap (λ l. takes_in l w) same ∙ none_from es (start_node program net v) node is.run w none in
-        sym (length-map (taken_in st w) (λ x. x.wire)) ∙ ap (λ l. length l) wires
+        let wires : wires_of (taken_in es w) ≡ [] = wires_taken es w ∙ none_from (bare_of es) (start_node program net v) node is.run w none in
+        sym (length-map (taken_in es w) (λ x. x.wire)) ∙ ap (λ l. length l) wires
 
 module _ {M : Type 0} (net : Net) (v : ℕ) where
   -- an entry is written down, or there is none
-  next_stamps : (t : Bool) (counter counter' : ℕ) (puts puts' takens takens' : ℕ → List (Stamped M)) (es es' : List (Entry M)) (st st' : List (StampedEntry M))
-      (e : StampedEntry M) → es' ≡ (if t then es ++ (e.entry ∷ []) else es) → st' ≡ (if t then st ++ (e ∷ []) else st) → HasStamps net v t counter puts takens es st
-      → (IsTrue t → KeepsStamps net v counter puts takens st → KeepsStamps net v counter' puts' takens' (st ++ (e ∷ [])))
-      → ((i : ℕ) → last_stamp (puts' i) ≤ counter') → HasStamps net v t counter' puts' takens' es' st'
-  next_stamps true counter counter' puts puts' takens takens' es es' st st' e es_are st_are h more below = record {
-    keeps = λ yes. subst (λ l. KeepsStamps net v counter' puts' takens' l) (sym st_are) (more yes (h.keeps yes));
-    same = ap (λ l. bare_of l) st_are ∙ map-append (λ x. x.entry) st (e ∷ []) ∙ ap (λ l. l ++ (e.entry ∷ [])) h.same ∙ sym es_are;
+  next_stamps : (t : Bool) (counter counter' : ℕ) (puts puts' takens takens' : ℕ → List (Stamped M)) (es es' : List (StampedEntry M))
+      (e : StampedEntry M) → es' ≡ (if t then es ++ (e ∷ []) else es) → HasStamps net v t counter puts takens es
+      → (IsTrue t → KeepsStamps net v counter puts takens es → KeepsStamps net v counter' puts' takens' (es ++ (e ∷ [])))
+      → ((i : ℕ) → last_stamp (puts' i) ≤ counter') → HasStamps net v t counter' puts' takens' es'
+  next_stamps true counter counter' puts puts' takens takens' es es' e es_are h more below = record {
+    keeps = λ yes. subst (λ l. KeepsStamps net v counter' puts' takens' l) (sym es_are) (more yes (h.keeps yes));
     below = below;
   }
-  next_stamps false counter counter' puts puts' takens takens' es es' st st' e es_are st_are h more below = record {
-    keeps = λ yes. absurd cc;
-    same = ap (λ l. bare_of l) st_are ∙ h.same ∙ sym es_are;
-    below = below;
-  }
+  next_stamps false counter counter' puts puts' takens takens' es es' e es_are h more below = record { keeps = λ yes. absurd cc; below = below }
 
   -- nothing is put, taken or written down at the start
-  pub has_at_start : (t : Bool) (counter : ℕ) (puts takens : ℕ → List (Stamped M)) (es : List (Entry M)) (st : List (StampedEntry M)) → counter ≡ 0
-      → ((i : ℕ) → [] ≡ puts i) → es ≡ [] → st ≡ [] → HasStamps net v t counter puts takens es st
-  has_at_start t counter puts takens es st at_zero none_put none none_stamped =
-      subst (λ c. HasStamps net v t c puts takens es st) (sym at_zero)
-      (subst (λ l. HasStamps net v t 0 puts takens l st) (sym none)
-      (subst (λ l. HasStamps net v t 0 puts takens [] l) (sym none_stamped) record {
+  pub has_at_start : (t : Bool) (counter : ℕ) (puts takens : ℕ → List (Stamped M)) (es : List (StampedEntry M)) → counter ≡ 0
+      → ((i : ℕ) → [] ≡ puts i) → es ≡ [] → HasStamps net v t counter puts takens es
+  has_at_start t counter puts takens es at_zero none_put none =
+      subst (λ c. HasStamps net v t c puts takens es) (sym at_zero)
+      (subst (λ l. HasStamps net v t 0 puts takens l) (sym none) record {
         keeps = λ yes. record {
           stamped = λ before e after is. absurd (no_split before e after is);
           counter_is = refl;
           put_are = λ i lt. none_put i;
         };
-        same = refl;
         below = λ i. let e = ap (λ l. last_stamp l) (none_put i) in omega (arith, e);
-      }))
+      })
     where
       no_split : (before : List (StampedEntry M)) (e : StampedEntry M) (after : List (StampedEntry M)) → [] ≡ before ++ (e ∷ after) → ⊥
       no_split [] e after is = cc
       no_split (x ∷ before) e after is = cc
 
 module _ {S M E X Y : Type 0} (program : Program S M E) (net : Net) (put : X → List (Stamped M)) (taken : Y → List (Stamped M)) (v : ℕ) (t : Bool) where
-  abbrev Has : ℕ → List X → List Y → List (Entry M) → List (StampedEntry M) → Type 0
-  Has counter xs ys es st = HasStamps net v t counter (by_port (map put xs)) (by_port (map taken ys)) es st
+  abbrev Has : ℕ → List X → List Y → List (StampedEntry M) → Type 0
+  Has counter xs ys es = HasStamps net v t counter (by_port (map put xs)) (by_port (map taken ys)) es
 
   -- what it wrote down, without stamps
-  abbrev Wrote : Node S M → List X → List Y → Option (Aside M) → List (Entry M) → Type 0
+  abbrev Wrote : Node S M → List X → List Y → Option (Aside M) → List (StampedEntry M) → Type 0
   Wrote node xs ys aside es =
-      IsTranscript program net v t node (by_port (map (λ x. wires_of (put x)) xs)) (by_port (reacted_to aside (map (λ y. wires_of (taken y)) ys))) es
+      IsTranscript program net v t node (by_port (map (λ x. wires_of (put x)) xs)) (by_port (reacted_to aside (map (λ y. wires_of (taken y)) ys)))
+      (bare_of es)
 
   module _ (ok : IsNetwork net) (vertex : IsVertex net v) where
     -- a wire was taken and set aside
     pub has_aside : (node : Node S M) (counter : ℕ) (xs : List X) (ys : List Y) (aside : Option (Aside M)) (i : ℕ) (x y : Y) (item : Stamped M)
-        (es : List (Entry M)) (st : List (StampedEntry M)) → length ys ≡ degree_of net v → i < degree_of net v → aside ≡ None → x ≡ get_or ys i x
-        → taken y ≡ taken x ++ (item ∷ []) → Wrote node xs ys aside es → Has counter xs ys es st → Has counter xs (set ys i y) es st
-    has_aside node counter xs ys aside i x y item es st count lt going is more wrote h =
+        (es : List (StampedEntry M)) → length ys ≡ degree_of net v → i < degree_of net v → aside ≡ None → x ≡ get_or ys i x
+        → taken y ≡ taken x ++ (item ∷ []) → Wrote node xs ys aside es → Has counter xs ys es → Has counter xs (set ys i y) es
+    has_aside node counter xs ys aside i x y item es count lt going is more wrote h =
         let within : i < length ys = omega arith in
         let wrote' : Wrote node xs ys None es = subst (λ a. Wrote node xs ys a es) going wrote in
         let grown = one_more_stamped taken ys i x y item within is more in
         record {
           keeps = λ yes.
               let written = wrote'.written yes in
-              let has = has_taken_all program net v taken ys node (by_port (map (λ x. wires_of (put x)) xs)) es st h.same written in
-              let by = by_ports program net v taken ys node (by_port (map (λ x. wires_of (put x)) xs)) es st h.same written in
-              (keeps net ok v vertex).asides i counter item (by_port (map put xs)) (by_port (map taken ys)) (by_port (map taken (set ys i y))) st lt
+              let has = has_taken_all program net v taken ys node (by_port (map (λ x. wires_of (put x)) xs)) es written in
+              let by = by_ports program net v taken ys node (by_port (map (λ x. wires_of (put x)) xs)) es written in
+              (keeps net ok v vertex).asides i counter item (by_port (map put xs)) (by_port (map taken ys)) (by_port (map taken (set ys i y))) es lt
               (h.keeps yes) has by grown;
-          same = h.same;
           below = h.below;
         }
 
     -- a wire was taken, and the node reacted
     pub has_taken : (node : Node S M) (counter counter' k n : ℕ) (xs : List X) (ys : List Y) (aside : Option (Aside M)) (i : ℕ) (x y : Y) (item : Stamped M)
-        (es es' : List (Entry M)) (st st' : List (StampedEntry M)) → length ys ≡ degree_of net v → i < degree_of net v → aside ≡ None
+        (es es' : List (StampedEntry M)) → length ys ≡ degree_of net v → i < degree_of net v → aside ≡ None
         → x ≡ get_or ys i x → taken y ≡ taken x ++ (item ∷ []) → n ≡ neighbour_of net v i → counter' ≡ max counter item.stamp + 1 → k ≡ counter'
-        → es' ≡ (if t then es ++ (Take n item.wire ∷ []) else es) → st' ≡ (if t then st ++ (stamped_entry counter' (Take n item.wire) ∷ []) else st)
-        → Wrote node xs ys aside es → Has counter xs ys es st → Has k xs (set ys i y) es' st'
-    has_taken node counter counter' k n xs ys aside i x y item es es' st st' count lt going is more neighbour next moved es_are st_are wrote h =
+        → es' ≡ (if t then es ++ (stamped_entry counter' (Take n item.wire) ∷ []) else es)
+        → Wrote node xs ys aside es → Has counter xs ys es → Has k xs (set ys i y) es'
+    has_taken node counter counter' k n xs ys aside i x y item es es' count lt going is more neighbour next moved es_are wrote h =
         let within : i < length ys = omega arith in
         let s = max counter item.stamp + 1 in
         let e : StampedEntry M = stamped_entry s (Take (neighbour_of net v i) item.wire) in
         let wrote' : Wrote node xs ys None es = subst (λ a. Wrote node xs ys a es) going wrote in
         let grown = one_more_stamped taken ys i x y item within is more in
-        let es_more : es' ≡ (if t then es ++ (e.entry ∷ []) else es) = es_are ∙ ap (λ k. if t then es ++ (Take k item.wire ∷ []) else es) neighbour in
-        let st_more : st' ≡ (if t then st ++ (e ∷ []) else st) =
-        st_are ∙ ap₂ (λ c k. if t then st ++ (stamped_entry c (Take k item.wire) ∷ []) else st) next neighbour in
-        subst (λ c. Has c xs (set ys i y) es' st') (sym (moved ∙ next))
-        (next_stamps net v t counter s (by_port (map put xs)) (by_port (map put xs)) (by_port (map taken ys)) (by_port (map taken (set ys i y))) es es' st st'
-        e es_more st_more h
+        let es_more : es' ≡ (if t then es ++ (e ∷ []) else es) =
+        es_are ∙ ap₂ (λ c k. if t then es ++ (stamped_entry c (Take k item.wire) ∷ []) else es) next neighbour in
+        subst (λ c. Has c xs (set ys i y) es') (sym (moved ∙ next))
+        (next_stamps net v t counter s (by_port (map put xs)) (by_port (map put xs)) (by_port (map taken ys)) (by_port (map taken (set ys i y))) es es'
+        e es_more h
         (λ yes kept.
         let written = wrote'.written yes in
-        let kept' : KeepsStamps net v counter (by_port (map put xs)) (by_port (map taken ys)) st = h.keeps yes in
-        let has = has_taken_all program net v taken ys node (by_port (map (λ x. wires_of (put x)) xs)) es st h.same written in
-        let by = by_ports program net v taken ys node (by_port (map (λ x. wires_of (put x)) xs)) es st h.same written in
-        let all = counts program net v taken ys node (by_port (map (λ x. wires_of (put x)) xs)) es st h.same written i lt in
-        (keeps net ok v vertex).takes i counter item (by_port (map put xs)) (by_port (map taken ys)) (by_port (map taken (set ys i y))) st lt kept' has all by
+        let kept' : KeepsStamps net v counter (by_port (map put xs)) (by_port (map taken ys)) es = h.keeps yes in
+        let has = has_taken_all program net v taken ys node (by_port (map (λ x. wires_of (put x)) xs)) es written in
+        let by = by_ports program net v taken ys node (by_port (map (λ x. wires_of (put x)) xs)) es written in
+        let all = counts program net v taken ys node (by_port (map (λ x. wires_of (put x)) xs)) es written i lt in
+        (keeps net ok v vertex).takes i counter item (by_port (map put xs)) (by_port (map taken ys)) (by_port (map taken (set ys i y))) es lt kept' has all by
         grown)
         (λ j. let le = h.below j in omega (arith, le)))
 
     -- the oldest wire of an out-list was put
     pub has_put : (counter counter' k n : ℕ) (xs : List X) (ys : List Y) (i : ℕ) (x y : X) (w : Wire M)
-        (es es' : List (Entry M)) (st st' : List (StampedEntry M)) → length xs ≡ degree_of net v → i < degree_of net v
+        (es es' : List (StampedEntry M)) → length xs ≡ degree_of net v → i < degree_of net v
         → x ≡ get_or xs i x → put y ≡ put x ++ (stamped counter' w ∷ []) → n ≡ neighbour_of net v i → counter' ≡ counter + 1 → k ≡ counter'
-        → es' ≡ (if t then es ++ (Put n w ∷ []) else es) → st' ≡ (if t then st ++ (stamped_entry counter' (Put n w) ∷ []) else st)
-        → Has counter xs ys es st → Has k (set xs i y) ys es' st'
-    has_put counter counter' k n xs ys i x y w es es' st st' count lt is more neighbour next moved es_are st_are h =
+        → es' ≡ (if t then es ++ (stamped_entry counter' (Put n w) ∷ []) else es) → Has counter xs ys es → Has k (set xs i y) ys es'
+    has_put counter counter' k n xs ys i x y w es es' count lt is more neighbour next moved es_are h =
         let within : i < length xs = omega arith in
         let s = counter + 1 in
         let e : StampedEntry M = stamped_entry s (Put (neighbour_of net v i) w) in
         let more' : put y ≡ put x ++ (stamped s w ∷ []) = more ∙ ap (λ c. put x ++ (stamped c w ∷ [])) next in
         let grown = one_more_stamped put xs i x y (stamped s w) within is more' in
-        let es_more : es' ≡ (if t then es ++ (e.entry ∷ []) else es) = es_are ∙ ap (λ k. if t then es ++ (Put k w ∷ []) else es) neighbour in
-        let st_more : st' ≡ (if t then st ++ (e ∷ []) else st) =
-        st_are ∙ ap₂ (λ c k. if t then st ++ (stamped_entry c (Put k w) ∷ []) else st) next neighbour in
-        subst (λ c. Has c (set xs i y) ys es' st') (sym (moved ∙ next))
-        (next_stamps net v t counter s (by_port (map put xs)) (by_port (map put (set xs i y))) (by_port (map taken ys)) (by_port (map taken ys)) es es' st st'
-        e es_more st_more h
-        (λ yes kept. (keeps net ok v vertex).puts i counter w (by_port (map put xs)) (by_port (map put (set xs i y))) (by_port (map taken ys)) st lt kept grown)
+        let es_more : es' ≡ (if t then es ++ (e ∷ []) else es) =
+        es_are ∙ ap₂ (λ c k. if t then es ++ (stamped_entry c (Put k w) ∷ []) else es) next neighbour in
+        subst (λ c. Has c (set xs i y) ys es') (sym (moved ∙ next))
+        (next_stamps net v t counter s (by_port (map put xs)) (by_port (map put (set xs i y))) (by_port (map taken ys)) (by_port (map taken ys)) es es'
+        e es_more h
+        (λ yes kept. (keeps net ok v vertex).puts i counter w (by_port (map put xs)) (by_port (map put (set xs i y))) (by_port (map taken ys)) es lt kept grown)
         (λ j. ⊎_elim
         (λ here.
         let last : last_stamp (by_port (map put (set xs i y)) j) ≡ s =
@@ -205,17 +193,17 @@ module _ {S M E X Y : Type 0} (program : Program S M E) (net : Net) (put : X →
         (cases_eq j i)))
 
     -- a pulse was made
-    pub has_pulsed : (counter counter' k p : ℕ) (xs : List X) (ys : List Y) (es es' : List (Entry M)) (st st' : List (StampedEntry M))
-        → counter' ≡ counter + 1 → k ≡ counter' → es' ≡ (if t then es ++ (Pulse p ∷ []) else es)
-        → st' ≡ (if t then st ++ (stamped_entry counter' (Pulse p) ∷ []) else st) → Has counter xs ys es st → Has k xs ys es' st'
-    has_pulsed counter counter' k p xs ys es es' st st' next moved es_are st_are h =
+    pub has_pulsed : (counter counter' k p : ℕ) (xs : List X) (ys : List Y) (es es' : List (StampedEntry M))
+        → counter' ≡ counter + 1 → k ≡ counter' → es' ≡ (if t then es ++ (stamped_entry counter' (Pulse p) ∷ []) else es)
+        → Has counter xs ys es → Has k xs ys es'
+    has_pulsed counter counter' k p xs ys es es' next moved es_are h =
         let s = counter + 1 in
         let e : StampedEntry M = stamped_entry s (Pulse p) in
-        let st_more : st' ≡ (if t then st ++ (e ∷ []) else st) = st_are ∙ ap (λ c. if t then st ++ (stamped_entry c (Pulse p) ∷ []) else st) next in
-        subst (λ c. Has c xs ys es' st') (sym (moved ∙ next))
-        (next_stamps net v t counter s (by_port (map put xs)) (by_port (map put xs)) (by_port (map taken ys)) (by_port (map taken ys)) es es' st st'
-        e es_are st_more h
-        (λ yes kept. (keeps net ok v vertex).pulses p counter (by_port (map put xs)) (by_port (map taken ys)) st kept)
+        let es_more : es' ≡ (if t then es ++ (e ∷ []) else es) = es_are ∙ ap (λ c. if t then es ++ (stamped_entry c (Pulse p) ∷ []) else es) next in
+        subst (λ c. Has c xs ys es') (sym (moved ∙ next))
+        (next_stamps net v t counter s (by_port (map put xs)) (by_port (map put xs)) (by_port (map taken ys)) (by_port (map taken ys)) es es'
+        e es_more h
+        (λ yes kept. (keeps net ok v vertex).pulses p counter (by_port (map put xs)) (by_port (map taken ys)) es kept)
         (λ j. let le = h.below j in omega (arith, le)))
 
 -- the last stamp of a list that got one wire more is that of the wire

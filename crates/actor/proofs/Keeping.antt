@@ -16,10 +16,10 @@ use Rattle.link_queue.specs.Ends.{put_list, put_stamped, take_name, taken_list, 
 use Rattle.link_queue.specs.Queued.{stamped_of}
 use Rattle.link_queue.specs.declared.queued.Queued.{Queued}
 use Rattle.link_queue.specs.link_rule.Legal.{IsLegalOn, LegalFor}
-use Rattle.stamps.specs.entries.Recorded.{HasSame, HasWritten, entries_by, is_on, stamped_by}
+use Rattle.stamps.specs.entries.Recorded.{HasSame, HasWritten, entries_by, is_on}
 use Rattle.stamps.specs.entries.Recorder.{Recorder}
 use Rattle.stamps.specs.entries.Entry.TheVariants.{Pulse, Put, Take}
-use Rattle.stamps.specs.entries.Rows.{stamped_entry}
+use Rattle.stamps.specs.Stamps.{bare_of}
 use Rattle.actor.specs.Kept.{IsKept}
 use Rattle.alpha_laws.specs.Kept.{NodeKept}
 use Rattle.actor.specs.HasStamps.{HasStamps}
@@ -32,7 +32,7 @@ use Rattle.actor.specs.declared.wired.WiredTake.{WiredTake}
 use Rattle.actor.specs.declared.wiring.Wiring as wiring
 use Rattle.actor.proofs.HasStamps.{full_aside, last_at, has_aside, has_pulsed, has_put, has_taken}
 use Rattle.actor.proofs.Kept.{legal_of_name}
-use Rattle.actor.proofs.Recorded.{same-stamped, same-written}
+use Rattle.actor.proofs.Recorded.{bare-written, same-stamped, same-written}
 use Rattle.actor.proofs.Lists.{as_long, at_place, below_as_many, below_same, same_all}
 use Rattle.actor.proofs.Queued.{parts_of}
 use Rattle.actor.proofs.Steps.{aside_is, full_not_refused, full_stamp, none_and_some, pulsed, put_one, refused_is, refused_not_full, took_one}
@@ -123,9 +123,9 @@ module _ {J S M E : Type 0} {j : wiring.Ghosts J} {program : Program S M E} {v d
       → map {B = ℕ × ℕ} (λ e. (e.vertex, e.port)) takes' ≡ map {B = ℕ × ℕ} (λ e. (e.vertex, e.port)) takes → last' ≡ last → is_on wrote' ≡ is_on wrote
       → NodeKept program j.net v new (by_port (map (λ e. put_list e.end) puts')) (by_port (reacted_to aside (map (λ e. taken_list e.end) takes')))
       → IsTranscript program j.net v (is_on wrote) new (by_port (map (λ e. put_list e.end) puts'))
-      (by_port (reacted_to aside (map (λ e. taken_list e.end) takes'))) (entries_by wrote')
+      (by_port (reacted_to aside (map (λ e. taken_list e.end) takes'))) (bare_of (entries_by wrote'))
       → HasStamps j.net v (is_on wrote) counter' (by_port (map (λ e. put_stamped e.end) puts')) (by_port (map (λ e. taken_stamped e.end) takes'))
-      (entries_by wrote') (stamped_by wrote')
+      (entries_by wrote')
       → IsKept program v degree aside last' new puts' takes' wrote' counter'
   kept-by {new} {last'} {counter'} {puts'} {takes'} {wrote'} going outs ins same on keeps writes stamps = record {
     network = old.network;
@@ -138,9 +138,9 @@ module _ {J S M E : Type 0} {j : wiring.Ghosts J} {program : Program S M E} {v d
     keeps = keeps;
     set_aside = λ a e. absurd (none_and_some aside a going e);
     writes = subst (λ t. IsTranscript program j.net v t new (by_port (map (λ e. put_list e.end) puts'))
-        (by_port (reacted_to aside (map (λ e. taken_list e.end) takes'))) (entries_by wrote')) (sym on) writes;
+        (by_port (reacted_to aside (map (λ e. taken_list e.end) takes'))) (bare_of (entries_by wrote'))) (sym on) writes;
     stamps = subst (λ t. HasStamps j.net v t counter' (by_port (map (λ e. put_stamped e.end) puts')) (by_port (map (λ e. taken_stamped e.end) takes'))
-        (entries_by wrote') (stamped_by wrote')) (sym on) stamps;
+        (entries_by wrote')) (sym on) stamps;
     full = λ a e. absurd (none_and_some aside a going e);
   }
 
@@ -152,8 +152,8 @@ module _ {J S M E : Type 0} {j : wiring.Ghosts J} {program : Program S M E} {v d
       let sent = by_port (map (λ e. put_list e.end) puts) in
       kept-by going refl (same_all (λ e. (e.vertex, e.port)) takes i x y c.is (λ k. (c.place.0 k, c.place.1 k))) refl refl
       (subst (λ l. NodeKept program j.net v node sent (by_port (reacted_to aside l))) wires old.keeps)
-      (subst (λ l. IsTranscript program j.net v (is_on wrote) node sent (by_port (reacted_to aside l)) (entries_by wrote)) wires old.writes)
-      (subst (λ l. HasStamps j.net v (is_on wrote) counter (by_port (map (λ e. put_stamped e.end) puts)) (by_port l) (entries_by wrote) (stamped_by wrote))
+      (subst (λ l. IsTranscript program j.net v (is_on wrote) node sent (by_port (reacted_to aside l)) (bare_of (entries_by wrote))) wires old.writes)
+      (subst (λ l. HasStamps j.net v (is_on wrote) counter (by_port (map (λ e. put_stamped e.end) puts)) (by_port l) (entries_by wrote))
       (sym (same_all (λ e. taken_stamped e.end) takes i x y c.is c.same)) old.stamps)
 
   -- a wire came, and the node reacted
@@ -172,10 +172,11 @@ module _ {J S M E : Type 0} {j : wiring.Ghosts J} {program : Program S M E} {v d
       (took_one program j.net (λ e. put_list e.end) (λ e. taken_list e.end) v node new puts takes aside i x y w last old.last_is count_takes lt going
       c.is (wires_gained c) legal' reacts state old.keeps)
       (wrote_taken program j.net (λ e. put_list e.end) (λ e. taken_list e.end) v (is_on wrote) old.network old.is_vertex node new puts takes aside i x y w last
-      y.vertex (entries_by wrote) (entries_by wrote') old.last_is count_takes lt going c.is (wires_gained c) reacts state from more.entries old.writes)
+      y.vertex (bare_of (entries_by wrote)) (bare_of (entries_by wrote')) old.last_is count_takes lt going c.is (wires_gained c) reacts state from
+      (bare-written more) old.writes)
       (has_taken program j.net (λ e. put_stamped e.end) (λ e. taken_stamped e.end) v (is_on wrote) old.network old.is_vertex node counter next counter'
-      y.vertex puts takes aside i x y (stamped s w) (entries_by wrote) (entries_by wrote') (stamped_by wrote) (stamped_by wrote') count_takes lt going
-      c.is c.more from stamp moved more.entries more.stamped old.writes old.stamps)
+      y.vertex puts takes aside i x y (stamped s w) (entries_by wrote) (entries_by wrote') count_takes lt going c.is c.more from stamp moved more.entries
+      old.writes old.stamps)
 
   -- a wire came, and was set aside: the node refused it, or its stamp would be too great
   kept-aside : {new : Node S M} {last' : ℕ} {i : ℕ} {x y : WiredTake J M j} {s : ℕ} {w : Wire M} (a : Aside M) → a.port ≡ i
@@ -197,9 +198,9 @@ module _ {J S M E : Type 0} {j : wiring.Ghosts J} {program : Program S M E} {v d
             c.is (wires_gained c) same_node old.keeps;
         set_aside = is_aside;
         writes = wrote_refused program j.net (λ e. put_list e.end) (λ e. taken_list e.end) v (is_on wrote) node new puts takes aside i x y w a
-            (entries_by wrote) at count_takes lt going c.is (wires_gained c) same_node old.writes;
+            (bare_of (entries_by wrote)) at count_takes lt going c.is (wires_gained c) same_node old.writes;
         stamps = has_aside program j.net (λ e. put_stamped e.end) (λ e. taken_stamped e.end) v (is_on wrote) old.network old.is_vertex node counter puts takes
-            aside i x y (stamped s w) (entries_by wrote) (stamped_by wrote) count_takes lt going c.is c.more old.writes old.stamps;
+            aside i x y (stamped s w) (entries_by wrote) count_takes lt going c.is c.more old.writes old.stamps;
         full = full_aside (λ e. taken_stamped e.end) takes i x y (stamped s w) a (takes_within i port) c.is c.more at counter full;
       }
 
@@ -238,8 +239,8 @@ module _ {J S M E : Type 0} {j : wiring.Ghosts J} {program : Program S M E} {v d
       let taken = by_port (reacted_to aside (map (λ e. taken_list e.end) takes)) in
       kept-by going (same_all (λ e. (e.vertex, e.port)) puts i x y c.is (λ k. (c.place.0 k, c.place.1 k))) refl refl refl
       (subst (λ l. NodeKept program j.net v node (by_port l) taken) wires old.keeps)
-      (subst (λ l. IsTranscript program j.net v (is_on wrote) node (by_port l) taken (entries_by wrote)) wires old.writes)
-      (subst (λ l. HasStamps j.net v (is_on wrote) counter (by_port l) (by_port (map (λ e. taken_stamped e.end) takes)) (entries_by wrote) (stamped_by wrote))
+      (subst (λ l. IsTranscript program j.net v (is_on wrote) node (by_port l) taken (bare_of (entries_by wrote))) wires old.writes)
+      (subst (λ l. HasStamps j.net v (is_on wrote) counter (by_port l) (by_port (map (λ e. taken_stamped e.end) takes)) (entries_by wrote))
       (sym (same_all (λ e. put_stamped e.end) puts i x y c.is c.same)) old.stamps)
 
   -- the oldest wire of the out-list of port i was put; z is the end that takes from the neighbour
@@ -256,10 +257,10 @@ module _ {J S M E : Type 0} {j : wiring.Ghosts J} {program : Program S M E} {v d
       (put_one program j.net (λ e. put_list e.end) (λ e. taken_list e.end) v node new puts takes aside i x y w count_puts lt c.is (wires_gained c) oldest
       view state old.keeps)
       (wrote_one_put program j.net (λ e. put_list e.end) (λ e. taken_list e.end) v (is_on wrote) old.network old.is_vertex node new puts takes aside
-      i x y w z.vertex (entries_by wrote) (entries_by wrote') count_puts lt c.is (wires_gained c) oldest view state to more.entries old.writes)
+      i x y w z.vertex (bare_of (entries_by wrote)) (bare_of (entries_by wrote')) count_puts lt c.is (wires_gained c) oldest view state to
+      (bare-written more) old.writes)
       (has_put program j.net (λ e. put_stamped e.end) (λ e. taken_stamped e.end) v (is_on wrote) old.network old.is_vertex counter next counter' z.vertex
-      puts takes i x y w (entries_by wrote) (entries_by wrote') (stamped_by wrote) (stamped_by wrote') count_puts lt c.is c.more to stamp moved
-      more.entries more.stamped old.stamps)
+      puts takes i x y w (entries_by wrote) (entries_by wrote') count_puts lt c.is c.more to stamp moved more.entries old.stamps)
 
   -- a pulse was made
   pub kept-pulsed : {new : Node S M} {last' counter' next number : ℕ} {wrote' : Recorder M} → IsProgram program
@@ -272,7 +273,7 @@ module _ {J S M E : Type 0} {j : wiring.Ghosts J} {program : Program S M E} {v d
       let taken = by_port (reacted_to aside (map (λ e. taken_list e.end) takes)) in
       kept-by going refl refl same more.on
       (pulsed program j.net laws old.network v node new sent taken last old.last_is old.is_vertex can made old.keeps)
-      (wrote_pulsed program j.net v (is_on wrote) node new sent taken last number (entries_by wrote) (entries_by wrote') old.last_is can made is
-      more.entries old.writes)
+      (wrote_pulsed program j.net v (is_on wrote) node new sent taken last number (bare_of (entries_by wrote)) (bare_of (entries_by wrote')) old.last_is
+      can made is (bare-written more) old.writes)
       (has_pulsed program j.net (λ e. put_stamped e.end) (λ e. taken_stamped e.end) v (is_on wrote) old.network old.is_vertex counter next counter' number
-      puts takes (entries_by wrote) (entries_by wrote') (stamped_by wrote) (stamped_by wrote') stamp moved more.entries more.stamped old.stamps)
+      puts takes (entries_by wrote) (entries_by wrote') stamp moved more.entries old.stamps)

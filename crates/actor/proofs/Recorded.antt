@@ -1,26 +1,40 @@
 -- What a node wrote down and its stamps, as its recorder has them once room for an entry was made.
-use Rattle.std.proofs.Common.{ℕ, List, sym, subst}
+use Rattle.std.proofs.Common.{◌≡◌, ℕ, true, false, if◌then◌else◌, List, [], ◌∷◌, ◌++◌, refl, sym, ap, ◌∙◌}
+use Rattle.std.proofs.Math.Path.{transport}
+use Rattle.std.specs.Prelude.{Bool}
+use Rattle.std.proofs.lemmas.List.{map-append}
 use Rattle.alpha_laws.specs.interference.Net.{Net}
 use Rattle.alpha_laws.specs.node_api.Program.{Program}
 use Rattle.alpha_laws.specs.alpha_core.Stamped.{Stamped}
 use Rattle.alpha_laws.specs.alpha_core.View.{Node}
 use Rattle.alpha_laws.specs.alpha_core.Wire.{Wire}
-use Rattle.stamps.specs.entries.Recorded.{HasSame, entries_by, is_on, stamped_by}
+use Rattle.stamps.specs.entries.Recorded.{HasSame, HasWritten, entries_by, is_on}
+use Rattle.stamps.specs.entries.Entry.{Entry}
 use Rattle.stamps.specs.entries.Recorder.{Recorder}
+use Rattle.stamps.specs.entries.Rows.{stamped_entry}
+use Rattle.stamps.specs.Stamps.{StampedEntry, bare_of}
 use Rattle.actor.specs.HasStamps.{HasStamps}
 use Rattle.actor.specs.Written.{IsTranscript}
 
 module _ {M : Type 0} {wrote new : Recorder M} (same : HasSame wrote new) where
   pub same-written : {S E : Type 0} {program : Program S M E} {net : Net} {v : ℕ} {node : Node S M} {puts takens : ℕ → List (Wire M)}
-      → IsTranscript program net v (is_on wrote) node puts takens (entries_by wrote) → IsTranscript program net v (is_on new) node puts takens (entries_by new)
+      → IsTranscript program net v (is_on wrote) node puts takens (bare_of (entries_by wrote))
+      → IsTranscript program net v (is_on new) node puts takens (bare_of (entries_by new))
   same-written {program = program} {net = net} {v = v} {node = node} {puts = puts} {takens = takens} is =
-      subst (λ t. IsTranscript program net v t node puts takens (entries_by new)) (sym same.on)
-      (subst (λ l. IsTranscript program net v (is_on wrote) node puts takens l) (sym same.entries) is)
+      transport (λ k. IsTranscript program net v (sym same.on k) node puts takens (bare_of (sym same.entries k))) is
 
   pub same-stamped : {net : Net} {v counter : ℕ} {puts takens : ℕ → List (Stamped M)}
-      → HasStamps net v (is_on wrote) counter puts takens (entries_by wrote) (stamped_by wrote)
-      → HasStamps net v (is_on new) counter puts takens (entries_by new) (stamped_by new)
+      → HasStamps net v (is_on wrote) counter puts takens (entries_by wrote) → HasStamps net v (is_on new) counter puts takens (entries_by new)
   same-stamped {net} {v} {counter} {puts} {takens} has =
-      subst (λ t. HasStamps net v t counter puts takens (entries_by new) (stamped_by new)) (sym same.on)
-      (subst (λ l. HasStamps net v (is_on wrote) counter puts takens l (stamped_by new)) (sym same.entries)
-      (subst (λ l. HasStamps net v (is_on wrote) counter puts takens (entries_by wrote) l) (sym same.stamped) has))
+      transport (λ k. HasStamps net v (sym same.on k) counter puts takens (sym same.entries k)) has
+
+module _ {M : Type 0} where
+  -- what was written down, without stamps
+  bare-more : (on : Bool) (entries : List (StampedEntry M)) (e : StampedEntry M)
+      → bare_of (if on then entries ++ (e ∷ []) else entries) ≡ (if on then bare_of entries ++ (e.entry ∷ []) else bare_of entries)
+  bare-more true entries e = map-append (λ x. x.entry) entries (e ∷ [])
+  bare-more false entries e = refl
+
+  pub bare-written : {stamp : ℕ} {entry : Entry M} {old new : Recorder M} → HasWritten stamp entry old new
+      → bare_of (entries_by new) ≡ (if is_on old then bare_of (entries_by old) ++ (entry ∷ []) else bare_of (entries_by old))
+  bare-written {stamp} {entry} {old} more = ap (λ l. bare_of l) more.entries ∙ bare-more (is_on old) (entries_by old) (stamped_entry stamp entry)

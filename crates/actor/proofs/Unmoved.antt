@@ -1,9 +1,13 @@
 -- A node that did nothing, and then nothing again.
-use Rattle.std.proofs.Common.{◌∙◌}
+use Rattle.std.proofs.Common.{◌≡◌, ◌⊎◌, ◌∙◌, ℕ, None, map, slice_get, subst, sym}
 use Rattle.std.specs.declared.cmp.PartialEq as equality
 use Rattle.alpha_laws.specs.declared.NodeProgram as program
 use Rattle.alpha_laws.specs.declared.PayloadText as text
-use Rattle.actor.specs.Blocked.{IsUnmoved}
+use Rattle.alpha_laws.specs.alpha_core.View.{port_at}
+use Rattle.link_queue.specs.Ends.{put_list}
+use Rattle.actor.specs.Node.{by_port}
+use Rattle.actor.specs.Tables.{LinkWasFull}
+use Rattle.actor.specs.Blocked.{IsUnmoved, PutBlocked}
 use Rattle.actor.specs.declared.wiring.Wiring as wiring
 use Rattle.actor.specs.declared.node.Node.{Node}
 
@@ -16,4 +20,25 @@ module _ {J P T : Type 0} {j : wiring.Ghosts J} {p : program.Ghosts P T} {t : te
     takes = b.takes ∙ a.takes;
     entries = b.entries ∙ a.entries;
     counter = b.counter ∙ a.counter;
+  }
+
+  -- what blocks the puts of a node is the same before and after it did nothing
+  pub blocked-before : (old new : Node J P T j p t q) (port : ℕ) → new.vertex ≡ old.vertex → IsUnmoved old new → PutBlocked port new → PutBlocked port old
+  blocked-before old new port vertex same blocked =
+      subst
+      (λ a. (slice_get (port_at a.node.view port).out 0 ≡ None)
+      ⊎ LinkWasFull P j.tables old.vertex port (by_port (map (λ e. put_list e.end) old.puts.items) port)) same.alpha
+      (subst (λ v. (slice_get (port_at new.alpha.node.view port).out 0 ≡ None)
+      ⊎ LinkWasFull P j.tables v port (by_port (map (λ e. put_list e.end) old.puts.items) port)) vertex
+      (subst (λ lists. (slice_get (port_at new.alpha.node.view port).out 0 ≡ None)
+      ⊎ LinkWasFull P j.tables new.vertex port (by_port lists port)) same.puts blocked))
+
+  pub blocked-after : (old new : Node J P T j p t q) (port : ℕ) → new.vertex ≡ old.vertex → IsUnmoved old new → PutBlocked port old → PutBlocked port new
+  blocked-after old new port vertex same = blocked-before new old port (sym vertex) record {
+    alpha = sym same.alpha;
+    aside = sym same.aside;
+    puts = sym same.puts;
+    takes = sym same.takes;
+    entries = sym same.entries;
+    counter = sym same.counter;
   }

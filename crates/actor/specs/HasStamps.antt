@@ -3,20 +3,17 @@ use Rattle.std.specs.Prelude.{◌≡◌, ℕ, ◌≤◌, ◌+◌, ◌^◌, max, 
 use Rattle.alpha_laws.specs.interference.Net.{Net}
 use Rattle.alpha_laws.specs.alpha_core.Stamped.{Stamped}
 use Rattle.alpha_laws.specs.alpha_core.StampedWires.{last_stamp}
-use Rattle.stamps.specs.entries.Entry.{Entry}
 use Rattle.stamps.specs.Keeps.{KeepsStamps}
-use Rattle.stamps.specs.Stamps.{StampedEntry, bare_of}
+use Rattle.stamps.specs.Stamps.{StampedEntry}
 use Rattle.actor.specs.declared.aside.Aside.{Aside}
 use Rattle.actor.specs.declared.aside.WhyAside.{WhyAside}
 use Rattle.actor.specs.declared.aside.WhyAside.TheVariants.{Refused, StampFull}
 
--- The lists that the ends of a node of v put and took, by port, and its entries, without their stamps and with them.
+-- The lists that the ends of a node of v put and took, by port, and its entries.
 pub record HasStamps {M : Type 0} (net : Net) (v : ℕ) (transcript : Bool) (counter : ℕ)
-    (puts takens : ℕ → List (Stamped M)) (entries : List (Entry M)) (stamped : List (StampedEntry M)) : Type 0 where
+    (puts takens : ℕ → List (Stamped M)) (entries : List (StampedEntry M)) : Type 0 where
   -- With a transcript, each entry has the stamp that the counter gives it, and each wire that was put that of its put.
-  pub keeps : IsTrue transcript → KeepsStamps net v counter puts takens stamped
-  -- These are the same entries.
-  pub same : bare_of stamped ≡ entries
+  pub keeps : IsTrue transcript → KeepsStamps net v counter puts takens entries
   -- No end put a wire with a stamp above the counter.
   pub below : (i : ℕ) → last_stamp (puts i) ≤ counter
 

@@ -5,8 +5,9 @@ use Rattle.alpha_laws.specs.node_api.Program.{Program, last_pulse_on}
 use Rattle.alpha_laws.specs.alpha_core.View.{Node}
 use Rattle.alpha_laws.specs.Kept.{NodeKept}
 use Rattle.link_queue.specs.Ends.{put_list, put_stamped, taken_list, taken_stamped}
-use Rattle.stamps.specs.entries.Recorded.{entries_by, is_on, stamped_by}
+use Rattle.stamps.specs.entries.Recorded.{entries_by, is_on}
 use Rattle.stamps.specs.entries.Recorder.{Recorder}
+use Rattle.stamps.specs.Stamps.{bare_of}
 use Rattle.actor.specs.declared.aside.Aside.{Aside}
 use Rattle.actor.specs.declared.wired.WiredPut.{WiredPut}
 use Rattle.actor.specs.declared.wired.WiredTake.{WiredTake}
@@ -35,9 +36,9 @@ module _ {J S M E : Type 0} {j : wiring.Ghosts J} where
         IsAside (last_pulse_on program j.net) node.view (map (λ e. taken_list e.end) takes) a
     -- With a transcript, its entries are all that it did, and those lists.
     pub writes : IsTranscript program j.net vertex (is_on recorder) node (by_port (map (λ e. put_list e.end) puts))
-        (by_port (reacted_to aside (map (λ e. taken_list e.end) takes))) (entries_by recorder)
+        (by_port (reacted_to aside (map (λ e. taken_list e.end) takes))) (bare_of (entries_by recorder))
     -- With a transcript, its entries have the stamps that the counter gives them.
     pub stamps : HasStamps j.net vertex (is_on recorder) counter (by_port (map (λ e. put_stamped e.end) puts))
-        (by_port (map (λ e. taken_stamped e.end) takes)) (entries_by recorder) (stamped_by recorder)
+        (by_port (map (λ e. taken_stamped e.end) takes)) (entries_by recorder)
     -- A wire that it set aside for its stamp came with that stamp, and the counter couldn't go past it.
     pub full : (a : Aside M) → aside ≡ Some a → IsFullAside counter (by_port (map (λ e. taken_stamped e.end) takes)) a

@@ -30,9 +30,8 @@ module _ {M : Type 0} (payloads : IsSet M) where
 
 module _ {M : Type 0} (payloads : IsSet M) where
   pub HasStamps-prop : (net : Net) (v : ℕ) (transcript : Bool) (counter : ℕ) (puts takens : ℕ → List (Stamped M))
-      (entries : List (Entry M)) (stamped : List (StampedEntry M))
-      → IsProp (HasStamps net v transcript counter puts takens entries stamped)
-  HasStamps-prop net v transcript counter puts takens entries stamped = Prim.hlevel (props, payloads)
+      (entries : List (StampedEntry M)) → IsProp (HasStamps net v transcript counter puts takens entries)
+  HasStamps-prop net v transcript counter puts takens entries = Prim.hlevel (props, payloads)
 
 both-prop : {A B : Type 0} → IsProp A → IsProp B → IsProp (A × B)
 both-prop p q = ×_prop p q

@@ -1,11 +1,11 @@
 -- A node before and after a part of a turn, and before and after a turn. Both may have ended early.
-use Rattle.std.specs.Prelude.{◌≡◌, ◌≤◌, ◌+◌, ◌^◌, max, Bool, false, IsTrue}
+use Rattle.std.specs.Prelude.{◌≡◌, ◌<◌, ◌≤◌, ◌+◌, ◌^◌, ℕ, max, Bool, false, IsTrue}
 use Rattle.std.specs.Prelude.{Option, Some, None, Result, Ok, Err, IfErr, IfOk}
 use Rattle.std.specs.declared.cmp.PartialEq as equality
 use Rattle.alpha_laws.specs.declared.NodeProgram as program
 use Rattle.alpha_laws.specs.declared.PayloadText as text
 use Rattle.alpha_laws.specs.alpha_core.View.{can_pulse}
-use Rattle.actor.specs.Blocked.{IsUnmoved}
+use Rattle.actor.specs.Blocked.{IsUnmoved, PutBlocked}
 use Rattle.actor.specs.HasStamps.{aside_stamp}
 use Rattle.actor.specs.declared.wiring.Wiring as wiring
 use Rattle.actor.specs.declared.node.Node.{Node}
@@ -31,13 +31,15 @@ module _ {J P T : Type 0} {j : wiring.Ghosts J} {p : program.Ghosts P T} {t : te
         (λ error. error ≡ StampFull → 2 ^ 64 ≤ max new.counter (aside_stamp new.aside) + 1)
 
   -- The three parts of a turn, one after the other. If they did nothing and set no wire aside, the node is as it was
-  -- and can't make its next pulse.
+  -- and can't make its next pulse, and by each port no wire waits or its link was full, as `PutBlocked` says it.
   pub record Turned (old new : Node J P T j p t q) (result : Result Bool TurnRefused) : Type 0 where
     pub vertex : new.vertex ≡ old.vertex
     pub refusal : new.refusal ≡ old.refusal
     pub unmoved : IfOk result (λ did. did ≡ false → new.aside ≡ old.aside → IsUnmoved old new)
     pub blocked : IfOk result
         (λ did. did ≡ false → new.aside ≡ None → can_pulse new.alpha.last new.alpha.node.view ≡ false)
+    pub puts_blocked : IfOk result
+        (λ did. did ≡ false → new.aside ≡ None → (port : ℕ) → port < new.degree → PutBlocked port new)
     pub refused : IfErr result (λ error. error ≡ Memory → IsTrue j.transcript)
     pub full : IfErr result
         (λ error. error ≡ StampFull → 2 ^ 64 ≤ max new.counter (aside_stamp new.aside) + 1)

@@ -1,5 +1,5 @@
 -- Which link of a run an end is of.
-use Rattle.std.specs.Prelude.{◌≡◌, ℕ, ◌-◌, ◌≤◌, List, [], map, Option, Some, slice_get, slice_index_or}
+use Rattle.std.specs.Prelude.{◌≡◌, ℕ, ◌-◌, ◌≤◌, List, [], Option, Some, slice_get, slice_index_or}
 use Rattle.atomic_table.specs.Seated.{TableId}
 use Rattle.alpha_laws.specs.interference.Net.{Net}
 use Rattle.link_queue.specs.link_rule.LinkName.{LinkName}
@@ -11,10 +11,6 @@ use Rattle.link_queue.specs.Ends.{WasFull}
 -- the queue that a link is
 abbrev pub table_of : {P T : Type 0} → Link P T → TableId
 table_of link = link.queue.table.shared.table_id
-
--- the queues of rows of links
-abbrev pub tables_of : {P T : Type 0} → List (List (Link P T)) → List (List TableId)
-tables_of rows = map (λ row. map table_of row) rows
 
 -- The queue of the link out of vertex v by port i: entry `v - 1` of the rows has the links out of v, by port.
 abbrev pub table_at : List (List TableId) → ℕ → ℕ → Option TableId

@@ -1,56 +1,51 @@
 //! All links of a run, which threads share.
 
-ghost use Rattle.std.specs.Prelude.{◌≡◌, ◌<◌, ◌≤◌, ◌++◌, ◌∷◌, [], Some, IsSome, map, IfOk, IfErr, IfSome, IfNone};
+ghost use Rattle.std.specs.Prelude.{◌≡◌, ◌<◌, ◌≤◌, ◌++◌, ◌∷◌, [], ℕ, All, Some, IsSome, length, map};
+ghost use Rattle.std.specs.Prelude.{IfOk, IfErr, IfSome, IfNone, slice_get};
 ghost use Rattle.link_queue.specs.link_rule.Legal.{IsLegalOn, LegalFor};
 ghost use Rattle.alpha_laws.specs.alpha_core.StampedWires.{StampsRise, last_stamp};
 ghost use Rattle.link_queue.specs.Ends.{WasEmpty, put_list, put_name, put_stamped, take_name, taken_list};
-ghost use Rattle.link_queue.specs.Ends.{taken_stamped};
+ghost use Rattle.link_queue.specs.Ends.{HasMet, held_stamped, link_capacity, taken_stamped};
 ghost use Rattle.link_queue.specs.Queued.{stamped_of};
-ghost use Rattle.actor.specs.Tables.{LinkWasFull, table_at, table_of, tables_of};
+ghost use Rattle.actor.specs.Tables.{LinkWasFull, table_of};
 
 use crate::wired::{WiredPut, WiredTake};
 use crate::wiring::Wiring;
-use alpha_laws::{NodeProgram, Stamped};
-use link_queue::{Full, Link, Queued};
+use alpha_laws::{Memory, NodeProgram, Stamped};
+use link_queue::{Full, Link, Met, Queued};
+use std::alloc::Global;
 use std::marker::PhantomData;
 use std::sync::Wait;
 
-/// The links of a run: row `v - 1` has the links out of vertex `v`, by port.
+/// The links of a run, in one list, in which an end finds its link by the link's index. No clause says in which order
+/// they are.
 #[derive(Drop)]
 pub struct Links<J: Wiring, P: NodeProgram> {
-    rows: Vec<Vec<Link<P>>>,
+    list: Vec<Link<P>>,
     of: PhantomData<J>,
-    pub ghost are: { tables_of (map (λ row. row.items) rows.items) ≡ J.tables },
+    pub ghost are: { map table_of list.items ≡ J.links },
 }
 
 impl<J: Wiring, P: NodeProgram> Links<J, P> {
-    /// The links of these rows, whose queues the run has picked.
-    pub fn new(rows: Vec<Vec<Link<P>>>) -> Links<J, P>
-        requires picked { tables_of (map (λ row. row.items) rows.items) ≡ J.tables }
-        ensures rows { result.rows ≡ rows }
+    /// These links, whose queues the run has picked.
+    pub fn new(list: Vec<Link<P>>) -> Links<J, P>
+        requires picked { map table_of list.items ≡ J.links }
+        ensures list { result.list ≡ list }
     {
         Links {
-            rows,
+            list,
             of: PhantomData,
         }
     }
 
-    /// The links, once no thread uses them.
-    pub fn into_rows(self) -> Vec<Vec<Link<P>>>
-        ensures rows { result ≡ self.rows }
-        ensures picked { tables_of (map (λ row. row.items) result.items) ≡ J.tables }
+    // The link of an index.
+    #[inline]
+    fn link(&self, index: u32) -> &Link<P>
+        requires link { IsSome (slice_get J.links index) }
+        ensures link { slice_get J.links index ≡ Some (table_of result.now) }
+        ensures listed { slice_get self.now.list.items index ≡ Some result.now }
     {
-        let Links { rows, of: _ } = self;
-        rows
-    }
-
-    // The link out of a vertex by a port.
-    fn link(&self, vertex: u32, port: u32) -> &Link<P>
-        requires vertex { 1 ≤ vertex }
-        requires link { IsSome (table_at J.tables vertex port) }
-        ensures link { table_at J.tables vertex port ≡ Some (table_of result.now) }
-    {
-        &self.rows[(vertex - 1) as usize][port as usize]
+        &self.list[index as usize]
     }
 
     /// Puts a wire with its stamp on the end's link: `link_queue::Link::put`, at the link that the end is of.
@@ -74,7 +69,7 @@ impl<J: Wiring, P: NodeProgram> Links<J, P> {
         ensures full { IfErr result
             (λ _. LinkWasFull P J.tables end.old.vertex end.old.port (put_list end.old.end)) }
     {
-        self.link(end.vertex, end.port).put(rt, &mut end.end, item)
+        self.link(end.index).put(rt, &mut end.end, item)
     }
 
     /// Takes the oldest wire off the end's link: `link_queue::Link::take_queued`, at the link that the end is of.
@@ -95,7 +90,29 @@ impl<J: Wiring, P: NodeProgram> Links<J, P> {
         ensures empty { IfNone result
             (WasEmpty (IsLegalOn P.program) (take_name end.old.end) (taken_list end.old.end)) }
     {
-        self.link(end.vertex, end.port)
-            .take_queued(rt, &mut end.end)
+        self.link(end.index).take_queued(rt, &mut end.end)
+    }
+
+    /// What a link holds once both its ends are back: `link_queue::Link::meet`, at the link that the ends are of.
+    ///
+    /// # Errors
+    /// `Memory` if memory for what is held was refused; the ends are dropped then, and the links stay.
+    pub fn meet<R: Wait>(
+        &self,
+        rt: &R,
+        alloc: Global,
+        put: WiredPut<J, P::Payload>,
+        take: WiredTake<J, P::Payload>,
+    ) -> Result<Met<P::Payload>, Memory>
+        requires same { (take.vertex ≡ put.vertex) × (take.port ≡ put.port) }
+        ensures met { IfOk result
+            (λ met. HasMet met (put_name put.end) (put_stamped put.end) (taken_stamped take.end)) }
+        ensures room { IfOk result (λ met. (capacity : ℕ)
+            → All (λ link. link_capacity link ≤ capacity) self.now.list.items → length (held_stamped met) ≤ capacity) }
+    {
+        match self.link(put.index).meet(rt, alloc, put.end, take.end) {
+            Ok(met) => Ok(met),
+            Err(_) => Err(Memory),
+        }
     }
 }

@@ -1,6 +1,6 @@
 //! What a node does in a turn.
 
-ghost use Rattle.std.specs.Prelude.{◌≡◌, ◌<◌, ◌≤◌, ◌+◌, ◌^◌, max, IfErr, IfOk, IsSome, IsTrue, None, false, true};
+ghost use Rattle.std.specs.Prelude.{◌≡◌, ◌<◌, ◌≤◌, ◌+◌, ◌^◌, ℕ, max, IfErr, IfOk, IsSome, IsTrue, None, false, true};
 ghost use Rattle.alpha_laws.specs.alpha_core.View.{can_pulse, can_take};
 ghost use Rattle.link_queue.specs.Queued.{stamped_of};
 ghost use Rattle.actor.specs.Blocked.{IsUnmoved, PutBlocked};
@@ -14,7 +14,7 @@ use crate::links::Links;
 use crate::node::Node;
 use crate::refused::TurnRefused;
 use crate::wiring::Wiring;
-use alpha_laws::{NodeProgram, Stamped, Wire};
+use alpha_laws::{NodeProgram, PayloadText, Stamped, Wire};
 use link_queue::Queued;
 use stamps::Entry;
 use std::sync::Wait;
@@ -26,11 +26,11 @@ const TAKES: u32 = 4;
 const PUTS: u32 = 4;
 
 // The wire that the queue of a link held, without its stamp.
-fn wire_of<T>(item: Queued<T>) -> Wire<T>
+fn wire_of<T: PayloadText>(item: Queued<T>) -> Wire<T>
     ensures wire { result ≡ (stamped_of item).wire }
 {
     match item {
-        Queued::Payload(pulse, _, payload) => Wire::Payload(pulse, payload),
+        Queued::Payload(pulse, _, payload) => Wire::Payload(pulse, payload.by_words()),
         Queued::Ack(pulse, _) => Wire::Ack(pulse),
         Queued::Safe(pulse, _) => Wire::Safe(pulse),
         Queued::Close(_) => Wire::Close,
@@ -184,22 +184,23 @@ impl<J: Wiring, P: NodeProgram> Node<J, P> {
         requires port { port < self.old.degree }
         requires going { self.old.aside ≡ None }
         ensures stepped { Stepped self.old self.new result }
+        ensures blocked { IfOk result (λ did. did ≡ false → PutBlocked port self.old) }
         ensures going { self.new.aside ≡ None }
     {
-        let mut put = false;
-        for _ in 0..PUTS {
+        for put in 0..PUTS {
             if !self.put_one(rt, links, port)? {
-                break;
+                return Ok(put > 0);
             }
-            put = true;
         }
-        Ok(put)
+        Ok(true)
     }
 
     // Puts by each port, ascending. Returns whether it put a wire.
     fn put_all<R: Wait>(&mut self, rt: &R, links: &Links<J, P>) -> Result<bool, TurnRefused>
         requires going { self.old.aside ≡ None }
         ensures stepped { Stepped self.old self.new result }
+        ensures blocked { IfOk result
+            (λ did. did ≡ false → (port : ℕ) → port < self.old.degree → PutBlocked port self.old) }
         ensures going { self.new.aside ≡ None }
     {
         let mut put = false;
@@ -252,6 +253,8 @@ impl<J: Wiring, P: NodeProgram> Node<J, P> {
             (λ did. did ≡ false → self.new.aside ≡ self.old.aside → IsUnmoved self.old self.new) }
         ensures blocked { IfOk result (λ did. did ≡ false → self.new.aside ≡ None
             → can_pulse self.new.alpha.last self.new.alpha.node.view ≡ false) }
+        ensures puts_blocked { IfOk result (λ did. did ≡ false → self.new.aside ≡ None
+            → (port : ℕ) → port < self.new.degree → PutBlocked port self.new) }
         ensures refused { IfErr result (λ error. error ≡ TurnRefused.Memory → IsTrue J.transcript) }
         ensures full { IfErr result (λ error. error ≡ TurnRefused.StampFull
             → 2 ^ 64 ≤ max self.new.counter (aside_stamp self.new.aside) + 1) }

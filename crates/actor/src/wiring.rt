@@ -14,6 +14,9 @@ pub trait Wiring {
     /// Entry `v - 1` has the queues of the links out of vertex `v`, by port.
     ghost tables: { List (List TableId) };
 
+    /// The queues in the order in which `Links` has them.
+    ghost links: { List TableId };
+
     /// Whether its nodes write down what they do.
     ghost transcript: { Bool };
 }
@@ -24,6 +27,8 @@ impl Wiring for Brand {
     ghost net = { record { ids = []; ports = []; bars = [] } };
 
     ghost tables = { [] };
+
+    ghost links = { [] };
 
     ghost transcript = { false };
 }

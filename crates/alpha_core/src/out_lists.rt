@@ -102,6 +102,7 @@ impl<T: Copy> OutLists<T> {
     }
 
     /// Takes the oldest wire of a port off.
+    #[inline(always)]
     pub(crate) fn pop(&mut self, port: u32)
         requires port { port < length self.old }
         requires some { 0 < length (out_at self.old port) }

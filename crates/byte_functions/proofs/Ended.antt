@@ -29,7 +29,7 @@ module _ {S M E : Type 0} (program : Program S M E) (texts : ProgramTexts S) (ne
       let below : k < n = omega (arith, within, size) in
       let back : suc k - 1 ≡ k = omega arith in
       let one : 1 + k ≡ suc k = omega arith in
-      let start : Gathered S M = record { vertex = suc k; alpha = start_of program net (suc k); entries = []; stamped = [] } in
+      let start : Gathered S M = record { vertex = suc k; alpha = start_of program net (suc k); entries = [] } in
       let vertex : (get_or outcome.nodes k start).vertex ≡ suc k =
       sym (get_or-map (λ g. g.vertex) outcome.nodes k start 0 within) ∙ ap (λ vs. get_or vs k 0) is.each_once
       ∙ get_or-range_with_len 1 n k 0 below ∙ one in

@@ -5,7 +5,7 @@ use Rattle.std.proofs.lemmas.List.FromFn.{length-range_with_len}
 use Rattle.std.proofs.lemmas.List.Elements.{All-from_get_or}
 use Rattle.answers.specs.interference.Net.{Net, IsNetwork, count_of}
 use Rattle.program_texts.specs.node_api.Program.{Program}
-use Rattle.node_pool.specs.gather_laws.Outcome.{Outcome, IsOutcome, is_whole, stamped_in}
+use Rattle.node_pool.specs.gather_laws.Outcome.{Outcome, IsOutcome, entries_in, is_whole}
 use Rattle.node_pool.specs.gather_laws.Merged.{WholeOutcomesReplay}
 use Rattle.run_options.specs.declared.Edition.{Edition}
 use Rattle.run_options.specs.declared.Edition.TheVariants as edition
@@ -44,7 +44,7 @@ module _ {S M E : Type 0} (program : Program S M E) (word_of : M → List ℕ) (
   merged : IsMergedText word_of number_of (count_of net) outcome.nodes text → WholeOutcomesReplay program net
       → IsTranscriptAnswer program word_of number_of edition.Two input text
   merged (rows, merge, told) law =
-      let all = subst (λ n. IsMerge n (stamped_in outcome) rows) (nodes-count program net capacity true outcome is) merge in
+      let all = subst (λ n. IsMerge n (entries_in outcome) rows) (nodes-count program net capacity true outcome is) merge in
       let played = law capacity outcome is whole rows all in
       let of_net : IsMergedTranscriptOf program word_of number_of net text = record {
         capacity = capacity;

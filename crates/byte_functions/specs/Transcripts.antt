@@ -1,7 +1,7 @@
 -- The text of what the nodes of a run of workers did.
 use Rattle.std.specs.Prelude.{◌≡◌, ℕ, true, List, flat_map, length, map}
 use Rattle.answers.specs.interference.Net.{Net, IsNetwork, count_of}
-use Rattle.node_pool.specs.gather_laws.Outcome.{Gathered, Outcome, IsOutcome, is_whole, stamped_in}
+use Rattle.node_pool.specs.gather_laws.Outcome.{Gathered, Outcome, IsOutcome, entries_in, is_whole}
 use Rattle.async_colour_laws.specs.event_machine.State.{State}
 use Rattle.program_texts.specs.node_api.Program.{Program}
 use Rattle.answers.specs.transcripts.TranscriptText.{Row, stamped_transcript_of, transcript_of}
@@ -11,15 +11,15 @@ use Rattle.run_options.specs.declared.Edition.{Edition}
 use Rattle.run_options.specs.declared.Edition.TheVariants as edition
 use Rattle.stamps.specs.entries.Rows.{vertex_row}
 use Rattle.stamps.specs.Merged.{IsMerge, StampedRow, list_of}
-use Rattle.stamps.specs.Stamps.{StampedEntry}
+use Rattle.stamps.specs.Stamps.{StampedEntry, bare_of}
 
--- the entries of a node, each with its vertex
+-- the entries of a node without their stamps, each with its vertex
 abbrev pub rows_in : {S M : Type 0} → Gathered S M → List (Row M)
-rows_in g = map (λ entry. vertex_row g.vertex entry) g.entries
+rows_in g = map (λ entry. vertex_row g.vertex entry) (bare_of g.entries)
 
 -- the entries of a node with their stamps
 abbrev pub stamped_of : {S M : Type 0} → Gathered S M → List (StampedEntry M)
-stamped_of g = g.stamped
+stamped_of g = g.entries
 
 -- The texts of programs whose payloads are written by a word and a number.
 module _ {S M : Type 0} (word_of : M → List ℕ) (number_of : M → ℕ) where
@@ -57,7 +57,7 @@ module _ {S M E : Type 0} (program : Program S M E) (word_of : M → List ℕ) (
     pub is_outcome : IsOutcome program net capacity true outcome
     pub whole : is_whole outcome ≡ true
     pub rows : List (StampedRow M)
-    pub merge : IsMerge (count_of net) (stamped_in outcome) rows
+    pub merge : IsMerge (count_of net) (entries_in outcome) rows
     pub last : State S M
     pub is_replay : IsWholeReplay program net rows last
     pub is_text : text ≡ stamped_transcript_of word_of number_of (count_of net) rows

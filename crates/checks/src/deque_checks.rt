@@ -77,7 +77,7 @@ fn finish(desk: &mut Desk<Numbered>)
     }
 }
 
-// What a worker finds in so many looks becomes finished.
+// A worker looks this often, and finishes what it finds.
 fn find_all(thieves: &[Thief<Numbered>], worker: u32, desk: &mut Desk<Numbered>, looks: u32)
     requires worker { worker < length thieves.now }
     requires deques { map (λ g. deque_of g.pass) desk.old.guests.items ≡ map stealer_deque thieves.now }
@@ -101,7 +101,7 @@ fn are_numbered(tasks: &[Box<Numbered>], numbers: &[usize]) -> bool {
     true
 }
 
-// Whether the second of three workers finds these tasks in so many looks.
+// Whether the second of three workers finds these tasks if it looks this often.
 fn second_finds(
     mut desks: Vec<Desk<Numbered>>,
     thieves: Vec<Thief<Numbered>>,

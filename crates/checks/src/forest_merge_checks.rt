@@ -101,7 +101,7 @@ fn the_least_free_colour_is_chosen(rt: HostRuntime) {
     }
 }
 
-// Whether a gap at 130 comes before what is free at the end, and is none once it is barred.
+// Whether a gap at 130 comes before what is free at the end, and is passed over once it is barred.
 fn gap_is_chosen(chosen: &ChosenSet, barred: &mut ChosenSet) -> bool {
     let before = !has_free(chosen, barred, 129)
         && has_free(chosen, barred, 130)

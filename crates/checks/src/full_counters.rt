@@ -22,15 +22,14 @@ impl Wiring for Alone {
 
     ghost tables = { [] ∷ [] };
 
+    ghost links = { [] };
+
     ghost transcript = { false };
 }
 
-// No links out of the one node.
-fn no_links(alloc: Global) -> Result<Links<Alone, Greatest<2>>, Memory> {
-    match vec![in alloc; Vec::new(alloc)] {
-        Ok(rows) => Ok(Links::new(rows)),
-        Err(_) => Err(Memory),
-    }
+// The one node has no links.
+fn no_links(alloc: Global) -> Links<Alone, Greatest<2>> {
+    Links::new(Vec::new(alloc))
 }
 
 // The one node, in a box: to own a box costs less proof than to own what is in it.
@@ -125,10 +124,8 @@ pub fn run_from<R: Threads + Wait + Sync>(
 ) -> Result<(u32, u64), PoolFault>
     requires network { network.now ≡ lone_net }
 {
-    match no_links(alloc) {
-        Ok(links) => run_over(rt, alloc, network, &links, stamp),
-        Err(_) => Err(PoolFault::Memory),
-    }
+    let links = no_links(alloc);
+    run_over(rt, alloc, network, &links, stamp)
 }
 
 // Whether a node whose counter leaves one stamp refuses its second turn, and stays as it was.
@@ -167,8 +164,6 @@ fn stays_over<R: Wait>(
 pub fn stays_as_it_was<R: Wait>(rt: &R, alloc: Global, network: &Network) -> bool
     requires network { network.now ≡ lone_net }
 {
-    match no_links(alloc) {
-        Ok(links) => stays_over(rt, alloc, network, &links),
-        Err(_) => false,
-    }
+    let links = no_links(alloc);
+    stays_over(rt, alloc, network, &links)
 }

@@ -29,10 +29,6 @@ mod full_counters;
 #[cfg(test)]
 mod heard;
 #[cfg(test)]
-mod layers_checks;
-#[cfg(test)]
-mod leader_checks;
-#[cfg(test)]
 mod link_alone;
 #[cfg(test)]
 mod link_queue_checks;

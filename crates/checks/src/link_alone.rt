@@ -149,13 +149,7 @@ fn meet_again<R: Wait>(
 {
     match link.meet(rt, alloc, put_end, take_end) {
         Ok(met) => only_held(&met),
-        Err(
-            MeetRefused {
-                link,
-                put_end,
-                take_end,
-            },
-        ) => match link.meet(rt, alloc, put_end, take_end) {
+        Err(MeetRefused { put_end, take_end }) => match link.meet(rt, alloc, put_end, take_end) {
             Ok(met) => only_held(&met),
             Err(_) => None,
         },

@@ -82,7 +82,7 @@ fn the_word_of_greatest_is_best(rt: HostRuntime) {
     assert!(rt; has_the_word_best());
 }
 
-// Whether each of these nodes made so many calls, in order.
+// Whether each of these nodes made this number of calls, in order.
 fn made_calls<const D: u32>(nodes: &[Counted<D>], calls: u32) -> bool {
     for node in nodes {
         if node.calls() != Some(calls) {

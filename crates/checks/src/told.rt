@@ -3,7 +3,7 @@
 
 use colour_program::{Long, Payload, Short};
 
-/// What a node tells.
+/// What a node sends.
 #[derive(Clone, Copy)]
 pub enum Told {
     Hello(u128),
@@ -13,7 +13,7 @@ pub enum Told {
 }
 
 impl Told {
-    /// The payload that tells it.
+    /// Its payload.
     pub fn payload(self) -> Payload {
         match self {
             Told::Hello(id) => Payload::Hello(Long::new(id)),

@@ -60,7 +60,7 @@ impl Source for OneFault<'_> {
     }
 }
 
-// Whether six bytes of which one read fails, after so many, are read as a whole if that is said, and else aren't.
+// Whether six bytes, of which one read fails after `before` reads, are read as a whole exactly if `read`.
 fn reads_so(alloc: Global, before: u32, read: bool) -> bool {
     let mut input = OneFault {
         rest: b"abcdef",

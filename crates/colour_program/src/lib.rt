@@ -11,7 +11,7 @@
 //! }
 //! ```
 //!
-//! Its texts, for `round_texts` and `event_texts`: `rounds 1 N DELTA U R`, or `rounds 2 N DELTA BARS U R` where a vertex
+//! Its texts, for `round_texts` and `event_texts`: `rounds 1 N DELTA U R`, or `rounds 2 N DELTA BARS U R` if a vertex
 //! has a bar; the words of a phase; a node's colours or its choice after a pulse; and its channel at the end.
 //!
 //! Limits: those of `colour_rules`.

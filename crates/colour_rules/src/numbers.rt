@@ -44,6 +44,17 @@ impl Long {
         }
     }
 
+    /// The same number, copied word by word.
+    #[inline(always)]
+    pub fn by_words(self) -> Long
+        ensures same { result ≡ self }
+    {
+        Long {
+            low: self.low,
+            high: self.high,
+        }
+    }
+
     /// The number.
     #[inline(always)]
     pub fn get(self) -> u128
@@ -84,6 +95,17 @@ impl Short {
         Short {
             low: u64::from(number),
             high: 0,
+        }
+    }
+
+    /// The same number, copied word by word.
+    #[inline(always)]
+    pub fn by_words(self) -> Short
+        ensures same { result ≡ self }
+    {
+        Short {
+            low: self.low,
+            high: self.high,
         }
     }
 

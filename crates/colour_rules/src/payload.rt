@@ -56,4 +56,14 @@ impl PayloadText for Payload {
             None
         }
     }
+
+    #[inline(always)]
+    fn by_words(self) -> Self {
+        match self {
+            Payload::Hello(id) => Payload::Hello(id.by_words()),
+            Payload::Label(forest) => Payload::Label(forest.by_words()),
+            Payload::Colour(colour) => Payload::Colour(colour.by_words()),
+            Payload::Chosen(colour) => Payload::Chosen(colour.by_words()),
+        }
+    }
 }

@@ -1,6 +1,6 @@
 //! The next colours of a node in the forests, by the colours of its parents.
 ghost use Rattle.std.specs.Prelude.{◌≡◌, ◌≢◌, ◌<◌, ◌≤◌, ℕ, IfSome, None, Some, false, length, not, slice_set};
-ghost use Rattle.std.specs.FinSet.{contains};
+ghost use Rattle.std.specs.FinSet.{contains, empty};
 ghost use Rattle.cole_vishkin.specs.BitStep.{bit_by};
 ghost use Rattle.node_api.below.interference.specs.declared.limits.TheConstants.{MAX_DEGREE};
 ghost use Rattle.node_api.specs.Boxes.{unread};
@@ -41,30 +41,32 @@ impl InForests {
         ensures before { before_in self.new ≡ kept_all reduction (colours_in id self.old) (before_in self.old) }
         ensures slots { inbox.new.slots ≡ inbox.old.slots }
     {
-        let heard = self.turn_as_child(reduction, id, roles, inbox);
+        let mut heard = ForestSet::new();
+        self.turn_as_child(reduction, id, roles, inbox, &mut heard);
         self.turn_as_root(reduction, id, &heard);
         self.is_seeded = false;
     }
 
-    // Takes the next colour in each forest below a parent, as the parent's colour is read, and returns these forests.
-    // If two ports lead to a parent in one forest, the first counts.
+    // Takes the next colour in each forest below a parent, as the parent's colour is read, and adds these forests to an
+    // empty set. If two ports lead to a parent in one forest, the first counts.
     fn turn_as_child(
         &mut self,
         reduction: Reduction,
         id: Identifier,
         roles: &[Role],
         inbox: &mut Inbox<Payload>,
-    ) -> ForestSet
+        heard: &mut ForestSet,
+    )
         requires unread { inbox.old ≡ unread inbox.old.slots }
         requires brought { BringColours (length (before_in self.old)) roles.now inbox.old.slots }
         requires ready { AreReady reduction (colours_in id self.old) (before_in self.old)
             (λ f. from_parent f roles.now inbox.old.slots) }
-        ensures turned { AreTurned reduction id (λ f. from_parent f roles.now inbox.old.slots) (contains result)
+        requires none { heard.old ≡ empty }
+        ensures turned { AreTurned reduction id (λ f. from_parent f roles.now inbox.old.slots) (contains heard.new)
             self.old self.new }
-        ensures rest { (f : ℕ) → contains result f ≡ false → from_parent f roles.now inbox.old.slots ≡ None }
+        ensures rest { (f : ℕ) → contains heard.new f ≡ false → from_parent f roles.now inbox.old.slots ≡ None }
         ensures slots { inbox.new.slots ≡ inbox.old.slots }
     {
-        let mut heard = ForestSet::new();
         while inbox.has_next() {
             let payload = inbox.next();
             if let Role::Up(forest) = roles[inbox.sender() as usize] {
@@ -74,7 +76,6 @@ impl InForests {
                 }
             }
         }
-        heard
     }
 
     // Takes the next colour in each forest of which nothing was heard: the node is a root there.

@@ -1,5 +1,5 @@
 -- The command line computes, and each of its commands has a request, if clap finds no fault.
-use Rattle.std.proofs.Common.{◌≡◌, ◌≢◌, ◌⊎◌, inl, inr, ⊎_elim, subst, sym, refl, ap, ap₂, ◌∙◌, cond}
+use Rattle.std.proofs.Common.{◌≡◌, ◌⊎◌, inl, inr, subst, sym, refl, ap, ap₂, ◌∙◌, cond}
 use Rattle.std.proofs.Common.{Bool, true, false, List, [], ◌∷◌, Option, Some, None, is_some, find, option_map, codes}
 use Rattle.std.specs.List.{AllByRecursion}
 use Rattle.std.specs.Prelude.{option_and_then}
@@ -7,9 +7,6 @@ use Rattle.std.specs.Option.{option_map_or}
 use Rattle.clap.specs.Walk.{Row, Text, answers_to, nothing_held, rows_after, stop_after, walk_from}
 use Rattle.clap.specs.Simple.{Shape, argument_words, built, entered, label_of, names_of, is_simple, rows_at, subcommand_of}
 use Rattle.clap.specs.Faults.{entered_fault, fault_of, is_simple_and_free, level_fault, walk_fault}
-use Rattle.clap.specs.Kinds.{IsAmong, Kinds}
-use Rattle.clap.specs.declared.error.kind.ErrorKind.{ErrorKind}
-use Rattle.clap.specs.declared.error.kind.ErrorKind.TheVariants.{DisplayHelp, OutOfMemory}
 use Rattle.clap.proofs.OnLiterals.{clap_on_literals}
 use Rattle.run_options.specs.declared.Options.{Options}
 use Rattle.command_line.specs.Line.{line}
@@ -19,14 +16,12 @@ use Rattle.command_line.proofs.Passing.{split}
 use Rattle.command_line.proofs.Played.{HasWord, play_found, play_rules}
 use Rattle.command_line.proofs.Played as both
 use Rattle.command_line.proofs.RunOptions.{run_found, run_rules, transcript_found, transcript_rules}
-use Rattle.command_line.specs.Asked.{FoundNamesNoProgram, IsDeclinedBy, IsInRange, IsRefusal, MayDecline}
+use Rattle.command_line.specs.Asked.{FoundNamesNoProgram, IsInRange}
 use Rattle.command_line.specs.Asked.{IsPlayInRange, choice_of, has_transcript, named, played}
-use Rattle.command_line.specs.Asked.{request_of, run_of, transcript_with, unless_at_fault}
+use Rattle.command_line.specs.Asked.{run_of, transcript_with}
 use Rattle.command_line.specs.declared.programs.NodeProgramName.{NodeProgramName}
 use Rattle.command_line.specs.declared.program.Program.{Program}
 use Rattle.command_line.specs.declared.program.Program.TheVariants.{Forestplan, Forestplay}
-use Rattle.command_line.specs.declared.request.Declined.{Declined}
-use Rattle.command_line.specs.declared.request.Declined.TheVariants as given
 use Rattle.command_line.specs.declared.request.Request.{Request}
 use Rattle.command_line.specs.declared.request.Request.TheVariants.{Check, Forests, Plain, Plan, Play, Transcript}
 use Rattle.command_line.specs.declared.request.Play.{Play as Played}
@@ -134,9 +129,6 @@ entered_known Forestplay (Some p) none h = found (λ x. answers_to p.0 (label_of
   ),
 ) none h
 
-out_of_memory_is_no_help : OutOfMemory ≢ DisplayHelp
-out_of_memory_is_no_help same = cc
-
 pub known : (program : Program) (words : List Text) → fault_of (line program) words ≡ [] → is_some (subcommand_of (line program) words) ≡ true
     → IsKnownChoice (subcommand_of (line program) words)
 known program words none h =
@@ -144,57 +136,3 @@ known program words none h =
     let stop = stop_after whole.top.rules (names_of whole) (argument_words (line program) words) in
     let after_words = split (walk_fault whole.top (names_of whole) (walk_from nothing_held) (argument_words (line program) words)) _ none in
     entered_known program stop (split (entered_fault whole stop) _ after_words.1).0 h
-
-some_is_same : (x y : Request) → Some x ≡ Some y → x ≡ y
-some_is_same x y e = cc
-
--- what the words ask for is in range
-pub in_range : (program : Program) (words : List Text) (r : Request) → fault_of (line program) words ≡ []
-    → choice_of (subcommand_of (line program) words) ≡ Some r
-    → IsInRange r
-in_range program words r none e = go (subcommand_of (line program) words) (known program words none) e
-  where
-    go : (o : Option (Text × List Row)) → (is_some o ≡ true → IsKnownChoice o) → choice_of o ≡ Some r → IsInRange r
-    go None known same = cc
-    go (Some p) known same = ⊎_elim
-        (λ is. subst IsInRange (some_is_same is.0 r (sym is.1 ∙ same)) is.2)
-        (λ no. let both : None ≡ Some r = sym no.0 ∙ same in cc)
-        (known refl)
-
--- if they ask for nothing, and clap finds no fault, they name no program of nodes
-pub unnamed : (program : Program) (words : List Text) (with : Declined) → fault_of (line program) words ≡ []
-    → is_some (subcommand_of (line program) words) ≡ true → choice_of (subcommand_of (line program) words) ≡ None → IsRefusal with
-    → MayDecline program words with
-unnamed program words (given.Help text) none there nothing is = absurd is
-unnamed program words (given.Refused text) none there nothing is = (
-  ap (λ (ks : Kinds). unless_at_fault ks (choice_of (subcommand_of (line program) words))) none ∙ nothing,
-  inr (
-    none,
-    ⊎_elim
-        (λ good. let both : None ≡ Some good.0 = sym nothing ∙ good.1 in cc)
-        (λ no. no.1)
-        (known program words none there),
-  ),
-)
-unnamed program words given.Memory none there nothing is = tt
-
-pub taken : (program : Program) (words : List Text) (r : Request) → fault_of (line program) words ≡ [] → choice_of (subcommand_of (line program) words) ≡ Some r
-    → request_of program words ≡ Some r
-taken program words r none e = ap (λ (ks : Kinds). unless_at_fault ks (choice_of (subcommand_of (line program) words))) none ∙ e
-
-pub refused : (program : Program) (words : List Text) (k : ErrorKind) → IsAmong k (fault_of (line program) words) → request_of program words ≡ None
-refused program words k h = go (fault_of (line program) words) h
-  where
-    go : (ks : Kinds) → IsAmong k ks → unless_at_fault ks (choice_of (subcommand_of (line program) words)) ≡ None
-    go [] h = absurd h
-    go (x ∷ xs) h = refl
-
--- clap's kind is that of a fault, or that of memory; what it becomes is then what the words may be declined with
-pub declined : (program : Program) (words : List Text) (kind : ErrorKind) (with : Declined)
-    → (kind ≡ OutOfMemory) ⊎ IsAmong kind (fault_of (line program) words) → IsDeclinedBy kind with → MayDecline program words with
-declined program words kind (given.Help text) (inl memory) is = absurd (out_of_memory_is_no_help (sym memory ∙ is))
-declined program words kind (given.Help text) (inr among) is =
-    (refused program words kind among, subst (λ k. IsAmong k (fault_of (line program) words)) is among)
-declined program words kind (given.Refused text) (inl memory) is = absurd (is.1 memory)
-declined program words kind (given.Refused text) (inr among) is = (refused program words kind among, inl (kind, is.0, among))
-declined program words kind given.Memory has is = tt

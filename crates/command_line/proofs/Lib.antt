@@ -1,10 +1,11 @@
+mod Declining
 mod Defaults
 mod Entered
 mod KnownCommands
 mod Numbers
 mod Passing
 mod Played
+mod Refused
 mod RunOptions
 mod Used
 mod Walked
-mod Refused

@@ -19,6 +19,12 @@ const PROGRAM_NAMES: &'static str = "[possible values: colouring, leader, layers
 
 const TRY_HELP: &'static str = "For more information, try '--help'.";
 
+const FORESTPLAN_READS: &'static str =
+    "forestplan reads the network from standard input: forestplan plan < FILE\n";
+
+const FORESTPLAY_READS: &'static str =
+    "forestplay reads the network from standard input: forestplay rounds < FILE\n";
+
 /// What the program is asked for.
 #[derive(Clone, Copy, Debug, PartialEq, Eq)]
 pub enum Request {
@@ -108,12 +114,24 @@ fn choice(matches: &ArgMatches<'_>) -> Option<Request>
     request_named(name, inner)
 }
 
-// What clap says of words that ask for no command.
-fn declined_by(alloc: Global, error: &Error) -> Declined
+// The last line of a refusal of a word that clap doesn't know: it may be the name of a file.
+fn hint(program: Program, kind: ErrorKind) -> &'static str {
+    match kind {
+        ErrorKind::UnknownArgument | ErrorKind::InvalidSubcommand => match program {
+            Program::Forestplan => FORESTPLAN_READS,
+            Program::Forestplay => FORESTPLAY_READS,
+        },
+        _ => "",
+    }
+}
+
+// What clap says of words that ask for no command, and the hint.
+fn declined_by(alloc: Global, program: Program, error: &Error) -> Declined
     ensures { IsDeclinedBy (kind_of error.now) result }
 {
     let kind = error.kind();
-    let Ok(text) = format!(in alloc; "{error}") else {
+    let hint = hint(program, kind);
+    let Ok(text) = format!(in alloc; "{error}{hint}") else {
         return Declined::Memory;
     };
     match kind {
@@ -157,6 +175,6 @@ pub fn parse<'a>(alloc: Global, program: Program, words: &'a [&'a str]) -> Resul
             Some(request) => Ok(request),
             None => Err(no_program(alloc, &matches)),
         },
-        Err(error) => Err(declined_by(alloc, &error)),
+        Err(error) => Err(declined_by(alloc, program, &error)),
     }
 }

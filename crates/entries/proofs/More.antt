@@ -9,7 +9,8 @@ use Rattle.entries.specs.declared.bare.Act.TheVariants.{Pulse, Put, Take}
 use Rattle.entries.specs.declared.bare.WireKind.{WireKind}
 use Rattle.entries.specs.declared.bare.WireKind.TheVariants.{Payload, Ack, Safe, Close}
 use Rattle.entries.specs.Bare.{entries_of, entry_of, payload_count, payloads_by, payloads_in, wire_of}
-use Rattle.entries.specs.Rows.{stamp_each, stamped_entry}
+use Rattle.entries.specs.Rows.{bare_of, stamp_each, stamped_entry}
+use Rattle.entries.specs.declared.rows.StampedEntry.{StampedEntry}
 
 module _ {M : Type 0} where
   -- further payloads behind don't matter
@@ -66,10 +67,37 @@ pub payloads-more : (bares : List BareEntry) (bare : BareEntry) → payloads_in 
 payloads-more [] bare = omega arith
 payloads-more (b ∷ bs) bare = omega (arith, payloads-more bs bare)
 
--- as many stamps as entries, and one more of both
-pub stamp_each-more : {M : Type 0} (stamps : List ℕ) (entries : List (Entry M)) (s : ℕ) (e : Entry M) → length stamps ≡ length entries
-    → stamp_each (stamps ++ s ∷ []) (entries ++ e ∷ []) ≡ stamp_each stamps entries ++ stamped_entry s e ∷ []
-stamp_each-more [] [] s e long = refl
-stamp_each-more [] (b ∷ entries) s e long = absurd (omega (arith, long))
-stamp_each-more (a ∷ stamps) [] s e long = absurd (omega (arith, long))
-stamp_each-more (a ∷ stamps) (b ∷ entries) s e long = ap (λ l. stamped_entry a b ∷ l) (stamp_each-more stamps entries s e (omega (arith, long)))
+module _ {M : Type 0} where
+  -- entries are those of two lists, if there is a stamp for each; and one more of both
+  pub stamp_each-bare : (stamps : List ℕ) (entries : List (Entry M)) → length stamps ≡ length entries → bare_of (stamp_each stamps entries) ≡ entries
+  stamp_each-bare [] [] long = refl
+  stamp_each-bare [] (b ∷ entries) long = absurd (omega (arith, long))
+  stamp_each-bare (a ∷ stamps) [] long = absurd (omega (arith, long))
+  stamp_each-bare (a ∷ stamps) (b ∷ entries) long = ap (λ l. b ∷ l) (stamp_each-bare stamps entries (omega (arith, long)))
+
+  pub stamp_each-more : (stamps : List ℕ) (entries : List (Entry M)) (s : ℕ) (e : Entry M) → length stamps ≡ length entries
+      → stamp_each (stamps ++ s ∷ []) (entries ++ e ∷ []) ≡ stamp_each stamps entries ++ stamped_entry s e ∷ []
+  stamp_each-more [] [] s e long = refl
+  stamp_each-more [] (b ∷ entries) s e long = absurd (omega (arith, long))
+  stamp_each-more (a ∷ stamps) [] s e long = absurd (omega (arith, long))
+  stamp_each-more (a ∷ stamps) (b ∷ entries) s e long = ap (λ l. stamped_entry a b ∷ l) (stamp_each-more stamps entries s e (omega (arith, long)))
+
+  -- there is a stamp for each bare entry
+  module _ (stamps : List ℕ) (bares : List BareEntry) (payloads : List M) (items : List (StampedEntry M)) (fits : payloads_in bares ≡ length payloads)
+      (long : length stamps ≡ length bares) (is : stamp_each stamps (entries_of bares payloads) ≡ items) where
+    pub stamps-long : length stamps ≡ length (entries_of bares payloads)
+    stamps-long = long ∙ sym (entries-long bares payloads fits)
+
+    pub items-bare : entries_of bares payloads ≡ bare_of items
+    items-bare = sym (stamp_each-bare stamps (entries_of bares payloads) stamps-long) ∙ ap bare_of is
+
+    pub items-long : length bares ≡ length items
+    items-long = sym (entries-long bares payloads fits) ∙ ap (λ l. length l) items-bare ∙ length-map items (λ e. e.entry)
+
+    -- one stamp more, one bare entry, and its payload if it has one
+    pub items-more : (stamps' : List ℕ) (bares' : List BareEntry) (payloads' ys : List M) (s : ℕ) (bare : BareEntry) (new : Entry M)
+        → stamps' ≡ stamps ++ s ∷ [] → bares' ≡ bares ++ bare ∷ [] → payloads' ≡ payloads ++ ys
+        → entry_of bare.act bare.vertex bare.pulse ys ≡ new ∷ [] → stamp_each stamps' (entries_of bares' payloads') ≡ items ++ stamped_entry s new ∷ []
+    items-more stamps' bares' payloads' ys s bare new more_stamps more_bares more_payloads one =
+        ap₂ stamp_each more_stamps (ap₂ entries_of more_bares more_payloads ∙ entries-more bares payloads ys bare new fits one)
+        ∙ stamp_each-more stamps (entries_of bares payloads) s new stamps-long ∙ ap (λ l. l ++ stamped_entry s new ∷ []) is

@@ -12,14 +12,10 @@ module _ {M : Type 0} where
   is_on Off = false
   is_on (On entries) = true
 
-  -- the entries that were written down, without their stamps and with them
-  abbrev pub entries_by : Recorder M → List (Entry M)
+  -- the entries that were written down, each with its stamp
+  abbrev pub entries_by : Recorder M → List (StampedEntry M)
   entries_by Off = []
   entries_by (On entries) = entries.items
-
-  abbrev pub stamped_by : Recorder M → List (StampedEntry M)
-  stamped_by Off = []
-  stamped_by (On entries) = entries.stamped
 
   -- there is room for one more, if entries are written down
   abbrev pub HasRoom : Recorder M → Type 0
@@ -30,10 +26,9 @@ module _ {M : Type 0} where
   pub record HasSame (old new : Recorder M) : Type 0 where
     pub on : is_on new ≡ is_on old
     pub entries : entries_by new ≡ entries_by old
-    pub stamped : stamped_by new ≡ stamped_by old
 
   -- It has one entry more with its stamp, if entries are written down.
   pub record HasWritten (stamp : ℕ) (entry : Entry M) (old new : Recorder M) : Type 0 where
     pub on : is_on new ≡ is_on old
-    pub entries : entries_by new ≡ (if is_on old then entries_by old ++ (entry ∷ []) else entries_by old)
-    pub stamped : stamped_by new ≡ (if is_on old then stamped_by old ++ (stamped_entry stamp entry ∷ []) else stamped_by old)
+    pub entries : entries_by new
+        ≡ (if is_on old then entries_by old ++ (stamped_entry stamp entry ∷ []) else entries_by old)

@@ -1,5 +1,5 @@
 -- Entries in lists: each with its stamp, with the vertex of its node, or with both.
-use Rattle.std.specs.Prelude.{ℕ, List, [], ◌∷◌}
+use Rattle.std.specs.Prelude.{ℕ, List, [], ◌∷◌, map}
 use Rattle.entries.specs.declared.entry.Entry.{Entry}
 use Rattle.entries.specs.declared.rows.Row.{Row}
 use Rattle.entries.specs.declared.rows.StampedEntry.{StampedEntry}
@@ -22,6 +22,10 @@ module _ {M : Type 0} where
 
   abbrev pub without_vertex : StampedRow M → StampedEntry M
   without_vertex row = stamped_entry row.stamp row.entry
+
+  -- the entries without their stamps
+  abbrev pub bare_of : List (StampedEntry M) → List (Entry M)
+  bare_of entries = map (λ e. e.entry) entries
 
   -- entries with their stamps, from two lists
   abbrev pub stamp_each : List ℕ → List (Entry M) → List (StampedEntry M)

@@ -1,7 +1,7 @@
 //! The entries of a node.
 
 ghost use Rattle.std.specs.Prelude.{◌≡◌, ◌<◌, ◌≤◌, ◌+◌, ◌++◌, ◌∷◌, [], length, OnOk, OnErr, vec_capacity, vec_len};
-ghost use Rattle.entries.specs.Rows.{stamped_entry};
+ghost use Rattle.entries.specs.Rows.{bare_of, stamped_entry};
 
 use crate::bare::{BareEntry, split};
 use crate::blocks::Blocks;
@@ -12,8 +12,8 @@ use std::alloc::{AllocError, Global};
 use std::marker::Model;
 
 /// The entries of a node in its own order with their stamps, in 20 bytes each and the bytes of the payloads. Contracts
-/// see the list of entries (`items`), the same list with the stamps (`stamped`), and for how many more there is room,
-/// whatever their wires (`room`).
+/// see the list of entries, each with its stamp (`items`), and for how many more there is room, whatever their wires
+/// (`room`).
 #[derive(Drop)]
 pub struct Entries<T> {
     // The stamp of each entry.
@@ -33,8 +33,7 @@ impl<T> Model for Entries<T> {
     ghost use Rattle.entries.specs.Rows.{stamp_each};
 
     ghost view = { λ e. record {
-      items = entries_of e.bares.items e.payloads.items;
-      stamped = stamp_each e.stamps.items (entries_of e.bares.items e.payloads.items);
+      items = stamp_each e.stamps.items (entries_of e.bares.items e.payloads.items);
       room = min e.stamps.room (min e.bares.room (vec_capacity e.payloads - vec_len e.payloads));
     } };
 
@@ -61,7 +60,6 @@ impl<T> Entries<T> {
     /// No entries, which take no memory.
     pub fn new(alloc: Global) -> Entries<T>
         ensures items { result.items ≡ [] }
-        ensures stamped { result.stamped ≡ [] }
     {
         Entries {
             stamps: Blocks::new(alloc),
@@ -84,7 +82,6 @@ impl<T> Entries<T> {
     /// `Memory` if memory is refused.
     pub fn reserve(&mut self) -> Result<(), Memory>
         ensures items { self.new.items ≡ self.old.items }
-        ensures stamped { self.new.stamped ≡ self.old.stamped }
         ensures room { OnOk result (0 < self.new.room) }
         ensures refused { OnErr result (self.new ≡ self.old) }
     {
@@ -97,8 +94,7 @@ impl<T> Entries<T> {
     /// Appends an entry with its stamp, for which there is room.
     pub fn push_reserved(&mut self, stamp: u64, entry: Entry<T>)
         requires room { 0 < self.old.room }
-        ensures items { self.new.items ≡ self.old.items ++ entry ∷ [] }
-        ensures stamped { self.new.stamped ≡ self.old.stamped ++ stamped_entry stamp entry ∷ [] }
+        ensures items { self.new.items ≡ self.old.items ++ stamped_entry stamp entry ∷ [] }
         ensures room { self.old.room ≤ self.new.room + 1 }
     {
         self.stamps.push_reserved(stamp);
@@ -109,9 +105,9 @@ impl<T> Entries<T> {
         }
     }
 
-    /// The entries from the first, each by value.
+    /// The entries from the first, each by value, without their stamps.
     pub fn iter(&self) -> Iter<'_, T>
-        ensures items { result ≡ self.now.items }
+        ensures items { result ≡ bare_of self.now.items }
     {
         Iter {
             bares: self.bares.iter(),
@@ -121,7 +117,7 @@ impl<T> Entries<T> {
 
     /// The entries from the first with their stamps, each by value.
     pub fn stamped(&self) -> StampedIter<'_, T>
-        ensures stamped { result ≡ self.now.stamped }
+        ensures items { result ≡ self.now.items }
     {
         StampedIter {
             stamps: self.stamps.iter(),

@@ -1,7 +1,7 @@
 //! What a node writes down, if it writes down what it does.
 
 ghost use Rattle.std.specs.Prelude.{◌≡◌, IsTrue, OnErr, OnOk, []};
-ghost use Rattle.entries.specs.Recorded.{HasRoom, HasSame, HasWritten, entries_by, is_on, stamped_by};
+ghost use Rattle.entries.specs.Recorded.{HasRoom, HasSame, HasWritten, entries_by, is_on};
 
 use crate::entry::Entry;
 use crate::list::Entries;
@@ -20,7 +20,6 @@ impl<T: Copy> Recorder<T> {
     pub fn new(alloc: Global, on: bool) -> Recorder<T>
         ensures on { is_on result ≡ on }
         ensures entries { entries_by result ≡ [] }
-        ensures stamped { stamped_by result ≡ [] }
     {
         if on {
             Recorder::On(Entries::new(alloc))
@@ -61,7 +60,6 @@ impl<T: Copy> Recorder<T> {
     /// The entries that it wrote down; none if it wrote nothing.
     pub fn into_entries(self, alloc: Global) -> Entries<T>
         ensures entries { result.items ≡ entries_by self }
-        ensures stamped { result.stamped ≡ stamped_by self }
     {
         match self {
             Recorder::Off => Entries::new(alloc),

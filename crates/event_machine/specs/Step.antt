@@ -9,7 +9,8 @@ use Rattle.alpha_laws.specs.alpha_core.Alpha.{pulse, reaction, put_done}
 use Rattle.event_machine.specs.declared.event.Event.{Event}
 use Rattle.event_machine.specs.declared.event.Event.TheVariants.{Pulse, Put, Take}
 use Rattle.event_machine.specs.declared.refused.StepRefused.{StepRefused}
-use Rattle.event_machine.specs.declared.refused.StepRefused.TheVariants.{NotReady, NothingToPut, LinkEmpty, NoSuch, Memory}
+use Rattle.event_machine.specs.declared.refused.StepRefused.TheVariants.{NotReady, NothingToPut, LinkEmpty, NoSuch}
+use Rattle.event_machine.specs.declared.refused.StepRefused.TheVariants.{Memory}
 use Rattle.event_machine.specs.declared.refused.RunRefused.{RunRefused}
 use Rattle.event_machine.specs.Refusals.{at_index}
 use Rattle.event_machine.specs.State.{State, NetView, start, node_of, link_at, link_to, set_node, set_link, set_link_to}

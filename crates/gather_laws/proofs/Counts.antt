@@ -1,15 +1,17 @@
 -- The wires of a whole outcome. Plan: the list of each link is complete, so the lists by vertex and port are counted; the rows of
 -- the outcome are the vertices, and their entries the ports.
-use Rattle.std.proofs.Common.{◌≡◌, ℕ, true, Bool, length, ◌∙◌, arith}
+use Rattle.std.proofs.Common.{◌≡◌, ℕ, true, Bool, length, sym, ◌∙◌, arith}
 use Rattle.std.specs.List.{sum_by}
+use Rattle.std.proofs.lemmas.List.{length-map}
 use Rattle.std.proofs.lemmas.List.FromFn.{length-range_with_len}
 use Rattle.alpha_laws.specs.interference.Net.{Net, IsNetwork, count_of}
 use Rattle.alpha_laws.specs.interference.Counts.{sum_over_ports}
 use Rattle.alpha_laws.specs.node_api.Program.{Program}
+use Rattle.actor.specs.alpha_core.StampedWires.{wires_of}
 use Rattle.actor.specs.alpha_core.Wires.{payloads_of}
 use Rattle.alpha_laws.proofs.Counts.{lists_counted}
 use Rattle.alpha_laws.proofs.Sums.{by_ports}
-use Rattle.gather_laws.specs.Outcome.{History, Outcome, IsOutcome, is_whole, link_in, no_history}
+use Rattle.gather_laws.specs.Outcome.{History, Outcome, IsOutcome, is_whole, link_in, no_history, put_by}
 use Rattle.gather_laws.specs.Counts.{WiresAreCounted}
 use Rattle.gather_laws.proofs.Whole.{complete_run}
 
@@ -21,7 +23,7 @@ module _ {S M E : Type 0} (program : Program S M E) (net : Net) (ok : IsNetwork 
   pub counted : WiresAreCounted program net outcome
   counted =
       let run = complete_run program net ok capacity transcript outcome is whole in
-      let lists = lists_counted program net ok (λ v i. (link_in outcome v i).put) run.complete in
-      let payloads = rows_by_ports (λ h. length (payloads_of h.put)) in
-      let wires = rows_by_ports (λ h. length h.put) in
+      let lists = lists_counted program net ok (put_by outcome) run.complete in
+      let payloads = rows_by_ports (λ h. length (payloads_of (wires_of h.put))) in
+      let wires = rows_by_ports (λ h. length h.put) ∙ (λ k. sum_over_ports net (λ v i. sym (length-map (link_in outcome v i).put (λ x. x.wire)) k)) in
       record { payloads = payloads ∙ lists.0; wires = omega (arith, payloads, wires, lists.1) }

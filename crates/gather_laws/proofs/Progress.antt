@@ -18,14 +18,15 @@ use Rattle.gather_laws.specs.Outcome.{
   all_drained,
   all_empty,
   alpha_in,
+  held_on,
   is_whole,
+  link_in,
   no_history,
   node_in,
   none_held,
   row_in,
   start_of,
 }
-use Rattle.gather_laws.specs.Progress.{held_in}
 use Rattle.gather_laws.proofs.Whole.{link_splits}
 
 -- what holds of each entry of a list holds of every one
@@ -35,10 +36,10 @@ drained_from : {S M : Type 0} (nodes : List (Gathered S M)) (d : Alpha S M)
 drained_from [] d each = refl
 drained_from (g ∷ gs) d each = and_from _ _ (each 0 (omega arith)) (drained_from gs d (λ k lt. each (suc k) (omega arith)))
 
-held_from : {M : Type 0} (row : List (History M)) → ((i : ℕ) → i < length row → (get_or row i no_history).held ≡ []) → none_held row ≡ true
+held_from : {M : Type 0} (row : List (History M)) → ((i : ℕ) → i < length row → length (get_or row i no_history).held ≡ 0) → none_held row ≡ true
 held_from [] each = refl
 held_from (h ∷ hs) each =
-    and_from _ _ (eq-eqb (length h.held) 0 (ap (λ l. length l) (each 0 (omega arith)))) (held_from hs (λ i lt. each (suc i) (omega arith)))
+    and_from _ _ (eq-eqb (length h.held) 0 (each 0 (omega arith))) (held_from hs (λ i lt. each (suc i) (omega arith)))
 
 empty_from : {M : Type 0} (rows : List (List (History M))) → ((k : ℕ) → k < length rows → none_held (get_or rows k []) ≡ true) → all_empty rows ≡ true
 empty_from [] each = refl
@@ -46,7 +47,7 @@ empty_from (row ∷ rows) each = and_from _ _ (each 0 (omega arith)) (empty_from
 
 module _ {S M E : Type 0} (program : Program S M E) (net : Net) (ok : IsNetwork net) (capacity : ℕ) (transcript : Bool) (outcome : Outcome S M)
     (is : IsOutcome program net capacity transcript outcome) where
-  drained_at : IsWhole program net (node_in program net outcome) (held_in outcome) → all_drained outcome.nodes ≡ true
+  drained_at : IsWhole program net (node_in program net outcome) (held_on outcome) → all_drained outcome.nodes ≡ true
   drained_at whole =
       let size : length outcome.nodes ≡ count_of net =
       sym (length-map outcome.nodes (λ g. g.vertex)) ∙ ap (λ l. length l) is.each_once ∙ length-range_with_len 1 (count_of net) in
@@ -61,7 +62,7 @@ module _ {S M E : Type 0} (program : Program S M E) (net : Net) (ok : IsNetwork 
       subst (λ (a : Alpha S M). is_drained a.last a.node.view ≡ true) at
       (subst (λ l. is_drained l (node_in program net outcome v).view ≡ true) (sym (is.last v vertex)) (whole.drained v vertex)))
 
-  empty_at : IsWhole program net (node_in program net outcome) (held_in outcome) → all_empty outcome.links ≡ true
+  empty_at : IsWhole program net (node_in program net outcome) (held_on outcome) → all_empty outcome.links ≡ true
   empty_at whole =
       let rows : length outcome.links ≡ count_of net = is.rows ∙ length-range_with_len 1 (count_of net) in
       empty_from outcome.links (λ k lt.
@@ -69,13 +70,14 @@ module _ {S M E : Type 0} (program : Program S M E) (net : Net) (ok : IsNetwork 
       let low : v - 1 ≡ k = omega arith in
       let vertex : IsVertex net v = (omega arith, omega (arith, rows, lt)) in
       subst (λ j. none_held (get_or outcome.links j []) ≡ true) low
-      (held_from (row_in outcome v) (λ i below. whole.empty v i vertex (omega (arith, is.row v vertex, below)))))
+      (held_from (row_in outcome v) (λ i below.
+      sym (length-map (link_in outcome v i).held (λ x. x.wire)) ∙ ap (λ l. length l) (whole.empty v i vertex (omega (arith, is.row v vertex, below))))))
 
-  pub whole_from : IsWhole program net (node_in program net outcome) (held_in outcome) → is_whole outcome ≡ true
+  pub whole_from : IsWhole program net (node_in program net outcome) (held_on outcome) → is_whole outcome ≡ true
   whole_from whole = and_from _ _ (drained_at whole) (empty_at whole)
 
   pub goes_on : 0 < capacity
-      → ((v : ℕ) × IsVertex net v × CanMove capacity program net (node_in program net outcome) (held_in outcome) v) ⊎ (is_whole outcome ≡ true)
+      → ((v : ℕ) × IsVertex net v × CanMove capacity program net (node_in program net outcome) (held_on outcome) v) ⊎ (is_whole outcome ≡ true)
   goes_on some = ⊎_elim
       (λ can. inl can)
       (λ whole. inr (whole_from whole))

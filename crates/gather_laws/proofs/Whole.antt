@@ -1,11 +1,12 @@
 -- A whole outcome is that of a complete run: its test says of each node and each link what a whole network is.
 use Rattle.std.proofs.Common.{◌≡◌, ℕ, zero, suc, ◌-◌, ◌<◌, Bool, true, List, [], ◌∷◌, ◌++◌, map, length, get_or, refl, sym, ap, ◌∙◌, subst, arith}
 use Rattle.std.proofs.lemmas.Bool.{and_parts, eqb-true}
-use Rattle.std.proofs.lemmas.List.{append-nil, length-map}
+use Rattle.std.proofs.lemmas.List.{append-nil, length-map, map-append}
 use Rattle.std.proofs.lemmas.List.FromFn.{length-range_with_len}
 use Rattle.alpha_laws.specs.interference.Net.{Net, IsNetwork, IsVertex, count_of, degree_of}
 use Rattle.alpha_laws.specs.node_api.Program.{Program, last_pulse_on}
-use Rattle.actor.specs.alpha_core.Wire.{Wire}
+use Rattle.actor.specs.alpha_core.Stamped.{Stamped}
+use Rattle.actor.specs.alpha_core.StampedWires.{wires_of}
 use Rattle.actor.specs.alpha_core.View.{Alpha, is_drained}
 use Rattle.alpha_laws.specs.Progress.{IsWhole, Splits}
 use Rattle.alpha_laws.proofs.Across.{over}
@@ -18,15 +19,17 @@ use Rattle.gather_laws.specs.Outcome.{
   all_drained,
   all_empty,
   alpha_in,
+  held_on,
   is_whole,
   link_in,
   no_history,
   node_in,
   none_held,
+  put_by,
   row_in,
   start_of,
+  taken_by,
 }
-use Rattle.gather_laws.specs.Progress.{held_in, put_in, taken_in}
 use Rattle.gather_laws.specs.Whole.{IsCompleteRun}
 
 -- what holds of every entry of a list holds of each
@@ -42,7 +45,7 @@ row_at [] k d e lt = absurd (omega arith)
 row_at (row ∷ rows) zero d e lt = (and_parts _ _ e).0
 row_at (row ∷ rows) (suc k) d e lt = row_at rows k d (and_parts _ _ e).1 (omega arith)
 
-no_wire : {M : Type 0} (ws : List (Wire M)) → length ws ≡ 0 → ws ≡ []
+no_wire : {A : Type 0} (ws : List A) → length ws ≡ 0 → ws ≡ []
 no_wire [] e = refl
 no_wire (w ∷ ws) e = absurd (omega arith)
 
@@ -51,11 +54,16 @@ held_at [] i d e lt = absurd (omega arith)
 held_at (h ∷ hs) zero d e lt = no_wire h.held (eqb-true (length h.held) 0 (and_parts _ _ e).0)
 held_at (h ∷ hs) (suc i) d e lt = held_at hs i d (and_parts _ _ e).1 (omega arith)
 
+-- without their stamps, wires split in the same way
+pub split_wires : {M : Type 0} (put taken held : List (Stamped M)) → put ≡ taken ++ held → wires_of put ≡ wires_of taken ++ wires_of held
+split_wires put taken held is = ap (λ l. wires_of l) is ∙ map-append (λ x. x.wire) taken held
+
 -- the links of an outcome split
 pub link_splits : {S M E : Type 0} (program : Program S M E) (net : Net) → IsNetwork net → (capacity : ℕ) (transcript : Bool) (outcome : Outcome S M)
-    → IsOutcome program net capacity transcript outcome → Splits net (put_in outcome) (taken_in net outcome) (held_in outcome)
+    → IsOutcome program net capacity transcript outcome → Splits net (put_by outcome) (taken_by net outcome) (held_on outcome)
 link_splits program net ok capacity transcript outcome is v i vertex lt =
-    ap (λ l. l ++ held_in outcome v i) (over net ok (λ w j. (link_in outcome w j).taken) v i vertex lt) ∙ sym (is.splits v i vertex lt)
+    ap (λ l. l ++ held_on outcome v i) (over net ok (λ w j. wires_of (link_in outcome w j).taken) v i vertex lt)
+    ∙ sym (split_wires _ _ _ (is.splits v i vertex lt))
 
 module _ {S M E : Type 0} (program : Program S M E) (net : Net) (ok : IsNetwork net) (capacity : ℕ) (transcript : Bool) (outcome : Outcome S M)
     (is : IsOutcome program net capacity transcript outcome) (whole : is_whole outcome ≡ true) where
@@ -76,11 +84,11 @@ module _ {S M E : Type 0} (program : Program S M E) (net : Net) (ok : IsNetwork 
       let in_row : i < length (row_in outcome v) = omega (arith, is.row v vertex, lt) in
       held_at (row_in outcome v) i no_history (row_at outcome.links (v - 1) [] (and_parts _ _ whole).1 in_rows) in_row
 
-  splits : Splits net (put_in outcome) (taken_in net outcome) (held_in outcome)
+  splits : Splits net (put_by outcome) (taken_by net outcome) (held_on outcome)
   splits = link_splits program net ok capacity transcript outcome is
 
-  pub whole_is : IsWhole program net (node_in program net outcome) (held_in outcome)
-  whole_is = record { drained = drained; empty = empty }
+  pub whole_is : IsWhole program net (node_in program net outcome) (held_on outcome)
+  whole_is = record { drained = drained; empty = λ v i vertex lt. ap (λ l. wires_of l) (empty v i vertex lt) }
 
   pub complete_run : IsCompleteRun program net outcome
   complete_run = record {

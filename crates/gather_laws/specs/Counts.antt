@@ -3,6 +3,7 @@ use Rattle.std.specs.Prelude.{◌≡◌, ℕ, ◌+◌, ◌*◌, Bool, true, leng
 use Rattle.alpha_laws.specs.interference.Net.{Net}
 use Rattle.alpha_laws.specs.interference.Counts.{edge_count_of}
 use Rattle.alpha_laws.specs.node_api.Program.{Program, last_pulse_on}
+use Rattle.actor.specs.alpha_core.StampedWires.{wires_of}
 use Rattle.actor.specs.alpha_core.Wires.{payloads_of}
 use Rattle.alpha_laws.specs.Counts.{payloads_sent}
 use Rattle.gather_laws.specs.Outcome.{Outcome, IsOutcome, is_whole}
@@ -13,7 +14,7 @@ wires_put outcome = sum_by (λ row. sum_by (λ h. length h.put) row) outcome.lin
 
 -- how many of them carry payloads
 abbrev pub payloads_put : {S M : Type 0} → Outcome S M → ℕ
-payloads_put outcome = sum_by (λ row. sum_by (λ h. length (payloads_of h.put)) row) outcome.links
+payloads_put outcome = sum_by (λ row. sum_by (λ h. length (payloads_of (wires_of h.put))) row) outcome.links
 
 -- What every outcome that is whole has put, whatever the threads did: as many payloads as the synchronous run sends;
 -- and as many wires as twice the payloads, and R + 1 for each direction of each edge, where R is the last pulse.

@@ -9,7 +9,6 @@ use Rattle.actor.specs.alpha_core.StampedWires.{wires_of}
 use Rattle.actor.specs.alpha_core.View.{Alpha, Node, is_drained}
 use Rattle.actor.specs.alpha_core.Program.{start_node}
 use Rattle.alpha_laws.specs.Simulates.{Simulates}
-use Rattle.actor.specs.entries.Entry.{Entry}
 use Rattle.actor.specs.Written.{IsTranscript}
 use Rattle.actor.specs.stamps.Merged.{StampedRow, IsMerge}
 use Rattle.actor.specs.stamps.Stamps.{Carries, StampedEntry, Rises, bare_of, put_in, taken_in}
@@ -19,27 +18,16 @@ use Rattle.gather_laws.specs.MergedRuns.{IsReplayTo}
 
 -- One direction of a link after the run: all that was put on it, what was taken from it, and what it still holds, each
 -- wire with the stamp of its put.
-pub record StampedHistory (M : Type 0) : Type 0 where
+pub record History (M : Type 0) : Type 0 where
   pub put : List (Stamped M)
   pub taken : List (Stamped M)
   pub held : List (Stamped M)
 
--- the same without stamps, and with them
-pub record History (M : Type 0) : Type 0 where
-  pub put : List (Wire M)
-  pub taken : List (Wire M)
-  pub held : List (Wire M)
-  pub stamped : StampedHistory M
-
-abbrev pub history_of : {M : Type 0} → StampedHistory M → History M
-history_of h = record { put = wires_of h.put; taken = wires_of h.taken; held = wires_of h.held; stamped = h }
-
--- A node after the run, with its vertex and its entries, without their stamps and with them.
+-- A node after the run, with its vertex and its entries, each with its stamp.
 pub record Gathered (S M : Type 0) : Type 0 where
   pub vertex : ℕ
   pub alpha : Alpha S M
-  pub entries : List (Entry M)
-  pub stamped : List (StampedEntry M)
+  pub entries : List (StampedEntry M)
 
 -- Entry v - 1 of each list is of vertex v: its node, and the links out of it, by port.
 pub record Outcome (S M : Type 0) : Type 0 where
@@ -47,7 +35,7 @@ pub record Outcome (S M : Type 0) : Type 0 where
   pub links : List (List (History M))
 
 abbrev pub no_history : {M : Type 0} → History M
-no_history = history_of record { put = []; taken = []; held = [] }
+no_history = record { put = []; taken = []; held = [] }
 
 -- a node of the program before its first event
 abbrev pub start_of : {S M E : Type 0} → Program S M E → Net → ℕ → Alpha S M
@@ -62,12 +50,8 @@ abbrev pub node_in : {S M E : Type 0} → Program S M E → Net → Outcome S M 
 node_in program net outcome v = (alpha_in program net outcome v).node
 
 -- what the node of a vertex wrote down
-abbrev pub entries_in : {S M : Type 0} → Outcome S M → ℕ → List (Entry M)
+abbrev pub entries_in : {S M : Type 0} → Outcome S M → ℕ → List (StampedEntry M)
 entries_in outcome v = slice_index_or (map (λ g. g.entries) outcome.nodes) (v - 1) []
-
--- the same with stamps
-abbrev pub stamped_in : {S M : Type 0} → Outcome S M → ℕ → List (StampedEntry M)
-stamped_in outcome v = slice_index_or (map (λ g. g.stamped) outcome.nodes) (v - 1) []
 
 -- the links out of a vertex, by port
 abbrev pub row_in : {S M : Type 0} → Outcome S M → ℕ → List (History M)
@@ -81,9 +65,20 @@ link_in outcome v i = slice_index_or (row_in outcome v) i no_history
 abbrev pub link_into : {S M : Type 0} → Net → Outcome S M → ℕ → ℕ → History M
 link_into net outcome v i = link_in outcome (neighbour_of net v i) (back_port_of net v i)
 
--- a link in the event machine
+-- by vertex and port, without stamps: what was put on the link, what was taken from the link that comes there, and what
+-- the link holds
+abbrev pub put_by : {S M : Type 0} → Outcome S M → ℕ → ℕ → List (Wire M)
+put_by outcome v i = wires_of (link_in outcome v i).put
+
+abbrev pub taken_by : {S M : Type 0} → Net → Outcome S M → ℕ → ℕ → List (Wire M)
+taken_by net outcome v i = wires_of (link_into net outcome v i).taken
+
+abbrev pub held_on : {S M : Type 0} → Outcome S M → ℕ → ℕ → List (Wire M)
+held_on outcome v i = wires_of (link_in outcome v i).held
+
+-- a link in the event machine, whose wires have no stamps
 abbrev pub link_of : {M : Type 0} → History M → Link M
-link_of history = record { taken = history.taken; held = history.held }
+link_of history = record { taken = wires_of history.taken; held = wires_of history.held }
 
 -- every node is drained
 abbrev pub all_drained : {S M : Type 0} → List (Gathered S M) → Bool
@@ -112,36 +107,29 @@ pub record IsOutcome {S M E : Type 0} (program : Program S M E) (net : Net) (cap
   pub each_once : map (λ g. g.vertex) outcome.nodes ≡ vertices net
   pub last : (v : ℕ) → IsVertex net v → (alpha_in program net outcome v).last ≡ last_pulse_on program net
   -- There is a link for each vertex and port; all that was put on it is what was taken from it, and then what it holds,
-  -- which is no more than its capacity.
+  -- which is no more than its capacity. Each wire has its stamp in all three lists.
   pub rows : length outcome.links ≡ length (vertices net)
   pub row : (v : ℕ) → IsVertex net v → length (row_in outcome v) ≡ degree_of net v
   pub splits : (v i : ℕ) → IsVertex net v → i < degree_of net v
       → (link_in outcome v i).put ≡ (link_in outcome v i).taken ++ (link_in outcome v i).held
   pub room : (v i : ℕ) → IsVertex net v → i < degree_of net v → length (link_in outcome v i).held ≤ capacity
-  -- Without their stamps the wires are those of the stamped lists, and these split in the same way.
-  pub stamped : (v i : ℕ) → IsVertex net v → i < degree_of net v
-      → link_in outcome v i ≡ history_of (link_in outcome v i).stamped
-  pub stamped_splits : (v i : ℕ) → IsVertex net v → i < degree_of net v
-      → (link_in outcome v i).stamped.put ≡ (link_in outcome v i).stamped.taken ++ (link_in outcome v i).stamped.held
   -- The nodes simulate the synchronous run: each fits its links, what was put standing for what was sent.
-  pub simulates : Simulates program net (node_in program net outcome) (λ v i. (link_in outcome v i).put)
-      (λ v i. (link_into net outcome v i).taken)
+  pub simulates : Simulates program net (node_in program net outcome) (put_by outcome) (taken_by net outcome)
   -- With a transcript, the entries of a node are all that it did from its start to what it is, and those to and from a
   -- neighbour are what was put on that link and taken from that one; without a transcript there are none.
   pub written : (v : ℕ) → IsVertex net v
-      → IsTranscript program net v transcript (node_in program net outcome v) (λ i. (link_in outcome v i).put)
-      (λ i. (link_into net outcome v i).taken) (entries_in outcome v)
-  -- The stamped entries are the same entries. With a transcript the stamps of each node rise, and each wire that was
-  -- put has the stamp of its put; the k-th take from a link is of the k-th wire put on it, and has a greater stamp.
-  pub same : (v : ℕ) → IsVertex net v → bare_of (stamped_in outcome v) ≡ entries_in outcome v
-  pub rises : IsTrue transcript → (v : ℕ) → IsVertex net v → Rises (stamped_in outcome v)
+      → IsTranscript program net v transcript (node_in program net outcome v) (put_by outcome v)
+      (taken_by net outcome v) (bare_of (entries_in outcome v))
+  -- With a transcript the stamps of each node rise, and each wire that was put has the stamp of its put; the k-th take
+  -- from a link is of the k-th wire put on it, and has a greater stamp.
+  pub rises : IsTrue transcript → (v : ℕ) → IsVertex net v → Rises (entries_in outcome v)
   pub put_are : IsTrue transcript → (v i : ℕ) → IsVertex net v → i < degree_of net v
-      → put_in (stamped_in outcome v) (neighbour_of net v i) ≡ (link_in outcome v i).stamped.put
+      → put_in (entries_in outcome v) (neighbour_of net v i) ≡ (link_in outcome v i).put
   pub carries : IsTrue transcript → (v i : ℕ) → IsVertex net v → i < degree_of net v
-      → Carries (put_in (stamped_in outcome v) (neighbour_of net v i))
-      (taken_in (stamped_in outcome (neighbour_of net v i)) v) (link_in outcome v i).held
+      → Carries (put_in (entries_in outcome v) (neighbour_of net v i))
+      (taken_in (entries_in outcome (neighbour_of net v i)) v) (held_on outcome v i)
   -- With a transcript the entries of all nodes, in the order of their stamps and then of their vertices, are one run of
   -- the event machine. It leads to these nodes and links, and each entry has the stamp that those before it give it.
-  pub merged : IsTrue transcript → (rows : List (StampedRow M)) → IsMerge (count_of net) (stamped_in outcome) rows
+  pub merged : IsTrue transcript → (rows : List (StampedRow M)) → IsMerge (count_of net) (entries_in outcome) rows
       → (to : IsReplayTo program net rows (node_in program net outcome) (λ v i. link_of (link_in outcome v i)))
       × IsStampedReplay program net rows to.last

@@ -4,7 +4,7 @@ use Rattle.alpha_laws.specs.interference.Net.{Net, IsVertex, degree_of, neighbou
 use Rattle.alpha_laws.specs.node_api.Program.{Program, last_pulse_on}
 use Rattle.actor.specs.alpha_core.View.{is_halted}
 use Rattle.alpha_laws.specs.Simulates.{IsCompleteOn}
-use Rattle.gather_laws.specs.Outcome.{Outcome, IsOutcome, is_whole, link_in, node_in}
+use Rattle.gather_laws.specs.Outcome.{Outcome, IsOutcome, is_whole, link_in, node_in, put_by}
 
 -- The run is complete.
 pub record IsCompleteRun {S M E : Type 0} (program : Program S M E) (net : Net) (outcome : Outcome S M) : Type 0 where
@@ -17,7 +17,7 @@ pub record IsCompleteRun {S M E : Type 0} (program : Program S M E) (net : Net) 
   pub none_held : (v i : ℕ) → IsVertex net v → i < degree_of net v → (link_in outcome v i).held ≡ []
   -- The list of each link is complete.
   pub complete : (v i : ℕ) → IsVertex net v → i < degree_of net v
-      → IsCompleteOn program net v (neighbour_of net v i) (link_in outcome v i).put
+      → IsCompleteOn program net v (neighbour_of net v i) (put_by outcome v i)
 
 -- Every outcome that is whole is that of a complete run.
 abbrev pub WholeOutcomesAreComplete : {S M E : Type 0} → Program S M E → Net → Type 0

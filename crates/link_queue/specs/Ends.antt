@@ -84,12 +84,10 @@ module _ {P T : Type 0} where
   abbrev pub StaysTakeEnd : Link P T → TakeSide T → TakeSide T → Type 0
   StaysTakeEnd link old new = IsTakeEndOf link new × (take_name new ≡ take_name old)
 
-  -- Link and ends that a refused meeting hands back: the very link, and ends of it with the names and lists from
-  -- before.
-  pub record AreAsBefore (now link : Link P T) (put_now put_before : PutSide T) (take_now take_before : TakeSide T)
+  -- Ends that a refused meeting hands back: ends of the link, with the names and lists from before.
+  pub record AreAsBefore (link : Link P T) (put_now put_before : PutSide T) (take_now take_before : TakeSide T)
       : Type 0 where
-    pub same_link : now ≡ link
-    pub put_end : StaysPutEnd now put_before put_now
+    pub put_end : StaysPutEnd link put_before put_now
     pub put : put_stamped put_now ≡ put_stamped put_before
-    pub take_end : StaysTakeEnd now take_before take_now
+    pub take_end : StaysTakeEnd link take_before take_now
     pub taken : taken_stamped take_now ≡ taken_stamped take_before

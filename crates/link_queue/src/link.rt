@@ -32,10 +32,9 @@ pub struct Link<P: NodeProgram> {
     queue: RuledArrayQueue<Queued<P::Payload>, EndView<P::Payload>, LinkRule<P>>,
 }
 
-/// Link and ends, as they were, where memory for what is held was refused.
+/// The ends, as they were, if memory for what is held was refused.
 #[derive(Drop)]
 pub struct MeetRefused<P: NodeProgram> {
-    pub link: Link<P>,
     pub put_end: PutEnd<P>,
     pub take_end: TakeEnd<P>,
 }
@@ -211,23 +210,23 @@ impl<P: NodeProgram> Link<P> {
     /// legal list, and no more is held than the capacity.
     ///
     /// # Errors
-    /// `MeetRefused` hands link and ends back as they were, if memory for what is held was refused.
+    /// `MeetRefused` hands the ends back as they were, if memory for what is held was refused; they can meet again.
     pub fn meet<R: Wait>(
-        self,
+        &self,
         rt: &R,
         alloc: Global,
         put_end: PutEnd<P>,
         take_end: TakeEnd<P>,
     ) -> Result<Met<P::Payload>, MeetRefused<P>>
-        requires put_end { IsPutEndOf self put_end }
-        requires take_end { IsTakeEndOf self take_end }
+        requires put_end { IsPutEndOf self.now put_end }
+        requires take_end { IsTakeEndOf self.now take_end }
         requires name { put_name put_end ≡ take_name take_end }
         ensures met { IfOk result
             (λ met. HasMet met (put_name put_end) (put_stamped put_end) (taken_stamped take_end)) }
         ensures legal { IfOk result (λ _. LegalFor (IsLegalOn P.program) (put_name put_end) (put_list put_end)) }
-        ensures room { IfOk result (λ met. length (held_stamped met) ≤ link_capacity self) }
+        ensures room { IfOk result (λ met. length (held_stamped met) ≤ link_capacity self.now) }
         ensures refused { IfErr result
-            (λ back. AreAsBefore back.link self back.put_end put_end back.take_end take_end) }
+            (λ back. AreAsBefore self.now back.put_end put_end back.take_end take_end) }
     {
         let PutSide {
             pass: mut both,
@@ -244,7 +243,6 @@ impl<P: NodeProgram> Link<P> {
             Err(_) => {
                 let other = self.queue.another::<TwoEnds>(&mut both);
                 Err(MeetRefused {
-                    link: self,
                     put_end: put_end_of(both, closed),
                     take_end: take_end_of(other),
                 })

@@ -3,7 +3,7 @@
 ghost use Rattle.std.specs.Prelude.{◌≡◌};
 ghost use Rattle.link_queue.specs.Queued.{stamped_of};
 
-use alpha_core::{Stamped, Wire};
+use alpha_core::{PayloadText, Stamped, Wire};
 
 /// A wire with its stamp, in one enum: after the pulse comes the stamp, and then the payload.
 ///
@@ -18,7 +18,7 @@ pub enum Queued<T> {
     Close(u64),
 }
 
-impl<T> Queued<T> {
+impl<T: PayloadText> Queued<T> {
     /// A wire with its stamp.
     #[inline(always)]
     pub fn of(item: Stamped<T>) -> Queued<T>
@@ -26,7 +26,7 @@ impl<T> Queued<T> {
     {
         let stamp = item.stamp;
         match item.wire {
-            Wire::Payload(pulse, payload) => Queued::Payload(pulse, stamp, payload),
+            Wire::Payload(pulse, payload) => Queued::Payload(pulse, stamp, payload.by_words()),
             Wire::Ack(pulse) => Queued::Ack(pulse, stamp),
             Wire::Safe(pulse) => Queued::Safe(pulse, stamp),
             Wire::Close => Queued::Close(stamp),

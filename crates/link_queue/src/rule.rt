@@ -1,7 +1,8 @@
 //! The rule of a link, and what each of its steps says.
 //!
 //! Eight kinds of step: put, put refused as full, take, take refused as empty, and, by one caller that has all passes,
-//! the making of the queue, the naming of its view, the splitting into two ends and their joining.
+//! the making of the queue, the naming of its view, the splitting into two ends and their joining. A take is by the
+//! take end, or by the view of both ends once they are joined.
 
 use crate::queued::Queued;
 use crate::view::EndView;

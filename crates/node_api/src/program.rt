@@ -87,8 +87,8 @@ pub trait NodeProgram: Sized + Drop + Send {
         requires pulse { 1 ≤ pulse }
         ensures same { self.new ≡ self.old };
 
-    /// The pulse before which the node, which has made `pulse`, rests: at the pulses between these two, both excluded, an
-    /// empty inbox leaves its state, and nothing is sent. A program without a function of this name never rests.
+    /// The pulse before which the node, which has made `pulse`, rests: at the pulses between these two, both excluded,
+    /// an empty inbox leaves its state, and nothing is sent. A program without a function of this name never rests.
     fn rests_until(&self, pulse: u32) -> u32
         ensures rests { RestsUntil program self.now pulse result }
     {

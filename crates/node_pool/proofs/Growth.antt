@@ -31,7 +31,7 @@ module _ {A : Type 0} where
   there (x ∷ xs) (suc i) lt = there xs i (omega arith)
 
   -- what a place holds after a push
-  pushed : (xs : List A) (x : A) (i : ℕ) (y : A) → slice_get (xs ++ x ∷ []) i ≡ Some y → (slice_get xs i ≡ Some y) ⊎ (i ≡ length xs) × (x ≡ y)
+  pub pushed : (xs : List A) (x : A) (i : ℕ) (y : A) → slice_get (xs ++ x ∷ []) i ≡ Some y → (slice_get xs i ≡ Some y) ⊎ (i ≡ length xs) × (x ≡ y)
   pushed [] x zero y is = inr (refl, cc)
   pushed [] x (suc i) y is = absurd cc
   pushed (z ∷ xs) x zero y is = inl is
@@ -123,3 +123,9 @@ module _ {R A : Type 0} (f : R → List A) (Q : ℕ → List A → Type 0) (rows
   rows_less u low le = subst (λ r. Q u r)
       (ap (λ l. row_at l u) (read_more f left rows row off) ∙ at_old (map f left) (f row ∷ []) (u - 1) [] (omega (arith, left_long, low, le)))
       (each u low (omega (arith, next)))
+
+-- rows in which each is empty
+pub none_in : {R A : Type 0} (f : R → List A) (rows : List R) (k : ℕ) → All (λ row. f row ≡ []) rows → get_or (map f rows) k [] ≡ []
+none_in f [] k all = cc
+none_in f (row ∷ rows) zero all = all zero row (omega arith)
+none_in f (row ∷ rows) (suc k) all = none_in f rows k (λ i d lt. all (suc i) d (omega (arith, lt)))

@@ -1,19 +1,16 @@
 -- What is made is what the nodes start with.
 use Rattle.std.specs.Prelude.{All, Option}
-use Rattle.std.proofs.Common.{◌≡◌, ℕ, zero, suc, ◌+◌, ◌-◌, ◌<◌, ◌≤◌, List, [], ◌∷◌, length, map, get_or, sym, ap, ◌∙◌, subst, arith, Some, slice_get}
-use Rattle.std.proofs.lemmas.List.{get_or-map, length-map}
-use Rattle.std.proofs.lemmas.Option.{slice_get-get_or}
+use Rattle.std.proofs.Common.{◌≡◌, ℕ, zero, suc, ◌-◌, ◌<◌, ◌≤◌, List, [], ◌∷◌, map, get_or, sym, ap, subst, ◌∙◌, arith, Some, slice_get}
 use Rattle.atomic_table.specs.Seated.{TableId}
-use Rattle.outcomes.specs.interference.Net.{Net, IsNetwork, IsVertex, count_of, degree_of, neighbour_of, back_port_of}
-use Rattle.pool.specs.link_queue.PutSide.{PutSide}
-use Rattle.pool.specs.link_queue.TakeSide.{TakeSide}
+use Rattle.outcomes.specs.interference.Net.{Net, IsNetwork, IsVertex, degree_of, neighbour_of, back_port_of}
 use Rattle.pool.specs.link_queue.Link.{Link}
 use Rattle.pool.specs.link_queue.Ends.{link_capacity}
 use Rattle.pool.specs.link_rule.LinkName.{LinkName}
-use Rattle.pool.specs.actor.Tables.{IsEndAt, table_of, tables_of, table_at}
-use Rattle.outcomes.specs.Rows.{AreCrossed, row_at, thing_at}
-use Rattle.node_pool.specs.Makes.{AreLinksOf, AreMade}
-use Rattle.node_pool.specs.News.{AreNewEnds, AreNewPutsFrom, AreNewTakesTo}
+use Rattle.pool.specs.actor.Tables.{IsEndAt, table_of, table_at}
+use Rattle.outcomes.specs.Rows.{row_at, thing_at}
+use Rattle.node_pool.specs.Makes.{AreMade, tables_of}
+use Rattle.node_pool.specs.News.{AreNewAt, AreNewEnds}
+use Rattle.node_pool.specs.declared.making.PortEnds.{PortEnds}
 use Rattle.node_pool.proofs.Growth.{below, there}
 
 module _ {A B : Type 0} (f : A → B) where
@@ -28,77 +25,55 @@ module _ {A B : Type 0} (f : A → B) where
   at_maps (row ∷ rows) zero i x is = at_map row i x is
   at_maps (row ∷ rows) (suc k) i x is = at_maps rows k i x is
 
-module _ {P T : Type 0} (net : Net) (capacity : ℕ) (links : List (List (Link P T))) (puts : List (List (PutSide T)))
-    (takes : List (List (TakeSide T))) where
-  -- the rows of all vertices were made
-  pub all_made : length links ≡ count_of net → length puts ≡ count_of net → length takes ≡ count_of net
-      → ((v : ℕ) → IsVertex net v → AreLinksOf net capacity v (degree_of net v) (row_at links v) (row_at puts v) (row_at takes v))
-      → AreMade net capacity links puts takes
-  all_made long_links long_puts long_takes rows = record {
-    links_shape = record { count = long_links; row = λ v vertex. (rows v vertex).links_long };
-    puts_shape = record { count = long_puts; row = λ v vertex. (rows v vertex).puts_long };
-    takes_shape = record { count = long_takes; row = λ v vertex. (rows v vertex).takes_long };
-    capacities = λ v i link vertex at. (rows v vertex).capacities i link at;
-    put_ends = λ v i link end vertex at here. (rows v vertex).put_ends i link end at here;
-    take_ends = λ v i link end vertex at here. (rows v vertex).take_ends i link end at here;
-  }
+-- an end of one place is of a place that is the same
+pub same_place : (net : Net) (tables : List (List TableId)) (v w i j : ℕ) (table : TableId) (name : Option LinkName) → v ≡ w → i ≡ j
+    → IsEndAt net tables w j table name → IsEndAt net tables v i table name
+same_place net tables v w i j table name vertex port place =
+    subst (λ u. IsEndAt net tables u i table name) (sym vertex) (subst (λ p. IsEndAt net tables w p table name) (sym port) place)
 
-  -- The ends of links that were made are new ends of a run that picks the links' queues.
-  pub made_are_new : (tables : List (List TableId)) → tables_of links ≡ tables → AreMade net capacity links puts takes
-      → AreNewEnds net tables puts takes
-  made_are_new tables picked made = record {
-    puts_shape = made.puts_shape;
-    takes_shape = made.takes_shape;
-    put_ends = λ v i end vertex at.
-        let link = there (row_at links v) i (omega (arith, below (row_at puts v) i end at, made.puts_shape.row v vertex, made.links_shape.row v vertex)) in
-        let new = made.put_ends v i link.0 end vertex link.1 at in
-        record {
-          place = record { vertex = vertex.0; queue = queue v i link.0 _ link.1 new.of_link.0; named = new.named };
-          put = new.put;
-        };
-    take_ends = λ v i end vertex at.
-        let link = there (row_at links v) i (omega (arith, below (row_at takes v) i end at, made.takes_shape.row v vertex, made.links_shape.row v vertex)) in
-        let new = made.take_ends v i link.0 end vertex link.1 at in
-        record {
-          place = record { vertex = vertex.0; queue = queue v i link.0 _ link.1 new.of_link.0; named = new.named };
-          taken = new.taken;
-        };
+some-same : {A : Type 0} (x y : A) → Some x ≡ Some y → x ≡ y
+some-same x y e = cc
+
+module _ {P T : Type 0} (net : Net) (capacity : ℕ) (links : List (Link P T)) (rows : List (List (PortEnds P T)))
+    (made : AreMade net capacity links rows) where
+  -- The ends of links that were made are new ends of a run that picks the links' queues. The end that takes is of the link
+  -- on which the neighbour puts, so it has the queue of that link's place.
+  pub made_are_new : IsNetwork net → (tables : List (List TableId)) (queues : List TableId) → tables_of rows ≡ tables → map table_of links ≡ queues
+      → AreNewEnds net tables queues rows
+  made_are_new ok tables queues picked listed = record {
+    shape = made.shape;
+    each = λ v vertex. record { long = made.shape.row v vertex; each = λ i ends at. new v vertex i ends at };
   } where
-    queue : (v i : ℕ) (link : Link P T) (id : TableId) → thing_at links v i ≡ Some link → id ≡ table_of link → table_at tables v i ≡ Some id
-    queue v i link id at is = ap (λ t. table_at t v i) (sym picked) ∙ at_maps table_of links (v - 1) i link at ∙ ap (λ t. Some t) (sym is)
+    put_queue : (v i : ℕ) (ends : PortEnds P T) → thing_at rows v i ≡ Some ends → table_at tables v i ≡ Some ends.put.pass.table_id
+    put_queue v i ends at = ap (λ t. table_at t v i) (sym picked) ∙ at_maps (λ e. e.put.pass.table_id) rows (v - 1) i ends at
 
--- the links that were made hold no more than they were made for
-pub made_within : {P T R : Type 0} (net : Net) (capacity : ℕ) (f : R → List (Link P T)) (rows : List R) (puts : List (List (PutSide T)))
-    (takes : List (List (TakeSide T))) → AreMade net capacity (map f rows) puts takes
-    → All (λ row. All (λ link. link_capacity link ≤ capacity) (f row)) rows
-made_within net capacity f rows puts takes made k d lt i e lt' =
-    let row = get_or rows k d in
-    let vertex : IsVertex net (k + 1) = (omega arith, omega (arith, lt, length-map rows f, made.links_shape.count)) in
-    let here : k + 1 - 1 ≡ k = omega arith in
-    let at = ap (λ j. slice_get (get_or (map f rows) j []) i) here ∙ ap (λ l. slice_get l i) (get_or-map f rows k d [] lt)
-    ∙ slice_get-get_or (f row) i e lt' in
-    let is = made.capacities (k + 1) i (get_or (f row) i e) vertex at in
-    omega (arith, is)
+    queue_at : (k : ℕ) (link : Link P T) (id : TableId) → slice_get links k ≡ Some link → id ≡ table_of link → slice_get queues k ≡ Some id
+    queue_at k link id at is = ap (λ q. slice_get q k) (sym listed) ∙ at_map table_of links k link at ∙ ap (λ t. Some t) (sym is)
 
--- the ends of a run, by the vertices of the nodes that get them
-module _ {T : Type 0} (net : Net) (tables : List (List TableId)) (puts : List (List (PutSide T))) (takes : List (List (TakeSide T)))
-    (new : AreNewEnds net tables puts takes) where
-  pub puts_from : (v : ℕ) → IsVertex net v → AreNewPutsFrom net tables v (row_at puts v)
-  puts_from v vertex = record {
-    long = new.puts_shape.row v vertex;
-    each = λ i end at. new.put_ends v i end vertex at;
-  }
+    new : (v : ℕ) → IsVertex net v → (i : ℕ) (ends : PortEnds P T) → thing_at rows v i ≡ Some ends → AreNewAt net tables queues v i ends
+    new v vertex i ends at =
+        let mine = made.ends.each v i ends vertex at in
+        let lt : i < degree_of net v = omega (arith, below (row_at rows v) i ends at, made.shape.row v vertex) in
+        let other = ok.vertices v i vertex lt in
+        let far = there (row_at rows (neighbour_of net v i)) (back_port_of net v i)
+        (omega (arith, ok.symmetric v i vertex lt, made.shape.row (neighbour_of net v i) other)) in
+        let theirs = made.ends.each (neighbour_of net v i) (back_port_of net v i) far.0 other far.1 in
+        let one = some-same mine.back.0 theirs.out.0
+        (sym mine.back.1.0 ∙ ap (slice_get links) (made.ends.joined v i ends far.0 vertex lt at far.1) ∙ theirs.out.1.0) in
+        record {
+          put_place = record { vertex = vertex.0; queue = put_queue v i ends at; named = mine.out.1.1.named };
+          put_link = queue_at ends.put_index mine.out.0 _ mine.out.1.0 mine.out.1.1.of_link.0;
+          put = mine.out.1.1.put;
+          take_place = record {
+            vertex = other.0;
+            queue = put_queue (neighbour_of net v i) (back_port_of net v i) far.0 far.1
+                ∙ ap (λ t. Some t) (theirs.out.1.1.of_link.0 ∙ ap table_of (sym one) ∙ sym mine.back.1.1.of_link.0);
+            named = mine.back.1.1.named;
+          };
+          take_link = queue_at ends.take_index mine.back.0 _ mine.back.1.0 mine.back.1.1.of_link.0;
+          taken = mine.back.1.1.taken;
+        }
 
-  pub takes_to : (all : List (List (TakeSide T))) → IsNetwork net → AreCrossed net takes all → (v : ℕ) → IsVertex net v
-      → AreNewTakesTo net tables v (row_at all v)
-  takes_to all ok crossed v vertex = record {
-    long = crossed.shape.row v vertex;
-    each = λ i end at.
-        let lt : i < degree_of net v = omega (arith, below (row_at all v) i end at, crossed.shape.row v vertex) in
-        new.take_ends (neighbour_of net v i) (back_port_of net v i) end (ok.vertices v i vertex lt) (sym (crossed.at v i vertex lt) ∙ at);
-  }
-
-pub same_place : (net : Net) (tables : List (List TableId)) (w w' j j' : ℕ) (table : TableId) (name : Option LinkName) → w' ≡ w → j' ≡ j
-    → IsEndAt net tables w j table name → IsEndAt net tables w' j' table name
-same_place net tables w w' j j' table name vertex port is =
-    subst (λ u. IsEndAt net tables u j' table name) (sym vertex) (subst (λ i. IsEndAt net tables w i table name) (sym port) is)
+  -- the links that were made hold no more than they were made for
+  pub made_within : All (λ link. link_capacity link ≤ capacity) links
+  made_within k d lt = omega (arith, made.ends.capacities k d lt)

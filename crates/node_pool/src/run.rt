@@ -1,12 +1,12 @@
 //! A run of workers, from a network to its outcome.
 
 ghost use Rattle.std.specs.Prelude.{◌≡◌, ◌≢◌, ◌↔◌, IfErr, IfOk, IsTrue, Result, Err, map};
-ghost use Rattle.pool.specs.actor.Tables.{tables_of};
+ghost use Rattle.pool.specs.actor.Tables.{table_of};
 ghost use Rattle.outcomes.specs.gather_laws.Outcome.{IsOutcome};
 ghost use Rattle.pool.specs.declared.fault.PoolFault.TheVariants.{BadOptions};
 ghost use Rattle.run_options.specs.Ranges.{AreInRange};
 ghost use Rattle.node_pool.specs.Ends.{full_after};
-ghost use Rattle.node_pool.specs.Makes.{AreMade};
+ghost use Rattle.node_pool.specs.Makes.{AreMade, tables_of};
 
 use crate::making::{Made, make_links};
 use crate::starting::start_nodes;
@@ -49,17 +49,18 @@ fn run_made<J: Wiring + Send + Sync, P: NodeProgram, G: Gate + Sync, R: Threads 
     made: Made<P>,
 ) -> Result<Outcome<P>, PoolFault>
     requires network { J.net ≡ net.now }
-    requires tables { J.tables ≡ tables_of (map (λ row. row.items) made.links.items) }
-    requires made { AreMade net.now options.capacity (map (λ row. row.items) made.links.items)
-        (map (λ row. row.items) made.puts.items) (map (λ row. row.items) made.takes.items) }
+    requires tables { J.tables ≡ tables_of (map (λ row. row.items) made.ends.items) }
+    requires links { J.links ≡ map table_of made.links.items }
+    requires made { AreMade net.now options.capacity made.links.items (map (λ row. row.items) made.ends.items) }
     requires options { AreInRange options }
     requires transcript { J.transcript ≡ options.transcript }
     ensures outcome { IfOk result
         (λ outcome. IsOutcome P.program net.now options.capacity options.transcript outcome) }
     ensures fault { IfErr result (λ fault. fault ≢ BadOptions) }
 {
-    let Made { links, puts, takes } = made;
-    let nodes = start_nodes::<J, P>(alloc, net, puts, takes, options.transcript)?;
+    net.is_network();
+    let Made { links, ends } = made;
+    let nodes = start_nodes::<J, P>(alloc, net, ends, options.transcript)?;
     let links = Links::<J, P>::new(links);
     let nodes = run_nodes(
         rt,
@@ -71,7 +72,7 @@ fn run_made<J: Wiring + Send + Sync, P: NodeProgram, G: Gate + Sync, R: Threads 
         options.turns,
     )?;
     unless_full(nodes.as_slice())?;
-    Ok(gathered(rt, alloc, net, links.into_rows(), nodes)?)
+    Ok(gathered(rt, alloc, net, &links, nodes)?)
 }
 
 /// Runs all nodes of a network asynchronously, on worker threads with links between the nodes.

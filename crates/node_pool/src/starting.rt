@@ -3,11 +3,12 @@
 ghost use Rattle.std.specs.Prelude.{◌≡◌, ◌∷◌, ◌++◌, ◌<◌, [], All, IfOk, map, reverse, vec_len};
 ghost use Rattle.outcomes.specs.interference.Net.{IsVertex, vertices};
 ghost use Rattle.pool.specs.alpha_core.Program.{start_node};
-ghost use Rattle.node_pool.specs.News.{AreNewEnds, AreNewPutsFrom, AreNewTakesTo};
+ghost use Rattle.node_pool.specs.News.{AreNewEnds, AreNewOf};
 
-use crate::wires::{wired_puts, wired_takes};
-use outcomes::{Memory, Network, NodeProgram, crossed};
-use pool::{Node, PutEnd, TakeEnd, Wiring};
+use crate::making::PortEnds;
+use crate::wires::{WiredEnds, wired_ends};
+use outcomes::{Memory, Network, NodeProgram};
+use pool::{Node, Wiring};
 use std::alloc::Global;
 
 // Takes the last row off.
@@ -26,28 +27,25 @@ fn boxed_node<J: Wiring, P: NodeProgram>(
     alloc: Global,
     net: &Network,
     v: u32,
-    puts: Vec<PutEnd<P>>,
-    takes: Vec<TakeEnd<P>>,
+    ends: Vec<PortEnds<P>>,
     transcript: bool,
 ) -> Result<Box<Node<J, P>>, Memory>
     requires network { J.net ≡ net.now }
     requires vertex { IsVertex net.now v }
     requires transcript { J.transcript ≡ transcript }
-    requires puts { AreNewPutsFrom J.net J.tables v puts.items }
-    requires takes { AreNewTakesTo J.net J.tables v takes.items }
+    requires ends { AreNewOf J.net J.tables J.links v ends.items }
     ensures vertex { IfOk result (λ node. node.value.vertex ≡ v) }
     ensures first { IfOk result (λ node. node.value.alpha.node ≡ start_node P.program net.now v) }
 {
     net.is_network();
-    let puts = wired_puts::<J, P>(alloc, v, puts)?;
-    let takes = wired_takes::<J, P>(alloc, net, v, takes)?;
+    let WiredEnds { puts, takes } = wired_ends::<J, P>(alloc, net, v, ends)?;
     let node = Node::<J, P>::start(alloc, net, v, puts, takes, transcript)?;
     Ok(Box::new(alloc, node)?)
 }
 
-/// All nodes of a run at pulse 0, from the last vertex down, each in a box with the ends of its links. The ends are
-/// given as `make_links` makes them: row `v - 1` has those of the links out of vertex `v`, by port. With `transcript`
-/// the nodes write down what they do.
+/// All nodes of a run at pulse 0, from the last vertex down, each in a box with its ends. The ends are given as
+/// `make_links` makes them: row `v - 1` has those of vertex `v`, by port. With `transcript` the nodes write down what
+/// they do.
 ///
 /// # Errors
 ///
@@ -55,30 +53,21 @@ fn boxed_node<J: Wiring, P: NodeProgram>(
 pub fn start_nodes<J: Wiring, P: NodeProgram>(
     alloc: Global,
     net: &Network,
-    puts: Vec<Vec<PutEnd<P>>>,
-    takes: Vec<Vec<TakeEnd<P>>>,
+    ends: Vec<Vec<PortEnds<P>>>,
     transcript: bool,
 ) -> Result<Vec<Box<Node<J, P>>>, Memory>
     requires net { J.net ≡ net.now }
     requires transcript { J.transcript ≡ transcript }
-    requires ends { AreNewEnds J.net J.tables (map (λ row. row.items) puts.items) (map (λ row. row.items) takes.items) }
+    requires ends { AreNewEnds J.net J.tables J.links (map (λ row. row.items) ends.items) }
     ensures nodes { IfOk result (λ nodes. map (λ b. b.value.vertex) nodes.items ≡ reverse (vertices J.net)) }
     ensures first { IfOk result
         (λ nodes. All (λ b. b.value.alpha.node ≡ start_node P.program net.now b.value.vertex) nodes.items) }
 {
-    let mut puts = puts;
-    let mut takes = crossed(alloc, net, takes)?;
+    let mut ends = ends;
     let mut nodes = Vec::new(alloc);
     let count = net.nodes();
     for k in 0..count {
-        let node = boxed_node::<J, P>(
-            alloc,
-            net,
-            count - k,
-            last_row(&mut puts),
-            last_row(&mut takes),
-            transcript,
-        )?;
+        let node = boxed_node::<J, P>(alloc, net, count - k, last_row(&mut ends), transcript)?;
         nodes.push(node)?;
     }
     Ok(nodes)

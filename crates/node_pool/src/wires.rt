@@ -1,56 +1,53 @@
-//! Ends that know the place of their link.
+//! Ends that know the place and the index of their link.
 
-ghost use Rattle.std.specs.Prelude.{◌≡◌, ◌≤◌, [], All, IfOk, map};
-ghost use Rattle.outcomes.specs.interference.Net.{IsVertex, degree_of};
-ghost use Rattle.outcomes.below.interference.specs.declared.limits.TheConstants.{MAX_DEGREE};
+ghost use Rattle.std.specs.Prelude.{◌≡◌, [], All, IfOk, map};
+ghost use Rattle.outcomes.specs.interference.Net.{IsVertex};
 ghost use Rattle.pool.specs.link_queue.Ends.{put_list, taken_list};
 ghost use Rattle.pool.specs.actor.Node.{links_in, links_out};
-ghost use Rattle.node_pool.specs.News.{AreNewPutsFrom, AreNewTakesTo};
+ghost use Rattle.node_pool.specs.News.{AreNewOf};
 
+use crate::making::PortEnds;
 use outcomes::{Network, NodeProgram};
-use pool::{PutEnd, TakeEnd, WiredPut, WiredTake, Wiring};
+use pool::{WiredPut, WiredTake, Wiring};
 use std::alloc::{AllocError, Global};
 
-/// The ends that put, of the links out of a vertex.
-pub(crate) fn wired_puts<J: Wiring, P: NodeProgram>(
-    alloc: Global,
-    v: u32,
-    ends: Vec<PutEnd<P>>,
-) -> Result<Vec<WiredPut<J, P::Payload>>, AllocError>
-    requires degree { degree_of J.net v ≤ MAX_DEGREE }
-    requires ends { AreNewPutsFrom J.net J.tables v ends.items }
-    ensures places { IfOk result (λ all. map (λ e. (e.vertex, e.port)) all.items ≡ links_out J.net v) }
-    ensures nothing_put { IfOk result (λ all. All (λ e. put_list e.end ≡ []) all.items) }
-{
-    let mut all = Vec::new(alloc);
-    let mut port = 0;
-    for end in ends {
-        all.push(WiredPut::<J, P::Payload>::new(v, port, end))?;
-        port += 1;
-    }
-    Ok(all)
+/// The ends of a node, by port.
+#[derive(Drop)]
+pub(crate) struct WiredEnds<J: Wiring, P: NodeProgram> {
+    pub puts: Vec<WiredPut<J, P::Payload>>,
+    pub takes: Vec<WiredTake<J, P::Payload>>,
 }
 
-/// The ends that take, of the links that come to a vertex.
-pub(crate) fn wired_takes<J: Wiring, P: NodeProgram>(
+/// The ends of the node of a vertex, each with the place and the index of its link.
+pub(crate) fn wired_ends<J: Wiring, P: NodeProgram>(
     alloc: Global,
     net: &Network,
     v: u32,
-    ends: Vec<TakeEnd<P>>,
-) -> Result<Vec<WiredTake<J, P::Payload>>, AllocError>
+    row: Vec<PortEnds<P>>,
+) -> Result<WiredEnds<J, P>, AllocError>
     requires network { J.net ≡ net.now }
     requires vertex { IsVertex net.now v }
-    requires ends { AreNewTakesTo J.net J.tables v ends.items }
-    ensures places { IfOk result (λ all. map (λ e. (e.vertex, e.port)) all.items ≡ links_in J.net v) }
-    ensures nothing_taken { IfOk result (λ all. All (λ e. taken_list e.end ≡ []) all.items) }
+    requires ends { AreNewOf J.net J.tables J.links v row.items }
+    ensures outs { IfOk result (λ ends. map (λ e. (e.vertex, e.port)) ends.puts.items ≡ links_out J.net v) }
+    ensures ins { IfOk result (λ ends. map (λ e. (e.vertex, e.port)) ends.takes.items ≡ links_in J.net v) }
+    ensures nothing_put { IfOk result (λ ends. All (λ e. put_list e.end ≡ []) ends.puts.items) }
+    ensures nothing_taken { IfOk result (λ ends. All (λ e. taken_list e.end ≡ []) ends.takes.items) }
 {
     net.is_network();
-    let mut all = Vec::new(alloc);
+    let mut puts = Vec::with_capacity(alloc, row.len())?;
+    let mut takes = Vec::with_capacity(alloc, row.len())?;
     let mut port = 0;
-    for end in ends {
+    for ends in row {
         let (w, j) = (net.neighbour(v, port), net.back_port(v, port));
-        all.push(WiredTake::<J, P::Payload>::new(w, j, end))?;
+        let PortEnds {
+            put_index,
+            put,
+            take_index,
+            take,
+        } = ends;
+        puts.push_reserved(WiredPut::<J, P::Payload>::new(v, port, put_index, put));
+        takes.push_reserved(WiredTake::<J, P::Payload>::new(w, j, take_index, take));
         port += 1;
     }
-    Ok(all)
+    Ok(WiredEnds { puts, takes })
 }

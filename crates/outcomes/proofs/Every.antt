@@ -2,7 +2,6 @@
 use Rattle.std.proofs.Common.{◌≡◌, ℕ, zero, suc, ◌+◌, ◌-◌, ◌<◌, ◌≤◌, List, [], ◌∷◌, length, map, drop, get_or}
 use Rattle.std.proofs.Common.{true, false, nat_eq, sym, ap, ◌∙◌, arith}
 use Rattle.std.specs.Prelude.{Bool, ◌&&◌}
-use Rattle.std.proofs.lemmas.List.{length-map}
 use Rattle.std.proofs.Math.Numerals.{add-one}
 use Rattle.std.proofs.Math.Seq.{drop-cons, drop-nil}
 use Rattle.actor.specs.alpha_core.Stamped.{Stamped}
@@ -42,4 +41,4 @@ module _ {A B : Type 0} (every : List B → Bool) (test : B → Bool) (none : ev
 pub no_wires : {T : Type 0} (met : Met T) (held : List (Stamped T)) (empty is : Bool) → held ≡ held_stamped met
     → empty ≡ nat_eq (length held) 0 → empty ≡ is → nat_eq (length (history_of_met met).held) 0 ≡ is
 no_wires met held empty is same says e =
-    ap (λ n. nat_eq n 0) (length-map (held_stamped met) (λ x. x.wire)) ∙ ap (λ l. nat_eq (length l) 0) (sym same) ∙ sym says ∙ e
+    ap (λ l. nat_eq (length l) 0) (sym same) ∙ sym says ∙ e

@@ -1,7 +1,6 @@
--- What is left to say where links and their ends are put side by side.
-use Rattle.std.proofs.Common.{◌≡◌, ℕ, List, length, map, true, sym, ap, ◌∙◌}
+-- What is left to say where ends are put side by side.
+use Rattle.std.proofs.Common.{◌≡◌, ℕ, List, length, map, true, sym, ◌∙◌}
 use Rattle.std.specs.Prelude.{Result, Ok, Err, IfOk, is_err}
-use Rattle.std.proofs.lemmas.List.{length-map}
 use Rattle.actor.proofs.worker_deques.Views.{as_many}
 
 -- an error says nothing of a good answer
@@ -13,7 +12,3 @@ err_says P (Err x) e = tt
 pub as_long : {A B C : Type 0} (f : A → C) (g : B → C) (xs : List A) (ys : List B) (m n : ℕ) → m ≡ length xs → n ≡ length ys
     → map g ys ≡ map f xs → n ≡ m
 as_long f g xs ys m n xs_long ys_long same = ys_long ∙ as_many f g xs ys same ∙ sym xs_long
-
--- pairs are as many as their lefts
-pub lefts_long : {A B : Type 0} (all : List (A × B)) (lefts : List A) (n : ℕ) → n ≡ length all → map (λ p. p.0) all ≡ lefts → n ≡ length lefts
-lefts_long all lefts n long left = long ∙ sym (length-map all (λ p. p.0)) ∙ ap length left

@@ -32,10 +32,6 @@ module _ {A : Type 0} where
   at_new (x ∷ xs) y d zero is = absurd (omega arith)
   at_new (x ∷ xs) y d (suc k) is = at_new xs y d k (omega arith)
 
-pub map-twice : {A B C : Type 0} (f : B → C) (g : A → B) (xs : List A) → map f (map g xs) ≡ map (λ x. f (g x)) xs
-map-twice f g [] = refl
-map-twice f g (x ∷ xs) = ap (λ l. f (g x) ∷ l) (map-twice f g xs)
-
 -- a list that is given place by place, and one place more
 pub at_range : {B : Type 0} (g : ℕ → B) (n i : ℕ) (d : B) → i < n → get_or (map g (range_with_len 0 n)) i d ≡ g i
 at_range g n i d lt =

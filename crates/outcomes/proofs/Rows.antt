@@ -7,7 +7,7 @@ use Rattle.std.proofs.lemmas.List.{length-map}
 use Rattle.std.proofs.lemmas.List.FromFn.{length-range_with_len, get_or-range_with_len}
 use Rattle.std.proofs.lemmas.List.Elements.{All-map}
 use Rattle.std.proofs.lemmas.Option.{slice_get-map, slice_get-get_or, get_or_from_slice_get}
-use Rattle.outcomes.proofs.ReadLists.{map-twice}
+use Rattle.std.proofs.lemmas.Simd.{map-map}
 use Rattle.outcomes.specs.Rows.{row_at, thing_at, HasShape}
 use Rattle.gather_laws.specs.alpha_laws.Net.{Net, IsVertex, count_of, degree_of, vertices}
 
@@ -115,8 +115,8 @@ module _ (net : Net) where
           ∙ length-range_with_len 0 (degree_of net (vertex_of a))
 
       pub by_nodes : map (λ row. map place row) (map ends nodes) ≡ table_by g
-      by_nodes = map-twice (λ row. map place row) ends nodes ∙ map_same (λ a. map place (ends a)) (λ a. row_by g (vertex_of a)) are nodes
-          ∙ sym (map-twice (row_by g) vertex_of nodes) ∙ ap (map (row_by g)) order
+      by_nodes = map-map (λ row. map place row) ends nodes ∙ map_same (λ a. map place (ends a)) (λ a. row_by g (vertex_of a)) are nodes
+          ∙ sym (map-map (row_by g) vertex_of nodes) ∙ ap (map (row_by g)) order
 
       pub entry_of : (v i : ℕ) → IsVertex net v → i < degree_of net v → (x : E) → thing_at (map ends nodes) v i ≡ Some x → place x ≡ g v i
       entry_of v i vertex lt x is =
@@ -130,12 +130,12 @@ module _ (net : Net) where
 
 module _ {R X Y Z : Type 0} (items : R → List X) (rows : List R) where
   pub of_fields : (h : X → Y) (p : Y → Z) → map (λ row. map p row) (map (λ row. map h (items row)) rows) ≡ map (λ row. map (λ x. p (h x)) row) (map items rows)
-  of_fields h p = map-twice (λ row. map p row) (λ row. map h (items row)) rows ∙ map_same _ _ (λ row. map-twice p h (items row)) rows
-      ∙ sym (map-twice (λ row. map (λ x. p (h x)) row) items rows)
+  of_fields h p = map-map (λ row. map p row) (λ row. map h (items row)) rows ∙ map_same _ _ (λ row. map-map p h (items row)) rows
+      ∙ sym (map-map (λ row. map (λ x. p (h x)) row) items rows)
 
 module _ {R X Y : Type 0} (items : R → List X) (rows : List R) where
   pub of_items : (f : X → Y) (all : List (List X)) → map items rows ≡ all → map (λ row. map f (items row)) rows ≡ map (λ row. map f row) all
-  of_items f all is = sym (map-twice (λ row. map f row) items rows) ∙ ap (map (λ row. map f row)) is
+  of_items f all is = sym (map-map (λ row. map f row) items rows) ∙ ap (map (λ row. map f row)) is
 
   pub all_rows : (P : Y → Type 0) (h : X → Y) → All (λ row. All (λ x. P (h x)) (items row)) rows → All (λ row. All P row) (map (λ row. map h (items row)) rows)
   all_rows P h all = All-map (λ row. All P row) (λ row. map h (items row)) rows

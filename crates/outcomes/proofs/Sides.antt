@@ -1,8 +1,9 @@
 -- A row beside another, thing after thing.
-use Rattle.std.proofs.Common.{◌≡◌, ℕ, zero, suc, ◌+◌, ◌<◌, ◌≤◌, List, [], ◌∷◌, ◌++◌, length, map, take, drop, set, get_or, refl, sym, ap, ◌∙◌, subst, arith}
+use Rattle.std.proofs.Common.{◌≡◌, ℕ, zero, suc, ◌+◌, ◌<◌, ◌≤◌, List, [], ◌∷◌, ◌++◌, length, map, take, drop, set, get_or, sym, ap, ◌∙◌, subst, arith}
 use Rattle.std.proofs.Common.{Some, None, slice_get}
 use Rattle.std.specs.Prelude.{Option, All, Result, Ok, Err, IfOk}
 use Rattle.std.proofs.lemmas.List.{get_or_default, get_or-map, get_or-set_other, length-map, map-append}
+use Rattle.std.proofs.lemmas.Simd.{map-map}
 
 take_next : {A : Type 0} (xs : List A) (k : ℕ) (x : A) → slice_get xs k ≡ Some x → take (suc k) xs ≡ take k xs ++ x ∷ []
 take_next [] k x is = absurd cc
@@ -29,22 +30,12 @@ longer f rights all new x k n pushed more at same =
     let next : suc k ≡ n = omega arith in
     ap (map f) pushed ∙ map-append f all (x ∷ []) ∙ ap (λ l. l ++ f x ∷ []) same ∙ sym (take_next rights k (f x) at) ∙ ap (λ m. take m rights) next
 
-map-twice : {A B C : Type 0} (f : B → C) (g : A → B) (xs : List A) → map f (map g xs) ≡ map (λ x. f (g x)) xs
-map-twice f g [] = refl
-map-twice f g (x ∷ xs) = ap (λ l. f (g x) ∷ l) (map-twice f g xs)
-
--- three rows side by side, read by one of them
-module _ {A B C D : Type 0} (all : List (A × (B × C))) (inner : List (B × C)) (right : map (λ x. x.1) all ≡ inner) where
-  pub middles : (ps : List B) (f : B → D) → map (λ x. x.0) inner ≡ ps → map (λ x. f x.1.0) all ≡ map f ps
-  middles ps f e =
-      sym (map-twice (λ y. f y.0) (λ x. x.1) all) ∙ ap (map (λ y. f y.0)) right ∙ sym (map-twice f (λ y. y.0) inner) ∙ ap (map f) e
-
-  pub lasts : (ts : List C) (f : C → D) → map (λ x. x.1) inner ≡ ts → map (λ x. f x.1.1) all ≡ map f ts
-  lasts ts f e =
-      sym (map-twice (λ y. f y.1) (λ x. x.1) all) ∙ ap (map (λ y. f y.1)) right ∙ sym (map-twice f (λ y. y.1) inner) ∙ ap (map f) e
-
+-- two rows side by side, read by one of them
 pub firsts : {A E D : Type 0} (all : List (A × E)) (ls : List A) (f : A → D) → map (λ x. x.0) all ≡ ls → map (λ x. f x.0) all ≡ map f ls
-firsts all ls f e = sym (map-twice f (λ x. x.0) all) ∙ ap (map f) e
+firsts all ls f e = sym (map-map f (λ x. x.0) all) ∙ ap (map f) e
+
+pub seconds : {A E D : Type 0} (all : List (A × E)) (rs : List E) (f : E → D) → map (λ x. x.1) all ≡ rs → map (λ x. f x.1) all ≡ map f rs
+seconds all rs f e = sym (map-map f (λ x. x.1) all) ∙ ap (map f) e
 
 -- two functions that are equal over a list are so at each of its things
 pub same_each : {A D : Type 0} (f g : A → D) (xs : List A) → map f xs ≡ map g xs → All (λ x. f x ≡ g x) xs

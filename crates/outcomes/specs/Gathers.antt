@@ -8,5 +8,4 @@ gathered_of actor = record {
   vertex = actor.vertex;
   alpha = actor.alpha;
   entries = actor.entries.items;
-  stamped = actor.entries.stamped;
 }

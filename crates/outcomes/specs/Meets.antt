@@ -4,7 +4,7 @@ use Rattle.crossbeam_queue.specs.Passes.{view}
 use Rattle.actor.specs.alpha_core.Stamped.{Stamped}
 use Rattle.actor.specs.link_queue.Met.{Met}
 use Rattle.actor.specs.link_queue.Ends.{held_stamped}
-use Rattle.gather_laws.specs.Outcome.{History, StampedHistory, history_of}
+use Rattle.gather_laws.specs.Outcome.{History}
 
 module _ {T : Type 0} where
   -- all that was put on a link whose ends have met, each wire with its stamp
@@ -15,11 +15,8 @@ module _ {T : Type 0} where
   abbrev pub taken_of : Met T → List (Stamped T)
   taken_of met = take (length (put_of met) - length (held_stamped met)) (put_of met)
 
-  abbrev pub stamped_history_of : Met T → StampedHistory T
-  stamped_history_of met = record { put = put_of met; taken = taken_of met; held = held_stamped met }
-
   abbrev pub history_of_met : Met T → History T
-  history_of_met met = history_of (stamped_history_of met)
+  history_of_met met = record { put = put_of met; taken = taken_of met; held = held_stamped met }
 
   -- The links of a row, whose ends put these lists and took those: what was put on each is what was taken from it, and
   -- then what it holds.

@@ -1,8 +1,8 @@
 //! Things that change places with those at the other ends of the links.
 
-ghost use Rattle.std.specs.Prelude.{◌≡◌, ◌≢◌, ◌<◌, ℕ, IfOk, OnOk, None, Some, map};
+ghost use Rattle.std.specs.Prelude.{◌≡◌, ◌≢◌, ◌<◌, ℕ, IfOk, None, Some, map};
 ghost use Rattle.std.specs.List.{range_with_len};
-ghost use Rattle.gather_laws.specs.alpha_laws.Net.{IsNetwork, IsVertex, back_port_of, degree_of, neighbour_of};
+ghost use Rattle.gather_laws.specs.alpha_laws.Net.{IsVertex, back_port_of, degree_of, neighbour_of};
 ghost use Rattle.outcomes.specs.Rows.{AreCrossed, HasShape, set_slot, slot_at};
 
 use gather_laws::Network;

@@ -2,9 +2,7 @@
 
 ghost use Rattle.std.specs.Prelude.{◌≡◌, ◌≤◌, ℕ, All, IfOk, false, map};
 ghost use Rattle.gather_laws.specs.alpha_laws.Net.{vertices};
-ghost use Rattle.outcomes.specs.Rows.{HasShape};
 ghost use Rattle.actor.specs.link_queue.Ends.{link_capacity};
-ghost use Rattle.actor.specs.Tables.{tables_of};
 ghost use Rattle.gather_laws.specs.Outcome.{IsOutcome};
 ghost use Rattle.outcomes.specs.Full.{some_full};
 
@@ -12,7 +10,7 @@ use crate::cross::crossed;
 use crate::meeting::meet_rows;
 use crate::outcome::Outcome;
 use crate::taking_apart::{NodesAndEnds, apart};
-use actor::{Link, Node, Wiring};
+use actor::{Links, Node, Wiring};
 use gather_laws::{Memory, Network, NodeProgram};
 use std::alloc::Global;
 use std::sync::Wait;
@@ -28,16 +26,14 @@ pub fn gathered<J: Wiring, P: NodeProgram, R: Wait>(
     rt: &R,
     alloc: Global,
     net: &Network,
-    links: Vec<Vec<Link<P>>>,
+    links: &Links<J, P>,
     nodes: Vec<Node<J, P>>,
 ) -> Result<Outcome<P>, Memory>
     requires network { J.net ≡ net.now }
-    requires tables { tables_of (map (λ row. row.items) links.items) ≡ J.tables }
-    requires shape { HasShape net.now (map (λ row. row.items) links.items) }
     requires nodes { map (λ n. n.vertex) nodes.items ≡ vertices J.net }
     requires stamps { some_full (map (λ n. n.aside) nodes.items) ≡ false }
     ensures outcome { IfOk result (λ outcome. (capacity : ℕ)
-        → All (λ row. All (λ link. link_capacity link ≤ capacity) row.items) links.items
+        → All (λ link. link_capacity link ≤ capacity) links.now.list.items
         → IsOutcome P.program net.now capacity J.transcript outcome) }
 {
     net.is_network();

@@ -7,11 +7,9 @@
 //!
 //! ```text
 //! if some_full(nodes.as_slice()) { return Err(PoolFault::StampFull); }
-//! let outcome = gathered(&rt, alloc, &network, links, nodes)?;
+//! let outcome = gathered(&rt, alloc, &network, &links, nodes)?;
 //! if outcome.is_whole() { .. outcome.actors() .. }
 //! ```
-//!
-//! `crossed` also serves the start of a run, where the ends that take go the other way.
 //!
 //! Limits: those of `interference`.
 #![tactic(auto)]
@@ -23,7 +21,6 @@ mod outcome;
 mod pairs;
 mod taking_apart;
 
-pub use cross::crossed;
 pub use gathering::gathered;
 pub use outcome::Outcome;
 pub use taking_apart::{Actor, some_full};

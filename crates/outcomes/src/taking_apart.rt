@@ -1,7 +1,7 @@
 //! A node after the run, and the nodes taken apart.
 
 ghost use Rattle.std.specs.Prelude.{◌≡◌, ◌≤◌, [], IfOk, map, vec_capacity};
-ghost use Rattle.actor.specs.entries.Recorded.{entries_by, stamped_by};
+ghost use Rattle.actor.specs.entries.Recorded.{entries_by};
 ghost use Rattle.outcomes.specs.Full.{is_full, some_full};
 
 use actor::{AlphaNode, Aside, Entries, Node, WhyAside, WiredPut, WiredTake, Wiring};
@@ -106,8 +106,6 @@ pub fn apart<J: Wiring, P: NodeProgram>(
         (λ both. map (λ a. a.alpha) both.actors.items ≡ map (λ n. n.alpha) nodes.items) }
     ensures entries { IfOk result
         (λ both. map (λ a. a.entries.items) both.actors.items ≡ map (λ n. entries_by n.recorder) nodes.items) }
-    ensures stamped { IfOk result
-        (λ both. map (λ a. a.entries.stamped) both.actors.items ≡ map (λ n. stamped_by n.recorder) nodes.items) }
     ensures puts { IfOk result
         (λ both. map (λ row. row.items) both.puts.items ≡ map (λ n. n.puts.items) nodes.items) }
     ensures takes { IfOk result

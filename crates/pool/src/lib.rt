@@ -5,8 +5,9 @@
 //! is left for the node to do, keeps it. Whatever the threads do, `run_nodes` returns each node once. What a turn
 //! leaves is a fact of the node's type (`actor`).
 //!
-//! In reading order: `looks` is what a worker does, `signals` what workers see of one another, `run` starts and joins
-//! the workers, and `told` says which fault a run has. `node_pool` makes nodes and links, `outcomes` gathers them.
+//! In reading order: `looks` is what a worker does, `signals` what workers see of one another, `threads` starts and
+//! joins the workers, `run` is all of a run, and `told` says which fault it has if turns of its nodes ended early.
+//! `node_pool` makes nodes and links, `outcomes` gathers them.
 //!
 //! ```text
 //! let nodes = run_nodes(&rt, alloc, &links, &OpenGate, nodes, workers, turns)?;   // ascending
@@ -20,6 +21,7 @@ mod fault;
 mod looks;
 mod run;
 mod signals;
+mod threads;
 mod told;
 
 pub use fault::PoolFault;

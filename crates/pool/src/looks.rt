@@ -8,7 +8,7 @@ use crate::signals::Signals;
 use actor::{Gate, Links, Node, NodeProgram, TurnRefused, Wiring};
 use std::sync::Wait;
 use std::thread;
-use worker_deques::{Desk, Gives, Thief};
+use worker_deques::{Desk, Thief, give_back};
 
 /// What all workers share besides the deques.
 #[derive(Drop)]
@@ -33,10 +33,7 @@ fn put_back<J: Wiring, P: NodeProgram>(signals: &Signals, desk: &mut Desk<Node<J
         desk.finished.push_reserved(node);
         return;
     }
-    match desk.own.push_as::<Gives>(node) {
-        Ok(()) => {}
-        Err(node) => desk.task = Some(node),
-    }
+    desk.task = give_back(&mut desk.own, node);
 }
 
 // A turn of a node. Returns whether the node did something.
@@ -95,7 +92,7 @@ fn look<J: Wiring, P: NodeProgram, R: Wait, G: Gate>(
     turned
 }
 
-/// At most so many looks, and none after a turn that ended early. The node remembers why its turn did.
+/// Makes at most `turns` looks, and none after a turn that ended early. The node remembers why its turn did.
 pub fn work<J: Wiring, P: NodeProgram, R: Wait, G: Gate>(
     rt: &R,
     crew: &Crew<J, P, G>,

@@ -1,7 +1,7 @@
 -- The stamps of one node's entries. A node has a counter, from 0. A pulse or a put adds one to it; a take makes it one
 -- more than the greater of itself and the wire's stamp. The stamp of an entry is the counter after its event, and a
 -- wire has the stamp of its put (Lamport 1978).
-use Rattle.std.specs.Prelude.{◌≡◌, ℕ, suc, max, ◌<◌, ◌==◌, Bool, if◌then◌else◌, List, [], ◌∷◌, ◌++◌, map, length}
+use Rattle.std.specs.Prelude.{◌≡◌, ℕ, suc, max, ◌<◌, ◌==◌, Bool, if◌then◌else◌, List, [], ◌∷◌, ◌++◌, length}
 use Rattle.std.specs.Prelude.{All, slice_index_or}
 use Rattle.entries.specs.alpha_core.StampedWires.{stamped, wires_of}
 use Rattle.entries.specs.alpha_core.Stamped.{Stamped}
@@ -9,12 +9,9 @@ use Rattle.entries.specs.alpha_core.Wire.{Wire}
 use Rattle.entries.specs.declared.entry.Entry.{Entry}
 use Rattle.entries.specs.declared.entry.Entry.TheVariants.{Pulse, Put, Take}
 pub use Rattle.entries.specs.declared.rows.StampedEntry.{StampedEntry}
+pub use Rattle.entries.specs.Rows.{bare_of}
 
 module _ {M : Type 0} where
-  -- the entries without their stamps
-  abbrev pub bare_of : List (StampedEntry M) → List (Entry M)
-  bare_of entries = map (λ e. e.entry) entries
-
   -- the wire that an entry put, if its neighbour is one of these, with the stamp of the entry
   abbrev pub put_if : (ℕ → Bool) → ℕ → Entry M → List (Stamped M)
   put_if is_to s (Pulse p) = []

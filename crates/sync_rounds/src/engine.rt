@@ -8,7 +8,8 @@ ghost use Rattle.node_api.specs.Program.{RestsUntil, own_of};
 ghost use Rattle.node_api.specs.Run.{after, inbox_at, state_at};
 ghost use Rattle.sync_rounds.specs.Delivery.{Delivered};
 ghost use Rattle.sync_rounds.specs.Lists.{Lists, empty_inbox};
-ghost use Rattle.sync_rounds.specs.Rests.{AreLoud, AreResting, HasOutboxes, IsLoud, sent_by};
+ghost use Rattle.sync_rounds.specs.Rests.{AreLoud, HasOutboxes, IsLoud, sent_by};
+ghost use Rattle.sync_rounds.specs.Rounds.{AreAt};
 
 use crate::boxes::{inboxes_of, outboxes_of};
 use crate::delivery::send_out;
@@ -92,18 +93,8 @@ pub(crate) fn round<P: NodeProgram>(
     later: &mut [Inbox<P::Payload>],
 ) -> AfterPulse
     requires done { done + 1 < 2 ^ 32 }
-    requires nodes { Lists (count_of net.now) (state_at P.program net.now done) nodes.old }
-    requires outs { HasOutboxes net.now outs.old }
-    requires rests { AreResting P.program net.now done untils.old }
-    requires loud { length loud.old ≡ count_of net.now }
-    requires now { Lists (count_of net.now) (λ v. unread (inbox_at P.program net.now (suc done) v)) now.old }
-    requires later { Lists (count_of net.now) (empty_inbox net.now) later.old }
-    ensures nodes { Lists (count_of net.now) (state_at P.program net.now (suc done)) nodes.new }
-    ensures outs { HasOutboxes net.now outs.new }
-    ensures rests { AreResting P.program net.now (suc done) untils.new }
-    ensures loud { AreLoud P.program net.now (suc done) loud.new }
-    ensures now { Lists (count_of net.now) (empty_inbox net.now) now.new }
-    ensures later { Lists (count_of net.now) (λ v. unread (inbox_at P.program net.now (suc (suc done)) v)) later.new }
+    requires at { AreAt P.program net.now done nodes.old loud.old outs.old untils.old now.old later.old }
+    ensures at { AreAt P.program net.now (suc done) nodes.new loud.new outs.new untils.new later.new now.new }
     ensures quiet { result.sent ≡ false → Lists (count_of net.now) (empty_inbox net.now) later.new }
     ensures least { (k d : ℕ) → k < count_of net.now → result.rests_until ≤ slice_index_or untils.new k d }
 {

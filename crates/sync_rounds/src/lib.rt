@@ -11,9 +11,9 @@
 //! ```
 //!
 //! By its code a run allocates at the start alone: two inboxes for each node, which change places after a pulse, and an
-//! outbox for each degree that occurs. A pulse costs time by the messages that are sent and the nodes that are called. A
-//! node that rests and to which nothing came costs a look, and a port at which nothing is sent none. What a vertex sent
-//! is read in the inboxes of its neighbours. No contract says so.
+//! outbox for each degree that occurs. A pulse costs time by the messages that are sent and the nodes that are called.
+//! A node that rests and to which nothing came costs a look, and a port at which nothing is sent none. What a vertex
+//! sent is read in the inboxes of its neighbours. No contract says so.
 //!
 //! Limits: those of a `Network`, and a last pulse below 2³².
 #![tactic(auto)]

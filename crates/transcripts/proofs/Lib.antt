@@ -5,6 +5,7 @@ pub mod Spaced
 pub mod Words
 pub mod WrittenRows
 pub mod Written
+pub mod RowsSoFar
 pub mod Texts
 pub mod LinesBehind
 pub mod Either

@@ -17,12 +17,11 @@ use Rattle.dimacs_col.specs.Lines.{number_of}
 use Rattle.alpha_core.specs.declared.wire.Wire.{Wire}
 use Rattle.alpha_core.specs.declared.wire.Wire.TheVariants.{Payload, Ack, Safe, Close}
 use Rattle.entries.specs.declared.entry.Entry.{Entry}
-use Rattle.entries.specs.Rows.{vertex_row}
 use Rattle.entries.specs.declared.entry.Entry.TheVariants.{Pulse, Put, Take}
 use Rattle.channel_plan.specs.Reading.{small_number}
 use Rattle.wire_texts.specs.WireText
 use Rattle.wire_texts.specs.WireText.{numbered, wire_text}
-use Rattle.transcripts.specs.EntryLines.{entry_of, entry_with, only, payload_in, payload_with, row_of, stamp_number, wide_number, wire_of, wire_with}
+use Rattle.transcripts.specs.EntryLines.{entry_of, entry_with, only, payload_in, payload_with, row_with, stamp_number, wide_number, wire_of, wire_with}
 use Rattle.transcripts.specs.TranscriptText.{IsReadable, IsReadableEntry, Row, entry_text}
 use Rattle.transcripts.proofs.Payloads.{payload-text}
 use Rattle.transcripts.proofs.Spaced.{IsSeen, IsWord, spaced}
@@ -184,7 +183,9 @@ module _ {M : Type 0} (word_of : M → List ℕ) (number_of' : M → ℕ) (paylo
   abbrev pub IsReadableRow : Row M → Type 0
   IsReadableRow row = IsReadable word_of number_of' payload_of row
 
-  pub reads-row : (row : Row M) → IsReadableRow row → row_of payload_of (decimal row.vertex ∷ entry_words row.entry) ≡ Some row
-  reads-row row h =
-      ap (option_and_then (λ n. option_map (λ entry. vertex_row n entry) (entry_of payload_of (entry_words row.entry)))) (small-decimal row.vertex h.0)
-      ∙ ap (option_map (λ entry. vertex_row row.vertex entry)) (reads-entry row.entry h.1)
+  -- with its vertex it is read as what is made of the two
+  pub reads-row : {R : Type 0} (made : ℕ → Entry M → R) (row : Row M) → IsReadableRow row →
+      row_with payload_of made (decimal row.vertex ∷ entry_words row.entry) ≡ Some (made row.vertex row.entry)
+  reads-row made row h =
+      ap (option_and_then (λ n. option_map (λ entry. made n entry) (entry_of payload_of (entry_words row.entry)))) (small-decimal row.vertex h.0)
+      ∙ ap (option_map (λ entry. made row.vertex entry)) (reads-entry row.entry h.1)

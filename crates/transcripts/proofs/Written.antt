@@ -1,12 +1,12 @@
 -- A transcript that was written is read as its entries (written-one), and with stamps as its stamped entries (written-two).
 use Rattle.std.proofs.Common.{◌≡◌, ◌<◌, ◌^◌, ◌++◌, ◌∷◌, [], ◌∙◌, ℕ, Option, Some, Ok, List, All, ap, append_assoc, arith, codes, length, refl, rules, sym}
-use Rattle.std.proofs.Common.{option_and_then, option_map}
+use Rattle.std.proofs.Common.{option_and_then}
 use Rattle.std.proofs.lemmas.List.Elements.{All-cons}
 use Rattle.std.specs.Char.{IsAsciiAlphabetic}
 use Rattle.std.specs.Fmt.{decimal}
-use Rattle.entries.specs.Rows.{stamped_row, without_stamp}
+use Rattle.entries.specs.Rows.{stamped_row, vertex_row, without_stamp}
 use Rattle.dimacs_col.specs.Lines.{Line, lines_of}
-use Rattle.transcripts.specs.EntryLines.{row_of, stamped_row_of}
+use Rattle.transcripts.specs.EntryLines.{row_of, row_with, stamped_row_of}
 use Rattle.transcripts.specs.Reading.{reading_of, stamped_reading_of}
 use Rattle.transcripts.specs.TranscriptText.{IsReadable, IsReadableStamped, Row, StampedRow, entry_text, row_text, stamped_row_text, stamped_transcript_of}
 use Rattle.transcripts.specs.TranscriptText.{transcript_of}
@@ -51,14 +51,13 @@ module _ {M : Type 0} (word_of : M → List ℕ) (number_of : M → ℕ) (payloa
   reads-stamped : (row : StampedRow M) → IsReadableStamped word_of number_of payload_of row →
       stamped_row_of payload_of (decimal row.stamp ∷ decimal row.vertex ∷ words (without_stamp row)) ≡ Some row
   reads-stamped row h =
-      ap (option_and_then (λ s. option_map (λ r. stamped_row s r.vertex r.entry) (row_of payload_of (decimal row.vertex ∷ words (without_stamp row)))))
-      (stamp-decimal row.stamp h.0)
-      ∙ ap (option_map (λ r. stamped_row row.stamp r.vertex r.entry)) (reads-row word_of number_of payload_of letters (without_stamp row) h.1)
+      ap (option_and_then (λ s. row_with payload_of (stamped_row s) (decimal row.vertex ∷ words (without_stamp row)))) (stamp-decimal row.stamp h.0)
+      ∙ reads-row word_of number_of payload_of letters (stamped_row row.stamp) (without_stamp row) h.1
 
   pub written-one : (nodes : ℕ) (rows : List (Row M)) → nodes < 2 ^ 32 → All (IsReadable word_of number_of payload_of) rows →
       reading_of payload_of (lines_of (transcript_of word_of number_of nodes rows)) ≡ Ok (nodes, rows)
   written-one = written-read (codes "1") (row_of payload_of) (row_text word_of number_of) (IsReadable word_of number_of payload_of)
-      (λ row. decimal row.vertex) words row-line (reads-row word_of number_of payload_of letters) literal-one refl
+      (λ row. decimal row.vertex) words row-line (reads-row word_of number_of payload_of letters vertex_row) literal-one refl
 
   pub written-two : (nodes : ℕ) (rows : List (StampedRow M)) → nodes < 2 ^ 32 → All (IsReadableStamped word_of number_of payload_of) rows →
       stamped_reading_of payload_of (lines_of (stamped_transcript_of word_of number_of nodes rows)) ≡ Ok (nodes, rows)

@@ -72,14 +72,18 @@ module _ {M : Type 0} (payload_of : List ℕ → ℕ → Option M) where
   abbrev pub entry_of : Line → Option (Entry M)
   entry_of fields = with_next (λ word others. with_number (entry_with word) others) fields
 
+  -- the row of a vertex and an entry that a line is
+  abbrev pub row_with : {R : Type 0} → (ℕ → Entry M → R) → Line → Option R
+  row_with made line = with_number (λ v others. option_map (λ entry. made v entry) (entry_of others)) line
+
   -- the vertex and the entry that a line is
   abbrev pub row_of : Line → Option (Row M)
-  row_of line = with_number (λ v others. option_map (λ entry. vertex_row v entry) (entry_of others)) line
+  row_of line = row_with (λ v entry. vertex_row v entry) line
 
   -- the stamp, the vertex and the entry that a line is
   abbrev pub stamped_row_of : Line → Option (StampedRow M)
-  stamped_row_of line = with_next (λ field others. option_and_then (λ stamp.
-      option_map (λ row. stamped_row stamp row.vertex row.entry) (row_of others)) (stamp_number field)) line
+  stamped_row_of line = with_next (λ field others.
+      option_and_then (λ stamp. row_with (λ v entry. stamped_row stamp v entry) others) (stamp_number field)) line
 
 -- how many nodes the first line says that there are: it is `transcript EDITION NODES`
 abbrev pub header_of : List ℕ → Line → Option ℕ

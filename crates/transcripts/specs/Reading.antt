@@ -50,13 +50,6 @@ abbrev pub StampedTranscript : Type 0 → Type 0
 StampedTranscript M = Contents (StampedRow M)
 
 module _ {M : Type 0} (payload_of : List ℕ → ℕ → Option M) where
-  -- what is known after a line of edition 1, and of edition 2
-  abbrev pub entry_after : Option (Transcript M) → Line → Option (Option (Transcript M))
-  entry_after known line = known_after (codes "1") (row_of payload_of) known line
-
-  abbrev pub stamped_after : Option (StampedTranscript M) → Line → Option (Option (StampedTranscript M))
-  stamped_after known line = known_after (codes "2") (stamped_row_of payload_of) known line
-
   -- the lines from line n on, as edition 1 and as edition 2
   abbrev pub entries_from : ℕ → List Line → Result (Transcript M) ℕ
   entries_from n lines = read_from (codes "1") (row_of payload_of) n None lines

@@ -36,7 +36,7 @@ pub fn read_behind_network<T: PayloadText>(
     ensures fault { IfErr result (IsFaultOf (reading_behind T.payload_of (lines_of input.now))) }
 {
     match text_start(input, &[b"transcript"]) {
-        Some(start) => read_lines(alloc, start.lines, &input[start.bytes..]),
+        Some(start) => read_lines::<T, Row<T>>(alloc, start.lines, &input[start.bytes..]),
         None => Err(TextFault::Syntax(1)),
     }
 }

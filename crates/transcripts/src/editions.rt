@@ -8,7 +8,6 @@ ghost use Rattle.transcripts.specs.Reading.{IsFaultOf};
 
 use crate::fault::TextFault;
 use crate::reading::read_lines;
-use crate::stamped::read_stamped_lines;
 use alpha_core::PayloadText;
 use channel_plan::text_start;
 use dimacs_col::{Fields, Lines};
@@ -60,10 +59,10 @@ fn read_any_lines<T: PayloadText>(
     ensures fault { IfErr result (IsFaultOf (any_from T.payload_of (before + 1) (lines_of text.now))) }
 {
     if is_stamped(before, text) {
-        let (nodes, rows) = read_stamped_lines(alloc, before, text)?;
+        let (nodes, rows) = read_lines::<T, StampedRow<T>>(alloc, before, text)?;
         Ok(Transcript::Two(nodes, rows))
     } else {
-        let (nodes, rows) = read_lines(alloc, before, text)?;
+        let (nodes, rows) = read_lines::<T, Row<T>>(alloc, before, text)?;
         Ok(Transcript::One(nodes, rows))
     }
 }

@@ -1,14 +1,15 @@
 //! One line of a transcript.
 
 ghost use Rattle.std.specs.Prelude.{◌≡◌, ◌∷◌};
+ghost use Rattle.transcripts.specs.EditionRows.{edition_word};
 ghost use Rattle.transcripts.specs.EntryLines.{entry_of, header_of, only, payload_in, payload_with};
-ghost use Rattle.transcripts.specs.EntryLines.{pulsed_wire, row_of, stamped_row_of, wire_of, wire_with};
+ghost use Rattle.transcripts.specs.EntryLines.{pulsed_wire, wire_of, wire_with};
 
-use crate::numbers::{stamp_number, wide_number};
+use crate::numbers::wide_number;
 use alpha_core::{PayloadText, Wire};
 use channel_plan::small_number;
 use dimacs_col::Fields;
-use entries::{Entry, Row, StampedRow};
+use entries::Entry;
 use std::str::from_utf8;
 
 // A value, if no field is left.
@@ -74,8 +75,8 @@ fn wire_of<T: PayloadText>(mut fields: Fields) -> Option<Wire<T>>
     pulsed_wire(word, fields)
 }
 
-// The entry that the fields are.
-fn entry_of<T: PayloadText>(mut fields: Fields) -> Option<Entry<T>>
+/// The entry that the fields are.
+pub(crate) fn entry_of<T: PayloadText>(mut fields: Fields) -> Option<Entry<T>>
     ensures { result ≡ entry_of T.payload_of fields.entry }
 {
     let word = fields.next()?;
@@ -91,37 +92,18 @@ fn entry_of<T: PayloadText>(mut fields: Fields) -> Option<Entry<T>>
     }
 }
 
-/// The vertex and the entry that a line is, of which the first field was taken.
-pub(crate) fn row_of<T: PayloadText>(first: &[u8], others: Fields) -> Option<Row<T>>
-    ensures { result ≡ row_of T.payload_of (first.now ∷ others.entry) }
+// The word of an edition in the first line.
+fn edition_word(stamped: bool) -> &'static [u8]
+    ensures { result.now ≡ edition_word stamped }
 {
-    let vertex = small_number(first)?;
-    let entry = entry_of(others)?;
-    Some(Row { vertex, entry })
+    if stamped { b"2" } else { b"1" }
 }
 
-/// The stamp, the vertex and the entry that a line is, of which the first field was taken.
-pub(crate) fn stamped_row_of<T: PayloadText>(
-    first: &[u8],
-    mut others: Fields,
-) -> Option<StampedRow<T>>
-    ensures { result ≡ stamped_row_of T.payload_of (first.now ∷ others.entry) }
+/// How many nodes a first line of an edition, with stamps or without, says that there are. Its first field was taken.
+pub(crate) fn header_of(stamped: bool, first: &[u8], mut others: Fields) -> Option<u32>
+    ensures { result ≡ header_of (edition_word stamped) (first.now ∷ others.entry) }
 {
-    let stamp = stamp_number(first)?;
-    let vertex = others.next()?;
-    let row = row_of(vertex, others)?;
-    Some(StampedRow {
-        stamp,
-        vertex: row.vertex,
-        entry: row.entry,
-    })
-}
-
-/// How many nodes a first line of an edition says that there are, of which the first field was taken.
-pub(crate) fn header_of(edition: &[u8], first: &[u8], mut others: Fields) -> Option<u32>
-    ensures { result ≡ header_of edition.now (first.now ∷ others.entry) }
-{
-    if first != b"transcript".as_slice() || others.next()? != edition {
+    if first != b"transcript".as_slice() || others.next()? != edition_word(stamped) {
         return None;
     }
     let nodes = small_number(others.next()?)?;

@@ -25,6 +25,7 @@
 #![tactic(auto)]
 
 mod behind;
+mod edition_row;
 mod editions;
 mod entry_line;
 mod fault;
@@ -34,7 +35,6 @@ mod lines;
 mod node_lines;
 mod numbers;
 mod reading;
-mod stamped;
 mod writing;
 
 pub use behind::{entry_lines, network_text, read_behind_network};

@@ -1,7 +1,7 @@
 //! The lines of a node's entries.
 
 ghost use Rattle.std.specs.Prelude.{◌≡◌, ◌++◌, IfOk, flat_map, map};
-ghost use Rattle.entries.specs.Rows.{vertex_row};
+ghost use Rattle.entries.specs.Rows.{bare_of, vertex_row};
 ghost use Rattle.transcripts.specs.TranscriptText.{row_text};
 
 use crate::line_end::LineEnd;
@@ -20,8 +20,8 @@ pub fn push_entries<T: PayloadText>(
     vertex: u32,
     entries: &Entries<T>,
 ) -> Result<(), AllocError>
-    ensures text { IfOk result (λ _. text.new.items ≡ text.old.items
-        ++ flat_map (row_text T.word_of T.number_of) (map (λ entry. vertex_row vertex entry) entries.now.items)) }
+    ensures text { IfOk result (λ _. text.new.items ≡ text.old.items ++ flat_map (row_text T.word_of T.number_of)
+        (map (λ entry. vertex_row vertex entry) (bare_of entries.now.items))) }
 {
     let mut line = LineEnd::new();
     for entry in entries.iter() {

@@ -1,11 +1,13 @@
-//! The reading of a transcript of edition 1, and what a reader of either edition keeps.
+//! The reading of a transcript of one edition.
 
 ghost use Rattle.std.specs.Prelude.{◌≡◌, ◌+◌, ◌<◌, ◌^◌, IfOk, IfErr, None, Ok, Err, Some, length};
 ghost use Rattle.dimacs_col.specs.Lines.{lines_of};
-ghost use Rattle.transcripts.specs.Reading.{IsFaultOf, entries_from, entry_after, read_at_end, reading_of};
+ghost use Rattle.transcripts.specs.EditionRows.{edition_after, edition_from};
+ghost use Rattle.transcripts.specs.Reading.{IsFaultOf, read_at_end, reading_of};
 ghost use Rattle.transcripts.specs.Reader.{IsSyntaxFault};
 
-use crate::entry_line::{header_of, row_of};
+use crate::edition_row::{EditionRow, row_in};
+use crate::entry_line::header_of;
 use crate::fault::TextFault;
 use alpha_core::PayloadText;
 use dimacs_col::{Fields, Lines};
@@ -15,9 +17,9 @@ use std::marker::Model;
 
 // What the lines so far say: how many nodes there are, and the rows.
 #[derive(Drop)]
-pub(crate) struct Beginning<R> {
-    pub(crate) nodes: u32,
-    pub(crate) rows: Vec<R>,
+struct Beginning<R> {
+    nodes: u32,
+    rows: Vec<R>,
 }
 
 impl<R> Model for Beginning<R> {
@@ -29,19 +31,13 @@ impl<R> Model for Beginning<R> {
 }
 
 #[derive(Drop)]
-pub(crate) struct Reader<R> {
+struct Reader<R> {
     // What the lines so far say, once the first one came.
-    pub(crate) known: Option<Beginning<R>>,
+    known: Option<Beginning<R>>,
 }
 
 impl<R: Drop> Reader<R> {
-    pub(crate) fn new() -> Reader<R>
-        ensures { result.known ≡ None }
-    {
-        Reader { known: None }
-    }
-
-    pub(crate) fn finish(self) -> Result<(u32, Vec<R>), TextFault>
+    fn finish(self) -> Result<(u32, Vec<R>), TextFault>
         ensures ok { IfOk result (λ read. read_at_end self.known ≡ Ok (read.0, read.1.items)) }
         ensures fault { IfErr result (IsSyntaxFault (read_at_end self.known ≡ Err 1) 1) }
     {
@@ -53,29 +49,29 @@ impl<R: Drop> Reader<R> {
 }
 
 // Takes the fields of the next line, whose number this is.
-fn step<T: PayloadText>(
-    reader: &mut Reader<Row<T>>,
+fn step<T: PayloadText, R: EditionRow<T>>(
+    reader: &mut Reader<R>,
     alloc: Global,
     number: usize,
     mut fields: Fields,
 ) -> Result<(), TextFault>
     ensures ok { IfOk result (λ _.
-        entry_after T.payload_of reader.old.known fields.entry ≡ Some reader.new.known) }
+        edition_after R.STAMPED R.made T.payload_of reader.old.known fields.entry ≡ Some reader.new.known) }
     ensures fault { IfErr result (IsSyntaxFault
-        (entry_after T.payload_of reader.old.known fields.entry ≡ None) number) }
+        (edition_after R.STAMPED R.made T.payload_of reader.old.known fields.entry ≡ None) number) }
 {
     let Some(first) = fields.next() else {
         return Ok(());
     };
     match &mut reader.known {
         Some(known) => {
-            let Some(row) = row_of(first, fields) else {
+            let Some(row) = row_in(first, fields) else {
                 return Err(TextFault::Syntax(number));
             };
             known.rows.push(row)?;
         }
         None => {
-            let Some(nodes) = header_of(b"1", first, fields) else {
+            let Some(nodes) = header_of(R::STAMPED, first, fields) else {
                 return Err(TextFault::Syntax(number));
             };
             reader.known = Some(Beginning {
@@ -87,21 +83,23 @@ fn step<T: PayloadText>(
     Ok(())
 }
 
-/// Parses a transcript. `before` lines of the input precede it, and line numbers count from the first of them.
-pub(crate) fn read_lines<T: PayloadText>(
+/// Parses a transcript of the edition of its rows. `before` lines of the input precede it, and line numbers count from
+/// the first of them.
+pub(crate) fn read_lines<T: PayloadText, R: EditionRow<T>>(
     alloc: Global,
     before: usize,
     text: &[u8],
-) -> Result<(u32, Vec<Row<T>>), TextFault>
+) -> Result<(u32, Vec<R>), TextFault>
     requires room { before + length text.now + 1 < 2 ^ 64 }
     ensures ok { IfOk result (λ read.
-        entries_from T.payload_of (before + 1) (lines_of text.now) ≡ Ok (read.0, read.1.items)) }
-    ensures fault { IfErr result (IsFaultOf (entries_from T.payload_of (before + 1) (lines_of text.now))) }
+        edition_from R.STAMPED R.made T.payload_of (before + 1) (lines_of text.now) ≡ Ok (read.0, read.1.items)) }
+    ensures fault { IfErr result (IsFaultOf
+        (edition_from R.STAMPED R.made T.payload_of (before + 1) (lines_of text.now))) }
 {
-    let mut reader = Reader::new();
+    let mut reader = Reader { known: None };
     let mut lines = Lines::behind(before, text);
     'each: while let Some((number, fields)) = lines.next() {
-        step(&mut reader, alloc, number, fields)?;
+        step::<T, R>(&mut reader, alloc, number, fields)?;
     }
     reader.finish()
 }
@@ -120,5 +118,5 @@ pub fn read_transcript<T: PayloadText>(
     ensures ok { IfOk result (λ read. reading_of T.payload_of (lines_of text.now) ≡ Ok (read.0, read.1.items)) }
     ensures fault { IfErr result (IsFaultOf (reading_of T.payload_of (lines_of text.now))) }
 {
-    read_lines(alloc, 0, text)
+    read_lines::<T, Row<T>>(alloc, 0, text)
 }

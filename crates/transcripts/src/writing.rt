@@ -1,11 +1,9 @@
 //! The writing of a transcript.
 
-ghost use Rattle.std.specs.Prelude.{◌≡◌, ◌++◌, ◌∷◌, [], All, IfOk, Ok, flat_map};
+ghost use Rattle.std.specs.Prelude.{◌≡◌, ◌++◌, ◌∷◌, [], IfOk, Ok};
 ghost use Rattle.dimacs_col.specs.Lines.{lines_of};
 ghost use Rattle.transcripts.specs.Reading.{reading_of, stamped_reading_of};
-ghost use Rattle.transcripts.specs.TranscriptText.{IsReadable, IsReadableStamped, first_line};
-ghost use Rattle.transcripts.specs.TranscriptText.{row_text, stamped_row_text, stamped_transcript_of};
-ghost use Rattle.transcripts.specs.TranscriptText.{transcript_of};
+ghost use Rattle.transcripts.specs.TranscriptText.{first_line, stamped_transcript_of, transcript_of};
 ghost use Rattle.wire_texts.specs.WireText.{numbered};
 
 use crate::lines::{push_row, push_stamped_row};
@@ -13,33 +11,6 @@ use alpha_core::{Memory, PayloadText};
 use entries::{Row, StampedRow};
 use std::alloc::{AllocError, Global};
 use wire_texts::push_numbered;
-
-// Appends the lines of entries.
-fn push_rows<T: PayloadText>(text: &mut Vec<u8>, rows: &[Row<T>]) -> Result<(), AllocError>
-    ensures text { IfOk result (λ _. text.new.items
-        ≡ text.old.items ++ flat_map (row_text T.word_of T.number_of) rows.now) }
-    ensures readable { IfOk result (λ _. All (IsReadable T.word_of T.number_of T.payload_of) rows.now) }
-{
-    for row in rows {
-        push_row(text, row)?;
-    }
-    Ok(())
-}
-
-// Appends the lines of entries with their stamps.
-fn push_stamped_rows<T: PayloadText>(
-    text: &mut Vec<u8>,
-    rows: &[StampedRow<T>],
-) -> Result<(), AllocError>
-    ensures text { IfOk result (λ _. text.new.items
-        ≡ text.old.items ++ flat_map (stamped_row_text T.word_of T.number_of) rows.now) }
-    ensures readable { IfOk result (λ _. All (IsReadableStamped T.word_of T.number_of T.payload_of) rows.now) }
-{
-    for row in rows {
-        push_stamped_row(text, row)?;
-    }
-    Ok(())
-}
 
 // Appends words, a number and a line feed.
 fn push_header(text: &mut Vec<u8>, words: &[u8], nodes: u32) -> Result<(), AllocError>
@@ -76,7 +47,9 @@ pub fn transcript_text<T: PayloadText>(
 {
     let mut text = Vec::new(alloc);
     push_first_line(&mut text, nodes)?;
-    push_rows(&mut text, rows)?;
+    for row in rows {
+        push_row(&mut text, row)?;
+    }
     Ok(text)
 }
 
@@ -97,6 +70,8 @@ pub fn stamped_text<T: PayloadText>(
 {
     let mut text = Vec::new(alloc);
     push_header(&mut text, b"transcript 2 ", nodes)?;
-    push_stamped_rows(&mut text, rows)?;
+    for row in rows {
+        push_stamped_row(&mut text, row)?;
+    }
     Ok(text)
 }

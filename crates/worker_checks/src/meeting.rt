@@ -44,14 +44,17 @@ impl Counts {
 }
 
 /// Holds the worker that is the first in the middle of a turn until the other of two has left a turn, and counts the
-/// turns that workers (0 and 1) and nodes (1 to 3) have entered and left.
+/// turns that workers (0 and 1) and nodes (1 to 3) have entered and left. Sees whether each middle of a turn is between
+/// its entering and its leaving.
 #[derive(Drop)]
 pub struct Meeting {
     is_held: AtomicBool,
     holds: AtomicU64,
     was_alone: AtomicBool,
+    was_outside: AtomicBool,
     entered_by_worker: Counts,
     entered_by_node: Counts,
+    middles: Counts,
     by_worker: Counts,
     by_node: Counts,
 }
@@ -62,27 +65,31 @@ impl Meeting {
             is_held: AtomicBool::new(false),
             holds: AtomicU64::new(0),
             was_alone: AtomicBool::new(false),
+            was_outside: AtomicBool::new(false),
             entered_by_worker: Counts::new(),
             entered_by_node: Counts::new(),
+            middles: Counts::new(),
             by_worker: Counts::new(),
             by_node: Counts::new(),
         }
     }
 
     /// Whether a worker was held once, until the other had left a turn, both left turns, and so did each node, at least
-    /// this often; and whether they left as many turns as they entered.
+    /// this often; and whether they left as many turns as they entered, each with one middle, and none before it.
     pub fn saw_two_at_once(&self, least: u64) -> bool {
         let met = self.holds.load(Ordering::SeqCst) == 1 && !self.was_alone.load(Ordering::SeqCst);
         let workers = self.by_worker.of(0) > 0 && self.by_worker.of(1) > 0;
         let nodes = self.by_node.of(1) >= least
             && self.by_node.of(2) >= least
             && self.by_node.of(3) >= least;
-        let pairs = self.entered_by_worker.are_those_of(&self.by_worker)
+        let pairs = self.entered_by_worker.are_those_of(&self.middles)
+            && self.entered_by_worker.are_those_of(&self.by_worker)
             && self.entered_by_node.are_those_of(&self.by_node);
-        met && workers && nodes && pairs
+        let inside = !self.was_outside.load(Ordering::SeqCst);
+        met && workers && nodes && pairs && inside
     }
 
-    // Waits until a worker has left a turn. Returns whether it has, after so many looks at most.
+    // Waits until a worker has left a turn. Returns whether it has, after at most `TRIES` looks.
     fn sees(&self, worker: u32) -> bool {
         for _ in 0..TRIES {
             if self.by_worker.of(worker) > 0 {
@@ -101,6 +108,10 @@ impl Gate for Meeting {
     }
 
     fn middle<R: Wait>(&self, _rt: &R, worker: u32, _node: u32) {
+        self.middles.add(worker);
+        if self.entered_by_worker.of(worker) <= self.by_worker.of(worker) {
+            self.was_outside.store(true, Ordering::SeqCst);
+        }
         if self.is_held.swap(true, Ordering::SeqCst) {
             return;
         }

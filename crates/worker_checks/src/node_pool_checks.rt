@@ -66,7 +66,7 @@ fn bests_of_the_rounds(alloc: Global, net: &Network) -> Option<Vec<u128>> {
     }
 }
 
-// The greatest identifiers on a network, by so many workers, are those of the rounds.
+// Whether these workers find the greatest identifiers on a network that the rounds find.
 fn are_those_of_the_rounds<R: Threads + Wait + Sync>(
     rt: &R,
     alloc: Global,

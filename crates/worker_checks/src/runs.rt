@@ -48,7 +48,7 @@ fn are_joined(number: u32, v: u32, w: u32) -> bool {
     (mixed ^ (mixed >> 15)) % 2 == 0
 }
 
-// The identifiers of so many vertices, in no order.
+// The identifiers of `count` vertices, in no order.
 fn ids_of(alloc: Global, number: u32, count: u32) -> Option<Vec<u128>>
     requires few { count < 7 }
 {
@@ -173,7 +173,7 @@ pub fn holds(
     true
 }
 
-/// One worker with a transcript, and so many looks.
+/// One worker with a transcript, which makes `turns` looks.
 pub fn of_one(capacity: u32, turns: u64) -> Options {
     Options {
         workers: 1,
@@ -183,7 +183,7 @@ pub fn of_one(capacity: u32, turns: u64) -> Options {
     }
 }
 
-/// The run of one worker with a transcript, after so many looks.
+/// The run of one worker with a transcript, after `turns` looks.
 pub fn run_of_one<R: Threads + Wait + Sync>(
     rt: &R,
     alloc: Global,

@@ -101,7 +101,7 @@ const OTHER: Row = StampedRow {
     entry: FROM_1,
 };
 
-// Rows at other stamps than those of the merged run.
+// Rows at stamps that they don't have in the merged run.
 const PUT_AT_2: Row = StampedRow {
     stamp: 2,
     vertex: 2,
@@ -236,7 +236,7 @@ fn rows_of(alloc: Global, lists: &[List]) -> Option<Vec<Row>> {
     order(alloc, lists).ok()
 }
 
-// The merged entries of a run by so many workers.
+// The merged entries of a run by these workers.
 fn merged<const D: u32, R: Threads + Wait + Sync>(
     rt: &R,
     alloc: Global,
@@ -266,7 +266,7 @@ fn is_the_worked_run<R: Threads + Wait + Sync>(rt: &R, alloc: Global, net: &Netw
     }
 }
 
-// Whether the merged run of so many workers is replayed whole.
+// Whether the merged run of these workers is replayed whole.
 fn is_replayed<R: Threads + Wait + Sync>(
     rt: &R,
     alloc: Global,
@@ -279,7 +279,7 @@ fn is_replayed<R: Threads + Wait + Sync>(
     }
 }
 
-// Whether those of 1, 2 and 4 workers on a small network are.
+// Whether the merged runs of 1, 2 and 4 workers on a small network are replayed whole.
 fn are_replayed<R: Threads + Wait + Sync>(rt: &R, alloc: Global, number: u32) -> bool {
     match small(alloc, number) {
         Some(net) => {

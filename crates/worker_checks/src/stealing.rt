@@ -33,7 +33,7 @@ impl Stealing {
             && !self.was_alone.load(Ordering::SeqCst)
     }
 
-    // Waits until a turn of node 3 was left. Returns whether it was, after so many looks at most.
+    // Waits until a turn of node 3 was left. Returns whether it was, after at most `TRIES` looks.
     fn sees(&self) -> bool {
         for _ in 0..TRIES {
             if self.has_left.load(Ordering::SeqCst) {

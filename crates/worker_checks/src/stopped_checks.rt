@@ -242,7 +242,7 @@ fn the_first_looks_leave_a_run_that_is_not_whole(rt: HostRuntime) {
     assert!(rt; all_leave(&rt, rt.alloc(), &net));
 }
 
-// Whether the entries of a node begin those of another run.
+// Whether the entries of a node are the first entries of the node in another run.
 fn begin(entries: &Entries<Payload>, others: &Entries<Payload>) -> bool {
     entries.stamped().eq(others.stamped().take(entries.len()))
 }
@@ -257,7 +257,7 @@ fn adds_to(after: &Outcome<Colouring>, before: &Outcome<Colouring>) -> bool {
     !before.is_whole() || after.is_whole()
 }
 
-// Whether a run of so many looks did what the one before did, which it replaces.
+// Whether a run of `turns` looks did what the run before did, which it replaces.
 fn adds<R: Threads + Wait + Sync>(
     rt: &R,
     alloc: Global,

@@ -1,6 +1,6 @@
 //! What a worker has.
 
-ghost use Rattle.std.specs.Prelude.{◌≡◌, ◌≢◌, ◌<◌, ◌≤◌, ◌+◌, ◌⊎◌, ◌++◌, ◌∷◌, None, length, map, vec_len};
+ghost use Rattle.std.specs.Prelude.{◌≡◌, ◌≢◌, ◌<◌, ◌≤◌, ◌+◌, ◌⊎◌, ◌++◌, ◌∷◌, None, is_some, length, map, vec_len};
 ghost use Rattle.crossbeam_deque.specs.Handles.{stealer_deque, view, worker_deque, worker_view};
 ghost use Rattle.deque_rule.specs.Ledgers.{AreOut, all_shares, in_hand};
 ghost use Rattle.deque_rule.specs.Deques.{deque_of};
@@ -68,6 +68,7 @@ impl<T: Task> Desk<T> {
         requires deques { map (λ g. deque_of g.pass) self.old.guests.items ≡ map stealer_deque thieves.now }
         ensures own { worker_deque self.new.own ≡ worker_deque self.old.own }
         ensures deques { map (λ g. deque_of g.pass) self.new.guests.items ≡ map stealer_deque thieves.now }
+        ensures found { result ≡ is_some self.new.task }
     {
         if self.task.is_none() {
             self.pop();

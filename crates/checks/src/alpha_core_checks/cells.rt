@@ -205,8 +205,8 @@ fn alike(one: &Fed, other: &Fed) -> bool {
         && one.best == other.best
 }
 
-// Whether a wire had the answer of its cell. If it was refused, the run went on as that of the twin, which wasn't fed
-// it; if it was taken, the run ended all the same.
+// Whether a wire had the answer of its cell. If it was refused, the run went on as the run of the twin, which wasn't
+// fed it; if it was taken, the run ended all the same.
 fn is_told(cell: Cell, node: &Fed, twin: &Fed) -> bool {
     if !node.drained {
         return false;
@@ -223,7 +223,7 @@ fn is_told(cell: Cell, node: &Fed, twin: &Fed) -> bool {
     }
 }
 
-// Whether a node says of a wire after so many acts of the run what the cell says.
+// Whether a node answers a wire as the row's cell says, after the row's number of acts of the run.
 fn walk(alloc: Global, net: &Network, row: &Row) -> bool
     requires vertex { IsVertex net.now 1 }
     requires one { degree_of net.now 1 ≡ 1 }

@@ -90,7 +90,7 @@ fn act_put<P: NodeProgram>(node: &mut AlphaNode<P>, act: Act<P::Payload>) -> u32
     u32::from(put_next(node).is_some())
 }
 
-// Whether a node of `Greatest` puts so many wires in a whole run, and is drained then.
+// Whether a node of `Greatest` puts this number of wires in a whole run, and is then drained.
 fn runs_to_the_end<const D: u32>(node: &mut AlphaNode<Greatest<D>>, wires: u32) -> bool
     requires one { length node.old.node.view.ports ≡ 1 }
 {

@@ -129,7 +129,7 @@ static REFUSALS: [Refusal; 20] = [
     (3, 2, (7, None, Some(Colour(6))), WRONG_ROLE, Some(1)),
 ];
 
-// Whether a node takes what comes to its vertex in so many turns.
+// Whether a node takes what comes to its vertex in its first turns.
 fn takes_turns(alloc: Global, node: &mut Colouring, v: u32, turns: u32) -> bool
     requires ports { ports node.old ≡ 2 }
     ensures ports { ports node.new ≡ 2 }

@@ -115,7 +115,7 @@ fn bring(alloc: Global, node: &mut Colouring, v: u32, pulse: u32) -> bool
 }
 
 // Whether one of two nodes in one state refuses what comes, and then both go on alike, to the colours of the edge:
-// those of the plan less one.
+// the channels of the plan, less one.
 fn refuses_and_goes_on(
     alloc: Global,
     node: &mut Colouring,

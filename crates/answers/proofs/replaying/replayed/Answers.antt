@@ -13,7 +13,8 @@ returns-in-One-clause-ok g c =
     let m = g.P.Payload.PayloadText in
     let nodes = c.in-One.field-0 in
     let rows = c.in-One.rows.items in
-    let read : transcript_in m.payload_of (lines_of c.args.input.now) ≡ Ok (One (nodes, rows)) = c.in_ok-rows.ensures.ok ∙ ap (λ r. Ok (said_by r)) c.in-One.is in
+    let read : transcript_in m.payload_of (lines_of c.args.input.now) ≡ Ok (One (nodes, rows)) =
+    c.in_ok-rows.ensures.ok ∙ ap (λ r. Ok (said_by r)) c.in-One.is in
     IfOk-weaker c.replayed_entries.result _ _
     (λ view is. (One (nodes, rows), read, subst (λ l. IsReplay program c.args.network.now l view.state) c.as_slice.ensures.value is))
     c.replayed_entries.ensures.ok
@@ -24,7 +25,8 @@ returns-in-Two-clause-ok g c =
     let m = g.P.Payload.PayloadText in
     let nodes = c.in-Two.field-0 in
     let rows = c.in-Two.rows.items in
-    let read : transcript_in m.payload_of (lines_of c.args.input.now) ≡ Ok (Two (nodes, rows)) = c.in_ok-rows.ensures.ok ∙ ap (λ r. Ok (said_by r)) c.in-Two.is in
+    let read : transcript_in m.payload_of (lines_of c.args.input.now) ≡ Ok (Two (nodes, rows)) =
+    c.in_ok-rows.ensures.ok ∙ ap (λ r. Ok (said_by r)) c.in-Two.is in
     IfOk-weaker c.replayed_whole.result _ _
     (λ view is. (Two (nodes, rows), read, subst (λ l. IsWholeReplay program c.args.network.now l view.state) c.as_slice-in-Two.ensures.value is))
     c.replayed_whole.ensures.ok
@@ -34,5 +36,6 @@ replayed_whole-requires-clause-read g c κs within =
     let m = g.P.Payload.PayloadText in
     let nodes = c.in-Two.field-0 in
     let rows = c.in-Two.rows.items in
-    let read : transcript_in m.payload_of (lines_of c.args.input.now) ≡ Ok (Two (nodes, rows)) = c.in_ok-rows.ensures.ok ∙ ap (λ r. Ok (said_by r)) c.in-Two.is in
+    let read : transcript_in m.payload_of (lines_of c.args.input.now) ≡ Ok (Two (nodes, rows)) =
+    c.in_ok-rows.ensures.ok ∙ ap (λ r. Ok (said_by r)) c.in-Two.is in
     (nodes, subst (λ l. transcript_in m.payload_of (lines_of c.args.input.now) ≡ Ok (Two (nodes, l))) (sym c.as_slice-in-Two.ensures.value) read)

@@ -12,5 +12,7 @@ returns-in_ok-lines-in-Err-clause-fault g c =
     let net = c.args.network.now in
     let rows = c.args.rows.now in
     λ nodes e.
-    fault-refused program m.word_of m.number_of m.payload_of net c.is_network.ensures (lines_of c.args.input.now) (nodes, rows) refused c.told.result e (λ no. c.in-Err.ensures.refuses no)
-    (subst (λ numbers. IsTold program m.word_of m.number_of net rows numbers refused c.told.result) (c.as_slice.ensures.value ∙ c.in_ok-lines-in-Err.ensures) c.told.ensures)
+    fault-refused program m.word_of m.number_of m.payload_of net c.is_network.ensures (lines_of c.args.input.now) (nodes, rows) refused c.told.result e
+    (λ no. c.in-Err.ensures.refuses no)
+    (subst (λ numbers. IsTold program m.word_of m.number_of net rows numbers refused c.told.result) (c.as_slice.ensures.value ∙ c.in_ok-lines-in-Err.ensures)
+    c.told.ensures)

@@ -20,8 +20,11 @@ returns-in_ok-lines-in-Err-clause-fault g c =
     let net = c.args.network.now in
     let rows = c.args.rows.now in
     let first = c.first_line_in-first.result in
-    whole-refused program m.word_of m.number_of m.payload_of net c.is_network.ensures (lines_of c.args.input.now) c.requires.read.0 rows refused c.stamped_told.result
+    whole-refused program m.word_of m.number_of m.payload_of net c.is_network.ensures (lines_of c.args.input.now) c.requires.read.0 rows refused
+    c.stamped_told.result
     c.requires.read.1 (λ no. c.in-Err.ensures.refuses no)
-    (subst (λ first. IsStampedTold program m.word_of m.number_of net rows first (entry_lines (lines_of c.args.input.now)) refused c.stamped_told.result) c.first_line_in-first.ensures
-    (subst (λ numbers. IsStampedTold program m.word_of m.number_of net rows first numbers refused c.stamped_told.result) (c.as_slice.ensures.value ∙ c.in_ok-lines-in-Err.ensures)
+    (subst (λ first. IsStampedTold program m.word_of m.number_of net rows first (entry_lines (lines_of c.args.input.now)) refused c.stamped_told.result)
+    c.first_line_in-first.ensures
+    (subst (λ numbers. IsStampedTold program m.word_of m.number_of net rows first numbers refused c.stamped_told.result)
+    (c.as_slice.ensures.value ∙ c.in_ok-lines-in-Err.ensures)
     c.stamped_told.ensures))

@@ -4,7 +4,7 @@ use Rattle.std.proofs.lemmas.Iterator.Adapters.{YieldsList-from_vec}
 use Rattle.std.proofs.lemmas.Iterator.Consumers.{YieldsList-end}
 use Rattle.std.proofs.lemmas.List.{flat_map_more}
 use Rattle.std.proofs.lemmas.List.Folds.{flat_map-map}
-use Rattle.stamps.specs.entries.Rows.{vertex_row}
+use Rattle.stamps.specs.entries.Rows.{bare_of, vertex_row}
 use Rattle.node_pool.specs.outcomes.Gathers.{gathered_of}
 use Rattle.answers.specs.transcripts.TranscriptText.{first_line, row_text}
 use Rattle.byte_functions.specs.Transcripts.{rows_in}
@@ -18,10 +18,12 @@ loop-actor-preserved g c =
     let lines = flat_map (row_text g.P.Payload.PayloadText.word_of g.P.Payload.PayloadText.number_of) in
     let before = flat_map (λ a. rows_in (gathered_of a)) c.loop-actor.yielded in
     c.in_ok-pushed.ensures.text
-    ∙ ap₂ (λ v entries. c.loop-actor.text.items ++ lines (map (λ entry. vertex_row v entry) entries.items)) c.node.ensures.vertex c.entries.ensures.entries
+    ∙ ap₂ (λ v entries. c.loop-actor.text.items ++ lines (map (λ entry. vertex_row v entry) (bare_of entries.items))) c.node.ensures.vertex
+    c.entries.ensures.entries
     ∙ ap (λ l. l ++ lines (rows_in (gathered_of actor))) c.loop-actor.invariant
     ∙ append_assoc first (lines before) (lines (rows_in (gathered_of actor)))
-    ∙ ap (λ l. first ++ l) (sym (flat_map-append (row_text g.P.Payload.PayloadText.word_of g.P.Payload.PayloadText.number_of) before (rows_in (gathered_of actor)))
+    ∙ ap (λ l. first ++ l)
+    (sym (flat_map-append (row_text g.P.Payload.PayloadText.word_of g.P.Payload.PayloadText.number_of) before (rows_in (gathered_of actor)))
     ∙ ap lines (flat_map_more (λ a. rows_in (gathered_of a)) [] c.loop-actor.yielded actor))
 
 -- at the end the lines of all nodes are there

@@ -5,7 +5,8 @@ use Rattle.clap.specs.Faults.{is_simple_and_free}
 use Rattle.clap.specs.Kinds.{HasKind}
 use Rattle.command_line.specs.Asked.{choice_of}
 use Rattle.command_line.specs.Line.{line}
-use Rattle.command_line.proofs.KnownCommands.{declined, in_range, line_is_free, line_is_simple, line_wants_a_command, taken, unnamed}
+use Rattle.command_line.proofs.Declining.{declined, in_range, taken, unnamed}
+use Rattle.command_line.proofs.KnownCommands.{line_is_free, line_is_simple, line_wants_a_command}
 use Rattle.command_line.proofs.request.parse.Goals as goal
 
 mapped : {X Y : Type 0} (f : X → Y) (o : Option X) → is_some o ≡ true → is_some (option_map f o) ≡ true

@@ -1,6 +1,5 @@
 use Rattle.alpha_laws.proofs.Bounded.{bounded, counted_whole, whole_counted}
-use Rattle.gather_laws.specs.Outcome.{node_in}
-use Rattle.gather_laws.specs.Progress.{held_in, put_in, taken_in}
+use Rattle.gather_laws.specs.Outcome.{held_on, node_in, put_by, taken_by}
 use Rattle.gather_laws.proofs.Progress.{whole_from}
 use Rattle.gather_laws.proofs.Whole.{link_splits, whole_is}
 use Rattle.gather_laws.proofs.laws.outcomes_are_bounded.Goals as goal
@@ -9,9 +8,9 @@ pub returns : goal.returns
 returns g c = record {
   law = λ program laws net ok capacity transcript outcome is.
       let nodes = node_in program net outcome in
-      let put = put_in outcome in
-      let taken = taken_in net outcome in
-      let held = held_in outcome in
+      let put = put_by outcome in
+      let taken = taken_by net outcome in
+      let held = held_on outcome in
       let splits = link_splits program net ok capacity transcript outcome is in (
         bounded program net ok nodes put taken held is.simulates splits,
         (

@@ -2,6 +2,7 @@ use Rattle.std.proofs.Common.{◌≡◌, ◌≤◌, Bool, true, false, if◌then
 use Rattle.std.specs.Prelude.{All, Result}
 use Rattle.pool.specs.link_queue.Ends.{link_capacity}
 use Rattle.outcomes.specs.Full.{some_full}
+use Rattle.outcomes.specs.interference.Net.{IsNetwork}
 use Rattle.outcomes.specs.gather_laws.Outcome.{IsOutcome}
 use Rattle.pool.specs.declared.fault.PoolFault.{PoolFault}
 use Rattle.pool.specs.declared.fault.PoolFault.TheVariants.{StampFull}
@@ -15,9 +16,9 @@ pub start_nodes-requires-clause-ends : goal.start_nodes-requires-clause-ends
 start_nodes-requires-clause-ends g c κs within =
     let capacity = c.args.options.capacity in
     let made = c.args.made in
-    let are_made = subst (λ net. AreMade net capacity (map (λ row. row.items) made.links.items) (map (λ row. row.items) made.puts.items)
-    (map (λ row. row.items) made.takes.items)) (sym c.requires.network) c.requires.made in
-    made_are_new g.J.Wiring.net capacity _ _ _ g.J.Wiring.tables (sym c.requires.tables) are_made
+    let are_made = subst (λ net. AreMade net capacity made.links.items (map (λ row. row.items) made.ends.items)) (sym c.requires.network) c.requires.made in
+    made_are_new g.J.Wiring.net capacity _ _ are_made (subst IsNetwork (sym c.requires.network) c.is_network.ensures) g.J.Wiring.tables g.J.Wiring.links
+    (sym c.requires.tables) (sym c.requires.links)
 
 -- nothing is reported only if no wire was set aside for its stamp
 not_full : {A : Type 0} (done x : A) (told : Result A PoolFault) (full : Bool) → told ≡ (if full then Err StampFull else Ok done) → told ≡ Ok x
@@ -30,15 +31,10 @@ gathered-requires-clause-stamps g c κs within =
     not_full (tt {0}) (tt {0}) c.unless_full.result (some_full (map (λ n. n.aside) c.in_ok-nodes-2.nodes.items))
     (c.unless_full.ensures.full ∙ ap (λ nodes. full_after (tt {0}) (map (λ n. n.aside) nodes)) c.as_slice.ensures.value) c.in_ok-unless_full.was
 
--- the links that are gathered are those that the nodes used
-pub gathered-requires-clause-tables : goal.gathered-requires-clause-tables
-gathered-requires-clause-tables g c κs within = c.into_rows.ensures.picked
-
--- links come back as they were made
+-- the links that are gathered are those that were made
 pub returns-clause-outcome : goal.returns-clause-outcome
 returns-clause-outcome g c =
     let capacity = c.args.options.capacity in
     subst (λ t. IsOutcome g.P.NodeProgram.program c.args.net.now capacity t c.in_ok-gathered.field-0) c.requires.transcript
-    (c.in_ok-gathered.ensures.outcome capacity (subst (λ rows. All (λ row. All (λ link. link_capacity link ≤ capacity) row.items) rows.items)
-    (sym (c.into_rows.ensures.rows ∙ c.new-links.ensures.rows))
-    (made_within c.args.net.now capacity (λ row. row.items) c.args.made.links.items _ _ c.requires.made)))
+    (c.in_ok-gathered.ensures.outcome capacity (subst (λ list. All (λ link. link_capacity link ≤ capacity) list.items) (sym c.new-links.ensures.list)
+    (made_within c.args.net.now capacity _ _ c.requires.made)))

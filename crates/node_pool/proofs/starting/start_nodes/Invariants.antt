@@ -4,17 +4,14 @@ use Rattle.std.specs.List.{range_with_len}
 use Rattle.outcomes.specs.interference.Net.{vertices}
 use Rattle.pool.specs.alpha_core.Program.{start_node}
 use Rattle.outcomes.specs.Rows.{row_at}
-use Rattle.node_pool.specs.News.{AreNewPutsFrom, AreNewTakesTo}
+use Rattle.node_pool.specs.News.{AreNewOf}
 use Rattle.node_pool.proofs.starting.start_nodes.Given as goal
 
 abbrev pub invariant-loop-k : goal.invariant-loop-k
 invariant-loop-k g l = record {
-  puts_left : vec_len l.puts ≡ l.count - l.k;
-  takes_left : vec_len l.takes ≡ l.count - l.k;
-  puts : (u : ℕ) → 1 ≤ u → u ≤ l.count - l.k
-      → AreNewPutsFrom g.J.Wiring.net g.J.Wiring.tables u (row_at (map (λ row. row.items) l.puts.items) u);
-  takes : (u : ℕ) → 1 ≤ u → u ≤ l.count - l.k
-      → AreNewTakesTo g.J.Wiring.net g.J.Wiring.tables u (row_at (map (λ row. row.items) l.takes.items) u);
+  left : vec_len l.ends ≡ l.count - l.k;
+  ends : (u : ℕ) → 1 ≤ u → u ≤ l.count - l.k
+      → AreNewOf g.J.Wiring.net g.J.Wiring.tables g.J.Wiring.links u (row_at (map (λ row. row.items) l.ends.items) u);
   started : map (λ b. b.value.vertex) l.nodes.items ++ reverse (range_with_len 1 (l.count - l.k)) ≡ reverse (vertices g.J.Wiring.net);
   first : All (λ b. b.value.alpha.node ≡ start_node g.P.NodeProgram.program l.net b.value.vertex) l.nodes.items;
 }

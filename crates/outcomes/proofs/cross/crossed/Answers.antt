@@ -1,7 +1,7 @@
 use Rattle.std.proofs.Common.{◌≡◌, ◌+◌, Some, length, map, sym, ap, ◌∙◌, arith}
 use Rattle.std.proofs.lemmas.List.{length-map, map-append}
+use Rattle.std.proofs.lemmas.Simd.{map-map}
 use Rattle.gather_laws.specs.alpha_laws.Net.{IsVertex, count_of}
-use Rattle.outcomes.proofs.ReadLists.{map-twice}
 use Rattle.outcomes.proofs.Crosses.{starts_shape, starts_at, full, more_rows, more_at, less_left}
 use Rattle.outcomes.proofs.cross.crossed.Goals as goal
 
@@ -10,7 +10,7 @@ loop-v-init g c =
     let net = c.args.net.now in
     let ok = c.is_network.ensures in
     let rows = map (λ row. row.items) c.args.rows.items in
-    let is = c.in_ok-slots.ensures.slots ∙ sym (map-twice (λ row. map Some row) (λ row. row.items) c.args.rows.items) in
+    let is = c.in_ok-slots.ensures.slots ∙ sym (map-map (λ row. map Some row) (λ row. row.items) c.args.rows.items) in
     record {
       shape = starts_shape net ok rows _ is c.requires.shape;
       left = λ w j vertex lt after. starts_at net ok rows _ is w j;

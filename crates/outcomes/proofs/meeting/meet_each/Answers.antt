@@ -1,11 +1,10 @@
-use Rattle.std.proofs.Common.{◌≡◌, ◌≤◌, ℕ, Some, length, map, refl, sym, ap, subst, ◌∙◌, arith, rules, map-id}
+use Rattle.std.proofs.Common.{◌≡◌, ◌≤◌, ℕ, length, map, sym, ap, subst, ◌∙◌, arith, rules, map-id}
 use Rattle.std.specs.Prelude.{All}
 use Rattle.std.proofs.lemmas.List.{length-map, map-append}
-use Rattle.std.proofs.lemmas.List.Elements.{All-pop, All-push, All-same}
+use Rattle.std.proofs.lemmas.List.Elements.{All-push, All-same}
 use Rattle.std.proofs.lemmas.Iterator.Consumers.{YieldsList-end, YieldsList-turn}
 use Rattle.std.proofs.lemmas.Iterator.Adapters.{YieldsList-from_vec}
-use Rattle.actor.specs.link_queue.Ends.{held_stamped, link_capacity, put_stamped, taken_stamped}
-use Rattle.actor.specs.Tables.{table_at, table_of}
+use Rattle.actor.specs.link_queue.Ends.{held_stamped, put_stamped, taken_stamped}
 use Rattle.outcomes.specs.Meets.{RowsAreMet, put_of}
 use Rattle.actor.proofs.worker_deques.Views.{as_many}
 use Rattle.outcomes.proofs.Meetings.{err_says}
@@ -27,55 +26,43 @@ returns-in_err-meet_ends-clause-met g c = err_says _ c.from_residual-in_err-meet
 pub returns-in_err-meet_ends-clause-room : goal.returns-in_err-meet_ends-clause-room
 returns-in_err-meet_ends-clause-room g c = err_says _ c.from_residual-in_err-meet_ends.result c.from_residual-in_err-meet_ends.ensures.0
 
-pub meet_ends-requires-clause-links : goal.meet_ends-requires-clause-links
-meet_ends-requires-clause-links g c κs within =
-    let turn = YieldsList-turn (YieldsList-from_vec {s = c.into_iter-links-iterator.result} c.args.rows.items (search rules) (search rules))
-    c.loop-links.yielded c.loop-links.links-iterator c.loop-links.yielded_by c.next.result c.next.new.self _ c.in-Some.is c.next.ensures.steps in
-    subst (λ x. map (λ e. table_at g.J.Wiring.tables e.vertex e.port) x.1.0.items ≡ map (λ link. Some (table_of link)) x.0.items) (sym turn.1)
-    (c.requires.links _ _ turn.0)
-
 pub meet_ends-requires-clause-takes : goal.meet_ends-requires-clause-takes
 meet_ends-requires-clause-takes g c κs within =
-    let turn = YieldsList-turn (YieldsList-from_vec {s = c.into_iter-links-iterator.result} c.args.rows.items (search rules) (search rules))
-    c.loop-links.yielded c.loop-links.links-iterator c.loop-links.yielded_by c.next.result c.next.new.self _ c.in-Some.is c.next.ensures.steps in
-    subst (λ x. map {B = ℕ × ℕ} (λ e. (e.vertex, e.port)) x.1.1.items ≡ map {B = ℕ × ℕ} (λ e. (e.vertex, e.port)) x.1.0.items) (sym turn.1)
+    let turn = YieldsList-turn (YieldsList-from_vec {s = c.into_iter-puts-iterator.result} c.args.rows.items (search rules) (search rules))
+    c.loop-puts.yielded c.loop-puts.puts-iterator c.loop-puts.yielded_by c.next.result c.next.new.self _ c.in-Some.is c.next.ensures.steps in
+    subst (λ x. map {B = ℕ × ℕ} (λ e. (e.vertex, e.port)) x.1.items ≡ map {B = ℕ × ℕ} (λ e. (e.vertex, e.port)) x.0.items) (sym turn.1)
     (c.requires.takes _ _ turn.0)
 
 pub push_reserved-requires : goal.push_reserved-requires
 push_reserved-requires g c =
-    let turn = YieldsList-turn (YieldsList-from_vec {s = c.into_iter-links-iterator.result} c.args.rows.items (search rules) (search rules))
-    c.loop-links.yielded c.loop-links.links-iterator c.loop-links.yielded_by c.next.result c.next.new.self _ c.in-Some.is c.next.ensures.steps in
-    let inv = c.loop-links.invariant in
-    let many = as_many (λ x. map (λ e. put_stamped e.end) x.1.0.items) (map put_of) c.loop-links.yielded (map (λ mets. mets.items) c.loop-links.all.items) inv.met.puts_are in
-    omega (arith, turn.0, many, length-map c.loop-links.all.items (λ mets. mets.items), inv.places, c.args.rows.ok.0, c.loop-links.all.ok.0)
+    let turn = YieldsList-turn (YieldsList-from_vec {s = c.into_iter-puts-iterator.result} c.args.rows.items (search rules) (search rules))
+    c.loop-puts.yielded c.loop-puts.puts-iterator c.loop-puts.yielded_by c.next.result c.next.new.self _ c.in-Some.is c.next.ensures.steps in
+    let inv = c.loop-puts.invariant in
+    let many = as_many (λ x. map (λ e. put_stamped e.end) x.0.items) (map put_of) c.loop-puts.yielded (map (λ mets. mets.items) c.loop-puts.all.items)
+    inv.met.puts_are in
+    omega (arith, turn.0, many, length-map c.loop-puts.all.items (λ mets. mets.items), inv.places, c.args.rows.ok.0, c.loop-puts.all.ok.0)
 
-pub loop-links-preserved : goal.loop-links-preserved
-loop-links-preserved g c = record {
-  places = omega (arith, c.push_reserved.ensures.capacity, c.loop-links.invariant.places);
-  met = one_row_met (map (λ mets. mets.items) c.loop-links.all.items) _ _ _ _ _ _ _ _
-      (ap (map (λ mets. mets.items)) c.push_reserved.ensures.items ∙ map-append (λ mets. mets.items) c.loop-links.all.items _)
-      (map-append (λ x. map (λ e. put_stamped e.end) x.1.0.items) c.loop-links.yielded _)
-      (map-append (λ x. map (λ e. taken_stamped e.end) x.1.1.items) c.loop-links.yielded _)
-      c.in_ok-meet_ends.ensures.met c.loop-links.invariant.met;
+pub loop-puts-preserved : goal.loop-puts-preserved
+loop-puts-preserved g c = record {
+  places = omega (arith, c.push_reserved.ensures.capacity, c.loop-puts.invariant.places);
+  met = one_row_met (map (λ mets. mets.items) c.loop-puts.all.items) _ _ _ _ _ _ _ _
+      (ap (map (λ mets. mets.items)) c.push_reserved.ensures.items ∙ map-append (λ mets. mets.items) c.loop-puts.all.items _)
+      (map-append (λ x. map (λ e. put_stamped e.end) x.0.items) c.loop-puts.yielded _)
+      (map-append (λ x. map (λ e. taken_stamped e.end) x.1.items) c.loop-puts.yielded _)
+      c.in_ok-meet_ends.ensures.met c.loop-puts.invariant.met;
   room = λ capacity below.
-      let parts = All-pop (λ x. All (λ link. link_capacity link ≤ capacity) x.0.items) _ c.loop-links.yielded (Some _) refl below in
       All-same (λ mets. All (λ met. length (held_stamped met) ≤ capacity) mets.items) _ _ c.push_reserved.ensures.items
-      (All-push (λ mets. All (λ met. length (held_stamped met) ≤ capacity) mets.items) c.loop-links.all.items _
-      (c.loop-links.invariant.room capacity parts.0) (c.in_ok-meet_ends.ensures.room capacity parts.1));
+      (All-push (λ mets. All (λ met. length (held_stamped met) ≤ capacity) mets.items) c.loop-puts.all.items _
+      (c.loop-puts.invariant.room capacity below) (c.in_ok-meet_ends.ensures.room capacity below));
 }
 
 pub returns-clause-met : goal.returns-clause-met
 returns-clause-met g c =
-    let end = YieldsList-end (YieldsList-from_vec {s = c.into_iter-links-iterator.result} c.args.rows.items (search rules) (search rules))
-    c.loop-links.yielded c.loop-links.links-iterator c.loop-links.yielded_by c.next.result c.next.new.self c.in-None.is c.next.ensures.steps in
-    let all = sym (map-id c.loop-links.yielded) ∙ end.0 in
-    subst (λ rows. RowsAreMet (map (λ mets. mets.items) c.loop-links.all.items) (map (λ x. map (λ e. put_stamped e.end) x.1.0.items) rows)
-    (map (λ x. map (λ e. taken_stamped e.end) x.1.1.items) rows)) all c.loop-links.invariant.met
+    let end = YieldsList-end (YieldsList-from_vec {s = c.into_iter-puts-iterator.result} c.args.rows.items (search rules) (search rules))
+    c.loop-puts.yielded c.loop-puts.puts-iterator c.loop-puts.yielded_by c.next.result c.next.new.self c.in-None.is c.next.ensures.steps in
+    let all = sym (map-id c.loop-puts.yielded) ∙ end.0 in
+    subst (λ rows. RowsAreMet (map (λ mets. mets.items) c.loop-puts.all.items) (map (λ x. map (λ e. put_stamped e.end) x.0.items) rows)
+    (map (λ x. map (λ e. taken_stamped e.end) x.1.items) rows)) all c.loop-puts.invariant.met
 
 pub returns-clause-room : goal.returns-clause-room
-returns-clause-room g c =
-    let end = YieldsList-end (YieldsList-from_vec {s = c.into_iter-links-iterator.result} c.args.rows.items (search rules) (search rules))
-    c.loop-links.yielded c.loop-links.links-iterator c.loop-links.yielded_by c.next.result c.next.new.self c.in-None.is c.next.ensures.steps in
-    let all = sym (map-id c.loop-links.yielded) ∙ end.0 in
-    λ capacity below. c.loop-links.invariant.room capacity
-    (subst (All (λ x. All (λ link. link_capacity link ≤ capacity) x.0.items)) (sym all) below)
+returns-clause-room g c = c.loop-puts.invariant.room

@@ -4,11 +4,11 @@ use Rattle.actor.specs.link_queue.Ends.{held_stamped, link_capacity, put_stamped
 use Rattle.outcomes.specs.Meets.{RowsAreMet}
 use Rattle.outcomes.proofs.meeting.meet_each.Given as goal
 
-abbrev pub invariant-loop-links : goal.invariant-loop-links
-invariant-loop-links g l = record {
+abbrev pub invariant-loop-puts : goal.invariant-loop-puts
+invariant-loop-puts g l = record {
   places : vec_len l.fn.rows ≤ vec_capacity l.all;
-  met : RowsAreMet (map (λ mets. mets.items) l.all.items) (map (λ x. map (λ e. put_stamped e.end) x.1.0.items) l.yielded)
-      (map (λ x. map (λ e. taken_stamped e.end) x.1.1.items) l.yielded);
-  room : (capacity : ℕ) → All (λ x. All (λ link. link_capacity link ≤ capacity) x.0.items) l.yielded
+  met : RowsAreMet (map (λ mets. mets.items) l.all.items) (map (λ x. map (λ e. put_stamped e.end) x.0.items) l.yielded)
+      (map (λ x. map (λ e. taken_stamped e.end) x.1.items) l.yielded);
+  room : (capacity : ℕ) → All (λ link. link_capacity link ≤ capacity) l.links.list.items
       → All (λ mets. All (λ met. length (held_stamped met) ≤ capacity) mets.items) l.all.items;
 }

@@ -4,9 +4,9 @@ use Rattle.actor.specs.link_queue.Ends.{held_stamped, link_capacity, put_stamped
 use Rattle.outcomes.specs.Meets.{AreMet}
 use Rattle.outcomes.proofs.meeting.meet_row.Given as goal
 
-abbrev pub invariant-loop-link : goal.invariant-loop-link
-invariant-loop-link g l = record {
+abbrev pub invariant-loop-put : goal.invariant-loop-put
+invariant-loop-put g l = record {
   places : vec_len l.fn.row ≤ vec_capacity l.mets;
-  met : AreMet l.mets.items (map (λ x. put_stamped x.1.0.end) l.yielded) (map (λ x. taken_stamped x.1.1.end) l.yielded);
-  room : (capacity : ℕ) → All (λ x. link_capacity x.0 ≤ capacity) l.yielded → All (λ met. length (held_stamped met) ≤ capacity) l.mets.items;
+  met : AreMet l.mets.items (map (λ x. put_stamped x.0.end) l.yielded) (map (λ x. taken_stamped x.1.end) l.yielded);
+  room : (capacity : ℕ) → All (λ link. link_capacity link ≤ capacity) l.links.list.items → All (λ met. length (held_stamped met) ≤ capacity) l.mets.items;
 }

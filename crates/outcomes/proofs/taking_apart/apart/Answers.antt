@@ -2,7 +2,7 @@
 use Rattle.std.proofs.Common.{◌<◌, length, map, refl, sym, ap, ◌∙◌, arith, rules, map-id}
 use Rattle.std.proofs.lemmas.Iterator.Consumers.{YieldsList-end, YieldsList-turn}
 use Rattle.std.proofs.lemmas.Iterator.Adapters.{YieldsList-from_vec}
-use Rattle.actor.specs.entries.Recorded.{entries_by, stamped_by}
+use Rattle.actor.specs.entries.Recorded.{entries_by}
 use Rattle.actor.proofs.worker_deques.Views.{as_many}
 use Rattle.outcomes.proofs.ReadLists.{both_pushed}
 use Rattle.outcomes.proofs.taking_apart.apart.Given.{Over}
@@ -23,7 +23,6 @@ loop-node-init g c =
       vertices = ap (map (λ a. a.vertex)) none.actors.0;
       alphas = ap (map (λ a. a.alpha)) none.actors.0;
       entries = ap (map (λ a. a.entries.items)) none.actors.0;
-      stamped = ap (map (λ a. a.entries.stamped)) none.actors.0;
       puts = ap (map (λ row. row.items)) none.puts.0;
       takes = ap (map (λ row. row.items)) none.takes.0;
     }
@@ -78,8 +77,6 @@ loop-node-preserved g c =
       alphas = both_pushed (λ a. a.alpha) (λ n. n.alpha) _ _ yielded _ node actors.items refl inv.alphas;
       entries = both_pushed (λ a. a.entries.items) (λ n. entries_by n.recorder) _ _ yielded _ node actors.items
           c.into_entries-entries.ensures.entries inv.entries;
-      stamped = both_pushed (λ a. a.entries.stamped) (λ n. stamped_by n.recorder) _ _ yielded _ node actors.items
-          c.into_entries-entries.ensures.stamped inv.stamped;
       puts = both_pushed (λ row. row.items) (λ n. n.puts.items) _ _ yielded _ node puts.items refl inv.puts;
       takes = both_pushed (λ row. row.items) (λ n. n.takes.items) _ _ yielded _ node takes.items refl inv.takes;
     }
@@ -94,7 +91,6 @@ returns g c =
       vertices = inv.vertices ∙ ap (map (λ n. n.vertex)) all;
       alphas = inv.alphas ∙ ap (map (λ n. n.alpha)) all;
       entries = inv.entries ∙ ap (map (λ n. entries_by n.recorder)) all;
-      stamped = inv.stamped ∙ ap (map (λ n. stamped_by n.recorder)) all;
       puts = inv.puts ∙ ap (map (λ n. n.puts.items)) all;
       takes = inv.takes ∙ ap (map (λ n. n.takes.items)) all;
     }

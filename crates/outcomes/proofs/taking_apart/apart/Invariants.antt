@@ -1,5 +1,5 @@
 use Rattle.std.proofs.Common.{◌≡◌, ◌≤◌, map, vec_len, vec_capacity}
-use Rattle.actor.specs.entries.Recorded.{entries_by, stamped_by}
+use Rattle.actor.specs.entries.Recorded.{entries_by}
 use Rattle.outcomes.proofs.taking_apart.apart.Given as goal
 
 abbrev pub invariant-loop-node : goal.invariant-loop-node
@@ -9,7 +9,6 @@ invariant-loop-node g l = record {
   vertices : map (λ a. a.vertex) l.all.actors.items ≡ map (λ n. n.vertex) l.yielded;
   alphas : map (λ a. a.alpha) l.all.actors.items ≡ map (λ n. n.alpha) l.yielded;
   entries : map (λ a. a.entries.items) l.all.actors.items ≡ map (λ n. entries_by n.recorder) l.yielded;
-  stamped : map (λ a. a.entries.stamped) l.all.actors.items ≡ map (λ n. stamped_by n.recorder) l.yielded;
   puts : map (λ row. row.items) l.all.puts.items ≡ map (λ n. n.puts.items) l.yielded;
   takes : map (λ row. row.items) l.all.takes.items ≡ map (λ n. n.takes.items) l.yielded;
 }

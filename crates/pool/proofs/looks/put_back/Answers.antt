@@ -1,12 +1,9 @@
 use Rattle.std.proofs.Common.{◌-◌, map, sym, ◌∙◌, arith}
 use Rattle.std.proofs.Common.{◌∷◌}
 use Rattle.crossbeam_deque.specs.Handles.{view, worker_view}
-use Rattle.worker_deques.proofs.Out.{finished, pushed}
-use Rattle.worker_deques.proofs.deque_rule.Rule.{gives}
+use Rattle.worker_deques.proofs.Out.{finished}
+use Rattle.pool.proofs.InHand.{gave_back}
 use Rattle.pool.proofs.looks.put_back.Goals as goal
-
-pub push_as-requires-clause-pushes : goal.push_as-requires-clause-pushes
-push_as-requires-clause-pushes g c = gives (λ b. b.value.vertex - 1) _ _ _ c.args.desk.now.some
 
 pub invariant_of-desk-then-len-capacity : goal.invariant_of-desk-then-len-capacity
 invariant_of-desk-then-len-capacity g c =
@@ -19,10 +16,13 @@ invariant_of-desk-then-len-capacity g c =
           old.out;
     }
 
-pub invariant_of-desk-in-Ok : goal.invariant_of-desk-in-Ok
-invariant_of-desk-in-Ok g c =
+pub invariant_of-desk-2 : goal.invariant_of-desk-2
+invariant_of-desk-2 g c =
     let old = c.args.desk.now in
-    let p = pushed (λ b. b.value.vertex - 1) _ _ _ _ _ _ _ (sym c.take.ensures.value ∙ c.in-Some.is) c.take.ensures.after c.in-Ok.ensures.rule.0 old.out in
+    let back = c.give_back in
+    let p = gave_back (λ b. b.value.vertex - 1) (worker_view old.own) (worker_view back.new.own) (map (λ g'. view g'.pass) old.guests.items) old.task
+    back.result c.in-Some.node (map (λ b. b.value.vertex - 1) old.finished.items) old.out (sym c.take.ensures.value ∙ c.in-Some.is) back.ensures.none
+    back.ensures.some in
     record {
       shares = let s = old.shares in let q = p.0 in omega arith;
       some = let s = old.some in let q = p.0 in omega arith;

@@ -1,5 +1,5 @@
 use Rattle.std.proofs.Common.{◌≡◌, ◌++◌, flat_map, map}
-use Rattle.entries.specs.Rows.{vertex_row}
+use Rattle.entries.specs.Rows.{bare_of, vertex_row}
 use Rattle.transcripts.specs.TranscriptText.{row_text}
 use Rattle.transcripts.proofs.node_lines.push_entries.Given as goal
 
@@ -8,4 +8,4 @@ abbrev pub invariant-loop-entry : goal.invariant-loop-entry
 invariant-loop-entry g l =
     let m = g.T.PayloadText in
     l.text.items ++ flat_map (row_text m.word_of m.number_of) (map (λ entry. vertex_row l.vertex entry) l.entry-iterator)
-    ≡ l.fn.text.items ++ flat_map (row_text m.word_of m.number_of) (map (λ entry. vertex_row l.vertex entry) l.entries.items)
+    ≡ l.fn.text.items ++ flat_map (row_text m.word_of m.number_of) (map (λ entry. vertex_row l.vertex entry) (bare_of l.entries.items))

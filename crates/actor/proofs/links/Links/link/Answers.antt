@@ -1,18 +1,21 @@
-use Rattle.std.proofs.Common.{◌-◌, ap, sym, subst, ◌∙◌, arith}
-use Rattle.std.specs.Prelude.{IsSome}
-use Rattle.actor.specs.Tables.{table_of, table_at}
-use Rattle.actor.proofs.Rows.{in_rows}
+use Rattle.std.proofs.Common.{sym, subst, ap, ◌∙◌, arith}
+use Rattle.std.specs.Prelude.{IsSome, slice_get}
+use Rattle.actor.specs.Tables.{table_of}
+use Rattle.actor.proofs.Rows.{in_row}
 use Rattle.actor.proofs.links.Links.link.Goals as goal
 
--- the tables that the run picked are those of the rows, in which the place stands
-pub index-requires-2 : goal.index-requires-2
-index-requires-2 g c =
-    let here = subst (λ tables. IsSome (table_at tables c.args.vertex c.args.port)) (sym c.args.self.now.are) c.requires.link in
-    let at = in_rows (λ row. row.items) table_of c.args.self.now.rows.items (c.args.vertex - 1) c.args.port _ c.index.ensures here in
-    omega (arith, at.0, c.index.result.now.ok.0)
+-- the queues that the run picked are those of the links, among which the index is
+pub index-requires : goal.index-requires
+index-requires g c =
+    let here = subst (λ links. IsSome (slice_get links c.args.index)) (sym c.args.self.now.are) c.requires.link in
+    let at = in_row table_of c.args.self.now.list.items c.args.index here in
+    omega (arith, at.0, c.args.self.now.list.ok.0)
 
 pub returns : goal.returns
 returns g c =
-    let here = subst (λ tables. IsSome (table_at tables c.args.vertex c.args.port)) (sym c.args.self.now.are) c.requires.link in
-    let at = in_rows (λ row. row.items) table_of c.args.self.now.rows.items (c.args.vertex - 1) c.args.port _ c.index.ensures here in
-    record { link = ap (λ tables. table_at tables c.args.vertex c.args.port) (sym c.args.self.now.are) ∙ at.1 _ c.index-2.ensures }
+    let here = subst (λ links. IsSome (slice_get links c.args.index)) (sym c.args.self.now.are) c.requires.link in
+    let at = in_row table_of c.args.self.now.list.items c.args.index here in
+    record {
+      link = ap (λ links. slice_get links c.args.index) (sym c.args.self.now.are) ∙ at.1.0 _ c.index.ensures;
+      listed = at.1.1 _ c.index.ensures;
+    }

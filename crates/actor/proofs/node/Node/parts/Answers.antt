@@ -1,11 +1,11 @@
 -- The plan: a part of the turn that ended early says why, and the turn ends so too.
-use Rattle.std.proofs.Common.{ap, subst, sym, true≢false, ◌∙◌}
+use Rattle.std.proofs.Common.{◌<◌, ap, subst, sym, true≢false, ◌∙◌}
 use Rattle.std.specs.Prelude.{IsSome}
 use Rattle.std.proofs.lemmas.Result.{IfOk-from_err}
 use Rattle.alpha_laws.specs.alpha_core.View.{can_pulse}
 use Rattle.actor.specs.declared.refused.TurnRefused.TheVariants.{Memory, StampFull}
 use Rattle.actor.proofs.Refusals.{same_refusal}
-use Rattle.actor.proofs.Unmoved.{still_unmoved}
+use Rattle.actor.proofs.Unmoved.{blocked-after, still_unmoved}
 use Rattle.actor.proofs.node.Node.parts.Goals as goal
 
 pub returns-in_err-took : goal.returns-in_err-took
@@ -17,6 +17,7 @@ returns-in_err-took g c =
         refusal = took.refusal;
         unmoved = IfOk-from_err c.from_residual.result _ c.from_residual.ensures.0;
         blocked = IfOk-from_err c.from_residual.result _ c.from_residual.ensures.0;
+        puts_blocked = IfOk-from_err c.from_residual.result _ c.from_residual.ensures.0;
         refused = same_refusal _ c.from_residual.result _ Memory c.from_residual.ensures.1 took.refused;
         full = same_refusal _ c.from_residual.result _ StampFull c.from_residual.ensures.1 took.full;
       };
@@ -32,6 +33,7 @@ returns-in_err-pulsed g c =
         refusal = pulsed.refusal ∙ took.refusal;
         unmoved = IfOk-from_err c.from_residual-in_err-pulsed.result _ c.from_residual-in_err-pulsed.ensures.0;
         blocked = IfOk-from_err c.from_residual-in_err-pulsed.result _ c.from_residual-in_err-pulsed.ensures.0;
+        puts_blocked = IfOk-from_err c.from_residual-in_err-pulsed.result _ c.from_residual-in_err-pulsed.ensures.0;
         refused = same_refusal _ c.from_residual-in_err-pulsed.result _ Memory c.from_residual-in_err-pulsed.ensures.1 pulsed.refused;
         full = same_refusal _ c.from_residual-in_err-pulsed.result _ StampFull c.from_residual-in_err-pulsed.ensures.1 pulsed.full;
       };
@@ -48,6 +50,7 @@ returns-in_err-put g c =
         refusal = put.refusal ∙ pulsed.refusal ∙ took.refusal;
         unmoved = IfOk-from_err c.from_residual-in_err-put.result _ c.from_residual-in_err-put.ensures.0;
         blocked = IfOk-from_err c.from_residual-in_err-put.result _ c.from_residual-in_err-put.ensures.0;
+        puts_blocked = IfOk-from_err c.from_residual-in_err-put.result _ c.from_residual-in_err-put.ensures.0;
         refused = same_refusal _ c.from_residual-in_err-put.result _ Memory c.from_residual-in_err-put.ensures.1 put.refused;
         full = same_refusal _ c.from_residual-in_err-put.result _ StampFull c.from_residual-in_err-put.ensures.1 put.full;
       };
@@ -64,6 +67,7 @@ returns-then-is_some g c =
         refusal = took.stepped.refusal;
         unmoved = λ did same. took.stepped.unmoved (took.stopped (subst (λ o. IsSome o) same some));
         blocked = λ did none. absurd (true≢false (sym (subst (λ o. IsSome o) none some)));
+        puts_blocked = λ did none. absurd (true≢false (sym (subst (λ o. IsSome o) none some)));
         refused = tt;
         full = tt;
       };
@@ -83,6 +87,8 @@ returns-else-pulsed g c =
         unmoved = λ did same. still_unmoved c.args.self.now c.pulse.new.self c.put_all.new.self
             (still_unmoved c.args.self.now c.take_all.new.self c.pulse.new.self (took.unmoved none.0) (pulsed.unmoved none.1)) (put.unmoved did);
         blocked = λ did going. ap (λ a. can_pulse a.last a.node.view) (put.unmoved did).alpha ∙ c.in_ok-pulsed.ensures.blocked none.1;
+        puts_blocked = λ did going port lt. blocked-after c.pulse.new.self c.put_all.new.self port put.vertex (put.unmoved did)
+            (c.in_ok-put.ensures.blocked did port (subst (λ n. port < n) put.degree lt));
         refused = tt;
         full = tt;
       };

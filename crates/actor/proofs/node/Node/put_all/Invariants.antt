@@ -1,5 +1,5 @@
-use Rattle.std.proofs.Common.{◌≡◌, None, false}
-use Rattle.actor.specs.Blocked.{IsUnmoved}
+use Rattle.std.proofs.Common.{◌≡◌, ◌<◌, ℕ, None, false}
+use Rattle.actor.specs.Blocked.{IsUnmoved, PutBlocked}
 use Rattle.actor.proofs.node.Node.put_all.Given as goal
 
 abbrev pub invariant-loop-port : goal.invariant-loop-port
@@ -9,4 +9,5 @@ invariant-loop-port g l = record {
   degree : l.self.degree ≡ l.fn.self.degree;
   refusal : l.self.refusal ≡ l.fn.self.refusal;
   unmoved : l.put ≡ false → IsUnmoved l.fn.self l.self;
+  blocked : l.put ≡ false → (k : ℕ) → k < l.port → PutBlocked k l.fn.self;
 }

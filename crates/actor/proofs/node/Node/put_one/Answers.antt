@@ -126,7 +126,8 @@ returns-in-Err g c =
     let is = c.index_mut.ensures.value in
     let lt = port_below old.kept c.args.port c.requires.port in
     let inside = below_as_many c.args.port (length old.puts.items) (degree_of g.J.Wiring.net old.vertex) (count_puts old.kept) lt in
-    let place = at_place (λ e. (e.vertex, e.port)) (λ i. (old.vertex, i)) old.puts.items (degree_of g.J.Wiring.net old.vertex) c.args.port _ old.kept.outs lt is in
+    let place = at_place (λ e. (e.vertex, e.port)) (λ i. (old.vertex, i)) old.puts.items (degree_of g.J.Wiring.net old.vertex) c.args.port _ old.kept.outs
+    lt is in
     let here = get_map (λ e. put_list e.end) old.puts.items c.args.port _ [] inside is in
     record {
       stepped = stepped-not refl refl refl record {

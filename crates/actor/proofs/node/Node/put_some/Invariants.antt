@@ -1,12 +1,12 @@
-use Rattle.std.proofs.Common.{◌≡◌, None, false}
+use Rattle.std.proofs.Common.{◌≡◌, None}
 use Rattle.actor.specs.Blocked.{IsUnmoved}
 use Rattle.actor.proofs.node.Node.put_some.Given as goal
 
-abbrev pub invariant-loop : goal.invariant-loop
-invariant-loop g l = record {
+abbrev pub invariant-loop-put : goal.invariant-loop-put
+invariant-loop-put g l = record {
   vertex : l.self.vertex ≡ l.fn.self.vertex;
   going : l.self.aside ≡ None;
   degree : l.self.degree ≡ l.fn.self.degree;
   refusal : l.self.refusal ≡ l.fn.self.refusal;
-  unmoved : l.put ≡ false → IsUnmoved l.fn.self l.self;
+  unmoved : l.put ≡ 0 → IsUnmoved l.fn.self l.self;
 }

@@ -5,7 +5,8 @@ use Rattle.alpha_laws.specs.alpha_core.Program.{start_node}
 use Rattle.alpha_laws.proofs.NodeLaws.{starts_keep}
 use Rattle.alpha_laws.specs.Kept.{NodeKept}
 use Rattle.alpha_laws.proofs.Runs.{runs}
-use Rattle.stamps.specs.entries.Recorded.{entries_by, is_on, stamped_by}
+use Rattle.stamps.specs.entries.Recorded.{entries_by, is_on}
+use Rattle.stamps.specs.Stamps.{bare_of}
 use Rattle.link_queue.specs.Ends.{put_list, put_stamped, taken_list, taken_stamped}
 use Rattle.actor.specs.Node.{by_port, links_in, links_out}
 use Rattle.actor.proofs.Lists.{none_at}
@@ -40,15 +41,15 @@ invariant_of-result g c =
             taken) (sym c.in_ok-alpha.ensures.node) kept);
         set_aside = λ a none. absurd cc;
         writes = subst (λ net. IsTranscript program net c.args.vertex (is_on c.new-2.result) c.in_ok-alpha.alpha.node sent taken
-            (entries_by c.new-2.result)) same
-            (subst (λ n. IsTranscript program c.args.net.now c.args.vertex (is_on c.new-2.result) n sent taken (entries_by c.new-2.result))
+            (bare_of (entries_by c.new-2.result))) same
+            (subst (λ n. IsTranscript program c.args.net.now c.args.vertex (is_on c.new-2.result) n sent taken (bare_of (entries_by c.new-2.result)))
             (sym c.in_ok-alpha.ensures.node)
-            (starts_transcript program c.args.net.now c.args.vertex (is_on c.new-2.result) sent taken (entries_by c.new-2.result)
+            (starts_transcript program c.args.net.now c.args.vertex (is_on c.new-2.result) sent taken (bare_of (entries_by c.new-2.result))
             (none_at (λ e. put_list e.end) c.args.puts.items c.requires.nothing_put)
-            (none_at (λ e. taken_list e.end) c.args.takes.items c.requires.nothing_taken) c.new-2.ensures.entries));
+            (none_at (λ e. taken_list e.end) c.args.takes.items c.requires.nothing_taken) (ap (λ l. bare_of l) c.new-2.ensures.entries)));
         stamps = has_at_start g.J.Wiring.net c.args.vertex (is_on c.new-2.result) c.new.result (by_port (map (λ e. put_stamped e.end) c.args.puts.items))
-            (by_port (map (λ e. taken_stamped e.end) c.args.takes.items)) (entries_by c.new-2.result) (stamped_by c.new-2.result) c.new.ensures.zero
-            (none_stamped_at (λ e. put_stamped e.end) c.args.puts.items c.requires.nothing_put) c.new-2.ensures.entries c.new-2.ensures.stamped;
+            (by_port (map (λ e. taken_stamped e.end) c.args.takes.items)) (entries_by c.new-2.result) c.new.ensures.zero
+            (none_stamped_at (λ e. put_stamped e.end) c.args.puts.items c.requires.nothing_put) c.new-2.ensures.entries;
         full = λ a none. absurd cc;
       };
     }

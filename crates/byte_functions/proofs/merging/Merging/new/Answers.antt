@@ -29,7 +29,7 @@ loop-index-preserved g c =
     let so_far = c.loop-index.invariant.lefts in
     let before = map gathered_of (take i actors) in
     let many = ap length so_far ∙ length-map before stamped_of ∙ length-map (take i actors) gathered_of ∙ length-take-le i actors (omega (arith, lt)) in
-    let wrote = c.new-left.ensures ∙ c.stamped.ensures.stamped ∙ ap (λ entries. entries.stamped) c.entries.ensures.entries in
+    let wrote = c.new-left.ensures ∙ c.stamped.ensures.items ∙ ap (λ entries. entries.items) c.entries.ensures.entries in
     let all = c.in_ok-push.ensures.items in
     record {
       lefts = all ∙ ap (λ l. l ++ (left ∷ [])) so_far ∙ ap (λ l. map stamped_of before ++ (l ∷ [])) wrote

@@ -11,8 +11,8 @@ use Rattle.colour_rules.proofs.colours.InForests.turn_all.Goals.{After-turn_as_r
 turned : (c : After-turn_as_root) →
     AreTurned c.args.reduction c.args.id (λ f. from_parent f c.args.roles.now c.args.inbox.now.slots) (λ f. true) c.args.self.now c.turn_as_root.new.self
 turned c =
-    turned-both c.args.reduction c.args.id (λ f. from_parent f c.args.roles.now c.args.inbox.now.slots) (contains c.turn_as_child-heard.result)
-    c.args.self.now c.turn_as_child-heard.new.self c.turn_as_root.new.self c.turn_as_child-heard.ensures.rest c.turn_as_child-heard.ensures.turned
+    turned-both c.args.reduction c.args.id (λ f. from_parent f c.args.roles.now c.args.inbox.now.slots) (contains c.turn_as_child.new.heard)
+    c.args.self.now c.turn_as_child.new.self c.turn_as_root.new.self c.turn_as_child.ensures.rest c.turn_as_child.ensures.turned
     c.turn_as_root.ensures.turned
 
 pub returns-clause-colours : goal.returns-clause-colours

@@ -25,8 +25,8 @@ loop-reduction-init c =
     record {
       same = refl;
       turned =
-          turned-none c.args.reduction c.args.id (λ f. from_parent f roles slots) (contains c.new-heard.result) c.args.self.now
-          (λ f. ap (λ (heard : FinSet nat_cmp). contains heard f) c.new-heard.ensures.empty ∙ contains-empty nat_cmp f);
+          turned-none c.args.reduction c.args.id (λ f. from_parent f roles slots) (contains c.args.heard.now) c.args.self.now
+          (λ f. ap (λ (heard : FinSet nat_cmp). contains heard f) c.requires.none ∙ contains-empty nat_cmp f);
       rest = λ f waits. ap (λ (k : ℕ). from_parent f (drop k roles) (drop k slots)) (ap (λ (mail : Mail Payload). mail.cursor) c.requires.unread);
     }
 

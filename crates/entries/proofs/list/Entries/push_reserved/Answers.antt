@@ -1,9 +1,8 @@
-use Rattle.std.proofs.Common.{◌∷◌, ◌++◌, [], length, arith, sym, ap, ap₂, ◌∙◌}
+use Rattle.std.proofs.Common.{◌∷◌, ◌++◌, [], length, arith, sym, ap, ◌∙◌}
 use Rattle.std.specs.Option.{option_to_list}
 use Rattle.std.proofs.lemmas.List.{append-nil, length-append}
-use Rattle.entries.specs.Bare.{entries_of, payloads_in}
-use Rattle.entries.specs.Rows.{stamp_each, stamped_entry}
-use Rattle.entries.proofs.More.{entries-long, entries-more, payloads-more, stamp_each-more}
+use Rattle.entries.specs.Bare.{payloads_in}
+use Rattle.entries.proofs.More.{items-more, payloads-more}
 use Rattle.entries.proofs.list.Entries.push_reserved.Goals as goal
 
 -- there is a payload more
@@ -54,44 +53,18 @@ invariant_of-self-in_default g c =
       ),
     )
 
-more-in-Some : goal.returns-in-Some-clause-items
-more-in-Some g c =
-    let e = c.self.inside in
-    let payload = option_to_list c.split-payload.result.1 in
-    ap₂ entries_of c.push_reserved-2.ensures.items
-    (c.push_reserved-in-Some.ensures.items ∙ ap (λ l. e.payloads.items ++ l) (sym (ap option_to_list c.in-Some.is)))
-    ∙ entries-more e.bares.items e.payloads.items payload c.split-payload.result.0 c.args.entry c.self.invariant.0 c.split-payload.ensures.entry
-    ∙ ap (λ v. v.items ++ c.args.entry ∷ []) c.self.view_is
-
 pub returns-in-Some-clause-items : goal.returns-in-Some-clause-items
-returns-in-Some-clause-items = more-in-Some
-
-more-in_default : goal.returns-in_default-clause-items
-more-in_default g c =
+returns-in-Some-clause-items g c =
     let e = c.self.inside in
-    let payload = option_to_list c.split-payload.result.1 in
-    ap₂ entries_of c.push_reserved-2.ensures.items
-    (sym (append-nil e.payloads.items) ∙ ap (λ l. e.payloads.items ++ l) (sym (ap option_to_list c.in_default.is)))
-    ∙ entries-more e.bares.items e.payloads.items payload c.split-payload.result.0 c.args.entry c.self.invariant.0 c.split-payload.ensures.entry
-    ∙ ap (λ v. v.items ++ c.args.entry ∷ []) c.self.view_is
+    items-more e.stamps.items e.bares.items e.payloads.items _ c.self.invariant.0 c.self.invariant.1 (ap (λ v. v.items) c.self.view_is) _ _ _
+    (option_to_list c.split-payload.result.1) c.args.stamp c.split-payload.result.0 c.args.entry c.push_reserved.ensures.items
+    c.push_reserved-2.ensures.items (c.push_reserved-in-Some.ensures.items ∙ ap (λ l. e.payloads.items ++ l) (sym (ap option_to_list c.in-Some.is)))
+    c.split-payload.ensures.entry
 
 pub returns-in_default-clause-items : goal.returns-in_default-clause-items
-returns-in_default-clause-items = more-in_default
-
-pub returns-in-Some-clause-stamped : goal.returns-in-Some-clause-stamped
-returns-in-Some-clause-stamped g c =
+returns-in_default-clause-items g c =
     let e = c.self.inside in
-    let count = entries-long e.bares.items e.payloads.items c.self.invariant.0 in
-    let items = ap (λ v. v.items) c.self.view_is in
-    ap₂ stamp_each c.push_reserved.ensures.items (more-in-Some g c ∙ ap (λ l. l ++ c.args.entry ∷ []) (sym items))
-    ∙ stamp_each-more e.stamps.items (entries_of e.bares.items e.payloads.items) c.args.stamp c.args.entry (c.self.invariant.1 ∙ sym count)
-    ∙ ap (λ v. v.stamped ++ stamped_entry c.args.stamp c.args.entry ∷ []) c.self.view_is
-
-pub returns-in_default-clause-stamped : goal.returns-in_default-clause-stamped
-returns-in_default-clause-stamped g c =
-    let e = c.self.inside in
-    let count = entries-long e.bares.items e.payloads.items c.self.invariant.0 in
-    let items = ap (λ v. v.items) c.self.view_is in
-    ap₂ stamp_each c.push_reserved.ensures.items (more-in_default g c ∙ ap (λ l. l ++ c.args.entry ∷ []) (sym items))
-    ∙ stamp_each-more e.stamps.items (entries_of e.bares.items e.payloads.items) c.args.stamp c.args.entry (c.self.invariant.1 ∙ sym count)
-    ∙ ap (λ v. v.stamped ++ stamped_entry c.args.stamp c.args.entry ∷ []) c.self.view_is
+    items-more e.stamps.items e.bares.items e.payloads.items _ c.self.invariant.0 c.self.invariant.1 (ap (λ v. v.items) c.self.view_is) _ _ _
+    (option_to_list c.split-payload.result.1) c.args.stamp c.split-payload.result.0 c.args.entry c.push_reserved.ensures.items
+    c.push_reserved-2.ensures.items (sym (append-nil e.payloads.items) ∙ ap (λ l. e.payloads.items ++ l) (sym (ap option_to_list c.in_default.is)))
+    c.split-payload.ensures.entry

@@ -1,4 +1,4 @@
-use Rattle.std.proofs.Common.{◌≤◌, ◌++◌, ap, length, refl, sym, subst, ◌∙◌}
+use Rattle.std.proofs.Common.{◌≤◌, ◌++◌, ap, length, sym, subst, ◌∙◌}
 use Rattle.crossbeam_queue.specs.Passes.{view}
 use Rattle.link_rule.specs.Legal.{IsLegalOn, LegalFor}
 use Rattle.link_queue.specs.Queued.{stamped_of, all_stamped}
@@ -82,7 +82,6 @@ returns-in-Err-clause-refused g c =
     let take_view = ap view takes ∙ split.rule.1 in
     let table = split.queue.0.0 ∙ counted.0.0 ∙ absorbed.queue.0 ∙ c.requires.put_end.0 in
     record {
-      same_link = refl;
       put_end = (
         (ap (λ p. p.table_id) puts ∙ table, c.put_end_of.result.puts.0),
         ap (λ v. v.name) put_view ∙ ap (λ v. v.name) e,
@@ -135,7 +134,7 @@ returns-in-Ok-clause-legal g c =
 pub returns-in-Ok-clause-room : goal.returns-in-Ok-clause-room
 returns-in-Ok-clause-room g c =
     let count = ap (λ h. length h.items) c.of.ensures.held ∙ c.take_all-both.ensures.count in
-    subst (λ k. k ≤ c.args.self.queue.cap) (sym count) c.len_as-n.ensures.rule.0
+    subst (λ k. k ≤ c.args.self.now.queue.cap) (sym count) c.len_as-n.ensures.rule.0
 
 pub returns-in-Ok-clause-refused : goal.returns-in-Ok-clause-refused
 returns-in-Ok-clause-refused g c = tt

@@ -17,6 +17,6 @@ returns g c =
           → c.get.result ≡ at_port (outbox_at m.program at.net at.pulse c.args.v) c.args.port) c.self.view_is
           (λ is_vertex below. c.get.ensures.payload
           ∙ sent-in m.program inside.net.now c.is_network.ensures inside.pulse inside.inboxes.items v port c.neighbour-w.result c.back_port.result
-          c.index.result.now c.self.invariant.4 is_vertex below c.neighbour-w.ensures.value c.back_port.ensures.value c.index.ensures)
+          c.index.result.now c.self.invariant.0.next is_vertex below c.neighbour-w.ensures.value c.back_port.ensures.value c.index.ensures)
           c.requires.vertex c.requires.port;
     }

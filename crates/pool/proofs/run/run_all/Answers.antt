@@ -1,0 +1,104 @@
+use Rattle.std.proofs.Common.{◌≡◌, ◌-◌, [], length, map, refl, sym, ap, ◌∙◌, arith, rules, vec_len}
+use Rattle.std.specs.List.{range_with_len}
+use Rattle.actor.specs.interference.Net.{count_of}
+use Rattle.crossbeam_deque.specs.Handles.{stealer_deque, view, worker_deque, worker_view}
+use Rattle.worker_deques.specs.deque_rule.Deques.{deque_of}
+use Rattle.worker_deques.specs.deque_rule.Ledgers.{all_shares, ledger, shares_of}
+use Rattle.worker_deques.proofs.Holds.{dealt_on}
+use Rattle.worker_deques.proofs.deque_rule.Rule.{deals}
+use Rattle.worker_deques.proofs.Views.{as_many, carried}
+use Rattle.pool.proofs.Numbers.{as_many as many_nodes, from_one, from_the_last}
+use Rattle.pool.proofs.run.run_all.Goals as goal
+
+pub deal-owns-requires-clause-room : goal.deal-owns-requires-clause-room
+deal-owns-requires-clause-room g c k d lt =
+    let room = c.in_ok-owns.ensures.room k d lt in
+    let count = c.len-count.ensures in
+    omega arith
+
+pub cut-requires-clause-rule : goal.cut-requires-clause-rule
+cut-requires-clause-rule g c = record {
+  forks = deals;
+  one = λ v. refl;
+}
+
+pub cut-requires-clause-shares : goal.cut-requires-clause-shares
+cut-requires-clause-shares g c k d lt = let s = c.deal-owns.ensures.shares k d lt in omega arith
+
+pub make_desks-requires-clause-few : goal.make_desks-requires-clause-few
+make_desks-requires-clause-few g c =
+    let made = c.in_ok-owns.owns in
+    let dealt = as_many worker_deque worker_deque made.items c.deal-owns.result.items c.deal-owns.ensures.deques in
+    let left = as_many worker_deque worker_deque c.deal-owns.result.items c.in_ok-owns-2.owns.items c.in_ok-owns-2.ensures.owns in
+    let n = c.in_ok-owns.ensures.workers in
+    let few = c.requires.workers.1 in
+    omega (arith, made.ok.0, c.in_ok-owns-2.owns.ok.0)
+
+pub make_desks-requires-clause-new : goal.make_desks-requires-clause-new
+make_desks-requires-clause-new g c =
+    carried (λ o. ledger (shares_of (worker_view o) - 1) [] []) worker_view (λ v. v ≡ ledger (all_shares - 1) [] []) c.deal-owns.result.items _
+    c.in_ok-owns-2.ensures.left (λ k d lt. ap (λ n. ledger (n - 1) [] []) (c.deal-owns.ensures.shares k d lt))
+
+-- the threads begin with a desk for each thief
+pub scoped-requires : goal.scoped-requires
+scoped-requires g c =
+    let made = c.in_ok-owns.owns in
+    let deques = c.in_ok-owns-2.ensures.owns ∙ c.deal-owns.ensures.deques ∙ c.in_ok-owns.ensures.deques in
+    let desks = as_many stealer_deque (λ d. worker_deque d.own) c.in_ok-owns.thieves.items c.in_ok-desks.desks.items (c.in_ok-desks.ensures.owns ∙ deques) in
+    let thieves = as_many worker_deque stealer_deque made.items c.in_ok-owns.thieves.items (sym c.in_ok-owns.ensures.deques) in
+    let n = c.in_ok-owns.ensures.workers in
+    let few = c.requires.workers.1 in
+    let may = c.type_bounds in
+    record {
+      at = λ a. (
+        (
+          omega (arith, made.ok.0, c.in_ok-desks.desks.ok.0),
+          omega (arith, c.in_ok-owns.thieves.ok.0, c.in_ok-desks.desks.ok.0, ap (λ l. length l) c.as_slice-thieves.ensures.value),
+          λ k d lt. c.in_ok-desks.ensures.guests k d lt ∙ deques ∙ ap (map stealer_deque) (sym c.as_slice-thieves.ensures.value),
+        ),
+        (search rules, search rules, may.send-P-Payload, search rules, search rules, search rules),
+      );
+    }
+
+pub gather-requires-clause-deques : goal.gather-requires-clause-deques
+gather-requires-clause-deques g c =
+    c.in_ok-owns-2.ensures.guests ∙ sym c.in_ok-owns-2.ensures.owns ∙ sym c.in_ok-desks.ensures.owns ∙ sym c.in_ok-done.ensures.1.0
+
+pub gather-requires-clause-guests : goal.gather-requires-clause-guests
+gather-requires-clause-guests g c =
+    carried (λ d. map (λ g'. deque_of g'.pass) d.guests.items) (λ d. map (λ g'. deque_of g'.pass) d.guests.items)
+    (λ ids. ids ≡ map (λ g'. deque_of g'.pass) c.in_ok-owns-2.dealt.items) c.in_ok-desks.desks.items _ c.in_ok-done.ensures.1.1.0
+    (λ k d lt. c.in_ok-desks.ensures.guests k d lt ∙ c.in_ok-owns-2.ensures.owns ∙ sym c.in_ok-owns-2.ensures.guests)
+
+pub gather-requires-clause-few : goal.gather-requires-clause-few
+gather-requires-clause-few g c =
+    let made = c.in_ok-owns.owns in
+    let dealt = as_many worker_deque worker_deque made.items c.deal-owns.result.items c.deal-owns.ensures.deques in
+    let cut = as_many worker_deque (λ g'. deque_of g'.pass) c.deal-owns.result.items c.in_ok-owns-2.dealt.items c.in_ok-owns-2.ensures.guests in
+    let n = c.in_ok-owns.ensures.workers in
+    let few = c.requires.workers.1 in
+    omega (arith, made.ok.0, c.in_ok-owns-2.dealt.ok.0)
+
+-- what was dealt are the numbers below the count
+pub gather-requires-clause-dealt : goal.gather-requires-clause-dealt
+gather-requires-clause-dealt g c =
+    let nodes = c.args.nodes in
+    let n = count_of g.J.Wiring.net in
+    let many = many_nodes (λ b. b.value.vertex) nodes.items n c.requires.nodes in
+    let count = c.len-count.ensures in
+    let room = vec_len c.in_ok-places.places.slots in
+    let places = c.in_ok-places.ensures.count in
+    dealt_on worker_view (λ g'. view g'.pass) c.deal-owns.result.items c.in_ok-owns-2.dealt.items (map (λ b. b.value.vertex - 1) nodes.items)
+    (range_with_len 0 room) c.in_ok-owns-2.ensures.right
+    (from_the_last (λ b. b.value.vertex) nodes.items n room (omega (arith, nodes.ok.0)) c.requires.nodes) c.deal-owns.ensures.dealt
+
+-- they come back from the first vertex up
+pub returns-clause-order : goal.returns-clause-order
+returns-clause-order g c =
+    let nodes = c.args.nodes in
+    let n = count_of g.J.Wiring.net in
+    let many = many_nodes (λ b. b.value.vertex) nodes.items n c.requires.nodes in
+    let count = c.len-count.ensures in
+    let room = vec_len c.in_ok-places.places.slots in
+    let places = c.in_ok-places.ensures.count in
+    from_one (λ n. n.vertex) (λ n. n.kept.is_vertex.0) c.in_ok-gather.field-0.items n room (omega (arith, nodes.ok.0)) c.in_ok-gather.ensures.order

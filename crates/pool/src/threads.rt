@@ -1,0 +1,120 @@
+//! The threads of a run: each worker has one of its own.
+
+ghost use Rattle.std.specs.Prelude.{◌≡◌, ◌≢◌, ◌<◌, ◌≤◌, All, IfErr, IfOk, length, map, vec_len};
+ghost use Rattle.crossbeam_deque.specs.Handles.{stealer_deque, worker_deque};
+ghost use Rattle.worker_deques.specs.deque_rule.Deques.{deque_of};
+ghost use Rattle.pool.specs.declared.fault.PoolFault.TheVariants.{BadOptions, Spawn, StampFull};
+
+use crate::fault::PoolFault;
+use crate::looks::{Crew, work};
+use crate::signals::Signals;
+use actor::{Gate, Node, NodeProgram, Wiring};
+use run_options::MAX_WORKERS;
+use std::alloc::Global;
+use std::snapshot::Snapshot;
+use std::sync::Wait;
+use std::thread;
+use std::thread::{PromisedHandle, Scope, Threads};
+use worker_deques::{Desk, SameDeques, Task, Thief};
+
+/// A worker in a thread of its own, which can be joined.
+pub type Child<T: Task> = PromisedHandle<Desk<T>, SameDeques<T>>;
+
+// Starts a worker in a thread of the scope.
+fn start<'s, E, J: Wiring + Send + Sync, P: NodeProgram, G: Gate + Sync, R: Threads + Wait + Sync>(
+    scope: &Scope<'s, E>,
+    rt: &'s R,
+    crew: &'s Crew<'s, J, P, G>,
+    thieves: &'s [Thief<Node<J, P>>],
+    worker: u32,
+    desk: Desk<Node<J, P>>,
+    turns: u64,
+) -> Result<Child<Node<J, P>>, PoolFault>
+    requires worker { worker < length thieves.now }
+    requires deques { map (λ g. deque_of g.pass) desk.guests.items ≡ map stealer_deque thieves.now }
+    ensures desk { IfOk result (λ h. h.promise.0.value ≡ desk) }
+    ensures fault { IfErr result (λ fault. fault ≢ BadOptions) }
+    ensures spawn { IfErr result (λ fault. fault ≡ Spawn) }
+{
+    let started = scope.spawn_with(
+        SameDeques(Snapshot::of(&desk)),
+        move || -> Desk<Node<J, P>>
+            requires { (worker < length thieves.now)
+                × (map (λ g. deque_of g.pass) desk.guests.items ≡ map stealer_deque thieves.now) }
+            ensures { (worker_deque result.own ≡ worker_deque desk.own)
+                × (map (λ g. deque_of g.pass) result.guests.items
+                ≡ map (λ g. deque_of g.pass) desk.guests.items) }
+        { work(rt, crew, thieves, worker, desk, turns) },
+    );
+    match started {
+        Ok(child) => Ok(child),
+        Err(_) => {
+            crew.signals.fail();
+            Err(PoolFault::Spawn)
+        }
+    }
+}
+
+/// Starts a worker for each desk, in threads of the scope: worker k has desk k, from 0.
+///
+/// # Errors
+///
+/// `Memory` if memory for the list of threads is refused, before any begins. `Spawn` if a thread is refused; the others
+/// stop, and the scope joins them.
+pub fn start_all<
+    's,
+    E,
+    J: Wiring + Send + Sync,
+    P: NodeProgram,
+    G: Gate + Sync,
+    R: Threads + Wait + Sync,
+>(
+    scope: &Scope<'s, E>,
+    rt: &'s R,
+    alloc: Global,
+    crew: &'s Crew<'s, J, P, G>,
+    thieves: &'s [Thief<Node<J, P>>],
+    desks: Vec<Desk<Node<J, P>>>,
+    turns: u64,
+) -> Result<Vec<Child<Node<J, P>>>, PoolFault>
+    requires few { vec_len desks ≤ MAX_WORKERS }
+    requires workers { vec_len desks ≡ length thieves.now }
+    requires deques { All (λ d. map (λ g. deque_of g.pass) d.guests.items
+        ≡ map stealer_deque thieves.now) desks.items }
+    ensures desks { IfOk result (λ hs. map (λ h. h.promise.0.value) hs.items ≡ desks.items) }
+    ensures fault { IfErr result (λ fault. fault ≢ BadOptions) }
+    ensures no_stamp { IfErr result (λ fault. fault ≢ StampFull) }
+{
+    let mut children = Vec::with_capacity(alloc, desks.len())?;
+    let mut worker = 0;
+    for desk in desks {
+        children.push_reserved(start(scope, rt, crew, thieves, worker, desk, turns)?);
+        worker += 1;
+    }
+    Ok(children)
+}
+
+/// Joins all workers, and returns their desks in the same order.
+///
+/// # Errors
+///
+/// `Memory` if memory for what they return is refused.
+pub fn join_all<T: Task, R: Threads + Wait>(
+    rt: &R,
+    signals: &Signals,
+    children: Vec<Child<T>>,
+) -> Result<Vec<Desk<T>>, PoolFault>
+    ensures owns { IfOk result (λ done. map (λ d. worker_deque d.own) done.items
+        ≡ map (λ d. worker_deque d.own) (map (λ h. h.promise.0.value) children.items)) }
+    ensures guests { IfOk result (λ done. map (λ d. map (λ g. deque_of g.pass) d.guests.items) done.items
+        ≡ map (λ d. map (λ g. deque_of g.pass) d.guests.items) (map (λ h. h.promise.0.value) children.items)) }
+    ensures memory { IfErr result (λ fault. fault ≡ PoolFault.Memory) }
+{
+    match thread::join_promised(rt, children) {
+        Ok(done) => Ok(done),
+        Err(_) => {
+            signals.fail();
+            Err(PoolFault::Memory)
+        }
+    }
+}
