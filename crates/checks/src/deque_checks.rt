@@ -44,7 +44,7 @@ struct Begun {
         desks.items },
 }
 
-// So many tasks, the last first.
+// `count` tasks, with the numbers from `count - 1` down to 0.
 fn make_tasks(alloc: Global, count: usize) -> Result<Vec<Box<Numbered>>, AllocError> {
     let mut tasks = Vec::new(alloc);
     for k in 0..count {

@@ -44,7 +44,7 @@ impl Long {
         }
     }
 
-    /// The same number, copied word by word.
+    /// The same number, copied by machine words.
     #[inline(always)]
     pub fn by_words(self) -> Long
         ensures same { result ≡ self }
@@ -98,7 +98,7 @@ impl Short {
         }
     }
 
-    /// The same number, copied word by word.
+    /// The same number, copied by machine words.
     #[inline(always)]
     pub fn by_words(self) -> Short
         ensures same { result ≡ self }

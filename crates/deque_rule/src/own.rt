@@ -8,7 +8,7 @@ use crate::guest::Own;
 use crate::ledger::Gives;
 use crate::task::Task;
 
-/// Puts a task on its owner's deque. Returns it if the deque refuses it.
+/// Puts a task on the worker's own deque. Returns it if the deque refuses it.
 pub fn give_back<T: Task>(own: &mut Own<T>, task: Box<T>) -> Option<Box<T>>
     requires some { 0 < (worker_view own.old).shares }
     ensures deque { worker_deque own.new ≡ worker_deque own.old }

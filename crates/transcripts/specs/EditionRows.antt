@@ -11,7 +11,8 @@ edition_word false = codes "1"
 edition_word true = codes "2"
 
 module _ {R M : Type 0} (stamped : Bool) (made : ℕ → ℕ → Entry M → R) (payload_of : List ℕ → ℕ → Option M) where
-  -- the row that a line is, made of a stamp, a vertex and an entry; without stamps it is made of any
+  -- the row of a line, if it is one, made of its stamp, vertex and entry; in edition 1 a line has no stamp, and 0 is
+  -- handed on, which such a row leaves out
   abbrev pub row_in : Line → Option R
   row_in line = elim stamped [
     | false ↦ row_with payload_of (made 0) line

@@ -18,7 +18,7 @@ pub(crate) trait EditionRow<T>: Copy {
     /// Whether a row has a stamp.
     ghost STAMPED: { Bool };
 
-    /// The row of a stamp, which counts only if rows have one, a vertex and an entry.
+    /// The row of a stamp, a vertex and an entry; in edition 1, whose rows have no stamp, the stamp is left out.
     ghost made: { ℕ → ℕ → Entry T → Self };
 
     const STAMPED: bool;
