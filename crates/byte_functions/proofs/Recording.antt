@@ -12,7 +12,7 @@ use Rattle.run_options.specs.declared.Edition.TheVariants as edition
 use Rattle.stamps.specs.Merged.{IsMerge}
 use Rattle.stamps.specs.Stamps.{Rises}
 use Rattle.answers.specs.Answers.{ReadsAs}
-use Rattle.byte_functions.specs.Transcripts.{IsMergedText, IsMergedTranscriptOf, IsTextIn, IsTranscriptAnswer, IsTranscriptOf, entries_text, stamped_of}
+use Rattle.byte_functions.specs.Transcripts.{IsMergedText, IsMergedTranscriptOf, IsTextIn, IsTranscriptAnswer, IsTranscriptOf, entries_text}
 
 -- there are as many nodes as vertices
 pub nodes-count : {S M E : Type 0} (program : Program S M E) (net : Net) (capacity : ℕ) (transcript : Bool) (outcome : Outcome S M)
@@ -23,13 +23,13 @@ nodes-count program net capacity transcript outcome is =
 module _ {S M E : Type 0} (program : Program S M E) (net : Net) (capacity : ℕ) (outcome : Outcome S M)
     (is : IsOutcome program net capacity true outcome) where
   -- the stamps of each node rise, in a list of all nodes
-  pub all-rise : All Rises (map stamped_of outcome.nodes)
+  pub all-rise : All Rises (map (λ node. node.entries) outcome.nodes)
   all-rise =
-      All-from_get_or Rises (map stamped_of outcome.nodes) [] (λ i lt.
+      All-from_get_or Rises (map (λ node. node.entries) outcome.nodes) [] (λ i lt.
       let few = nodes-count program net capacity true outcome is in
-      let same = length-map outcome.nodes stamped_of in
+      let same = length-map outcome.nodes (λ node. node.entries) in
       let back : suc i - 1 ≡ i = omega arith in
-      subst (λ k. Rises (slice_index_or (map stamped_of outcome.nodes) k [])) back
+      subst (λ k. Rises (slice_index_or (map (λ node. node.entries) outcome.nodes) k [])) back
       (is.rises refl (suc i) (omega arith, omega (arith, lt, few, same))))
 
 module _ {S M E : Type 0} (program : Program S M E) (word_of : M → List ℕ) (number_of : M → ℕ) (input text : List ℕ) (net : Net) (capacity : ℕ)

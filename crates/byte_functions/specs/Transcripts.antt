@@ -11,15 +11,11 @@ use Rattle.run_options.specs.declared.Edition.{Edition}
 use Rattle.run_options.specs.declared.Edition.TheVariants as edition
 use Rattle.stamps.specs.entries.Rows.{vertex_row}
 use Rattle.stamps.specs.Merged.{IsMerge, StampedRow, list_of}
-use Rattle.stamps.specs.Stamps.{StampedEntry, bare_of}
+use Rattle.stamps.specs.Stamps.{bare_of}
 
 -- the entries of a node without their stamps, each with its vertex
 abbrev pub rows_in : {S M : Type 0} → Gathered S M → List (Row M)
 rows_in g = map (λ entry. vertex_row g.vertex entry) (bare_of g.entries)
-
--- the entries of a node with their stamps
-abbrev pub stamped_of : {S M : Type 0} → Gathered S M → List (StampedEntry M)
-stamped_of g = g.entries
 
 -- The texts of programs whose payloads are written by a word and a number.
 module _ {S M : Type 0} (word_of : M → List ℕ) (number_of : M → ℕ) where
@@ -31,7 +27,7 @@ module _ {S M : Type 0} (word_of : M → List ℕ) (number_of : M → ℕ) where
   -- vertices, each once.
   abbrev pub IsMergedText : ℕ → List (Gathered S M) → List ℕ → Type 0
   IsMergedText count nodes text = (rows : List (StampedRow M))
-      × IsMerge (length nodes) (list_of (map stamped_of nodes)) rows
+      × IsMerge (length nodes) (list_of (map (λ node. node.entries) nodes)) rows
       × (text ≡ stamped_transcript_of word_of number_of count rows)
 
   -- the text is the transcript of nodes in an edition

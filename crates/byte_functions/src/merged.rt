@@ -3,7 +3,7 @@
 ghost use Rattle.std.specs.Prelude.{◌≡◌, All, IfOk, length, map};
 ghost use Rattle.node_pool.specs.outcomes.Gathers.{gathered_of};
 ghost use Rattle.stamps.specs.Stamps.{Rises};
-ghost use Rattle.byte_functions.specs.Transcripts.{IsMergedText, stamped_of};
+ghost use Rattle.byte_functions.specs.Transcripts.{IsMergedText};
 
 use crate::merging::Merging;
 use alpha_laws::NodeProgram;
@@ -22,7 +22,7 @@ pub fn merged_text<P: NodeProgram>(
     actors: Vec<Actor<P>>,
 ) -> Result<Vec<u8>, Memory>
     requires count { length actors.items ≡ count }
-    requires rising { All Rises (map stamped_of (map gathered_of actors.items)) }
+    requires rising { All Rises (map (λ node. node.entries) (map gathered_of actors.items)) }
     ensures { IfOk result (λ text.
         IsMergedText P.Payload.word_of P.Payload.number_of count (map gathered_of actors.items) text.items) }
 {

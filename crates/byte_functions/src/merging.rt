@@ -4,7 +4,6 @@ ghost use Rattle.std.specs.Prelude.{◌≡◌, ◌<◌, ◌^◌, IfOk, MatchOpti
 ghost use Rattle.std.specs.BinaryHeap.{KeepsHeap, heap_items, heap_len};
 ghost use Rattle.node_pool.specs.outcomes.Gathers.{gathered_of};
 ghost use Rattle.byte_functions.specs.Merge.{AreKeys, IsKeyAdded, IsTaken, NoneLeft, key_cmp};
-ghost use Rattle.byte_functions.specs.Transcripts.{stamped_of};
 
 use crate::left_entries::LeftEntries;
 use alpha_laws::{NodeProgram, PayloadText};
@@ -68,7 +67,8 @@ impl<'a, T: PayloadText> Merging<'a, T> {
         alloc: Global,
         actors: &'a [Actor<P>],
     ) -> Result<Merging<'a, T>, AllocError>
-        ensures lefts { IfOk result (λ merging. merging.lefts.items ≡ map stamped_of (map gathered_of actors.now)) }
+        ensures lefts { IfOk result (λ merging. merging.lefts.items
+            ≡ map (λ node. node.entries) (map gathered_of actors.now)) }
         ensures keys { IfOk result (λ merging. AreKeys merging.lefts.items (heap_items merging.keys)) }
     {
         let mut lefts = Vec::new(alloc);

@@ -4,7 +4,7 @@ ghost use Rattle.std.specs.Prelude.{◌≡◌, All, IfOk, IfErr, length, map};
 ghost use Rattle.node_pool.specs.run_options.Ranges.{AreInRange};
 ghost use Rattle.node_pool.specs.outcomes.Gathers.{gathered_of};
 ghost use Rattle.stamps.specs.Stamps.{Rises};
-ghost use Rattle.byte_functions.specs.Transcripts.{IsTextIn, IsTranscriptAnswer, entries_text, stamped_of};
+ghost use Rattle.byte_functions.specs.Transcripts.{IsTextIn, IsTranscriptAnswer, entries_text};
 ghost use Rattle.byte_functions.specs.Workers.{IsFaultOfWorkers};
 
 use crate::merged::merged_text;
@@ -45,7 +45,7 @@ fn text_in<P: NodeProgram>(
     actors: Vec<Actor<P>>,
 ) -> Result<Vec<u8>, Memory>
     requires count { length actors.items ≡ count }
-    requires rising { All Rises (map stamped_of (map gathered_of actors.items)) }
+    requires rising { All Rises (map (λ node. node.entries) (map gathered_of actors.items)) }
     ensures { IfOk result (λ text.
         IsTextIn P.Payload.word_of P.Payload.number_of edition count (map gathered_of actors.items) text.items) }
 {

@@ -22,7 +22,8 @@ module _ {T A V : Type 0} (f : T → A) (holds : List A → List V → Type 0) w
       → Merges (λ items. holds (map f items)) pass v other w both spent
   mapped_merges pass v other w both spent step items views h at apart there = step (map f items) views h at apart there
 
-  pub mapped_learns : (pass : ℕ) (v : V) (fact : List A → Type 0) → Learns holds pass v fact → Learns (λ items. holds (map f items)) pass v (λ items. fact (map f items))
+  pub mapped_learns : (pass : ℕ) (v : V) (fact : List A → Type 0) → Learns holds pass v fact
+      → Learns (λ items. holds (map f items)) pass v (λ items. fact (map f items))
   mapped_learns pass v fact step items views h at = step (map f items) views h at
 
 -- what the items had at that moment, what the function makes of them had

@@ -231,7 +231,8 @@ module _ {T : Type 0} where
   closes old new item is e =
       let xs = wires_of old in
       let x = item.wire in
-      sym (ap (λ l. has_close (wires_of l)) e ∙ ap has_close (map-append (λ (y : Stamped T). y.wire) old (item ∷ [])) ∙ close_last xs x ∙ ap (λ w. has_close xs || is_close w) is ∙ or_last (has_close xs))
+      sym (ap (λ l. has_close (wires_of l)) e ∙ ap has_close (map-append (λ (y : Stamped T). y.wire) old (item ∷ [])) ∙ close_last xs x
+      ∙ ap (λ w. has_close xs || is_close w) is ∙ or_last (has_close xs))
 
   -- a list that got any other wire has a close exactly if it had one
   pub stays : (b : Bool) (xs ws : List (Stamped T)) (x : Stamped T) → (x.wire ≡ Close → ⊥) → b ≡ has_close (wires_of xs) → ws ≡ xs ++ x ∷ []
@@ -239,7 +240,8 @@ module _ {T : Type 0} where
   stays b old new item other was e =
       let xs = wires_of old in
       let x = item.wire in
-      was ∙ sym (ap (λ l. has_close (wires_of l)) e ∙ ap has_close (map-append (λ (y : Stamped T). y.wire) old (item ∷ [])) ∙ close_last xs x ∙ ap (λ c. has_close xs || c) (not_close x other) ∙ or-false (has_close xs))
+      was ∙ sym (ap (λ l. has_close (wires_of l)) e ∙ ap has_close (map-append (λ (y : Stamped T). y.wire) old (item ∷ [])) ∙ close_last xs x
+      ∙ ap (λ c. has_close xs || c) (not_close x other) ∙ or-false (has_close xs))
 
   passes : (w : Wire T) (ws : List (Wire T)) → (w ≡ Close → ⊥) → (IsTrue (has_close ws) ↔ Contains ws Close) → IsTrue (has_close ws) ↔ Contains (w ∷ ws) Close
   passes w ws other rest = (

@@ -223,14 +223,15 @@ module _ {P T : Type 0} (net : Net) (capacity : ℕ) where
   pub edge-pushed : (ok : IsNetwork net) (v i w j : ℕ) → IsVertex net v → i < degree_of net v → v < neighbour_of net v i → w ≡ neighbour_of net v i
       → j ≡ back_port_of net v i → {links one two : List (Link P T)} {rows first second : List (List (PortEnds P T))} (out back : Link P T) {x y : PortEnds P T}
       → AreMadeBefore net capacity v i links rows → one ≡ links ++ out ∷ [] → two ≡ one ++ back ∷ [] → first ≡ row_more rows v x → second ≡ row_more first w y
-      → x.put_index ≡ length links → x.take_index ≡ length links + 1 → y.put_index ≡ length links + 1 → y.take_index ≡ length links
+      → x.put_index ≡ length links → x.take_index ≡ x.put_index + 1 → (y.put_index ≡ x.take_index) × (y.take_index ≡ x.put_index)
       → (link_capacity out ≡ capacity) × (link_capacity back ≡ capacity)
       → IsNewPutEnd out x.put (name_of net v i) → IsNewTakeEnd out y.take (name_of net v i)
       → IsNewPutEnd back y.put (name_of net w j) → IsNewTakeEnd back x.take (name_of net w j) → AreMadeBefore net capacity v (i + 1) two second
   edge-pushed ok v i w j vertex lt greater at_w at_j {links} {one} {two} {rows} {first} {second} out back {x} {y} so_far one_more two_more first_more
-      second_more x_put x_take y_put y_take capacities out_put out_take back_put back_take =
+      second_more x_put next_index swapped capacities out_put out_take back_put back_take =
       let more : two ≡ links ++ out ∷ back ∷ [] = two_more ∙ ap (λ l. l ++ back ∷ []) one_more ∙ twice links in
       let at_out : slice_get two (length links) ≡ Some out = ap (λ l. slice_get l (length links)) more ∙ first-there links out (back ∷ []) in
+      let x_take : x.take_index ≡ length links + 1 = next_index ∙ ap (λ k. k + 1) x_put in
       let next : length links + 1 ≡ suc (length links) = omega arith in
       let at_back : slice_get two (length links + 1) ≡ Some back =
       ap (slice_get two) next ∙ ap (λ l. slice_get l (suc (length links))) more ∙ second-there links out back in
@@ -248,10 +249,10 @@ module _ {P T : Type 0} (net : Net) (capacity : ℕ) where
         back = (back, (ap (slice_get two) x_take ∙ at_back, subst (IsNewTakeEnd back x.take) same back_take));
       }
       record {
-        out = (back, (ap (slice_get two) y_put ∙ at_back, subst (IsNewPutEnd back y.put) same back_put));
-        back = (out, (ap (slice_get two) y_take ∙ at_out, subst (IsNewTakeEnd out y.take) home out_take));
+        out = (back, (ap (slice_get two) (swapped.0 ∙ x_take) ∙ at_back, subst (IsNewPutEnd back y.put) same back_put));
+        back = (out, (ap (slice_get two) (swapped.1 ∙ x_put) ∙ at_out, subst (IsNewTakeEnd out y.take) home out_take));
       }
-      (x_take ∙ sym y_put, y_take ∙ sym x_put)) where
+      (sym swapped.0, swapped.1)) where
         twice : (l : List (Link P T)) → (l ++ out ∷ []) ++ back ∷ [] ≡ l ++ out ∷ back ∷ []
         twice [] = refl
         twice (z ∷ l) = ap (λ k. z ∷ k) (twice l)

@@ -3,15 +3,14 @@ use Rattle.std.proofs.lemmas.List.{flat_map_more, length-map}
 use Rattle.answers.specs.transcripts.TranscriptText.{first_line_of, stamped_row_text, stamped_transcript_of}
 use Rattle.node_pool.specs.outcomes.Gathers.{gathered_of}
 use Rattle.stamps.specs.Merged.{IsMerge, list_of}
-use Rattle.byte_functions.specs.Transcripts.{stamped_of}
 use Rattle.byte_functions.proofs.Merge.{IsMerging, fewer, merging-done, merging-init, merging-step}
 use Rattle.byte_functions.proofs.merged.merged_text.Goals as goal
 
 -- nothing is taken yet
 pub loop-row-init : goal.loop-row-init
 loop-row-init g c =
-    let wrote = map stamped_of (map gathered_of c.args.actors.items) in
-    let lefts = c.in_ok-merging.ensures.lefts ∙ ap (λ actors. map stamped_of (map gathered_of actors)) c.as_slice-2.ensures.value in
+    let wrote = map (λ node. node.entries) (map gathered_of c.args.actors.items) in
+    let lefts = c.in_ok-merging.ensures.lefts ∙ ap (λ actors. map (λ node. node.entries) (map gathered_of actors)) c.as_slice-2.ensures.value in
     let none : c.as_slice.result.now ≡ [] = search rules in
     record {
       keys = c.in_ok-merging.ensures.keys;
@@ -26,7 +25,8 @@ loop-row-init g c =
 -- one entry more is taken, and its line written
 pub loop-row-preserved : goal.loop-row-preserved
 loop-row-preserved g c =
-    let wrote = map stamped_of (map gathered_of c.args.actors.items) in
+    let wrote = map (λ node. node.entries) (map gathered_of c.args.actors.items) in
+    let words = g.P.Payload.PayloadText in
     let row = c.in-Some.row in
     let so_far = c.loop-row.invariant.rows in
     let rows = so_far.0 in
@@ -36,8 +36,8 @@ loop-row-preserved g c =
       rows = (
         rows ++ (row ∷ []),
         merging-step wrote c.loop-row.merging.lefts.items c.take.new.self.lefts.items rows row so_far.1 taken,
-        c.in_ok-push_stamped_row.ensures.text ∙ ap (λ t. t ++ stamped_row_text g.P.Payload.PayloadText.word_of g.P.Payload.PayloadText.number_of row) so_far.2
-            ∙ flat_map_more (stamped_row_text g.P.Payload.PayloadText.word_of g.P.Payload.PayloadText.number_of) (first_line_of (codes "2") c.args.count) rows row,
+        c.in_ok-push_stamped_row.ensures.text ∙ ap (λ t. t ++ stamped_row_text words.word_of words.number_of row) so_far.2
+            ∙ flat_map_more (stamped_row_text words.word_of words.number_of) (first_line_of (codes "2") c.args.count) rows row,
       );
     }
 
@@ -49,8 +49,8 @@ loop-row-smaller g c = fewer c.loop-row.merging.lefts.items c.take.new.self.left
 pub returns : goal.returns
 returns g c =
     let nodes = map gathered_of c.args.actors.items in
-    let wrote = map stamped_of nodes in
+    let wrote = map (λ node. node.entries) nodes in
     let all = c.loop-row.invariant.rows in
     let none = c.in_default.ensures.taken in
     let merge = merging-done wrote c.loop-row.merging.lefts.items all.0 all.1 none in
-    (all.0, subst (λ n. IsMerge n (list_of wrote) all.0) (length-map nodes stamped_of) merge, all.2)
+    (all.0, subst (λ n. IsMerge n (list_of wrote) all.0) (length-map nodes (λ node. node.entries)) merge, all.2)

@@ -3,7 +3,6 @@ use Rattle.std.specs.BinaryHeap.{heap_items}
 use Rattle.std.specs.List.{sum_by}
 use Rattle.node_pool.specs.outcomes.Gathers.{gathered_of}
 use Rattle.byte_functions.specs.Merge.{AreKeys}
-use Rattle.byte_functions.specs.Transcripts.{stamped_of}
 use Rattle.byte_functions.proofs.Merge.{HasMerged}
 use Rattle.byte_functions.proofs.merged.merged_text.Given as goal
 
@@ -13,7 +12,8 @@ invariant-loop-row g l =
     let words = g.P.Payload.PayloadText in
     record {
       keys : AreKeys l.merging.lefts.items (heap_items l.merging.keys);
-      rows : HasMerged words.word_of words.number_of (map stamped_of (map gathered_of l.fn.actors.items)) l.merging.lefts.items l.count l.text.items;
+      rows : HasMerged words.word_of words.number_of (map (λ node. node.entries) (map gathered_of l.fn.actors.items))
+          l.merging.lefts.items l.count l.text.items;
     }
 
 -- how many entries are left

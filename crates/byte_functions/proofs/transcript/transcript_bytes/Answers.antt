@@ -3,7 +3,7 @@ use Rattle.std.proofs.lemmas.List.{length-map}
 use Rattle.node_pool.specs.outcomes.Gathers.{gathered_of}
 use Rattle.stamps.specs.Stamps.{Rises}
 use Rattle.node_pool.specs.gather_laws.Merged.{WholeOutcomesReplay}
-use Rattle.byte_functions.specs.Transcripts.{IsTextIn, stamped_of}
+use Rattle.byte_functions.specs.Transcripts.{IsTextIn}
 use Rattle.byte_functions.proofs.Recording.{all-rise, answered, nodes-count}
 use Rattle.byte_functions.proofs.transcript.transcript_bytes.Goals as goal
 
@@ -20,7 +20,7 @@ pub text_in-requires-clause-rising : goal.text_in-requires-clause-rising
 text_in-requires-clause-rising g c = λ lives within.
     let net = c.in_ok-network.network in
     let outcome = c.in_ok-outcome.outcome in
-    subst (λ nodes. All Rises (map stamped_of nodes)) (sym c.into_actors.ensures.nodes)
+    subst (λ nodes. All Rises (map (λ node. node.entries) nodes)) (sym c.into_actors.ensures.nodes)
     (all-rise g.P.NodeProgram.program net c.args.options.capacity outcome c.in_ok-outcome.ensures.outcome)
 
 pub returns-clause-ok : goal.returns-clause-ok

@@ -14,3 +14,12 @@ returns-in_err-transcript-clause-shape c = err_says _ _ c.from_residual.result c
 
 pub returns-in_err-transcript-clause-local : goal.returns-in_err-transcript-clause-local
 returns-in_err-transcript-clause-local c = err_says _ _ c.from_residual.result c.from_residual.ensures.1
+
+pub returns-clause-local : goal.returns-clause-local
+returns-clause-local c = c.with_command.ensures.local
+
+pub with_command-requires-clause-locals : goal.with_command-requires-clause-locals
+with_command-requires-clause-locals c = c.requires
+
+pub with_command-requires-clause-local : goal.with_command-requires-clause-local
+with_command-requires-clause-local c = c.in_ok-transcript.ensures.local

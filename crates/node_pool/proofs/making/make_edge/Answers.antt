@@ -1,4 +1,4 @@
-use Rattle.std.proofs.Common.{◌≡◌, length, arith}
+use Rattle.std.proofs.Common.{◌≡◌, length, refl, arith}
 use Rattle.node_pool.proofs.Edges.{edge-pushed}
 use Rattle.node_pool.proofs.making.make_edge.Goals as goal
 
@@ -10,42 +10,7 @@ returns g c =
       made = edge-pushed c.args.net.now c.args.capacity c.is_network.ensures c.args.v c.args.i c.neighbour-w.result c.back_port-j.result c.requires.vertex
           c.requires.port c.requires.greater c.neighbour-w.ensures.value c.back_port-j.ensures.value c.in_ok-out.out c.in_ok-back.back so_far
           c.in_ok-push.ensures.items c.in_ok-push-2.ensures.items c.in_ok-push_to.ensures.rows c.in_ok-push_to-2.ensures.rows
-          (omega (
-            arith,
-            long,
-            so_far.few,
-            c.requires.vertex.1,
-            c.is_network.ensures.count,
-            c.requires.port,
-            c.is_network.ensures.degrees c.args.v c.requires.vertex,
-          ))
-          (omega (
-            arith,
-            long,
-            so_far.few,
-            c.requires.vertex.1,
-            c.is_network.ensures.count,
-            c.requires.port,
-            c.is_network.ensures.degrees c.args.v c.requires.vertex,
-          ))
-          (omega (
-            arith,
-            long,
-            so_far.few,
-            c.requires.vertex.1,
-            c.is_network.ensures.count,
-            c.requires.port,
-            c.is_network.ensures.degrees c.args.v c.requires.vertex,
-          ))
-          (omega (
-            arith,
-            long,
-            so_far.few,
-            c.requires.vertex.1,
-            c.is_network.ensures.count,
-            c.requires.port,
-            c.is_network.ensures.degrees c.args.v c.requires.vertex,
-          ))
+          long refl (refl, refl)
           (c.in_ok-out.ensures.capacity, c.in_ok-back.ensures.capacity) c.in_ok-out.ensures.put_end c.in_ok-out.ensures.take_end
           c.in_ok-back.ensures.put_end c.in_ok-back.ensures.take_end;
     }

@@ -3,8 +3,8 @@ use Rattle.worker_deques.proofs.gathering.with_those_of.Goals as goal
 
 pub returns : goal.returns
 returns g c = record {
-  tasks = one_task (λ b. g.T.Task.number_of b.value) c.args.tasks.items c.args.finished.items c.args.task c.in-Some.task _ _ c.in-Some.is c.in_ok-append.ensures.items
-      c.in_ok-push.ensures.items;
+  tasks = one_task (λ b. g.T.Task.number_of b.value) c.args.tasks.items c.args.finished.items c.args.task c.in-Some.task _ _
+      c.in-Some.is c.in_ok-append.ensures.items c.in_ok-push.ensures.items;
 }
 
 pub returns-in_default : goal.returns-in_default

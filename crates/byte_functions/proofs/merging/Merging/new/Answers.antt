@@ -3,7 +3,6 @@ use Rattle.std.specs.BinaryHeap.{heap_items}
 use Rattle.std.proofs.lemmas.List.{length-map, length-take-le, map-append, take_more}
 use Rattle.node_pool.specs.outcomes.Gathers.{gathered_of}
 use Rattle.byte_functions.specs.Merge.{AreKeys, IsKeyAdded}
-use Rattle.byte_functions.specs.Transcripts.{stamped_of}
 use Rattle.byte_functions.proofs.Keys.{keys_more, no_keys}
 use Rattle.byte_functions.proofs.merging.Merging.new.Goals as goal
 
@@ -28,13 +27,15 @@ loop-index-preserved g c =
     let lt = c.loop-index-test.true in
     let so_far = c.loop-index.invariant.lefts in
     let before = map gathered_of (take i actors) in
-    let many = ap length so_far ∙ length-map before stamped_of ∙ length-map (take i actors) gathered_of ∙ length-take-le i actors (omega (arith, lt)) in
+    let many =
+    ap length so_far ∙ length-map before (λ node. node.entries) ∙ length-map (take i actors) gathered_of
+    ∙ length-take-le i actors (omega (arith, lt)) in
     let wrote = c.new-left.ensures ∙ c.stamped.ensures.items ∙ ap (λ entries. entries.items) c.entries.ensures.entries in
     let all = c.in_ok-push.ensures.items in
     record {
-      lefts = all ∙ ap (λ l. l ++ (left ∷ [])) so_far ∙ ap (λ l. map stamped_of before ++ (l ∷ [])) wrote
-          ∙ sym (map-append stamped_of before (gathered_of actor ∷ []))
-          ∙ ap (map stamped_of) (sym (map-append gathered_of (take i actors) (actor ∷ []))
+      lefts = all ∙ ap (λ l. l ++ (left ∷ [])) so_far ∙ ap (λ l. map (λ node. node.entries) before ++ (l ∷ [])) wrote
+          ∙ sym (map-append (λ node. node.entries) before (gathered_of actor ∷ []))
+          ∙ ap (map (λ node. node.entries)) (sym (map-append gathered_of (take i actors) (actor ∷ []))
           ∙ ap (map gathered_of) (ap (λ a. take i actors ++ (a ∷ [])) c.index-actors-index.is ∙ sym (take_more actors i actor lt)));
       keys = subst (λ l. AreKeys l new) (sym all)
           (keys_more lefts left old new c.loop-index.invariant.keys (subst (λ n. IsKeyAdded left n old new) (sym many) pushed.added)

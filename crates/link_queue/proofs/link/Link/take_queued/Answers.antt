@@ -9,8 +9,10 @@ pub pop_as-requires-clause-rule : goal.pop_as-requires-clause-rule
 pop_as-requires-clause-rule g c =
     let program = g.P.NodeProgram.program in
     let legal = IsLegalOn program in
-    let may = c.args.end.now.takes.1 in
-    (mapped_pops stamped_of (Linked legal) _ _ _ (takes legal _ _ may (legal_begin program)), mapped_learns stamped_of (Linked legal) _ _ _ (backs legal _ _ may))
+    let may = c.args.end.now.takes.1 in (
+      mapped_pops stamped_of (Linked legal) _ _ _ (takes legal _ _ may (legal_begin program)),
+      mapped_learns stamped_of (Linked legal) _ _ _ (backs legal _ _ may),
+    )
 
 -- the queue was empty of items, and so of wires
 pub returns-clause-empty : goal.returns-clause-empty

@@ -14,7 +14,8 @@ pop_as-requires-clause-lifo g c lifo = pops (λ b. g.T.Task.number_of b.value) _
 pub invariant_of-self : goal.invariant_of-self
 invariant_of-self g c =
     let old = c.args.self.now in
-    let p = popped (λ b. g.T.Task.number_of b.value) (KnowsEmpty (worker_view old.own)) c.pop_as.result _ _ _ _ _ c.requires.empty c.pop_as.ensures.rule old.out in
+    let p = popped (λ b. g.T.Task.number_of b.value) (KnowsEmpty (worker_view old.own)) c.pop_as.result _ _ _ _ _
+    c.requires.empty c.pop_as.ensures.rule old.out in
     record {
       shares = let s = old.shares in let q = p.0 in omega arith;
       some = let s = old.some in let q = p.0 in omega arith;
