@@ -36,7 +36,8 @@ loop-inbox-preserved-in-Chosen g c =
     record {
       same = c.next.ensures.reads.same ∙ l.invariant.same;
       rest =
-          ap (λ (set : FinSet nat_cmp). fold_rest taken_in set c.next.new.self) (c.add.ensures ∙ ap (λ (n : ℕ). insert l.chosen n) c.get.ensures.number ∙ ap (taken_in l.chosen port) (sym c.in-Chosen.is))
+          ap (λ (set : FinSet nat_cmp). fold_rest taken_in set c.next.new.self)
+          (c.add.ensures ∙ ap (λ (n : ℕ). insert l.chosen n) c.get.ensures.number ∙ ap (taken_in l.chosen port) (sym c.in-Chosen.is))
           ∙ (sym (fold_rest-read taken_in l.inbox c.next.result c.next.new.self l.chosen c.next.ensures.reads) ∙ l.invariant.rest);
     }
 

@@ -20,7 +20,8 @@ loop-i-preserved g c =
     let same : 1 + c.loop-i.i ≡ v = omega arith in
     texts-more (λ k. node_line k ++ link_lines k)
     1 c.loop-i.i v [] c.loop-i.text.items c.push_links.new.text.items same c.loop-i.invariant
-    (behind c.loop-i.text.items (node_line v) (link_lines v) c.push_node.new.text.items c.push_links.new.text.items c.in_ok-push_node.ensures c.in_ok-push_links.ensures)
+    (behind c.loop-i.text.items (node_line v) (link_lines v) c.push_node.new.text.items c.push_links.new.text.items
+    c.in_ok-push_node.ensures c.in_ok-push_links.ensures)
 
 pub returns : goal.returns
 returns g c =
