@@ -12,10 +12,15 @@ def processors():
     return len(os.sched_getaffinity(0))
 
 
-def jobs_with_room():
+def crates_with_room():
+    """How many crates memory has room for, side by side."""
     with open("/proc/meminfo", encoding="ascii") as text:
         free = next(int(line.split()[1]) << 10 for line in text if line.startswith("MemAvailable"))
-    return max(1, min(processors(), free // ROOM))
+    return max(1, free // ROOM)
+
+
+def jobs_with_room():
+    return min(processors(), crates_with_room())
 
 
 def measured_seconds():

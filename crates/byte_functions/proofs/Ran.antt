@@ -5,7 +5,6 @@ use Rattle.answers.specs.interference.Net.{Net}
 use Rattle.node_pool.specs.run_options.Ranges.{AreInRange}
 use Rattle.node_pool.specs.run_options.Options.{Options}
 use Rattle.node_pool.specs.gather_laws.Outcome.{Outcome, IsOutcome, is_whole}
-use Rattle.answers.specs.pool.PoolFault.{PoolFault}
 use Rattle.answers.specs.pool.PoolFault.TheVariants as pool
 use Rattle.program_texts.specs.node_api.Program.{Program}
 use Rattle.answers.specs.declared.fault.PlanFault.TheVariants as plan

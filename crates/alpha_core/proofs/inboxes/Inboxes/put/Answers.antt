@@ -21,7 +21,8 @@ returns-then-is_in_odd g c =
     let odd = sym c.is_in_odd.ensures.odd ∙ c.if-is_in_odd.true in
     let slots = odd-slots c.args.when a.at_odd a.even.slots a.odd.slots c.self.view_is odd in
     record {
-      put = odd-changed c.args.when a.at_odd a.even.slots a.odd.slots c.self.view_is odd (c.put.ensures.slots ∙ ap (λ l. set l c.args.port (Some c.args.payload)) slots);
+      put = odd-changed c.args.when a.at_odd a.even.slots a.odd.slots c.self.view_is odd
+        (c.put.ensures.slots ∙ ap (λ l. set l c.args.port (Some c.args.payload)) slots);
     }
 
 pub put-requires-else-is_in_odd-clause-port : goal.put-requires-else-is_in_odd-clause-port
