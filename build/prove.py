@@ -16,8 +16,9 @@ What has to be proved is decided by what the sources say, not by the times of fi
 if a crate isn't, 2 if nothing could be tried, and 130 after Ctrl-C.
 
 From nothing to the program `forestplan` it took 16 min 8 s and 54 processor minutes on four processors with nothing
-beside. Earlier proofs, which on four took 17 min 50 s and 59, took 35 min 25 s and 69 on two of four, and 66 min 46 s
-and 64 on one of four while other checks kept the others busy (docs/work/DECISIONS.md, 99, 100, 103 and 105).
+beside, and 23 min 34 s and 74 on a slow machine. Earlier proofs, which on four took 17 min 50 s and 59, took 35 min
+25 s and 69 on two of four, and 66 min 46 s and 64 on one of four while other checks kept the others busy
+(docs/work/DECISIONS.md, 99, 100, 103 and 105).
 """
 import argparse
 import contextlib
