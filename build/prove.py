@@ -32,13 +32,12 @@ import time
 
 from build import kit, shared
 from build.paths import TOP, listed, with_below
-from build.reckoning import crates_with_room, jobs_with_room, measured_seconds, processors, seconds_of
+from build.reckoning import jobs_with_room, measured_seconds, processors, seconds_of
 from build.shown import Shown
 
 LOGS = os.path.join(TOP, "out", "build")
-# A crate gives way, by WAY steps of priority, if the chain of crates that wait for it is shorter than NEAR of the
-# longest. Crates that give way keep no other from its place, so one more runs then, if memory has room for it.
-WAY, NEAR = 19, 0.7
+# A crate lowers its priority by WAY steps if the chain of crates that wait for it is shorter than NEAR of the longest.
+WAY, NEAR = 19, 0.8
 # To prove these is mostly to read the crates below, and to compile, which more processes don't shorten.
 PROGRAMS = ("forestplan", "forestplay")
 # A crate of fewer seconds isn't worth a second process.
@@ -51,7 +50,6 @@ class Proving:
     def __init__(self, crates, below, jobs, shown, words):
         self.below, self.jobs, self.shown, self.words = below, jobs, shown, words
         self.left, self.done, self.running = list(crates), set(), {}
-        self.begun, self.giving_way, self.most = {}, set(), max(jobs, min(jobs + 1, crates_with_room()))
         measured = measured_seconds()
         self.seconds = {crate: seconds_of(crate, measured) for crate in crates}
         self.behind = self.seconds_behind(crates)
@@ -72,50 +70,32 @@ class Proving:
 
     def begin_what_can(self):
         ready = [crate for crate in self.left if all(lower in self.done for lower in self.below[crate])]
-        for crate in sorted(ready, key=lambda crate: -self.behind[crate]):
-            if self.has_place(crate):
-                self.begin(crate)
+        ready.sort(key=lambda crate: -self.behind[crate])
+        for crate in ready[: self.jobs - len(self.running)]:
+            self.begin(crate)
 
-    def has_place(self, crate):
-        if len(self.running) < self.jobs:
-            return True
-        return bool(self.giving_way) and len(self.running) < self.most and not self.gives_way(crate)
-
-    def ahead(self, crate):
-        """The length of the chain of crates that wait for a crate, less what that crate has run for."""
-        ran = time.monotonic() - self.begun[crate] if crate in self.begun else 0
-        return self.behind[crate] - min(ran, self.seconds[crate])
-
-    def share_ahead(self, crate):
-        """The length of a crate's chain, as a share of the longest."""
-        return self.ahead(crate) / max(self.ahead(other) for other in [*self.left, *self.running])
-
-    def gives_way(self, crate):
-        return self.share_ahead(crate) < NEAR
+    def share_behind(self, crate):
+        """The length of the chain of crates that wait for a crate, as a share of the longest."""
+        return self.behind[crate] / max(self.behind[other] for other in [*self.left, *self.running])
 
     def processes_for(self, crate):
         """How many processes prove a crate. Each one loads what lies below anew, so one more costs 12 to 40 seconds.
-        The crate with the longest chain gets two, with more than four processors three, and one that begins while at
-        most one other runs, not counting those that give way, two. Small crates and programs get one.
+        The crate with the longest chain gets three, and one that begins while at most one other runs two.
+        Small crates and programs get one.
         """
         if self.seconds[crate] < SMALL or crate in PROGRAMS:
             return 1
-        if self.share_ahead(crate) == 1 and processors() > 4:
-            return 3
-        is_next = self.share_ahead(crate) == 1 or len(self.running) - len(self.giving_way) < 2
-        return min(processors(), 2 if is_next else 1)
+        most = 3 if self.share_behind(crate) == 1 else 2 if len(self.running) < 2 else 1
+        return min(processors(), most)
 
     def begin(self, crate):
         """Begins a crate, which gives way to others if its chain is much shorter than the longest."""
-        processes, way = self.processes_for(crate), []
-        if self.gives_way(crate):
-            way = ["nice", "-n", str(WAY)]
-            self.giving_way.add(crate)
+        way = [] if self.share_behind(crate) >= NEAR else ["nice", "-n", str(WAY)]
         words = [
             sys.executable,
             os.path.join(TOP, "build"),
             "prove-crate",
-            *self.words(crate, processes),
+            *self.words(crate, self.processes_for(crate)),
         ]
         with open(os.path.join(LOGS, f"{crate}.log"), "w", encoding="utf-8") as log:
             # In a group of its own Ctrl-C doesn't reach it; in a session of its own its priority would count for
@@ -123,7 +103,6 @@ class Proving:
             self.running[crate] = subprocess.Popen(
                 [*way, *words], stdin=subprocess.PIPE, stdout=log, stderr=subprocess.STDOUT, preexec_fn=os.setpgrp
             )
-        self.begun[crate] = time.monotonic()
         self.left.remove(crate)
 
     def failed(self):
@@ -132,7 +111,6 @@ class Proving:
             if process.poll() is None:
                 continue
             del self.running[crate]
-            self.giving_way.discard(crate)
             if process.returncode:
                 return crate
             self.done.add(crate)

@@ -12,15 +12,10 @@ def processors():
     return len(os.sched_getaffinity(0))
 
 
-def crates_with_room():
-    """How many crates memory has room for, side by side."""
+def jobs_with_room():
     with open("/proc/meminfo", encoding="ascii") as text:
         free = next(int(line.split()[1]) << 10 for line in text if line.startswith("MemAvailable"))
-    return max(1, free // ROOM)
-
-
-def jobs_with_room():
-    return min(processors(), crates_with_room())
+    return max(1, min(processors(), free // ROOM))
 
 
 def measured_seconds():
