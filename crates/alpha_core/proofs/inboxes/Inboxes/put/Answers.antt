@@ -22,7 +22,7 @@ returns-then-is_in_odd g c =
     let slots = odd-slots c.args.when a.at_odd a.even.slots a.odd.slots c.self.view_is odd in
     record {
       put = odd-changed c.args.when a.at_odd a.even.slots a.odd.slots c.self.view_is odd
-        (c.put.ensures.slots ∙ ap (λ l. set l c.args.port (Some c.args.payload)) slots);
+          (c.put.ensures.slots ∙ ap (λ l. set l c.args.port (Some c.args.payload)) slots);
     }
 
 pub put-requires-else-is_in_odd-clause-port : goal.put-requires-else-is_in_odd-clause-port
