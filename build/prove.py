@@ -15,9 +15,9 @@ Standard error shows how far it is; the log of a crate is out/build/CRATE.log. T
 What has to be proved is decided by what the sources say, not by the times of files. The status is 0 if all is proved, 1
 if a crate isn't, 2 if nothing could be tried, and 130 after Ctrl-C.
 
-From nothing to the program `forestplan` it took 16 min 8 s and 54 processor minutes on four processors with nothing
-beside, and 23 min 34 s and 74 on a slow machine. Earlier proofs, which on four took 17 min 50 s and 59, took 35 min
-25 s and 69 on two of four, and 66 min 46 s and 64 on one of four while other checks kept the others busy
+From nothing to the program `forestplan` it took 15 min 52 s and 51 processor minutes on four processors with nothing
+beside, and 32 min 26 s and 103 on a machine of half the speed. Earlier proofs, which on four took 17 min 50 s and 59,
+took 35 min 25 s and 69 on two of four, and 66 min 46 s and 64 on one of four while other checks kept the others busy
 (docs/work/DECISIONS.md, 99, 100, 103 and 105).
 """
 import argparse
