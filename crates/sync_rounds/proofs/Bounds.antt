@@ -1,5 +1,6 @@
 -- Bounds of a loop over the vertices, and numbers that fit into their widths.
 use Rattle.std.proofs.Common.{◌≡◌, ℕ, suc, ◌+◌, ◌-◌, ◌*◌, ◌<◌, ◌≤◌, Fits, w32, w64, arith}
+use Rattle.std.proofs.Math.Nat.{mul-le-mul_right}
 
 -- nothing is below 0
 pub none_below : {A : Type 0} (k : ℕ) → k < 0 → A
@@ -33,6 +34,12 @@ module _ (i end : ℕ) (low : i < end) (fits : end < 4294967296) where
 
   pub fits_next : Fits w32 (i + 1)
   fits_next = omega arith
+
+-- the place of an item of any size, in a list whose items fit
+pub place_within : (i n size : ℕ) → i < n → n * size < 9223372036854775808 → Fits w64 (i * size)
+place_within i n size low fits =
+    let smaller : i * size ≤ n * size = mul-le-mul_right size (omega arith) in
+    omega (arith, smaller, fits)
 
 -- the vertex of the loop's turn is one of so many
 pub vertex_next : (i end n : ℕ) → i < end → end ≡ n → (1 ≤ i + 1) × (i + 1 ≤ n)

@@ -1,8 +1,8 @@
 -- What every vertex sends as one list, and vertices that are passed over.
 use Rattle.std.proofs.Common.{◌≡◌, ℕ, suc, ◌+◌, ◌-◌, ◌<◌, List, [], ◌∷◌, length, get_or, set}
-use Rattle.std.proofs.Common.{take, drop, ◌++◌, Bool, true, false, inl, inr, refl, ap, sym, ◌∙◌, arith, subst}
-use Rattle.std.specs.Prelude.{◌↔◌, Option, Ok, Result}
-use Rattle.std.proofs.lemmas.List.{get_or_append_left, get_or_push, length-set, take-append-le, take_all}
+use Rattle.std.proofs.Common.{◌++◌, Bool, true, false, inl, inr, refl, ap, sym, ◌∙◌, arith, subst}
+use Rattle.std.specs.Prelude.{◌↔◌, Option, Ok, Result, replicate}
+use Rattle.std.proofs.lemmas.List.{get_or_append_left, get_or_push, get_or-replicate, length-replicate, length-set}
 use Rattle.std.proofs.lemmas.List.FromFn.{length-map-range_with_len, get_or-map-range_with_len}
 use Rattle.node_api.specs.interference.Net.{Net, IsVertex, count_of, degree_of}
 use Rattle.node_api.specs.Boxes.{Mail, nothing, unread, HasFrom}
@@ -12,7 +12,7 @@ use Rattle.node_api.specs.Laws.{KeepsPorts}
 use Rattle.node_api.proofs.Runs.{node_at-ports, node_at-more}
 use Rattle.node_api.proofs.Reading.{nothing-came}
 use Rattle.sync_rounds.specs.Lists.{Lists}
-use Rattle.sync_rounds.specs.Rests.{HasDegrees, HasOutboxes, sent_by}
+use Rattle.sync_rounds.specs.Rests.{AreResting, HasDegrees, HasOutboxes, sent_by}
 use Rattle.sync_rounds.proofs.Received.{below_or_last, set_cases}
 
 module _ {S M E : Type 0} (program : Program S M E) (net : Net) where
@@ -24,6 +24,14 @@ module _ {S M E : Type 0} (program : Program S M E) (net : Net) where
   sent_by-lists p = record {
     count = length-map-range_with_len (outbox_at program net p) 1 (count_of net);
     entry = λ k d l. get_or-map-range_with_len (outbox_at program net p) 1 (count_of net) k (k + 1) d l (omega arith);
+  }
+
+  -- a list of zeros lets no node rest
+  pub none-rests : (p : ℕ) (untils : List ℕ) → untils ≡ replicate (count_of net) 0 → AreResting program net p untils
+  none-rests p untils zeros = record {
+    count = ap length zeros ∙ length-replicate (count_of net) 0;
+    rest = λ k d low q after before.
+        absurd (omega (arith, before, ap (λ (xs : List ℕ). get_or xs k d) zeros, get_or-replicate (count_of net) k 0 d low));
   }
 
   module _ (laws : KeepsPorts program) where
@@ -75,10 +83,6 @@ nothing_came inbox slots n is size none =
 pub own_out : {M : Type 0} (net : Net) (outs : List (List (Option M))) (v degree : ℕ) (d : List (Option M)) → IsVertex net v → HasOutboxes net outs →
     degree ≡ degree_of net v → get_or outs degree d ≡ nothing (degree_of net v)
 own_out net outs v degree d is_vertex has is = ap (λ (k : ℕ). get_or outs k d) is ∙ has.empty v d is_vertex
-
--- a slice of a whole list that keeps its length
-pub whole_written : {X : Type 0} (xs ys : List X) (n : ℕ) → length ys ≡ length xs → length xs ≡ n → take n (ys ++ drop (length ys) xs) ≡ ys
-whole_written xs ys n same size = take-append-le n ys (drop (length ys) xs) (omega arith) ∙ take_all n ys (omega arith)
 
 -- one outbox more, of the next degree
 pub outboxes-push : {M : Type 0} (n : ℕ) (occurs : List Bool) (outs : List (List (Option M))) (out : List (Option M)) → length outs ≡ n →

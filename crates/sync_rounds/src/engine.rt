@@ -8,13 +8,14 @@ ghost use Rattle.node_api.specs.Program.{RestsUntil, own_of};
 ghost use Rattle.node_api.specs.Run.{after, inbox_at, state_at};
 ghost use Rattle.sync_rounds.specs.Delivery.{Delivered};
 ghost use Rattle.sync_rounds.specs.Lists.{Lists, empty_inbox};
-ghost use Rattle.sync_rounds.specs.Rests.{AreLoud, HasOutboxes, IsLoud, sent_by};
+ghost use Rattle.sync_rounds.specs.Rests.{HasOutboxes, IsLoud, sent_by};
 ghost use Rattle.sync_rounds.specs.Rounds.{AreAt};
 
 use crate::boxes::{inboxes_of, outboxes_of};
 use crate::delivery::send_out;
 use node_api::{Inbox, Memory, Network, NodeProgram, Outbox};
 use std::alloc::Global;
+use std::mem::swap;
 
 // What a pulse leaves: whether something was sent, and before which pulse those rest that made it.
 #[derive(Clone, Copy)]
@@ -23,37 +24,46 @@ pub(crate) struct AfterPulse {
     pub(crate) rests_until: u32,
 }
 
-// All nodes after pulse 0, which of them sent something, an empty outbox for each degree, and the inboxes of pulse 1.
-pub(crate) fn start<P: NodeProgram>(
-    alloc: Global,
-    net: &Network,
-) -> Result<
-    (
-        Vec<P>,
-        Vec<bool>,
-        Vec<Outbox<P::Payload>>,
-        Vec<Inbox<P::Payload>>,
-    ),
-    Memory,
->
-    ensures nodes { IfOk result (λ all. Lists (count_of net.now) (state_at P.program net.now 0) all.0.items) }
-    ensures loud { IfOk result (λ all. AreLoud P.program net.now 0 all.1.items) }
-    ensures outs { IfOk result (λ all. HasOutboxes net.now all.2.items) }
-    ensures now { IfOk result
-        (λ all. Lists (count_of net.now) (λ v. unread (inbox_at P.program net.now 1 v)) all.3.items) }
+// What the engine keeps of all nodes from one pulse to the next. Entry v - 1 is of vertex v, except in `outs`.
+#[derive(Drop)]
+pub(crate) struct Kept<P: NodeProgram> {
+    pub(crate) nodes: Vec<P>,
+    // Whether each vertex sent something at the pulse.
+    pub(crate) loud: Vec<bool>,
+    // An empty outbox for each degree.
+    pub(crate) outs: Vec<Outbox<P::Payload>>,
+    // Before which pulse each node rests.
+    pub(crate) untils: Vec<u32>,
+    // The inboxes of the next pulse, with what was sent at this one; and the inboxes of the pulse after it, empty.
+    pub(crate) inboxes: Vec<Inbox<P::Payload>>,
+    pub(crate) later: Vec<Inbox<P::Payload>>,
+}
+
+// All nodes after pulse 0.
+pub(crate) fn start<P: NodeProgram>(alloc: Global, net: &Network) -> Result<Kept<P>, Memory>
+    ensures at { IfOk result (λ kept. AreAt P.program net.now 0 kept) }
 {
     net.is_network();
     let mut outs = outboxes_of(alloc, net)?;
-    let mut now = inboxes_of(alloc, net)?;
+    let mut inboxes = inboxes_of(alloc, net)?;
     let mut nodes = Vec::with_capacity(alloc, net.nodes() as usize)?;
     let mut loud = Vec::with_capacity(alloc, net.nodes() as usize)?;
     for i in 0..net.nodes() {
         let mut node = P::make(alloc, net, i + 1)?;
-        let is_loud = greet(net, i + 1, &mut node, &mut outs, &mut now);
+        let is_loud = greet(net, i + 1, &mut node, &mut outs, &mut inboxes);
         nodes.push_reserved(node);
         loud.push_reserved(is_loud);
     }
-    Ok((nodes, loud, outs, now))
+    let later = inboxes_of(alloc, net)?;
+    let untils = vec![in alloc; 0u32; net.nodes() as usize]?;
+    Ok(Kept {
+        nodes,
+        loud,
+        outs,
+        untils,
+        inboxes,
+        later,
+    })
 }
 
 // Pulse 0 of one vertex. Returns whether something was sent.
@@ -79,26 +89,25 @@ fn greet<P: NodeProgram>(
     send_out(net, v, out, later)
 }
 
-// The pulse after `done` of all nodes. What was sent at `done` is in `now`; what is sent goes into `later`. Never
-// inlined, since its loop is where the time goes, and needs the registers.
+// The pulse after `done` of all nodes. Never inlined, since its loop is where the time goes, and needs the registers.
 #[inline(never)]
-pub(crate) fn round<P: NodeProgram>(
-    net: &Network,
-    done: u32,
-    nodes: &mut [P],
-    outs: &mut [Outbox<P::Payload>],
-    untils: &mut [u32],
-    loud: &mut [bool],
-    now: &mut [Inbox<P::Payload>],
-    later: &mut [Inbox<P::Payload>],
-) -> AfterPulse
+pub(crate) fn round<P: NodeProgram>(net: &Network, done: u32, kept: &mut Kept<P>) -> AfterPulse
     requires done { done + 1 < 2 ^ 32 }
-    requires at { AreAt P.program net.now done nodes.old loud.old outs.old untils.old now.old later.old }
-    ensures at { AreAt P.program net.now (suc done) nodes.new loud.new outs.new untils.new later.new now.new }
-    ensures quiet { result.sent ≡ false → Lists (count_of net.now) (empty_inbox net.now) later.new }
-    ensures least { (k d : ℕ) → k < count_of net.now → result.rests_until ≤ slice_index_or untils.new k d }
+    requires at { AreAt P.program net.now done kept.old }
+    ensures at { AreAt P.program net.now (suc done) kept.new }
+    ensures quiet { result.sent ≡ false → Lists (count_of net.now) (empty_inbox net.now) kept.new.inboxes.items }
+    ensures least { (k d : ℕ) → k < count_of net.now
+        → result.rests_until ≤ slice_index_or kept.new.untils.items k d }
 {
     net.is_network();
+    // As slices, so that the loop doesn't read the vectors again.
+    let nodes = kept.nodes.as_mut_slice();
+    let loud = kept.loud.as_mut_slice();
+    let outs = kept.outs.as_mut_slice();
+    let untils = kept.untils.as_mut_slice();
+    // What was sent at `done` is in `now`; what is sent goes into `later`.
+    let now = kept.inboxes.as_mut_slice();
+    let later = kept.later.as_mut_slice();
     let mut sent = false;
     let mut least = u32::MAX;
     for i in 0..net.nodes() {
@@ -115,8 +124,9 @@ pub(crate) fn round<P: NodeProgram>(
         untils[i as usize] = after.rests_until;
         loud[i as usize] = after.sent;
         least = least.min(after.rests_until);
-        sent = sent | after.sent;
+        sent |= after.sent;
     }
+    swap(&mut kept.inboxes, &mut kept.later);
     AfterPulse {
         sent,
         rests_until: least,
