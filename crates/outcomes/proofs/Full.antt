@@ -1,5 +1,6 @@
 -- If no node has set a wire aside since its stamp would be too great, each wire that was set aside was refused.
-use Rattle.std.proofs.Common.{◌≡◌, false, List, [], ◌∷◌, map, Some, None, refl, subst}
+use Rattle.std.proofs.Common.{◌≡◌, false, List, [], ◌∷◌, map, Some, None, refl, subst, ap}
+use Rattle.std.specs.List.{list_any}
 use Rattle.std.specs.Prelude.{All, Option, ◌||◌, Bool, true}
 use Rattle.std.proofs.lemmas.List.Elements.{All-cons, All-nil}
 use Rattle.actor.specs.declared.aside.Aside.{Aside}
@@ -16,6 +17,11 @@ why_refused Refused e = refl
 why_refused (StampFull s) e = absurd cc
 
 module _ {A M : Type 0} (aside : A → Option (Aside M)) where
+  -- each node asked by itself
+  pub some_full-any : (nodes : List A) → list_any (λ a. is_full (aside a)) nodes ≡ some_full (map aside nodes)
+  some_full-any [] = refl
+  some_full-any (a ∷ nodes) = ap (λ b. is_full (aside a) || b) (some_full-any nodes)
+
   refused_one : (o : Option (Aside M)) → is_full o ≡ false → (x : Aside M) → o ≡ Some x → x.why ≡ Refused
   refused_one None e x is = absurd cc
   refused_one (Some y) e x is = let same : y ≡ x = cc in subst (λ z. z.why ≡ Refused) same (why_refused y.why e)

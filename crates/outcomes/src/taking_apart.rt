@@ -47,12 +47,12 @@ pub struct NodesAndEnds<J: Wiring, P: NodeProgram> {
     pub takes: Vec<Vec<WiredTake<J, P::Payload>>>,
 }
 
-// Whether a node set a wire aside because taking it would overflow its counter.
-fn is_full<J: Wiring, P: NodeProgram>(node: &Node<J, P>) -> bool
-    ensures { result ≡ is_full node.now.aside }
+// Whether a wire was set aside because taking it would overflow a counter.
+fn is_full<M>(aside: &Option<Aside<M>>) -> bool
+    ensures { result ≡ is_full aside.now }
 {
     matches!(
-        &node.aside,
+        aside,
         Some(Aside {
             why: WhyAside::StampFull(_),
             ..
@@ -64,12 +64,7 @@ fn is_full<J: Wiring, P: NodeProgram>(node: &Node<J, P>) -> bool
 pub fn some_full<J: Wiring, P: NodeProgram>(nodes: &[Node<J, P>]) -> bool
     ensures { result ≡ some_full (map (λ n. n.aside) nodes.now) }
 {
-    for node in nodes {
-        if is_full(node) {
-            return true;
-        }
-    }
-    false
+    nodes.iter().any(|node| is_full(&node.aside))
 }
 
 // No nodes and no ends, with room for `count` nodes and their ends.

@@ -1,15 +1,11 @@
-use Rattle.std.proofs.Common.{arith, refl}
-use Rattle.std.proofs.lemmas.Grind.{common_steps}
+use Rattle.std.proofs.Common.{rules, tests, ◌∙◌}
+use Rattle.std.proofs.lemmas.Iterator.{YieldsList-from_slice}
+use Rattle.std.proofs.lemmas.Iterator.Search.{any_from_yields_List}
+use Rattle.outcomes.specs.Full.{is_full}
+use Rattle.outcomes.proofs.Full.{some_full-any}
 use Rattle.outcomes.proofs.taking_apart.some_full.Goals as goal
 
-pub loop-node-init : goal.loop-node-init
-loop-node-init g c = refl
-
-pub loop-node-preserved : goal.loop-node-preserved
-loop-node-preserved g c = grind (arith, common_steps)
-
-pub returns-then-is_full : goal.returns-then-is_full
-returns-then-is_full g c = grind (arith, common_steps)
-
 pub returns : goal.returns
-returns g c = grind (arith, common_steps)
+returns g c =
+    any_from_yields_List (λ n. is_full n.aside) _ _ _ c.any.ensures.ran (YieldsList-from_slice c.args.nodes.now cc) (λ x b q k. search (rules, tests))
+    ∙ some_full-any (λ n. n.aside) c.args.nodes.now
