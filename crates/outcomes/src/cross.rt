@@ -1,9 +1,9 @@
 //! Things that change places with those at the other ends of the links.
 
-ghost use Rattle.std.specs.Prelude.{◌≡◌, ◌≢◌, ◌<◌, ℕ, IfOk, None, Some, map};
+ghost use Rattle.std.specs.Prelude.{◌≡◌, ◌≢◌, ◌<◌, ◌≤◌, ℕ, IfOk, None, Some, length, map};
 ghost use Rattle.std.specs.List.{range_with_len};
 ghost use Rattle.gather_laws.specs.alpha_laws.Net.{IsVertex, back_port_of, degree_of, neighbour_of};
-ghost use Rattle.outcomes.specs.Rows.{AreCrossed, HasShape, set_slot, slot_at};
+ghost use Rattle.outcomes.specs.Rows.{AreCrossed, HasShape, row_at, set_slot, slot_at};
 
 use gather_laws::Network;
 use std::alloc::{AllocError, Global};
@@ -36,15 +36,13 @@ fn all_slots<T: Drop>(alloc: Global, rows: Vec<Vec<T>>) -> Result<Vec<Vec<Option
 }
 
 // Takes a thing out of its slot.
-fn take_out<T: Drop>(net: &Network, slots: &mut Vec<Vec<Option<T>>>, v: u32, i: u32) -> Option<T>
-    requires shape { HasShape net.now (map (λ row. row.items) slots.old.items) }
-    requires vertex { IsVertex net.now v }
-    requires port { i < degree_of net.now v }
+fn take_out<T: Drop>(slots: &mut Vec<Vec<Option<T>>>, v: u32, i: u32) -> Option<T>
+    requires row { (1 ≤ v) × (v ≤ length slots.old.items) }
+    requires slot { i < length (row_at (map (λ row. row.items) slots.old.items) v) }
     ensures thing { result ≡ slot_at (map (λ row. row.items) slots.old.items) v i }
     ensures slots { map (λ row. row.items) slots.new.items
         ≡ set_slot (map (λ row. row.items) slots.old.items) v i None }
 {
-    let _ = net;
     slots[(v - 1) as usize][i as usize].take()
 }
 
@@ -71,7 +69,7 @@ fn crossed_row<T: Drop>(
     let degree = net.degree(v);
     let mut row = Vec::with_capacity(alloc, degree as usize)?;
     for i in 0..degree {
-        match take_out(net, slots, net.neighbour(v, i), net.back_port(v, i)) {
+        match take_out(slots, net.neighbour(v, i), net.back_port(v, i)) {
             Some(thing) => row.push_reserved(thing),
             None => unreachable!(),
         }

@@ -1,6 +1,5 @@
 use Rattle.std.proofs.Common.{◌-◌, ◌<◌, length, map, refl, ap, ◌∙◌, arith}
 use Rattle.std.specs.Vec.{with_item}
-use Rattle.std.proofs.lemmas.List.{length-map}
 use Rattle.outcomes.specs.Rows.{set_slot}
 use Rattle.outcomes.proofs.Slots.{row_read, slot_written}
 use Rattle.outcomes.proofs.cross.take_out.Goals as goal
@@ -10,10 +9,9 @@ returns-clause-slots g c =
     let rows = c.args.slots.now.items in
     let row = c.index_mut.result.now in
     let slot = c.index_mut-2.result.now in
-    let vertex = c.requires.vertex in
-    let in_rows : c.args.v - 1 < length rows = omega (arith, c.requires.shape.count, length-map rows (λ row. row.items), vertex.0, vertex.1) in
+    let in_rows : c.args.v - 1 < length rows = omega (arith, c.requires.row.0, c.requires.row.1) in
     let read = row_read (λ row. row.items) rows c.args.v row in_rows c.index_mut.ensures.value in
-    let in_row : c.args.i < length row.items = omega (arith, c.requires.port, c.requires.shape.row c.args.v vertex, ap length read) in
+    let in_row : c.args.i < length row.items = omega (arith, c.requires.slot, ap length read) in
     slot_written (λ row. row.items) rows c.args.v c.args.i row slot in_rows in_row c.index_mut.ensures.value c.index_mut-2.ensures.value
     (with_item row c.args.i c.take.new.self) c.take.new.self refl
     ∙ ap (λ x. set_slot (map (λ row. row.items) rows) c.args.v c.args.i x) c.take.ensures.after
