@@ -23,6 +23,7 @@ use crossbeam_queue::{Pass, RuledArrayQueue};
 use run_options::MAX_CAPACITY;
 use std::alloc::Global;
 use std::marker::Brand;
+use std::snapshot::Snapshot;
 use std::sync::Wait;
 
 /// A bounded, lock-free, directed link of the program `P`: wires that one end puts, the other takes in the same order.
@@ -67,16 +68,22 @@ fn take_end_of<T>(pass: Pass<Queued<T>, EndView<T>>) -> TakeSide<T>
 
 type Made<P: NodeProgram> = (Link<P>, PutEnd<P>, TakeEnd<P>);
 
-// A new link, whose name is picked when it is made. Network, vertex and port are there for the name alone.
+// The vertex and port at which a link leaves, in its network: they are its name.
+#[derive(Drop)]
+struct Place<'a> {
+    network: &'a Network,
+    vertex: u32,
+    port: u32,
+}
+
+// A new link, whose name is picked when it is made. The place is there for the name alone: a ghost, without bytes.
 fn named<J: Naming, P: NodeProgram>(
     alloc: Global,
-    _network: &Network,
-    _vertex: u32,
-    _port: u32,
+    _place: Snapshot<Place<'_>>,
     capacity: usize,
 ) -> Result<Made<P>, Memory>
     requires capacity { (0 < capacity) × (capacity ≤ MAX_CAPACITY) }
-    requires name { J.name ≡ name_of _network.now _vertex _port }
+    requires name { J.name ≡ name_of _place.value.network.now _place.value.vertex _place.value.port }
     ensures put_end { IfOk result (λ made. IsNewPutEnd made.0 made.1 J.name) }
     ensures take_end { IfOk result (λ made. IsNewTakeEnd made.0 made.2 J.name) }
     ensures capacity { IfOk result (λ made. link_capacity made.0 ≡ capacity) }
@@ -104,7 +111,12 @@ impl<P: NodeProgram> Link<P> {
         ensures take_end { IfOk result (λ made. IsNewTakeEnd made.0 made.2 (name_of network.now vertex port)) }
         ensures capacity { IfOk result (λ made. link_capacity made.0 ≡ capacity) }
     {
-        named::<Brand, P>(alloc, network, vertex, port, capacity)
+        let place = Place {
+            network,
+            vertex,
+            port,
+        };
+        named::<Brand, P>(alloc, Snapshot::of(&place), capacity)
     }
 
     /// Puts a wire with its stamp at the end of the link. It can't return out-of-memory, and may spin.
