@@ -4,8 +4,8 @@ use Rattle.std.specs.Prelude.{nat_lt, Option, Some, None}
 use Rattle.std.specs.Ordering.{nat_cmp}
 use Rattle.std.specs.FinSet.{FinSet, insert}
 use Rattle.std.proofs.lemmas.Bool.Decides.{nat_tests}
-use Rattle.node_api.specs.Boxes.{HasFrom, Mail, Reads, at_port, fold_rest, unread}
-use Rattle.node_api.proofs.Reading.{fold_rest-read, fold_rest-end}
+use Rattle.node_api.specs.Boxes.{HasFrom, Mail, Reads, at_port, unread}
+use Rattle.node_api.proofs.Reading.{fold_rest, fold_rest-read, fold_rest-end}
 use Rattle.forests.specs.declared.numbering.Role.{Role}
 use Rattle.forests.specs.declared.numbering.Role.TheVariants.{Unknown, Up, Down}
 use Rattle.node_api.specs.Program.{span}

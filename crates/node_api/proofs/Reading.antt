@@ -4,7 +4,11 @@ use Rattle.std.specs.Prelude.{Option, Some, None, IsSome}
 use Rattle.std.proofs.lemmas.List.{drop_more, drop_all}
 use native.Mathlib.Decide.{dec_lt}
 use Prim.{yes, no}
-use Rattle.node_api.specs.Boxes.{Mail, Reads, HasFrom, at_port, fold_slots, fold_rest, nothing}
+use Rattle.node_api.specs.Boxes.{Mail, Reads, HasFrom, at_port, fold_slots, nothing}
+
+-- the payloads of an inbox that are still to be read, taken in by f
+abbrev pub fold_rest : {M B : Type 0} → (B → ℕ → M → B) → B → Mail M → B
+fold_rest f b mail = fold_slots f b mail.cursor (drop mail.cursor mail.slots)
 
 module _ {M B : Type 0} (f : B → ℕ → M → B) where
   slot_none : (slots : List (Option M)) (i : ℕ) (b : B) → i < length slots → at_port slots i ≡ None →

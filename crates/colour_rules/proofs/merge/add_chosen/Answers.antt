@@ -4,8 +4,8 @@ use Rattle.std.proofs.Common.{◌≡◌, ◌-◌, ◌*◌, ◌<◌, ℕ, List, r
 use Rattle.std.specs.Prelude.{Option, Some, IsTrue, false}
 use Rattle.std.specs.Ordering.{nat_cmp}
 use Rattle.std.specs.FinSet.{FinSet, insert}
-use Rattle.node_api.specs.Boxes.{at_port, fold_rest}
-use Rattle.node_api.proofs.Reading.{fold_rest-read, fold_rest-end}
+use Rattle.node_api.specs.Boxes.{at_port}
+use Rattle.node_api.proofs.Reading.{fold_rest, fold_rest-read, fold_rest-end}
 use Rattle.colour_rules.specs.declared.payload.Payload.{Payload}
 use Rattle.colour_rules.specs.declared.payload.Payload.TheVariants.{Chosen}
 use Rattle.colour_rules.proofs.Reading.{taken_in, taken_in-other, with_chosen-fold, read-is, read-less}

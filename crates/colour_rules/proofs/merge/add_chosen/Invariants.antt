@@ -1,5 +1,5 @@
 use Rattle.std.proofs.Common.{◌≡◌, ◌-◌, length}
-use Rattle.node_api.specs.Boxes.{fold_rest}
+use Rattle.node_api.proofs.Reading.{fold_rest}
 use Rattle.colour_rules.specs.Choice.{with_chosen}
 use Rattle.colour_rules.proofs.Reading.{taken_in}
 use Rattle.colour_rules.proofs.merge.add_chosen.Given as goal

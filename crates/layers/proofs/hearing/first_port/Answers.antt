@@ -2,9 +2,8 @@
 use Rattle.std.proofs.Common.{◌≡◌, ℕ, ◌-◌, Ok, Err, ap, sym, ◌∙◌, arith}
 use Rattle.std.specs.Prelude.{Option, Some, Result, IsTrue, false, drop}
 use Rattle.std.specs.Option.{option_or}
-use Rattle.node_api.specs.Boxes.{fold_rest}
 use Rattle.node_api.specs.declared.program.Refused.{Refused}
-use Rattle.node_api.proofs.Reading.{fold_rest-read, fold_rest-end}
+use Rattle.node_api.proofs.Reading.{fold_rest, fold_rest-read, fold_rest-end}
 use Rattle.layers.specs.declared.rules.TheConstants.{WRONG_HOPS}
 use Rattle.layers.specs.Layering.{and_heard}
 use Rattle.layers.proofs.Heard.{heard-right, heard-wrong, refused-stays}

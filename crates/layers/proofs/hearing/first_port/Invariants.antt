@@ -1,6 +1,6 @@
 use Rattle.std.proofs.Common.{◌≡◌, ◌-◌, length}
 use Rattle.std.specs.Prelude.{Ok}
-use Rattle.node_api.specs.Boxes.{fold_rest}
+use Rattle.node_api.proofs.Reading.{fold_rest}
 use Rattle.layers.specs.Layering.{and_heard, heard}
 use Rattle.layers.proofs.hearing.first_port.Given as goal
 

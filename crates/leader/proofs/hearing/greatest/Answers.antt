@@ -1,9 +1,8 @@
 -- What is still to be heard (`rest`) stays the same from payload to payload, so at the end what is known is what is heard.
 use Rattle.std.proofs.Common.{◌≡◌, ℕ, ◌-◌, Ok, Err, ap, sym, ◌∙◌, arith}
 use Rattle.std.specs.Prelude.{Some, Result, IsTrue, false, drop, max}
-use Rattle.node_api.specs.Boxes.{fold_rest}
 use Rattle.node_api.specs.declared.program.Refused.{Refused}
-use Rattle.node_api.proofs.Reading.{fold_rest-read, fold_rest-end}
+use Rattle.node_api.proofs.Reading.{fold_rest, fold_rest-read, fold_rest-end}
 use Rattle.leader.specs.declared.rules.TheConstants.{AFTER_LAST}
 use Rattle.leader.specs.Election.{and_heard}
 use Rattle.leader.proofs.Heard.{heard-early, heard-late, refused-stays}
