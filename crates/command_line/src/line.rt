@@ -48,20 +48,6 @@ fn with_command<'a>(command: Command<'a>, sub: Command<'a>) -> Result<Command<'a
     command.subcommand(sub)
 }
 
-// A program with one more command, which has no options.
-fn with_plain_command<'a>(
-    alloc: Global,
-    program: Command<'a>,
-    name: &'a str,
-    help: Help,
-) -> Result<Command<'a>, AllocError>
-    requires { (out-Command program).has_globals ≡ false }
-    ensures shape { IfOk result (λ c. app_of c ≡ with_subcommand (app_of program.entry) (new_app name.entry.now).top) }
-    ensures local { IfOk result (λ c. (out-Command c).has_globals ≡ false) }
-{
-    with_command(program, command(alloc, name, help))
-}
-
 // The commands that make something of a network.
 fn with_network_commands<'a>(alloc: Global, program: Command<'a>) -> Result<Command<'a>, AllocError>
     requires { (out-Command program).has_globals ≡ false }
@@ -130,7 +116,7 @@ fn with_plan_commands<'a>(alloc: Global, program: Command<'a>) -> Result<Command
 {
     let program = with_network_commands(alloc, program)?;
     let program = with_worker_commands(alloc, program)?;
-    with_plain_command(alloc, program, "check", help::CHECK)
+    with_command(program, command(alloc, "check", help::CHECK))
 }
 
 // A command for lessons, which plays a program.

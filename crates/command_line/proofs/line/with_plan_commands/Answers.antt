@@ -1,16 +1,15 @@
-use Rattle.std.proofs.Common.{◌∙◌, ap}
+use Rattle.std.proofs.Common.{◌∙◌, ap, ap₂}
 use Rattle.std.proofs.lemmas.Result.{IfOk-weaker}
-use Rattle.std.specs.Prelude.{codes}
-use Rattle.clap.specs.Words.{App, new_app, with_subcommand}
+use Rattle.clap.specs.Words.{App, with_subcommand}
 use Rattle.command_line.specs.Line.{with_worker_commands}
 use Rattle.command_line.proofs.Refused.{err_says}
 use Rattle.command_line.proofs.line.with_plan_commands.Goals as goal
 
 pub returns-clause-shape : goal.returns-clause-shape
 returns-clause-shape c =
-    let checked : App → App = λ a. with_subcommand a (new_app (codes "check")).top in
+    let joined : App → App → App = λ program sub. with_subcommand program sub.top in
     let worked = c.in_ok-program-2.ensures.shape ∙ ap with_worker_commands c.in_ok-program.ensures.shape in
-    IfOk-weaker c.with_plain_command.result _ _ (λ m h. h ∙ ap checked worked) c.with_plain_command.ensures.shape
+    IfOk-weaker c.with_command.result _ _ (λ m h. h ∙ ap₂ joined worked c.command.ensures.shape) c.with_command.ensures.shape
 
 pub returns-in_err-program-clause-shape : goal.returns-in_err-program-clause-shape
 returns-in_err-program-clause-shape c = err_says _ _ c.from_residual.result c.from_residual.ensures.1
