@@ -91,7 +91,7 @@ fn run_all<J: Wiring + Send + Sync, P: NodeProgram, G: Gate + Sync, R: Threads +
 ///
 /// `Memory` if memory is refused, also for an entry of a node: its worker stops at once. `Spawn` if a thread is
 /// refused. `StampFull` if a stamp of a node would pass 18446744073709551615, and there is no other fault: its worker
-/// stops at once. The workers that had begun are joined.
+/// stops at once. Which of these it is, no clause says here; `told` has one. The workers that had begun are joined.
 pub fn run_nodes<J: Wiring + Send + Sync, P: NodeProgram, G: Gate + Sync, R: Threads + Wait + Sync>(
     rt: &R,
     alloc: Global,
