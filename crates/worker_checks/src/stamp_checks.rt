@@ -170,6 +170,19 @@ fn fours_are_refused(alloc: Global, net: &Network) -> bool {
     true
 }
 
+// The stamps of both vertices after rows that end whole.
+fn stamps_after(alloc: Global, net: &Network, rows: &[Row]) -> Option<(u64, u64)> {
+    match replay_whole::<Greatest<0>>(alloc, net, rows) {
+        Ok(stamped) => Some((stamped.stamp_of(1), stamped.stamp_of(2))),
+        Err(_) => None,
+    }
+}
+
+fn stamps_are_kept(alloc: Global, net: &Network) -> bool {
+    stamps_after(alloc, net, &WHOLE) == Some((4, 3))
+        && stamps_after(alloc, net, &[FIRST, SECOND, LAST, OTHER]) == Some((2, 2))
+}
+
 fn fewer_are_refused(alloc: Global, net: &Network) -> bool {
     refusal::<0>(alloc, net, &[B, C, D]) == Some(LINK_EMPTY)
         && refusal::<0>(alloc, net, &[A, B, C]) == Some(WholeRefused::NotWhole)
@@ -181,6 +194,7 @@ fn a_merged_run_is_replayed_or_refused_by_the_first_row_out_of_place(rt: HostRun
     let net = pair(rt.alloc()).expect(&rt, "network");
     assert!(rt; fours_are_refused(rt.alloc(), &net));
     assert!(rt; fewer_are_refused(rt.alloc(), &net));
+    assert!(rt; stamps_are_kept(rt.alloc(), &net));
 }
 
 type List = Vec<StampedEntry<Best>>;
