@@ -35,6 +35,8 @@ mod link_queue_checks;
 #[cfg(test)]
 mod link_threads;
 #[cfg(test)]
+mod linked_counters;
+#[cfg(test)]
 mod net_core_checks;
 #[cfg(test)]
 mod networks;

@@ -15,7 +15,8 @@ use std::sync::Wait;
 use std::thread::Threads;
 use sync_rounds::{Best, Greatest};
 
-fn pair(rt: &impl Abort, alloc: Global) -> Result<Network, NetFault>
+/// Two nodes with identifiers 1 and 2 and an edge.
+pub fn pair(rt: &impl Abort, alloc: Global) -> Result<Network, NetFault>
     ensures { IfOk result (λ net. net ≡ pair_net) }
 {
     let ids = [1, 2];

@@ -1,0 +1,98 @@
+//! A node with one neighbour, whose counter is near the greatest number.
+
+ghost use Rattle.std.specs.Prelude.{◌≡◌, [], Some, false, map, slice_get};
+ghost use Rattle.link_queue.specs.Ends.{put_list, put_name, take_name, taken_list};
+ghost use Rattle.actor.specs.Tables.{IsEndAt, table_of};
+ghost use Rattle.checks.specs.LinkRows.{pair_net};
+
+use actor::TurnRefused;
+use alpha_core::{Memory, Network};
+use pool::{Link, Links, Node, OpenGate, PutEnd, TakeEnd, WiredPut, WiredTake, Wiring};
+use std::alloc::Global;
+use std::marker::Brand;
+use std::sync::Wait;
+use sync_rounds::{Best, Greatest};
+
+/// What a turn of the node returns, its counter after it, and the stamp of the wire that its neighbour takes then.
+pub type Turned = (Result<bool, TurnRefused>, u64, Option<u64>);
+
+// A turn of the node, whose counter is moved past a stamp before.
+fn turned<J: Wiring, R: Wait>(
+    rt: &R,
+    links: &Links<J, Greatest<1>>,
+    node: &mut Node<J, Greatest<1>>,
+    far: &mut WiredTake<J, Best>,
+    stamp: u64,
+) -> Turned
+    requires transcript { J.transcript ≡ false }
+{
+    let _moved = node.counter.past(stamp);
+    let result = node.turn(rt, links, &OpenGate, 0);
+    let came = match links.take(rt, far) {
+        Some(item) => Some(item.stamp()),
+        None => None,
+    };
+    (result, node.counter.value(), came)
+}
+
+// The node of vertex 1, in a box: to own a box costs less proof than to own what is in it.
+fn one_of_two<J: Wiring>(
+    alloc: Global,
+    network: &Network,
+    put: WiredPut<J, Best>,
+    take: WiredTake<J, Best>,
+) -> Result<Box<Node<J, Greatest<1>>>, Memory>
+    requires network { (network.now ≡ pair_net) × (J.net ≡ pair_net) }
+    requires put { (put.vertex ≡ 1) × (put.port ≡ 0) × (put_list put.end ≡ []) }
+    requires take { (take.vertex ≡ 2) × (take.port ≡ 0) × (taken_list take.end ≡ []) }
+    requires transcript { J.transcript ≡ false }
+{
+    let puts = vec![in alloc; put]?;
+    let takes = vec![in alloc; take]?;
+    let node = Node::<J, Greatest<1>>::start(alloc, network, 1, puts, takes, false)?;
+    Ok(Box::new(alloc, node)?)
+}
+
+// A turn of that node over two links. `far` takes what the node puts.
+fn turned_over<J: Wiring, R: Wait>(
+    rt: &R,
+    alloc: Global,
+    network: &Network,
+    links: Vec<Link<Greatest<1>>>,
+    put: PutEnd<Greatest<1>>,
+    take: TakeEnd<Greatest<1>>,
+    far: TakeEnd<Greatest<1>>,
+    stamp: u64,
+) -> Result<Turned, Memory>
+    requires network { (network.now ≡ pair_net) × (J.net ≡ pair_net) }
+    requires put { IsEndAt J.net J.tables 1 0 put.pass.table_id (put_name put)
+        × (slice_get J.links 0 ≡ Some put.pass.table_id) × (put_list put ≡ []) }
+    requires take { IsEndAt J.net J.tables 2 0 take.pass.table_id (take_name take)
+        × (slice_get J.links 1 ≡ Some take.pass.table_id) × (taken_list take ≡ []) }
+    requires far { IsEndAt J.net J.tables 1 0 far.pass.table_id (take_name far)
+        × (slice_get J.links 0 ≡ Some far.pass.table_id) }
+    requires links { J.links ≡ map table_of links.items }
+    requires transcript { J.transcript ≡ false }
+{
+    let links = Links::<J, Greatest<1>>::new(links);
+    let mut far = WiredTake::<J, Best>::new(1, 0, 0, far);
+    let put = WiredPut::<J, Best>::new(1, 0, 0, put);
+    let take = WiredTake::<J, Best>::new(2, 0, 1, take);
+    let mut node = one_of_two::<J>(alloc, network, put, take)?;
+    Ok(turned(rt, &links, &mut node, &mut far, stamp))
+}
+
+/// A turn of the node of vertex 1 of two, whose counter is moved past a stamp before.
+pub fn turn_past<R: Wait>(
+    rt: &R,
+    alloc: Global,
+    network: &Network,
+    stamp: u64,
+) -> Result<Turned, Memory>
+    requires network { network.now ≡ pair_net }
+{
+    let (out, put, far) = Link::<Greatest<1>>::new(alloc, network, 1, 0, 1)?;
+    let (back, _other, take) = Link::<Greatest<1>>::new(alloc, network, 2, 0, 1)?;
+    let links = vec![in alloc; out, back]?;
+    turned_over::<Brand, R>(rt, alloc, network, links, put, take, far, stamp)
+}
