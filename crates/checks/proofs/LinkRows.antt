@@ -11,7 +11,7 @@ use Rattle.std.proofs.lemmas.List.Elements.{Contains-append_cases, Contains-appe
 use Rattle.alpha_core.specs.interference.Net.{Net}
 use Rattle.alpha_core.specs.node_api.Boxes.{at_port}
 use Rattle.alpha_core.specs.interference.Making.{network_of}
-use Rattle.alpha_core.specs.node_api.Program.{Program, last_pulse_on}
+use Rattle.alpha_core.specs.node_api.Program.{Program}
 use Rattle.alpha_core.specs.node_api.Run.{node_at, state_at, outbox_at}
 use Rattle.alpha_core.specs.declared.wire.Wire.{Wire}
 use Rattle.alpha_core.specs.declared.wire.Wire.TheVariants.{Payload, Ack, Safe, Close}

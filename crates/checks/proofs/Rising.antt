@@ -1,5 +1,5 @@
 -- The last stamp of what an end has put.
-use Rattle.std.proofs.Common.{◌≡◌, ◌<◌, List, [], ◌∷◌, ◌++◌, ap, refl, ◌∙◌, arith}
+use Rattle.std.proofs.Common.{◌≡◌, List, [], ◌∷◌, ◌++◌, ap, refl, ◌∙◌}
 use Rattle.alpha_core.specs.declared.stamped.Stamped.{Stamped}
 use Rattle.alpha_core.specs.StampedWires.{last_stamp, wires_of}
 use Rattle.alpha_core.proofs.StampedWires.{last_more}

@@ -1,4 +1,4 @@
-use Rattle.std.proofs.Common.{◌≡◌, ◌-◌, [], map, refl, sym, ap, ◌∙◌, arith}
+use Rattle.std.proofs.Common.{◌≡◌, ◌-◌, [], refl, sym, ap, ◌∙◌, arith}
 use Rattle.crossbeam_deque.specs.Handles.{stealer_deque, worker_deque, worker_view}
 use Rattle.worker_deques.specs.deque_rule.Ledgers.{all_shares, ledger, shares_of}
 use Rattle.worker_deques.proofs.deque_rule.Rule.{deals}

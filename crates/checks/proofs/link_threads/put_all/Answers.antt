@@ -1,4 +1,4 @@
-use Rattle.std.proofs.Common.{arith, refl, ◌∙◌}
+use Rattle.std.proofs.Common.{arith, refl}
 use Rattle.checks.proofs.LinkRows.{may_close, same_legal}
 use Rattle.checks.proofs.Rising.{none_put}
 use Rattle.checks.proofs.link_threads.put_all.Goals as goal

@@ -1,4 +1,4 @@
-use Rattle.std.proofs.Common.{◌≡◌, ℕ, ap, subst, ◌∙◌}
+use Rattle.std.proofs.Common.{◌≡◌, ℕ, ap, subst}
 use Rattle.std.specs.Prelude.{List, Option, Result, Ok, Err, IfOk, MatchResult, OnErr, length}
 use Rattle.alpha_core.specs.node_api.Refused.{Refused}
 use Rattle.colour_program.specs.colour_rules.Payload.{Payload}
