@@ -50,8 +50,6 @@ class Proving:
     def __init__(self, crates, below, jobs, shown, words):
         self.below, self.jobs, self.shown, self.words = below, jobs, shown, words
         self.left, self.done, self.running = list(crates), set(), {}
-        # Of those that run, these don't give way.
-        self.urgent = set()
         measured = measured_seconds()
         self.seconds = {crate: seconds_of(crate, measured) for crate in crates}
         self.behind = self.seconds_behind(crates)
@@ -80,25 +78,19 @@ class Proving:
         """The length of the chain of crates that wait for a crate, as a share of the longest."""
         return self.behind[crate] / max(self.behind[other] for other in [*self.left, *self.running])
 
-    def gives_way(self, crate):
-        return self.share_behind(crate) < NEAR
-
     def processes_for(self, crate):
         """How many processes prove a crate. Each one loads what lies below anew, so one more costs 12 to 40 seconds.
-        The crate with the longest chain gets three, and one that begins while at most one other runs two; likewise
-        one that doesn't give way, of the others that don't. Small crates and programs get one.
+        The crate with the longest chain gets three, and one that begins while at most one other runs two.
+        Small crates and programs get one.
         """
         if self.seconds[crate] < SMALL or crate in PROGRAMS:
             return 1
-        if self.share_behind(crate) == 1:
-            return min(processors(), 3)
-        others = self.running if self.gives_way(crate) else self.urgent
-        return min(processors(), 2 if len(others) < 2 else 1)
+        most = 3 if self.share_behind(crate) == 1 else 2 if len(self.running) < 2 else 1
+        return min(processors(), most)
 
     def begin(self, crate):
         """Begins a crate, which gives way to others if its chain is much shorter than the longest."""
-        gives_way = self.gives_way(crate)
-        way = ["nice", "-n", str(WAY)] if gives_way else []
+        way = [] if self.share_behind(crate) >= NEAR else ["nice", "-n", str(WAY)]
         words = [
             sys.executable,
             os.path.join(TOP, "build"),
@@ -111,8 +103,6 @@ class Proving:
             self.running[crate] = subprocess.Popen(
                 [*way, *words], stdin=subprocess.PIPE, stdout=log, stderr=subprocess.STDOUT, preexec_fn=os.setpgrp
             )
-        if not gives_way:
-            self.urgent.add(crate)
         self.left.remove(crate)
 
     def failed(self):
@@ -121,7 +111,6 @@ class Proving:
             if process.poll() is None:
                 continue
             del self.running[crate]
-            self.urgent.discard(crate)
             if process.returncode:
                 return crate
             self.done.add(crate)
