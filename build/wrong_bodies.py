@@ -13,6 +13,9 @@ With --since REV, the crates are those whose sources or wrong bodies differ from
 crates.txt a crate whose contracts or definitions (src/, specs/) differ from it. With --minutes N, no list is begun
 after that time.
 
+A proof of the right body may name a value or a goal that the edit takes away. Then the check fails for that name, which
+says little of the contract; such an edit counts as refused, and is printed as WEAK. Change it so that it keeps the name.
+
 The last line is 'N refused, M PROVED, K not run'. The status is 0 only if every edit was tried and refused. It takes
 about 20 seconds an edit, so it is run by hand, with --since before each change is handed in; `./test` doesn't call it.
 """
@@ -32,6 +35,8 @@ TOP = os.path.dirname(os.path.dirname(os.path.abspath(__file__)))
 
 # The first edit of a list costs a proof of the whole crate, so no list is shorter than that is worth.
 LIST = 10
+# What the kit says of a refusal for a name alone.
+NAME_ALONE = "only because a proof file names"
 VERDICT = re.compile(r"must-fail \w+/\S+\.edit: (refused|NOT REFUSED|BAD EDIT|NOT TRIED)(.*)", re.DOTALL)
 
 
@@ -116,6 +121,8 @@ def try_all(rt, crates, jobs, end):
             print(f"{crate}: {refused} of {len(verdicts)} refused", flush=True)
             for edit, (verdict, why) in zip(edits, verdicts):
                 counts[verdict] += 1
+                if verdict == "refused" and NAME_ALONE in why:
+                    print(f"WEAK {os.path.relpath(edit, TOP)}", flush=True)
                 if verdict not in ("refused", "not run"):
                     shown = "PROVED" if verdict == "NOT REFUSED" else verdict
                     print(f"{shown} {os.path.relpath(edit, TOP)}{why}", flush=True)
