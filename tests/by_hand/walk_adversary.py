@@ -11,6 +11,7 @@ import argparse
 import base64
 import json
 import os
+import re
 import subprocess
 import sys
 import tempfile
@@ -242,7 +243,7 @@ def list_rows(browser, name, network, net, play):
     said, won = browser.value("by('said').textContent"), browser.value(
         "P.dares.map(function (dare) { return judged(dare)[0]; })"
     )
-    note(f"{name}: the end", "All have halted" in said, said)
+    note(f"{name}: the end", re.search(r"All have halted, with channels \d+(, \d+)*\.$", said), said)
     kinds = browser.value("P.dares.map(function (dare) { return dare.kind; })")
     never = [got for got, kind in zip(won, kinds) if kind in ("wrong", "plan")]
     note(f"{name}: what can't be won isn't", not any(never), list(zip(kinds, won)))
