@@ -15,8 +15,8 @@ from lab.networks.listed import Listed
 from lab.networks.network_text import read_network
 from lab.networks.numbering import renumbered
 from lab.networks.plan_text import read_plan
-from lab.networks.reading import listed_of, made_of
-from lab.networks.telling import other_form, tell
+from lab.networks.reading import listed_of, made_of, other_form
+from lab.networks.telling import tell
 from lab.networks.texts import text_of
 from lab.wrong import Wrong
 

@@ -2,8 +2,8 @@
 out."""
 from lab.networks.forms import listed
 from lab.networks.listed import clean, decoded
-from lab.networks.network_text import MAX_DEGREE, MAX_EDGES, MAX_NODES, shown, two_alike, whole
-from lab.networks.texts import Made
+from lab.networks.network_text import MAX_DEGREE, MAX_EDGES, MAX_NODES, read_network, shown, stem, two_alike, whole
+from lab.networks.texts import Made, text_of
 from lab.wrong import Wrong
 
 # Places of more digits before the point aren't written.
@@ -14,6 +14,46 @@ def read(data, name, form=None, heading=None):
     """The network, and the lines that say what was read, guessed and left out."""
     made, said, left_out = made_of(listed_of(data, name, form, heading), name)
     return made, said + left_out
+
+
+def read_any(data, name, heading=None):
+    """The network of a text in any form, and the lines that say how it was read; none if it is in the form of the
+    programs. Of a text in no form the fault is that of the form in which it begins."""
+    try:
+        return read_network(data.decode(), name), []
+    except UnicodeDecodeError:
+        fault = None
+    except Wrong as why:
+        fault = why
+    try:
+        made, said = read(data, name, None, heading)
+    except Wrong as why:
+        raise (fault if fault and begins_as_ours(data) else why) from None
+    if fault and is_ours(data, said):
+        raise fault
+    network = read_network(text_of(made), name)
+    network.name = stem(name)
+    return network, said
+
+
+def other_form(data, path):
+    """Of a text that the programs refuse: what `read` makes of it, or None. One that begins like a network isn't taken
+    for pairs."""
+    try:
+        _, said = read(data, path)
+    except Wrong:
+        return None
+    return None if is_ours(data, said) else said[0]
+
+
+def is_ours(data, said):
+    """Whether a text is meant for the programs, though they refuse it: it was read as rows, and begins like a
+    network."""
+    return begins_as_ours(data) and not said[0].startswith(("DOT", "DIMACS"))
+
+
+def begins_as_ours(data):
+    return data.split()[:1] in ([b"c"], [b"p"])
 
 
 def listed_of(data, name, form=None, heading=None):

@@ -1,8 +1,7 @@
 """`bin/network tell`: what a network is, what a run on it comes to, and what is wrong with its text."""
 from lab.networks.costs import Run, times
 from lab.networks.network_text import network_of_reading, reading_of
-from lab.networks.reading import counted, read
-from lab.wrong import Wrong
+from lab.networks.reading import counted
 
 
 def steps_in_turn(network):
@@ -88,14 +87,3 @@ def tell(text, path):
     """The lines of a network, and what a reader is warned of; or what is wrong."""
     reading = reading_of(text, path)
     return [f"{name}: {what}" for name, what in facts(reading, path)], list(warnings(reading))
-
-
-def other_form(data, path):
-    """Of a text that is no network: what `read` makes of it, or None. One that begins like a network isn't taken for
-    pairs."""
-    try:
-        _, said = read(data, path)
-    except Wrong:
-        return None
-    is_other = said[0].startswith(("DOT", "DIMACS")) or data.split()[0] not in (b"c", b"p")
-    return said[0] if is_other else None

@@ -15,11 +15,14 @@ Head = namedtuple("Head", "line edition nodes")
 
 
 class Wrong(Exception):
-    """Why a text isn't the transcript of a whole run: (line, code, what is wrong)."""
+    """Why a text isn't the transcript of a whole run: its `line`, the `code` of the refusal, and `what` is wrong."""
+
+    def __init__(self, line, code, what):
+        super().__init__(line, code, what)
+        self.line, self.code, self.what = line, code, what
 
     def __str__(self):
-        line, code, what = self.args
-        return f"line {line}: {code}: {what}"
+        return f"line {self.line}: {self.code}: {self.what}"
 
 
 @functools.lru_cache(maxsize=2**16)

@@ -81,7 +81,7 @@ def verdict_of(net, data):
     try:
         return whole_run(net, data)[1]
     except Wrong as wrong:
-        return f"line {wrong.args[0]}: {wrong.args[1]}"
+        return f"line {wrong.line}: {wrong.code}"
 
 
 def said_by(play, network, data):

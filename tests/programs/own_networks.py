@@ -17,8 +17,9 @@ from lab.definitions.rounds import rounds_text
 from lab.networks import network
 from lab.networks.costs import Run, most_payloads
 from lab.networks.network_text import read_network
-from lab.networks.reading import read
+from lab.networks.reading import read, read_any
 from lab.networks.texts import text_of
+from lab.wrong import Wrong
 from tests import TOP
 from tests.cases import Case, run_program
 from tests.programs.made_transcripts import made_transcript, transcript_text
@@ -457,6 +458,24 @@ class OwnNetworks(Case):
             status, text, told = call("read", "-", data=data)
             self.note(f"not read: {data[:30]!r}",
                       (status, text) == (1, b"") and re.fullmatch(rb"network: -[^\n]*\n", told) and said in told, told)
+
+    def test_any_form(self):
+        """One function for a text of which nobody knows the form: a network of the programs is read without a word, and
+        the fault of one is its own."""
+        for name, data, wanted in (
+            ("ours", b"c name 1 A\np edge 3 1\ne 2 1\n", (3, [(1, 2)], {1: "A"}, 0)),
+            ("pairs", b"a,b\nb,c\n", (3, [(1, 2), (2, 3)], {1: "a", 2: "b", 3: "c"}, 1)),
+            ("DOT", b"graph { x -- y }", (2, [(1, 2)], {1: "x", 2: "y"}, 1)),
+            ("ours with a byte order mark", b"\xef\xbb\xbfp edge 2 1\ne 1 2\n", (2, [(1, 2)], {}, 1)),
+        ):
+            found, said = read_any(data, f"{name}.txt")
+            got = found.nodes, found.edges, found.names, min(len(said), 1)
+            self.note(f"any form: {name}", got == wanted and found.name == name, (got, said))
+        for name, data, wanted in (("ours", b"p edge 2 1\ne 1 5\n", "(F5)"), ("nothing", b"", "no line with a node"),
+                                   ("Pajek", b"*Vertices 2\n*Edges\n1 2\n", "Pajek")):
+            with self.assertRaises(Wrong) as caught:
+                read_any(data, name)
+            self.note(f"no form: {name}", wanted in str(caught.exception), caught.exception)
 
     def test_random_forms(self):
         """Two hundred networks, fifty in each of four forms, through the modules that the script runs."""

@@ -246,7 +246,7 @@ def replay(rows):
     try:
         head, entries = read(b"".join(b" ".join(fields) + b"\r\n" for fields in behind))
     except Wrong as wrong:
-        raise Fault(f"X1 line {wrong.args[0] + len(before) if behind else 1}") from None
+        raise Fault(f"X1 line {wrong.line + len(before) if behind else 1}") from None
     state, clock, before_it = NetState(net), Clock(net.neighbours), (0, 0)
     taken = dict.fromkeys(state.link, 0)
     for entry in entries:

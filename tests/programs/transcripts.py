@@ -133,7 +133,7 @@ def said_of(net, data):
     try:
         return whole_run(net, data)[1], ""
     except Wrong as wrong:
-        line, code, words = wrong.args
+        line, code, words = wrong.line, wrong.code, wrong.what
         return f"line {line}: {code}", words
 
 
@@ -185,7 +185,7 @@ def found_in(net, data):
     try:
         _, entries = read(data)
     except Wrong as wrong:
-        return wrong.args[1], data
+        return wrong.code, data
     found = find_order(net, entries)
     if found.left:
         first = first_refused(found)
@@ -204,7 +204,7 @@ def replayed(net, data):
         for entry in entries:
             make(state, entry)
     except Wrong as wrong:
-        return wrong.args[1]
+        return wrong.code
     except Refused as refused:
         return str(refused)
     is_whole = all(node.drained() for node in state.nodes.values()) and not any(state.link.values())
