@@ -1,27 +1,61 @@
-"""The programs whose texts are drawn: `bin/forestplan` and `bin/forestplay`, which build themselves at the first
-call."""
+"""The two proved programs as they were last built, called without the scripts of their names: those look at all sources
+first, which takes ten times as long as a small call, and prove and build what isn't built, which is for a person to
+ask for."""
 import os
 import subprocess
+import sys
 
 from lab.wrong import Wrong
 
 TOP = os.path.dirname(os.path.dirname(os.path.realpath(__file__)))
+# Of each program, a command with which a first call has it built.
+FIRST = {"forestplan": "plan", "forestplay": "rounds"}
+# What the C library is asked for, unless the caller says something else: large pages for what is allocated.
+TUNABLES = "glibc.malloc.hugetlb=1"
 
 
 class Refused(Exception):
-    """A program refused, and has said so on standard error; `status` is its own."""
+    """A program refused: `status` is its own, and `words` is what it wrote to standard error."""
 
-    def __init__(self, status):
-        super().__init__(status)
-        self.status = status
+    def __init__(self, status, words):
+        super().__init__(status, words)
+        self.status, self.words = status, words
 
 
-def text_of(program, words, network_text):
-    """What a program writes of a network; its standard error goes on to ours."""
+def built(name):
+    """The program's file, or None if it isn't built. An installed folder has it in bin/, in place of the script."""
+    is_tree = os.path.isdir(os.path.join(TOP, "crates", name))
+    path = os.path.join(TOP, "crates", name, "out", name) if is_tree else os.path.join(TOP, "bin", name)
+    return path if os.path.isfile(path) and os.access(path, os.X_OK) else None
+
+
+def program_file(name):
+    """The program's file; refused if it isn't built."""
+    path = built(name)
+    if path is None:
+        raise Wrong(f"{name} isn't built: a first call of it, as `bin/{name} {FIRST[name]} < examples/two.col`, proves "
+                    "and builds it in 16 to 33 minutes")
+    return path
+
+
+def environment():
+    """What a program is called with."""
+    return {"GLIBC_TUNABLES": TUNABLES, **os.environ}
+
+
+def called(name, words, data):
+    """What a program did with a text: its status, and the bytes of both outputs."""
     try:
-        done = subprocess.run([os.path.join(TOP, "bin", program), *words], input=network_text, stdout=subprocess.PIPE)
+        return subprocess.run([program_file(name), *words], input=data, capture_output=True, env=environment())
     except OSError as why:
-        raise Wrong(f"{program} can't be run: {why.strerror}") from None
+        raise Wrong(f"{name} can't be run: {why.strerror}") from None
+
+
+def text_of(name, words, data):
+    """What a program writes of a text; what it says besides goes on to standard error, or into `Refused`."""
+    done = called(name, words, data)
+    said = done.stderr.decode("utf-8", "replace")
     if done.returncode:
-        raise Refused(done.returncode)
+        raise Refused(done.returncode, said)
+    sys.stderr.write(said)
     return done.stdout.decode()

@@ -1,6 +1,5 @@
 """What a run on a network comes to: its payloads, wires and entries, and how long the commands take here."""
 import contextlib
-import os
 import re
 import resource
 import subprocess
@@ -10,7 +9,7 @@ from lab.networks import kinds
 from lab.networks.network_text import read_network
 from lab.networks.reading import counted
 from lab.networks.texts import Made, text_of
-from lab.programs import TOP
+from lab.programs import built, environment
 from lab.wrong import Wrong
 
 # The most nodes times pulses for which the rounds are worked out here, in about a second. Above that
@@ -101,20 +100,6 @@ def counted_payloads(run):
     return most, round(most * (2 * (2 * ends + 13) + 2 * 20 + 2 * 7)), "forestplay isn't built, which counts them"
 
 
-def built(name):
-    """The program if it is built: in the tree, or in a folder in which it was installed, in place of the script that
-    builds it."""
-    program = os.path.join(TOP, "crates", name, "out", name)
-    if os.path.exists(program):
-        return program
-    program = os.path.join(TOP, "bin", name)
-    try:
-        with open(program, "rb") as file:
-            return program if file.read(4) == b"\x7fELF" else None
-    except OSError:
-        return None
-
-
 def bytes_for(network):
     """The network as the programs are given it."""
     return text_of(Made(network.nodes, network.edges, identifiers=network.identifiers, bars=network.bars)).encode()
@@ -123,7 +108,8 @@ def bytes_for(network):
 def payloads_by(program, network):
     """The lines of the rounds that put a payload, read as they are written, and the bytes of their entries."""
     count = size = 0
-    with subprocess.Popen([program, "rounds"], stdin=subprocess.PIPE, stdout=subprocess.PIPE) as started:
+    with subprocess.Popen([program, "rounds"], stdin=subprocess.PIPE, stdout=subprocess.PIPE,
+                          env=environment()) as started:
         # One that ends before it has read all has its status below.
         with contextlib.suppress(BrokenPipeError):
             started.stdin.write(bytes_for(network))
@@ -188,7 +174,8 @@ def seconds_of(program, command, run, times=2):
     took = []
     for _ in range(times):
         start = time.monotonic()
-        done = subprocess.run([program, command], input=bytes_for(run.network), stdout=subprocess.DEVNULL)
+        done = subprocess.run([program, command], input=bytes_for(run.network), stdout=subprocess.DEVNULL,
+                              env=environment())
         took.append(time.monotonic() - start)
         if done.returncode:
             raise NotMeasured(f"forestplan {command} ended with status {done.returncode}; is there too little memory?")

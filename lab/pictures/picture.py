@@ -1,11 +1,16 @@
-"""The door: `bin/picture KIND NETWORK [options] > x.svg`. Reads the network, has the programs write what is to be drawn
-(or reads it from a file), and writes the picture, or one line on standard error and no part of it."""
+"""The door: `bin/picture KIND NETWORK [options] > x.svg`. Reads the network and the texts that are drawn, or has a
+program write them, and writes the picture, or one line on standard error and no part of it. `drawing` is for callers in
+Python: a picture of what they have."""
 import argparse
 import gc
 import re
 import sys
+from collections.abc import Callable
+from dataclasses import dataclass, fields
+from typing import NamedTuple
 
 from lab import programs
+from lab.definitions.colours import plan_text as plan_by_definition
 from lab.definitions.nodes import Colouring
 from lab.definitions.programs import add_program, program_at
 from lab.networks.network_text import read_network, stem
@@ -15,20 +20,21 @@ from lab.pictures import (
     overview_picture, plan_picture, player_page, program_picture, rounds_picture, run_picture, schedules_picture,
     schedules_space, tally_picture, timing_picture, watch_page, why_picture, wrong_run,
 )
-from lab.pictures.places import note
+from lab.pictures.places import unused_places
 from lab.pictures.program_player import ProgramFilm
-from lab.pictures.program_rounds import ProgramRounds, is_own, read_program_rounds
+from lab.pictures.program_rounds import is_own, read_program_rounds, rounds_of
 from lab.pictures.rounds import read_rounds
 from lab.pictures.sizes import MANY_WIRES, check_run, check_size, last_pulse, least_wires
 from lab.pictures.transcripts import read_transcript
+from lab.pictures.watch_page import steps_of_text
 from lab.schedules.reading import network_of
 from lab.schedules.rules import OF_ROUNDS as RULES_OF_ROUNDS, OF_SCHEDULES
 from lab.schedules.simulate import played, text_of_rows
 from lab.wrong import Wrong
 
 HELP = """\
-Draws what the programs computed, as SVG on standard output; the last three kinds
-draw what `bin/explore` searches.
+Draws plans, rounds and runs, as SVG on standard output; the last three kinds draw
+what `bin/explore` searches.
 
   map        the network alone, without a plan: for a question sheet
   plan       the plan on the map: who has which channel
@@ -55,6 +61,10 @@ vertices, y growing downwards; they count if each vertex has one. Else up to six
 are on a circle, and more are laid out by their edges. Vertices that would overlap
 are drawn smaller, and those still too near are pushed apart. Comment lines
 `c name V NAME` name them, in plan, player, run and overview.
+
+Without a stored text, run, overview, node, watch and, of a short run, tally draw what
+the built program writes, and plan and matrix, too, if it is built. All else is worked
+out by the definitions in Python, which are tested and not proved.
 
 Status: 0 done, 1 not drawn (one line on standard error says why), 2 the command
 line is refused; if a program refuses, its own line and status.
@@ -176,6 +186,8 @@ KINDS = {
     ),
 }
 OF_SPACE = ("schedules", "adversary")
+# Those that draw the nodes where the network places them.
+PLACED = ("map", "plan", "forests", "player", "watch", "broken")
 # Those that draw any program.
 OF_PROGRAMS = ("rounds", "player", "run", "overview", "node", "tally", "schedules", "adversary")
 OF_PLAN, OF_ROUNDS, OF_RUN = (
@@ -289,8 +301,162 @@ def add_space_options(kind, name):
         kind.add_argument("--events", type=pulses, metavar="A..B", help="the states after A to B events alone")
         kind.add_argument("--run", metavar="FILE", help="the run drawn bold, as a list of events; else the one in step")
     else:
-        kind.add_argument("--text", action="store_true", help="the page's table alone, as JSON")
+        kind.add_argument("--text", action="store_true", dest="as_table", help="the page's table alone, as JSON")
 
+
+@dataclass
+class Options:
+    """What pictures can be asked for besides the network; the help of each kind names those that it takes."""
+    program: type = Colouring
+    forests: tuple[int, int] | None = None
+    forest: int | None = None
+    pulses: tuple[int, int] | None = None
+    vertex: int | None = None
+    only: list[str] | None = None
+    wrong: bool = False
+    frame: int | None = None
+    in_words: bool = False
+    without: tuple[str, ...] = ()
+    events: tuple[int, int] | None = None
+    as_table: bool = False
+    # Told now and then how many states and events a search has found.
+    progress: Callable[[int, int], None] | None = None
+
+
+class Text(NamedTuple):
+    """A text that is drawn: its form (plan, rounds, transcript or events), what its faults call it, and how the picture
+    names a run, if not as the network."""
+    form: str
+    name: str
+    text: str
+    title: str | None = None
+
+
+def drawing(kind, network, options=Options(), texts=()):
+    """The picture of a kind: SVG, a page or words. A plan and a run have to be among the texts; rounds of which there
+    is no text are worked out by the definitions. No program is called, no file read, and nothing said: a fault raises
+    `Wrong`."""
+    if network is not None:
+        check_size(kind, network)
+    return DRAWERS[kind](kind, network, options, {text.form: text for text in texts} | {"all": texts})
+
+
+def draw_map(_kind, network, _options, _texts):
+    return map_picture.draw(network)
+
+
+def draw_plan(kind, network, _options, texts):
+    plan = wanted(texts, "plan")
+    return (plan_picture if kind == "plan" else matrix_picture).draw(network, read_plan(plan.text, plan.name, network))
+
+
+def wanted(texts, form):
+    if form not in texts:
+        raise Wrong(f"there is no {form} to draw")
+    return texts[form]
+
+
+def draw_rounds(kind, network, options, texts):
+    rounds = rounds_in(network, options, texts)
+    if options.program is not Colouring:
+        return draw_program(kind, options, rounds)
+    if kind == "forests":
+        return forests_picture.draw(rounds, options.forests)
+    if kind == "rounds":
+        return rounds_picture.draw(rounds, options.forests)
+    if kind == "why":
+        cone = why_picture.Cone(rounds, options.vertex)
+        return why_picture.text(cone) if options.in_words else why_picture.draw(cone)
+    if kind == "bits":
+        return bits_picture.draw(rounds, options.forest or 0, options.vertex)
+    return player_page.draw(rounds) if options.frame is None else player_page.draw_frame(rounds, options.frame)
+
+
+def rounds_in(network, options, texts):
+    """The rounds of a text, or of the definitions."""
+    given, program = texts.get("rounds"), options.program
+    if given is None:
+        return rounds_of(network, network.identifiers, program)
+    if program is Colouring:
+        return read_rounds(given.text, given.name, network)
+    return read_program_rounds(given.text, given.name, network, program)
+
+
+def draw_program(kind, options, rounds):
+    """The rounds of another program than the colouring."""
+    if kind == "rounds":
+        if options.forests:
+            raise Wrong(f"{options.program.name} has no forests")
+        return program_picture.draw(rounds, options.pulses)
+    if options.frame is None:
+        return player_page.draw(rounds, ProgramFilm)
+    return player_page.draw_frame(rounds, options.frame, ProgramFilm)
+
+
+def draw_run(kind, network, options, texts):
+    if kind == "tally" and "transcript" not in texts:
+        counts = tally_picture.counts_by(rounds_in(network, options, texts))
+        return tally_picture.draw(network, network.name, counts, options.pulses, by_rounds=True)
+    given, wrong = wanted(texts, "transcript"), None
+    text = given.text
+    if kind == "run" and options.wrong:
+        text, wrong = wrong_run.cut(text, given.name, network, options.program)
+    until = None if wrong else until_of(kind, network, options)
+    run = read_transcript(text, given.name, network, until, options.program)
+    run.name = given.title or network.name
+    if kind == "run":
+        return run_picture.draw(run, options.pulses, options.only, wrong)
+    if kind == "overview":
+        return overview_picture.draw(run, options.pulses)
+    if kind == "tally":
+        return tally_picture.draw(run.network, run.name, tally_picture.counts_of(run), options.pulses)
+    if options.vertex is None:
+        return automaton_picture.draw(run, options.pulses)
+    return timing_picture.draw(run, options.vertex, options.pulses)
+
+
+def until_of(kind, network, options):
+    """The last pulse that is drawn; None if all are."""
+    if kind == "tally":
+        return None
+    if options.pulses:
+        return options.pulses[1]
+    last = last_pulse(network, options.program)
+    if kind == "run":
+        return run_picture.usual(network, last)[1]
+    if kind == "overview":
+        return overview_picture.usual(last)[1]
+    return (automaton_picture.usual(network, last) if options.vertex is None else timing_picture.usual(last))[1]
+
+
+def draw_watch(_kind, network, options, texts):
+    wanted(texts, "transcript")
+    return watch_page.draw([
+        watch_page.Run(text.name, network, steps_of_text(text.name, network, text.text, options.pulses,
+                                                         options.program), options.pulses)
+        for text in texts["all"]
+    ])
+
+
+def draw_space(kind, network, options, texts):
+    beyond = kind == "adversary" or options.events is not None
+    space = schedules_space.space_of(network, kind, options.without, beyond, options.program, options.progress)
+    if kind == "schedules":
+        bold = texts.get("events")
+        return schedules_picture.draw(network, space, options.events, bold and bold.text)
+    return adversary_page.draw_table(space) if options.as_table else adversary_page.draw(network, space)
+
+
+def draw_broken(_kind, network, options, _texts):
+    return broken_picture.draw(network, options.without)
+
+
+DRAWERS = {
+    "map": draw_map, "schedules": draw_space, "adversary": draw_space, "watch": draw_watch, "broken": draw_broken,
+} | dict.fromkeys(OF_PLAN, draw_plan) | dict.fromkeys(OF_ROUNDS, draw_rounds) | dict.fromkeys(OF_RUN, draw_run)
+
+
+# From the command line.
 
 def file_text(path):
     try:
@@ -302,202 +468,100 @@ def file_text(path):
         raise Wrong(f"{path}: {why.strerror}") from None
 
 
+def note(what):
+    print(f"picture: {what}", file=sys.stderr)
+
+
 def stored(given):
-    """The file of a stored text, if one is named."""
-    return given.text or given.kind == "tally" and given.rounds or None
+    """(form, path) of each text that the command line names."""
+    if given.kind == "watch":
+        return [("transcript", path) for path in given.transcripts]
+    if given.kind == "schedules":
+        return [("events", given.run)] if given.run else []
+    if given.kind == "tally" and given.rounds and not given.text:
+        return [("rounds", given.rounds)]
+    return [(form_of(given.kind), given.text)] if getattr(given, "text", None) and given.kind not in OF_SPACE else []
 
 
-def told(given, network, network_text):
-    """The text that is drawn: the file's, or what the program writes."""
-    if stored(given):
-        return file_text(stored(given))
+def form_of(kind):
+    """The form of the text that a kind draws."""
+    return "plan" if kind in OF_PLAN else "rounds" if kind in OF_ROUNDS else "transcript"
+
+
+def texts_of(given, network, network_text, options):
+    """The texts that are drawn: those of files, or what a program writes."""
+    found = [Text(form, named_input(path), file_text(path),
+                  None if path == "-" or given.title or given.kind == "watch" else stem(path))
+             for form, path in stored(given)]
+    if found:
+        return found
     if given.kind in OF_PLAN:
+        return [Text("plan", "the plan", plan_text(network_text))]
+    if given.kind == "watch" or given.kind in OF_RUN and not tallies_rounds(given, network, options.program):
+        return [Text("transcript", network.name if given.kind == "watch" else f"the text of {network.name}",
+                     run_text(given, network, network_text, options.program))]
+    return []
+
+
+def plan_text(network_text):
+    """The plan of the proved program; where that isn't built, of the definitions, which is said."""
+    if programs.built("forestplan"):
         return programs.text_of("forestplan", ["plain"], network_text)
-    program = program_of(given)
-    if given.kind in OF_ROUNDS or tallies_rounds(given, network):
-        return programs.text_of("forestplay", ["rounds", *words_of(program)], network_text)
+    note("forestplan isn't built, so the plan is that of the definitions in Python, which no proof covers")
+    return plan_by_definition(network_text).decode()
+
+
+def run_text(given, network, network_text, program):
+    """The transcript of a run: by threads of a proved program, by seed of one from a file."""
     if check_run(given.kind, network, program):
         wires = least_wires(network, program)
         note(f"a run of {network.name} has more than {wires:,} wires, so its text takes a while")
-    options = [
-        f"--{name}={value}" for name, value in (("workers", given.workers), ("capacity", given.capacity)) if value
-    ]
-    return run_text(program, network, network_text, options)
-
-
-def run_text(program, network, network_text, options=()):
-    """The transcript of a run: by threads of a proved program, by seed of one from a file."""
-    if program is Colouring:
-        return programs.text_of("forestplan", ["transcript", *options], network_text)
     if is_own(program):
         return text_of_rows(network.nodes, played(network_of(network), program=program))
-    return programs.text_of("forestplay", ["run", "--transcript", *words_of(program), *options], network_text)
+    options = [f"--{name}={value}" for name in ("workers", "capacity") if (value := getattr(given, name, None))]
+    if program is Colouring:
+        return programs.text_of("forestplan", ["transcript", *options], network_text)
+    return programs.text_of("forestplay", ["run", "--transcript", "--program", program.name, *options], network_text)
 
 
-def program_of(given):
-    """The program that the nodes run."""
-    return program_at(getattr(given, "program", Colouring.name))
-
-
-def words_of(program):
-    """The option of a proved program that names it."""
-    return [] if program is Colouring else ["--program", program.name]
-
-
-def tallies_rounds(given, network):
+def tallies_rounds(given, network, program):
     """Whether the wires are counted by the rounds: a run would be long, and each has as many."""
-    return given.kind == "tally" and not given.text and (
-        given.rounds or least_wires(network, program_of(given)) > MANY_WIRES)
+    return given.kind == "tally" and least_wires(network, program) > MANY_WIRES
 
 
-def name_of(given, network):
-    """What a fault of the text calls it."""
-    if stored(given):
-        return "standard input" if stored(given) == "-" else stored(given)
-    return {"plan": "the plan", "rounds": "the rounds"}.get(given.kind, f"the text of {network.name}")
+def named_input(path):
+    """What a fault of a text calls it."""
+    return "standard input" if path == "-" else path
 
 
-def path_of(given):
-    """What a fault of the network's text calls it."""
-    return "standard input" if given.network == "-" else given.network
+def options_of(given):
+    """The options of a kind as the command line has them."""
+    found = {field.name: getattr(given, field.name) for field in fields(Options) if hasattr(given, field.name)}
+    return Options(**found | {"program": program_at(getattr(given, "program", Colouring.name)),
+                              "progress": progress if sys.stderr.isatty() else None})
 
 
-def named(given, network):
-    """The network with the name that its picture gives it."""
-    network.name = given.title or ("this network" if given.network == "-" else network.name)
-    return network
+def progress(states, events):
+    note(f"{states:,} states, up to {events} events")
 
 
 def drawn(given):
-    """The picture of a kind."""
-    if given.kind == "broken":
-        return drawn_broken(given)
-    if given.kind == "watch":
-        return drawn_watch(given)
-    if given.kind not in (*OF_SPACE, "map") and given.network == stored(given) == "-":
-        raise Wrong("standard input has one text: name a file for the network or for the other text")
-    network_text = file_text(given.network)
-    network = named(given, read_network(network_text, path_of(given)))
-    check_size(given.kind, network)
-    if given.kind == "map":
-        return map_picture.draw(network)
-    if given.kind in OF_SPACE:
-        return drawn_space(given, network)
-    program = program_of(given)
-    if given.kind in ("rounds", "player") and program is not Colouring:
-        return drawn_program(given, network, network_text, program)
-    text = told(given, network, network_text.encode())
-    name = name_of(given, network)
-    if given.kind in OF_PLAN:
-        kind = plan_picture if given.kind == "plan" else matrix_picture
-        return kind.draw(network, read_plan(text, name, network))
-    if given.kind in OF_ROUNDS:
-        return drawn_rounds(given, read_rounds(text, name, network))
-    if tallies_rounds(given, network):
-        read = read_rounds(text, name, network) if program is Colouring else (
-            read_program_rounds(text, name, network, program))
-        counts = tally_picture.counts_by(read)
-        return tally_picture.draw(network, network.name, counts, given.pulses, by_rounds=True)
-    wrong = None
-    if given.kind == "run" and given.wrong:
-        text, wrong = wrong_run.cut(text, name, network, program)
-    run = read_transcript(text, name, network, None if wrong else until_of(given, network), program)
-    run.name = stem(given.text) if given.text and given.text != "-" and not given.title else network.name
-    return drawn_run(given, run, wrong)
-
-
-def until_of(given, network):
-    """The last pulse that is drawn; None if all are."""
-    if given.kind == "tally":
-        return None
-    if given.pulses:
-        return given.pulses[1]
-    last = last_pulse(network, program_of(given))
-    if given.kind == "run":
-        return run_picture.usual(network, last)[1]
-    if given.kind == "overview":
-        return overview_picture.usual(last)[1]
-    return (automaton_picture.usual(network, last) if given.vertex is None else timing_picture.usual(last))[1]
-
-
-def drawn_watch(given):
-    files = given.transcripts
-    if len(files) > 2:
+    """The picture that the command line asks for."""
+    if given.kind == "broken" and given.network is None:
+        return drawing("broken", None, options_of(given))
+    if len(stored(given)) > 2:
         raise Wrong("a page has room for two runs")
-    if [given.network, *files].count("-") > 1:
+    if [given.network, *(path for _, path in stored(given))].count("-") > 1:
         raise Wrong("standard input has one text: name a file for each other one")
-    network_text = file_text(given.network)
-    network = named(given, read_network(network_text, path_of(given)))
+    data = file_text(given.network)
+    network = read_network(data, named_input(given.network))
+    network.name = given.title or ("this network" if given.network == "-" else network.name)
     check_size(given.kind, network)
-    program = program_of(given)
-    if not files:
-        if check_run(given.kind, network, program):
-            wires = least_wires(network, program)
-            note(f"a run of {network.name} has more than {wires:,} wires, so its text takes a while")
-        return watch_page.draw([watch_page.Run(network.name, network, run_text(program, network, network_text.encode()),
-                                               given.pulses, program)])
-    names = ["standard input" if file == "-" else file for file in files]
-    return watch_page.draw([
-        watch_page.Run(name, network, file_text(file), given.pulses, program) for name, file in zip(names, files)
-    ])
-
-
-def drawn_broken(given):
-    if given.network is None:
-        return broken_picture.draw(None, given.without)
-    network = named(given, read_network(file_text(given.network), path_of(given)))
-    check_size(given.kind, network)
-    return broken_picture.draw(network, given.without)
-
-
-def drawn_space(given, network):
-    space = schedules_space.space_of(
-        network, given.kind, given.without, given.kind == "adversary" or given.events is not None, program_of(given)
-    )
-    if given.kind == "schedules":
-        return schedules_picture.draw(network, space, given.events, given.run and file_text(given.run))
-    return adversary_page.draw_table(space) if given.text else adversary_page.draw(network, space)
-
-
-def drawn_program(given, network, network_text, program):
-    """The rounds of another program than the colouring; those of the proved ones are read from their text."""
-    if is_own(program) and not given.text:
-        rounds = ProgramRounds(network, network.identifiers, program)
-    else:
-        text = told(given, network, network_text.encode())
-        rounds = read_program_rounds(text, name_of(given, network), network, program)
-    if given.kind == "rounds":
-        if given.forests:
-            raise Wrong(f"{program.name} has no forests")
-        return program_picture.draw(rounds, given.pulses)
-    if given.frame is None:
-        return player_page.draw(rounds, ProgramFilm)
-    return player_page.draw_frame(rounds, given.frame, ProgramFilm)
-
-
-def drawn_rounds(given, rounds):
-    if given.kind == "forests":
-        return forests_picture.draw(rounds, given.forests)
-    if given.kind == "rounds":
-        return rounds_picture.draw(rounds, given.forests)
-    if given.kind == "why":
-        cone = why_picture.Cone(rounds, given.vertex)
-        return why_picture.text(cone) if given.in_words else why_picture.draw(cone)
-    if given.kind == "bits":
-        return bits_picture.draw(rounds, given.forest or 0, given.vertex)
-    return player_page.draw(rounds) if given.frame is None else player_page.draw_frame(rounds, given.frame)
-
-
-def drawn_run(given, run, wrong=None):
-    if given.kind == "run":
-        return run_picture.draw(run, given.pulses, given.only, wrong)
-    if given.kind == "overview":
-        return overview_picture.draw(run, given.pulses)
-    if given.kind == "tally":
-        return tally_picture.draw(run.network, run.name, tally_picture.counts_of(run), given.pulses)
-    if given.vertex is None:
-        return automaton_picture.draw(run, given.pulses)
-    return timing_picture.draw(run, given.vertex, given.pulses)
+    options = options_of(given)
+    texts = texts_of(given, network, data.encode(), options)
+    if given.kind in PLACED and (said := unused_places(network)):
+        note(said)
+    return drawing(given.kind, network, options, texts)
 
 
 def main(words):
@@ -512,6 +576,7 @@ def main(words):
         print(f"picture: {why}", file=sys.stderr)
         return 1
     except programs.Refused as why:
+        sys.stderr.write(why.words)
         return why.status
     sys.stdout.buffer.write(picture.encode())
     return 0

@@ -1,5 +1,4 @@
 """Where the vertices of a network are drawn: at given places, on a circle, or laid out by the edges (layout.py)."""
-import sys
 from math import sqrt
 
 from lab.pictures.layout import laid_out
@@ -17,16 +16,17 @@ FULL_TURN = 6.283185307179586
 def places_of(network):
     """{vertex: (x, y)}: the comment lines `c at V X Y` if they name every vertex; else a circle for up to six; else a
     layout."""
-    named = [v for v in network.vertices if v in network.given]
-    if len(named) == network.nodes:
+    if all(v in network.given for v in network.vertices):
         return {v: network.given[v] for v in network.vertices}
-    if named:
-        note(f"{network.name}: places are given for {len(named)} of {network.nodes} vertices, so they aren't used")
     return circle(network.nodes) if network.nodes <= LARGEST_CIRCLE else laid_out(network)
 
 
-def note(what):
-    print(f"picture: {what}", file=sys.stderr)
+def unused_places(network):
+    """Of a network that places some of its vertices: that they are drawn elsewhere, in words; else None."""
+    named = sum(v in network.given for v in network.vertices)
+    if named in (0, network.nodes):
+        return None
+    return f"{network.name}: places are given for {named} of {network.nodes} vertices, so they aren't used"
 
 
 def turned(turn):

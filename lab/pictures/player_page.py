@@ -132,10 +132,10 @@ def draw(rounds, kind=None):
     film = (kind or Film)(rounds)
     frames = []
     for number, pulse in enumerate(film.scenes()):
-        caption, said = film.caption(pulse)
+        title, said = film.caption(rounds, pulse)
         hidden = " hidden" if number else ""
         frames.append(
-            f'<figure class="frame" data-pulse="{pulse}"{hidden}><figcaption><b>{escaped(caption)}</b><br>'
+            f'<figure class="frame" data-pulse="{pulse}"{hidden}><figcaption><b>{escaped(title)}</b><br>'
             f'{escaped(said)}</figcaption>\n'
             f'<svg viewBox="0 0 {SIZE} {SIZE}">{GROUND}\n{film.frame(pulse).inner()}\n</svg></figure>'
         )
@@ -206,6 +206,24 @@ def turn_mark(svg, x, y, half, colour, old, mark="turn"):
         svg.text(x + 1.3 * half, y + 0.6 * half, old, round(1.5 * half, 1), INK, halo=3, bold=True)
 
 
+def caption(rounds, number):
+    """The title of a pulse, and a sentence of what is done in it."""
+    pulse, forests = rounds.pulses[number], rounds.forests
+    title, said = f"pulse {number} of {rounds.last} · {pulse.phase}", SAY[pulse.phase]
+    if not forests and number >= SEED:
+        least = "the least channel that isn't barred" if rounds.network.bars else "channel 1"
+        return title, "No node has a neighbour, so there is no forest" + (
+            f", and nothing to merge: each has {least}." if number == rounds.last else " and no colour in it.")
+    if pulse.step:
+        forest, colour, old = pulse.step
+        title += f" · forest {forest}"
+        said += (f" Now the pair K = {colour}, J = {old}: colour {colour} in forest {forest}, colour {old} "
+                 f"(channel {old + 1}) so far." + ("" if pulse.chosen else " There is no such node."))
+    elif number >= SEED:
+        title += " · forest 0" if forests == 1 else f" · forests 0 to {forests - 1}"
+    return title, said
+
+
 class Film:
     """What all frames share."""
 
@@ -227,33 +245,12 @@ class Film:
             # Nothing is merged, so each node keeps its first colour.
             self.merged[rounds.last] = dict(rounds.first)
 
-    legend = staticmethod(legend)
+    caption, legend = staticmethod(caption), staticmethod(legend)
 
     def scenes(self):
         """The pulse of each frame, ascending."""
         pulses = self.rounds.pulses
         return [pulse.number for pulse in pulses if len(pulses) <= FULL_FRAMES or not pulse.step or pulse.chosen]
-
-    def caption(self, number):
-        pulse, forests = self.rounds.pulses[number], self.rounds.forests
-        caption, said = f"pulse {number} of {self.rounds.last} · {pulse.phase}", SAY[pulse.phase]
-        if not forests and number >= SEED:
-            return caption, "No node has a neighbour, so there is no forest" + (
-                f", and nothing to merge: each has {self.least()}."
-                if number == self.rounds.last
-                else " and no colour in it."
-            )
-        if pulse.step:
-            forest, colour, old = pulse.step
-            caption += f" · forest {forest}"
-            said += (f" Now the pair K = {colour}, J = {old}: colour {colour} in forest {forest}, colour {old} "
-                     f"(channel {old + 1}) so far." + ("" if pulse.chosen else " There is no such node."))
-        elif number >= SEED:
-            caption += " · forest 0" if forests == 1 else f" · forests 0 to {forests - 1}"
-        return caption, said
-
-    def least(self):
-        return "the least channel that isn't barred" if self.network.bars else "channel 1"
 
     def shared(self):
         """What frames refer to: the edges, and each forest's arrows."""

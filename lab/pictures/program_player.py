@@ -6,8 +6,22 @@ from lab.pictures.program_picture import is_new
 from lab.pictures.svg import Svg, counted
 
 
+def caption(rounds, number):
+    """The title of a pulse, and a sentence of what is done in it."""
+    pulse = rounds.pulses[number]
+    found = [v for v in rounds.network.vertices if is_new(rounds, pulse, v)] if number else []
+    said = f"{counted(len(pulse.puts), 'message')} sent, to be read in the next pulse." if pulse.puts else (
+        "Nothing is sent.")
+    if found:
+        named = ", ".join(map(str, found[:12])) + " .." * (len(found) > 12)
+        said += f" Something new is found by {named}."
+    return f"pulse {number} of {rounds.last} · {rounds.program.name}", said
+
+
 class ProgramFilm(Film):
     """A frame for each pulse; of very many, for those in which something is sent or found."""
+
+    caption = staticmethod(caption)
 
     def scenes(self):
         rounds = self.rounds
@@ -16,16 +30,6 @@ class ProgramFilm(Film):
 
     def happens(self, pulse):
         return pulse.puts or any(is_new(self.rounds, pulse, v) for v in self.network.vertices)
-
-    def caption(self, number):
-        pulse = self.rounds.pulses[number]
-        found = [v for v in self.network.vertices if is_new(self.rounds, pulse, v)] if number else []
-        said = f"{counted(len(pulse.puts), 'message')} sent, to be read in the next pulse." if pulse.puts else (
-            "Nothing is sent.")
-        if found:
-            named = ", ".join(map(str, found[:12])) + " .." * (len(found) > 12)
-            said += f" Something new is found by {named}."
-        return f"pulse {number} of {self.rounds.last} · {self.rounds.program.name}", said
 
     def frame(self, number):
         svg = Svg(SIZE, SIZE, f"{self.network.name}, pulse {number}")

@@ -2,7 +2,6 @@
 draw every schedule; and the rounds without a rule, as ruled_rounds.py there has them. What is too large for a picture
 is refused here, in a sentence."""
 import re
-import sys
 
 from lab.definitions.nodes import Colouring
 from lab.schedules.explore import MOST_MERGED, MOST_ROW
@@ -33,9 +32,10 @@ class CutSpace(Space):
                 del self.faults[key]
 
 
-def space_of(network, kind, without=(), beyond=False, program=Colouring):
+def space_of(network, kind, without=(), beyond=False, program=Colouring, progress=None):
     """The space of a network that was read, whose nodes run a program. With a rule left out it goes on after what goes
-    wrong if `beyond`, up to the first of the numbers of `BROKEN_STATES` within which something does."""
+    wrong if `beyond`, up to the first of the numbers of `BROKEN_STATES` within which something does. `progress` is told
+    now and then how many states and events there are so far."""
     if without and beyond:
         for limit in BROKEN_STATES:
             space = CutSpace(network_of(network), without, limit, beyond=True, progress=progress, program=program)
@@ -48,12 +48,6 @@ def space_of(network, kind, without=(), beyond=False, program=Colouring):
         raise Wrong(
             f"{kind} draws at most {MAX_STATES:,} states, and {network.name} has more: leave out an edge or a node"
         ) from None
-
-
-def progress(states, events):
-    """A line for whoever waits at a terminal."""
-    if sys.stderr.isatty():
-        print(f"picture: {states:,} states, up to {events} events", file=sys.stderr)
 
 
 def broken_rounds(network, without):

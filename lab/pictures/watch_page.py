@@ -3,6 +3,7 @@ waits for, what it keeps, and its channel. One run, or two of one network side b
 
 The page has no algorithm in it: what a node is after each entry is worked out here, by the slow definitions
 (lab/definitions/nodes.py), and written into the page as rows. The page itself is watch_page.html."""
+import functools
 import json
 import os
 import re
@@ -16,7 +17,7 @@ from lab.schedules.reading import network_of
 from lab.transcripts.check import find_order
 from lab.transcripts.reading import Wrong as WrongEntry, read, words
 from lab.transcripts.stamps import Clock
-from lab.wrong import Wrong
+from lab.wrong import Wrong, wrong_line
 
 PAGE = os.path.join(os.path.dirname(os.path.abspath(__file__)), "watch_page.html")
 MOST_ENTRIES = 20_000
@@ -30,17 +31,17 @@ class Moment:
     """An entry of the part that is shown: its stamp, its node, the node's state after it, its words, and the pulse
     during which it was made; `kind` is pulse, put or take."""
 
-    def __init__(self, entry, stamp, state, during):
-        self.stamp, self.vertex, self.state, self.during = stamp, entry.vertex, state, during
+    def __init__(self, entry, state, during):
+        self.stamp, self.vertex, self.state, self.during = entry.stamp, entry.vertex, state, during
         self.kind, self.words = entry.kind.lower(), step_words(entry)
 
 
 class Flight:
     """A wire: between which entries it is on its link, None if before or after those that are shown."""
 
-    def __init__(self, entry, stamp, at):
+    def __init__(self, entry, at):
         self.start, self.end, self.wire = entry.vertex, entry.neighbour, entry.what
-        self.put_at, self.put_stamp, self.take_at, self.take_stamp = at, stamp, None, None
+        self.put_at, self.put_stamp, self.take_at, self.take_stamp = at, entry.stamp, None, None
 
 
 def step_words(entry):
@@ -90,63 +91,84 @@ def has_chosen(node):
     return p >= 13 + program.colours[0] * width + first
 
 
-class Run:
-    """The entries of a transcript that are shown, the wires among them, and the nodes before the first one."""
+class Steps:
+    """A run as it is played: `every` has each entry, the pulse during which it was made, and what is shown of its node
+    after it; `start` is what is shown of each node before the first one."""
 
-    def __init__(self, name, network, text, pulses=None, program=Colouring):
-        self.program = program
-        self.name, self.network, self.net = name, network, network_of(network)
-        self.moments, self.flights, self.at_pulse = [], [], {v: {0: 0} for v in network.vertices}
-        self.last_stamp, self.is_cut = 0, False
-        self.read(text, pulses)
+    def __init__(self, state):
+        self.state, self.start, self.every = state, {v: look_of(state, v) for v in state.nodes}, []
 
-    def read(self, text, pulses):
-        state, clock = NetState(self.net, self.program), Clock(self.net.neighbours)
-        self.last = state.nodes[1].last
-        self.start = {v: look_of(state, v) for v in self.net.neighbours}
-        every = []
-        for entry in self.ordered(text):
-            try:
-                make(state, entry)
-            except Refused as refused:
-                said = words(entry) + entry_words(state, entry, refused)
-                raise Wrong(f"{self.name} line {entry.line}: {said} ({refused})") from None
-            stamp = clock.next(entry.kind, entry.vertex, entry.neighbour)
-            if entry.stamp not in (None, stamp):
-                raise Wrong(f"{self.name} line {entry.line}: stamp {entry.stamp}, but the clock of node {entry.vertex} "
-                            f"gives {stamp} there (WrongStamp)")
-            during = state.nodes[entry.vertex].pulse_number
-            every.append((entry, stamp, during, look_of(state, entry.vertex)))
-            if entry.kind == "Pulse":
-                self.at_pulse[entry.vertex][entry.what] = stamp
-            if not pulses and len(every) > MOST_ENTRIES + 1 or pulses and self.all_beyond(pulses[1]):
-                break
-        self.is_whole = all(node.drained() for node in state.nodes.values())
-        self.cut(every, pulses)
+    def add(self, entry):
+        """The entry with its stamp that the state has just made."""
+        during = self.state.nodes[entry.vertex].pulse_number
+        self.every.append((entry, during, look_of(self.state, entry.vertex)))
 
-    def all_beyond(self, pulse):
-        return all(pulse + 1 in reached for reached in self.at_pulse.values())
+    def by_stamp(self):
+        """The same in the order in which a transcript has the entries of a player."""
+        self.every.sort(key=lambda row: (row[0].stamp, row[0].vertex))
+        return self
 
-    def ordered(self, text):
-        """The entries in an order that is a run: as they stand in edition 2, and else as one is found."""
+
+def steps_of_text(name, network, text, pulses=None, program=Colouring):
+    """The steps of a transcript, as far as they are needed for these pulses; or its first fault in words."""
+    net = network_of(network)
+    state, clock, made = NetState(net, program), Clock(net.neighbours), {v: 0 for v in net.neighbours}
+    steps = Steps(state)
+    for entry in ordered(name, network, net, text, program):
         try:
-            head, entries = read(text.encode(), self.program.name)
-        except WrongEntry as why:
-            raise Wrong(f"{self.name} {why}") from None
-        if head.nodes != self.network.nodes:
-            raise Wrong(f"{self.name} line {head.line}: {head.nodes} nodes, and {self.network.name} has "
-                        f"{self.network.nodes} (Nodes)")
-        if head.edition == 2:
-            return entries
-        order = find_order(self.net, entries, self.program)
-        if order.left:
-            first = min((left[-1] for left in order.left.values()), key=lambda entry: entry.line)
-            raise Wrong(f"{self.name} line {first.line}: {words(first)}, which can't come in any order "
-                        "(bin/check-transcript says more)")
-        clock = Clock(self.net.neighbours)
-        rows = [(clock.next(entry.kind, entry.vertex, entry.neighbour), entry.vertex, at, entry)
-                for at, entry in enumerate(order.made)]
-        return [entry for *_, entry in sorted(rows, key=lambda row: row[:3])]
+            make(state, entry)
+        except Refused as refused:
+            said = words(entry) + entry_words(state, entry, refused)
+            raise wrong_line(name, entry.line, f"{said} ({refused})") from None
+        stamp = clock.next(entry.kind, entry.vertex, entry.neighbour)
+        if entry.stamp not in (None, stamp):
+            raise wrong_line(name, entry.line, f"stamp {entry.stamp}, but the clock of node {entry.vertex} gives "
+                                               f"{stamp} there (WrongStamp)")
+        steps.add(entry._replace(stamp=stamp))
+        if entry.kind == "Pulse":
+            made[entry.vertex] = entry.what
+        if not pulses and len(steps.every) > MOST_ENTRIES + 1 or pulses and min(made.values()) > pulses[1]:
+            break
+    return steps
+
+
+def ordered(name, network, net, text, program):
+    """The entries of a text in an order that is a run: as they stand in edition 2, and else as one is found."""
+    try:
+        head, entries = read(text.encode(), program.name)
+    except WrongEntry as why:
+        raise Wrong(f"{name} {why}") from None
+    if head.nodes != network.nodes:
+        raise wrong_line(name, head.line, f"{head.nodes} nodes, and {network.name} has {network.nodes} (Nodes)")
+    if head.edition == 2:
+        return entries
+    order = find_order(net, entries, program)
+    if order.left:
+        first = min((left[-1] for left in order.left.values()), key=lambda entry: entry.line)
+        raise wrong_line(name, first.line, f"{words(first)}, which can't come in any order (bin/check-transcript says "
+                                           "more)")
+    clock = Clock(net.neighbours)
+    rows = [(clock.next(entry.kind, entry.vertex, entry.neighbour), entry.vertex, at, entry)
+            for at, entry in enumerate(order.made)]
+    return [entry for *_, entry in sorted(rows, key=lambda row: row[:3])]
+
+
+class Run:
+    """The entries of a run that are shown, the wires among them, and the nodes before the first one. `steps` are those
+    of a text, or of a `Player` by stamp."""
+
+    def __init__(self, name, network, steps, pulses=None):
+        self.name, self.network, self.start = name, network, dict(steps.start)
+        self.moments, self.flights = [], []
+        nodes = steps.state.nodes
+        self.last = nodes[1].last
+        self.is_whole = all(node.drained() for node in nodes.values())
+        every = list(steps.every) if pulses else steps.every[:MOST_ENTRIES + 2]
+        self.at_pulse = {v: {0: 0} for v in network.vertices}
+        for entry, *_ in every:
+            if entry.kind == "Pulse":
+                self.at_pulse[entry.vertex][entry.what] = entry.stamp
+        self.cut(every, pulses)
 
     def cut(self, every, pulses):
         """Keeps the entries from where a first node begins the first pulse to where the last one ends the last."""
@@ -160,35 +182,41 @@ class Run:
                 raise Wrong(f"{self.name}: not one pulse fits into {MOST_ENTRIES:,} entries")
         self.pulses = pulses or (0, min(self.last, max(max(during) for during in self.at_pulse.values())))
         self.is_cut = pulses is not None and pulses != (0, self.last)
-        shown_ = [at for at, (_, _, during, _) in enumerate(every)
-                  if self.pulses[0] <= during <= self.pulses[1]]
+        shown_ = [at for at, (_, during, _) in enumerate(every) if self.pulses[0] <= during <= self.pulses[1]]
         first, end = (shown_[0], shown_[-1] + 1) if shown_ else (0, 0)
         if end - first > MOST_ENTRIES:
             raise Wrong(f"{self.name}: pulses {self.pulses[0]} to {self.pulses[1]} have {end - first:,} entries, and a "
                         f"page shows at most {MOST_ENTRIES:,}: name fewer with --pulses")
         flying = {}
-        for at, (entry, stamp, during, look) in enumerate(every[:end]):
+        for at, (entry, during, look) in enumerate(every[:end]):
             if entry.kind == "Put":
-                flight = Flight(entry, stamp, at - first)
+                flight = Flight(entry, at - first)
                 self.flights.append(flight)
                 flying.setdefault((entry.vertex, entry.neighbour), []).append(flight)
             elif entry.kind == "Take":
                 flight = flying[entry.neighbour, entry.vertex].pop(0)
-                flight.take_at, flight.take_stamp = at - first, stamp
+                flight.take_at, flight.take_stamp = at - first, entry.stamp
             if at < first:
                 self.start[entry.vertex] = look
             else:
-                self.moments.append(Moment(entry, stamp, look, during))
+                self.moments.append(Moment(entry, look, during))
         # How many entries are made when a pulse is made for the last time.
         self.made_at = {moment.during: at for at, moment in enumerate(self.moments, 1) if moment.kind == "pulse"}
         self.flights = [flight for flight in self.flights if flight.take_at is None or flight.take_at >= 0]
         self.first_stamp = self.moments[0].stamp - 1 if self.moments else 0
         self.last_stamp = self.moments[-1].stamp if self.moments else 0
 
+    @functools.cached_property
+    def payloads_by_pulse(self):
+        sent = {}
+        for flight in self.flights:
+            if flight.wire[0] == "Payload":
+                sent.setdefault(flight.wire[1], []).append((flight.start, flight.end, payload_words(flight.wire[2])))
+        return {pulse: sorted(puts) for pulse, puts in sent.items()}
+
     def payloads(self, pulse):
         """What was put in a pulse, in words, in one order for all runs."""
-        return sorted((flight.start, flight.end, payload_words(flight.wire[2])) for flight in self.flights
-                      if flight.wire[0] == "Payload" and flight.wire[1] == pulse)
+        return self.payloads_by_pulse.get(pulse, [])
 
     def table(self):
         """The rows that the page follows; what comes again and again has a number."""

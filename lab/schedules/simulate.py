@@ -10,6 +10,7 @@ from lab.definitions.programs import add_program, program_at
 from lab.networks.fields import shown
 from lab.schedules.policies import POLICIES, Step, policy_of
 from lab.schedules.reading import network_at, text_at
+from lab.transcripts.reading import Entry
 from lab.transcripts.stamps import Clock, unfinished
 from lab.wrong import Wrong, wrong_line
 
@@ -114,21 +115,24 @@ class Player:
         self.steps[v] = found
 
     def make(self, step):
-        """One of the steps; adds its row (stamp, vertex, line)."""
+        """One of the steps; adds its row (stamp, vertex, line), and returns its entry."""
         self.now += 1
         v, w, kind = step.node, step.neighbour, step.kind.title()
         port = self.state.port_to[v, w] if w else None
         wire = self.state.step(kind, v, port)
-        words = f"{v} pulse {self.state.nodes[v].pulse_number}" if not w else f"{v} {step.kind} {w} {wire_words(wire)}"
+        what = wire if w else self.state.nodes[v].pulse_number
+        words = f"{v} {step.kind} {w} {wire_words(wire)}" if w else f"{v} pulse {what}"
         if step.kind == "put":
             self.out_since[v, port].popleft()
             self.link_since[v, port].append(self.now)
         elif step.kind == "take":
             self.link_since[w, self.state.port_to[w, v]].popleft()
-        self.rows.append((self.clock.next(kind, v, w), v, words))
+        stamp = self.clock.next(kind, v, w)
+        self.rows.append((stamp, v, words))
         self.look_at(v)
         if step.kind == "put":
             self.look_at(w)
+        return Entry(None, v, kind, w or None, what, None, stamp)
 
     def step_of(self, kind, v, port):
         """The step of an event; raises `Refused` if it isn't possible."""
@@ -146,10 +150,16 @@ class Player:
                 missing = missing_words(self.state, kind.title(), v, port)
                 raise wrong_line(name, line, f"`{words}` isn't possible there{missing} ({refused})") from None
 
+    def entries(self, policy):
+        """The entries from here until nothing is possible, each as soon as it is made: so a caller can look at the
+        state between them, report how far the run is, or stop."""
+        while steps := [step for own in self.steps.values() for step in own]:
+            yield self.make(policy.choose(steps))
+
     def play(self, policy):
         """Goes on until nothing is possible."""
-        while steps := [step for own in self.steps.values() for step in own]:
-            self.make(policy.choose(steps))
+        for _ in self.entries(policy):
+            pass
 
 
 def edges_of(net):

@@ -1,17 +1,15 @@
 """The judge: what `forestplay replay` says of a run, and what it says a node has to do next. Nothing here decides by
 itself what is right."""
-import functools
-import os
 import re
-import subprocess
 from dataclasses import dataclass
 from typing import NamedTuple
 
 from lab.networks.network_text import Network
 from lab.networks.texts import Made, text_of
-from lab.programs import TOP
+from lab.programs import called
 from lab.workshop.findings import NoVerdict
 from lab.workshop.results import COLOURING
+from lab.wrong import Wrong
 
 # No run has such a pulse, so an entry that names it is refused, and the judge says what would be possible.
 IMPOSSIBLE = (1 << 32) - 1
@@ -48,25 +46,6 @@ class Due:
     puts: dict[int, str | None]
 
 
-# Of each program, a command that does next to nothing with a network without nodes.
-FIRST = {"forestplan": "plain", "forestplay": "rounds"}
-NO_NODES = "p edge 0 0\n"
-
-
-@functools.cache
-def path_of(name: str) -> str:
-    """A proved program. In the repository its script is called once, which builds it if need be, and says so."""
-    door = os.path.join(TOP, "bin", name)
-    try:
-        done = subprocess.run([door, FIRST[name]], input=NO_NODES, stdout=subprocess.DEVNULL, text=True)
-    except OSError as why:
-        raise NoVerdict(f"{name} can't be run: {why.strerror}") from None
-    if done.returncode:
-        raise NoVerdict(f"{name} can't be run")
-    built = os.path.join(TOP, "crates", name, "out", name)
-    return built if os.access(built, os.X_OK) else door
-
-
 def words_of(program: str) -> list[str]:
     """The words by which a command learns what the nodes run."""
     return [] if program == COLOURING else ["--program", program]
@@ -74,9 +53,11 @@ def words_of(program: str) -> list[str]:
 
 def ask(name: str, command: str, text: str, program: str = COLOURING) -> tuple[int, str, str]:
     """(status, standard output, standard error) of a proved program on a text; `program` is what the nodes run."""
-    words = [path_of(name), command, *words_of(program)]
-    done = subprocess.run(words, input=text, capture_output=True, text=True)
-    return done.returncode, done.stdout, done.stderr.strip()
+    try:
+        done = called(name, [command, *words_of(program)], text.encode())
+    except Wrong as why:
+        raise NoVerdict(str(why)) from None
+    return done.returncode, done.stdout.decode(), done.stderr.decode("utf-8", "replace").strip()
 
 
 def network_text(network: Network) -> str:

@@ -16,7 +16,7 @@ from tests.cases import run_program
 from tests.pictures.base import APART, EDGE, SEED, PictureCase, call, circle_of, example, examples, transcript
 from tests.pictures.marks import gap, parsed, texts, titles
 from tests.programs.made_transcripts import MISTAKES, made_transcript, merged_text, transcript_text, with_mistake
-from tests.settings import PLAY
+from tests.settings import PLAN, PLAY
 
 ONE = b"p edge 1 0\n"
 WRONG_NETWORKS = {
@@ -256,25 +256,22 @@ class Pictures(PictureCase):
         self.note("each stored picture has its command", stored == sorted(name for _, name in commands), stored)
         for words, name in commands:
             words = words.split()
-            option, text = self.stored_text(words)
-            status, picture, fault = self.painter(words + option, text)
             with open(os.path.join(folder, name), "rb") as file:
-                self.note(f"stored: {name}", (status, picture) == (0, file.read()), fault or "drawn anew it differs")
+                wanted = 0, file.read(), b""
+            for option, text in (([], b""), *self.proved_texts(words)):
+                got = self.painter(words + option, text)
+                self.note(f"stored: {name}, {' '.join(option) or 'as its command draws it'}", got == wanted,
+                          got[2] or "drawn anew it differs")
 
-    def stored_text(self, words):
-        """The option and the text in place of the program's; nothing if the command needs none, or names a stored
-        one."""
-        if words[0] in ("schedules", "adversary", "broken", "watch") or any(
-            word in ("--plan", "--rounds", "--transcript") for word in words
-        ):
-            return [], b""
+    def proved_texts(self, words):
+        """The option and the text that the proved program writes, of a kind that draws rounds or a plan: the
+        definitions, from which rounds are drawn without it, are the same."""
+        if words[0] not in ("forests", "rounds", "bits", "plan", "matrix"):
+            return
         network = example(words[1].removeprefix("examples/"))
-        if words[0] in ("plan", "matrix"):
-            return ["--plan", "-"], plan_text(network)
-        wanted = rounds_text(network_of(network))
-        done = run_program(PLAY, ["rounds"], network)
-        self.note(f"rounds of {words[1]}", (done.returncode, done.stdout) == (0, wanted), done.stderr)
-        return ["--rounds", "-"], wanted
+        program, command, option = (PLAN, "plain", "--plan") if words[0] in ("plan", "matrix") else (
+            PLAY, "rounds", "--rounds")
+        yield [option, "-"], run_program(program, [command], network).stdout
 
     def test_places(self):
         """What the examples say of their places, and that each says what it shows."""

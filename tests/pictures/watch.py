@@ -11,6 +11,10 @@ import tempfile
 
 from lab.definitions.colours import colours, network_of
 from lab.definitions.nodes import last_pulse
+from lab.networks.network_text import read_network
+from lab.pictures.watch_page import Run, Steps, steps_of_text
+from lab.schedules.policies import policy_of
+from lab.schedules.simulate import Player, edges_of, text_of_rows
 from tests import TOP
 from tests.cases import Case
 from tests.programs.made_transcripts import made_transcript, merged_text, transcript_text
@@ -168,6 +172,26 @@ class OneRun(Page):
         page = self.drawn(self.file("net.col", data), "-", data=b"".join(lines[:200]))
         self.assertEqual(len(table_of(page)["runs"][0]["rows"]), 199)
         self.assertIn("standard input ends before the nodes are through.", page)
+
+    def test_run_of_a_player(self):
+        """The steps of a player show what its transcript shows, on the way and at the end."""
+        for name in ("two", "triangle", "barred", "petersen"):
+            with self.subTest(name):
+                data = contents(f"{name}.col")
+                net, network = network_of(data), read_network(data.decode(), name)
+                player = Player(net)
+                steps = Steps(player.state)
+                for entry in player.entries(policy_of("random", sorted(net.neighbours), edges_of(net), "watch")):
+                    steps.add(entry)
+                    if player.now == 40:
+                        self.check_same(network, player, steps)
+                self.check_same(network, player, steps)
+
+    def check_same(self, network, player, steps):
+        text = text_of_rows(network.nodes, player.rows)
+        ours, wanted = Run("run", network, steps.by_stamp()), Run("run", network, steps_of_text("run", network, text))
+        self.assertEqual(ours.table(), wanted.table())
+        self.assertEqual((ours.pulses, ours.is_whole), (wanted.pulses, wanted.is_whole))
 
     def test_title(self):
         data = b"p edge 1 0\n"

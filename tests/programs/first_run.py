@@ -195,6 +195,7 @@ class FirstRun(Case):
     def test_calls(self):
         tree = Tree(self.folder)
         self.run_stored_helps(tree)
+        self.run_python(tree)
         self.run_first(tree)
         self.run_elsewhere(tree, os.path.join(self.folder, "other"))
         self.run_offered(tree)
@@ -217,6 +218,19 @@ class FirstRun(Case):
             got = done.returncode, done.stderr
             self.note(f"a stored help {redirected}", got == (4, b"forestplan: stream\n"), done)
         self.note("help builds nothing",
+                  not os.path.exists(os.path.join(tree.top, "crates", "forestplan", "out", "forestplan")))
+
+    def run_python(self, tree):
+        """Python refuses a program that isn't built, and draws rounds, and a plan that it says isn't the program's."""
+        write(os.path.join(tree.top, "crates", "forestplay", "src", "lib.rt"), "")
+        for words, wanted in ((["rounds"], (0, True, "")),
+                              (["plan"], (0, True, "picture: forestplan isn't built, so ")),
+                              (["run"], (1, False, "picture: forestplan isn't built: a first call of it, as "))):
+            done = subprocess.run([sys.executable, "-S", "lab", "picture", *words, "-"], input="p edge 2 1\ne 1 2\n",
+                                  capture_output=True, text=True, cwd=tree.top, env=tree.environment, timeout=LIMIT)
+            got = done.returncode, done.stdout.startswith("<svg "), done.stderr[:len(wanted[2])] or done.stderr
+            self.note(f"picture {words[0]} where nothing is built", got == wanted, done)
+        self.note("no picture builds anything",
                   not os.path.exists(os.path.join(tree.top, "crates", "forestplan", "out", "forestplan")))
 
     def run_first(self, tree):
