@@ -6,7 +6,7 @@ import argparse
 import random
 import sys
 
-from lab.definitions.colours import Network, colours, first_colours, merge, three
+from lab.definitions.colours import Network, at_parent, colours, drop, first_colours, merge, shift, three
 from lab.definitions.nodes import NetState, last_pulse
 from lab.definitions.rounds import Facts
 from lab.networks.alike import alike_edges
@@ -90,7 +90,7 @@ class Sheet:
     # The questions, by lesson. Each draws its choices from the sheet's own source, and all are drawn in any case, so
     # that a sheet of one lesson asks what the sheet of all lessons asks.
 
-    def lesson_1(self, _):
+    def lesson_1(self):
         plan = {v: c + 1 for v, c in colours(self.net).items()}
         v, w = self.any_of(self.edges)
         wrong = plan | {v: plan[w]}
@@ -101,12 +101,12 @@ class Sheet:
                + self.table("node", [("channel", [wrong[v] for v in self.vertices], True)])
                + f"<p>{self.filled('; '.join(pairs), True)}</p>")
 
-    def lesson_2(self, _):
+    def lesson_2(self):
         rows = [(f"parent in forest {f}", [self.net.parent(f, v) or "-" for v in self.vertices], False)
                 for f in range(FORESTS)]
         yield ("<p>Cut the network into forests. Who is whose parent? (A root has a -.)</p>" + self.table("node", rows))
 
-    def lesson_3(self, _):
+    def lesson_3(self):
         table = self.facts.colours[0]
         children = [v for v in self.vertices if self.net.parent(0, v) and not self.net.parent(0, self.net.parent(0, v))]
         v = self.any_of(children)
@@ -115,17 +115,36 @@ class Sheet:
             said = ", ".join(str(table[p][node]) for p in range(2, 7))
             ask = "Bit steps in forest 0: the colours of" if node == v else "And of"
             yield f"<p>{ask} {name} after the pulses 2 to 6? {self.filled(said, True)}</p>"
-        rows = [("pulse 6", [table[6][v] for v in self.vertices], True)]
-        words = {7: "shift", 8: "drop 5", 9: "shift", 10: "drop 4", 11: "shift", 12: "drop 3"}
-        rows += [(f"pulse {p}: {words[p]}", [table[p][v] for v in self.vertices], False) for p in range(7, 13)]
-        yield "<p>Shift and drop in forest 0, from these colours after pulse 6:</p>" + self.table("node", rows)
+        colours = self.dropping()
+        rows = [("pulse 6", [colours[v] for v in self.vertices], True)]
+        for p, x in ((7, 5), (9, 4), (11, 3)):
+            shifted = shift(self.net, 0, colours)
+            colours = drop(x, self.net, 0, shifted, colours)
+            rows += [(f"pulse {q}: {what}", [row[v] for v in self.vertices], False)
+                     for q, what, row in ((p, "shift", shifted), (p + 1, f"drop {x}", colours))]
+        yield ("<p>With names as small as these there is hardly ever a colour to drop. So suppose that the colours in "
+               "forest 0 after pulse 6 are these, and shift and drop:</p>" + self.table("node", rows))
 
-    def lesson_4(self, lessons):
+    def dropping(self):
+        """Colours 0 to 5 in forest 0, no two neighbours there alike, of which each drop changes some: a shift moves a
+        colour one edge down, so a 5, a 4 and a 3 in a row are one after the other the colour of the node below it."""
+        row = self.any_of([row for row in map(self.row_above, self.vertices) if len(row) == 4])
+        while True:
+            first = {v: self.any_of(range(6)) for v in self.vertices} | dict(zip(row[1:], (5, 4, 3)))
+            if all(first[v] != at_parent(self.net, 0, first, v) for v in first):
+                return first
+
+    def row_above(self, v):
+        """A node, its parent in forest 0, and so on: up to four."""
+        row = [v]
+        while len(row) < 4 and (above := self.net.parent(0, row[-1])):
+            row.append(above)
+        return row
+
+    def lesson_4(self):
         rows, old = [], first_colours(self.net)
         for f in range(FORESTS):
-            # What lesson 3 asks for on the same sheet isn't given away here.
-            is_given = f > 0 or 3 not in lessons
-            rows.append((f"colour in forest {f}", [three(self.net, f)[v] for v in self.vertices], is_given))
+            rows.append((f"colour in forest {f}", [three(self.net, f)[v] for v in self.vertices], True))
             before, old = old, merge(self.net, f, old)
             rows.append(("after its merge", [old[v] for v in self.vertices], False))
         yield "<p>Merge the two forests; all begin with colour 0.</p>" + self.table("node", rows)
@@ -135,7 +154,7 @@ class Sheet:
         yield (f"<p>At which pulse does node {v} choose in the merge of forest {f}? {self.filled(pulse)} "
                f"Which pulse is the last? {self.filled(last_pulse(self.net))}</p>")
 
-    def lesson_5(self, _):
+    def lesson_5(self):
         payloads = sum(1 for p in range(last_pulse(self.net) + 1) for v in self.vertices
                        for _ in self.facts.sent(p, v))
         wires = 2 * payloads + 2 * len(self.edges) * (last_pulse(self.net) + 1)
@@ -149,7 +168,7 @@ class Sheet:
         title = f"Sheet {escaped(self.name)}" + (", answers" if self.answers else "")
         parts = [f"<section><h1>{title}<small>{'' if self.answers else 'Name: ' + '_' * 28}</small></h1>", self.map()]
         for lesson in LESSONS:
-            questions = list(getattr(self, f"lesson_{lesson}")(lessons))
+            questions = list(getattr(self, f"lesson_{lesson}")())
             if lesson in lessons:
                 parts.append(f'<h2>Lesson {lesson}</h2>')
                 parts += [f'<div class="question">{question}</div>' for question in questions]
@@ -179,9 +198,13 @@ def farthest(net, edge):
 
 
 def network_by(source):
-    """A connected network of the sheets' sizes, by chance."""
-    edges = alike_edges(source, NODES, EDGES, True, NEIGHBOURS, FORESTS)
-    return Network({v: v for v in range(1, NODES + 1)}, edges)
+    """A connected network of the sheets' sizes, by chance, with a row of four in forest 0."""
+    while True:
+        net = Network({v: v for v in range(1, NODES + 1)},
+                      alike_edges(source, NODES, EDGES, True, NEIGHBOURS, FORESTS))
+        above = {v: net.parent(0, v) for v in net.neighbours} | {None: None}
+        if any(above[above[above[v]]] for v in net.neighbours):
+            return net
 
 
 def draw(seed, count, answers, lessons):

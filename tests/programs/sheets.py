@@ -87,8 +87,7 @@ class Answers(Case):
         child, parent = map(int, re.search(r"the colours of node (\d+) .*?its parent (\d+) ", section, re.S).groups())
         for v, answer in ((child, blanks[2]), (parent, blanks[3])):
             self.assertEqual(answer, ", ".join([str(v)] + [str(played.colours[p, v][0]) for p in range(3, 7)]))
-        for p, (_, row) in enumerate(drops[1:], 6):
-            self.assertEqual(row, [str(played.colours[p, v][0]) for v in vertices])
+        self.check_drops(net, [list(map(int, row)) for _, row in drops[1:]])
         # Lesson 4.
         for f in (0, 1):
             self.assertEqual(merges[1 + 2 * f][1], [str(played.colours[12, v][f]) for v in vertices])
@@ -101,6 +100,21 @@ class Answers(Case):
         self.assertEqual(blanks[6], str(2 * played.payloads + 18 * 37))
         ends = set(map(int, re.search(r"over the edge (\d)–(\d)", section).groups()))
         self.assertEqual(slow[1][1], [str(max(0, distance(net, ends, v) - 1)) for v in vertices])
+
+    def check_drops(self, net, rows):
+        """The rows of pulses 6 to 12, of any colours: three shifts with the drops of 5, 4 and 3, each of which changes
+        something. A parent in forest 0 is the lowest higher neighbour."""
+        above = {v: min((w for w in net.neighbours[v] if w > v), default=None) for v in sorted(net.neighbours)}
+        for v, w in above.items():
+            self.assertTrue(w is None or rows[0][v - 1] != rows[0][w - 1])
+        for at, x in ((0, 5), (2, 4), (4, 3)):
+            first, shifted, dropped = rows[at:at + 3]
+            for v, w in above.items():
+                self.assertEqual(shifted[v - 1], first[w - 1] if w else 1 if first[v - 1] == 0 else 0)
+                avoided = {first[v - 1], shifted[w - 1] if w else None}
+                free = next(c for c in range(3) if c not in avoided)
+                self.assertEqual(dropped[v - 1], free if shifted[v - 1] == x else shifted[v - 1])
+            self.assertNotEqual(shifted, dropped)
 
     def test_answers(self):
         status, page, fault = sheet("--seed", "7", "--sheets", "12", "--answers")
